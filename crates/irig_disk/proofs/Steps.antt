@@ -351,9 +351,6 @@ module _ (start a b : Disk) (beside target : List ℕ) (file : ℕ) (s : IsBesid
 pub unchanged_seen : (start a : Disk) → IsUnchanged start a → SeenSame start a
 unchanged_seen start a same = stay_seen start a same.stays
 
-pub unchanged_moments : (start a : Disk) (target : List ℕ) (text : Held) → IsUnchanged start a → LeavesOnly start a (OldOrNewIfThere start target text)
-unchanged_moments start a target text same = weaker start a (MayLeave start) (OldOrNewIfThere start target text) (λ n c l there. inl l) same.moments
-
 pub old_moments : (start a : Disk) (target : List ℕ) (text : Held) → LeavesOnly start a (OldIfThere start target)
     → LeavesOnly start a (OldOrNewIfThere start target text)
 old_moments start a target text moments = weaker start a (OldIfThere start target) (OldOrNewIfThere start target text) (λ n c l there. inl (l there)) moments
@@ -386,67 +383,36 @@ after_removal start a b beside target text (Err other) fault result s removed no
   paths = λ place. not_removed.may.paths s.file s.leads s.regular ∙ s.paths place;
 }
 
--- a removal is no write
-pub rest_of_removal : {T X : Type 0} (start a b : Disk) (beside target : List ℕ) (file : ℕ) (removal : Result T X) → IsBeside start a beside target file
-    → OnOk removal (Removed a b beside) → OnErr removal (NotRemoved a b beside) → (b.log ≡ start.log) × (b.paths ≡ start.paths)
-rest_of_removal start a b beside target file (Ok _) s removed not_removed =
-    (removed.may.log ∙ s.log, removed.may.paths file s.leads s.regular ∙ s.paths)
-rest_of_removal start a b beside target file (Err other) s removed not_removed =
-    (not_removed.may.log ∙ s.log, not_removed.may.paths file s.leads s.regular ∙ s.paths)
-
-pub moments_of_removal : {T X : Type 0} (start a b : Disk) (beside target : List ℕ) (text : Held) (removal : Result T X) → IsStuck start a beside target text
-    → OnOk removal (Removed a b beside) → OnErr removal (NotRemoved a b beside) → Elapses a b → LeavesOnly start b (OldOrNewIfThere start target text)
-moments_of_removal start a b beside target text (Ok _) s removed not_removed time = freed_moments start a b beside target text s removed.may time
-moments_of_removal start a b beside target text (Err other) s removed not_removed time = freed_moments start a b beside target text s not_removed.may time
-
-pub old_moments_of_removal : {T X : Type 0} (start a b : Disk) (beside target : List ℕ) (file : ℕ) (removal : Result T X) → IsBeside start a beside target file
-    → OnOk removal (Removed a b beside) → OnErr removal (NotRemoved a b beside) → Elapses a b → LeavesOnly start b (OldIfThere start target)
-old_moments_of_removal start a b beside target file (Ok _) s removed not_removed time = given_up_moments start a b beside target file s removed.may time
-old_moments_of_removal start a b beside target file (Err other) s removed not_removed time =
-    given_up_moments start a b beside target file s not_removed.may time
+-- what a removal may leave, whether it succeeds or not
+pub may_remove : {T X : Type 0} (a b : Disk) (beside : List ℕ) (removal : Result T X) → OnOk removal (Removed a b beside) → OnErr removal (NotRemoved a b beside)
+    → MayRemove a b beside
+may_remove a b beside (Ok _) removed not_removed = removed.may
+may_remove a b beside (Err other) removed not_removed = not_removed.may
 
 -- what a write leaves that has not begun, or has not succeeded
-not_begun_rest : {X : Type 0} (start now : Disk) (fault : PutFault X) → NotBegun start now fault → (now.log ≡ start.log) × (now.paths ≡ start.paths)
-not_begun_rest start now Memory same = (same.stays.names.log, same.stays.names.paths)
-not_begun_rest start now NamesTaken same = (same.stays.names.log, same.stays.names.paths)
-not_begun_rest start now (Failed _) same = (same.stays.names.log, same.stays.names.paths)
-not_begun_rest start now (LeftBehind _ _) none = absurd none
-not_begun_rest start now (Remains _) none = absurd none
-not_begun_rest start now (NotKept _) none = absurd none
-
-not_begun_seen : {X : Type 0} (start now : Disk) (target : List ℕ) (text : Held) (fault : PutFault X) → NotBegun start now fault
-    → SeenAfter start now target text fault
-not_begun_seen start now target text Memory same = unchanged_seen start now same
-not_begun_seen start now target text NamesTaken same = unchanged_seen start now same
-not_begun_seen start now target text (Failed _) same = unchanged_seen start now same
-not_begun_seen start now target text (LeftBehind _ _) none = absurd none
-not_begun_seen start now target text (Remains _) none = absurd none
-not_begun_seen start now target text (NotKept _) none = absurd none
-
-not_begun_old : {X : Type 0} (start now : Disk) (target : List ℕ) (fault : PutFault X) → NotBegun start now fault → LeavesOnly start now (OldIfThere start target)
-not_begun_old start now target Memory same = weaker start now (MayLeave start) (OldIfThere start target) (λ n c l there. l) same.moments
-not_begun_old start now target NamesTaken same = weaker start now (MayLeave start) (OldIfThere start target) (λ n c l there. l) same.moments
-not_begun_old start now target (Failed _) same = weaker start now (MayLeave start) (OldIfThere start target) (λ n c l there. l) same.moments
-not_begun_old start now target (LeftBehind _ _) none = absurd none
-not_begun_old start now target (Remains _) none = absurd none
-not_begun_old start now target (NotKept _) none = absurd none
+not_begun_same : {X : Type 0} (start now : Disk) (target : List ℕ) (text : Held) (fault : PutFault X) → NotBegun start now fault
+    → IsUnchanged start now × SeenAfter start now target text fault
+not_begun_same start now target text Memory same = (same, unchanged_seen start now same)
+not_begun_same start now target text NamesTaken same = (same, unchanged_seen start now same)
+not_begun_same start now target text (Failed _) same = (same, unchanged_seen start now same)
+not_begun_same start now target text (LeftBehind _ _) none = absurd none
+not_begun_same start now target text (Remains _) none = absurd none
+not_begun_same start now target text (NotKept _) none = absurd none
 
 pub not_begun : {X : Type 0} (start now : Disk) (target : List ℕ) (text : Held) (fault : PutFault X) → NotBegun start now fault
-    → AfterFault start now target text fault
-not_begun start now target text fault same = record {
-  seen = not_begun_seen start now target text fault same;
-  log = inl (record { log = (not_begun_rest start now fault same).0; moments = not_begun_old start now target fault same });
-  paths = λ place. (not_begun_rest start now fault same).1;
-}
-
-pub not_begun_moments : {X : Type 0} (start now : Disk) (target : List ℕ) (text : Held) (fault : PutFault X) → NotBegun start now fault
-    → LeavesOnly start now (OldOrNewIfThere start target text)
-not_begun_moments start now target text Memory same = unchanged_moments start now target text same
-not_begun_moments start now target text NamesTaken same = unchanged_moments start now target text same
-not_begun_moments start now target text (Failed _) same = unchanged_moments start now target text same
-not_begun_moments start now target text (LeftBehind _ _) none = absurd none
-not_begun_moments start now target text (Remains _) none = absurd none
-not_begun_moments start now target text (NotKept _) none = absurd none
+    → LeavesOnly start now (OldOrNewIfThere start target text) × AfterFault start now target text fault
+not_begun start now target text fault not =
+    let same = (not_begun_same start now target text fault not).0 in (
+      weaker start now (MayLeave start) (OldOrNewIfThere start target text) (λ n c l there. inl l) same.moments,
+      record {
+        seen = (not_begun_same start now target text fault not).1;
+        log = inl (record {
+          log = same.stays.names.log;
+          moments = weaker start now (MayLeave start) (OldIfThere start target) (λ n c l there. l) same.moments;
+        });
+        paths = λ place. same.stays.names.paths;
+      },
+    )
 
 not_finished_seen : {X : Type 0} (start now : Disk) (target : List ℕ) (text : Held) (fault : PutFault X) → SeenUnfinished start now target text fault
     → SeenAfter start now target text fault
@@ -517,8 +483,8 @@ pub comes_to_either : {N T X F : Type 0} (disk : F → Disk) (begun : Result N (
     → LeavesOnly (disk start) (disk now) (OldOrNewIfThere (disk start) target text) × OnOk result (IsKept (disk start) (disk now) target text)
     × IfErr result (AfterFault (disk start) (disk now) target text)
 comes_to_either disk (Ok _) result start mid now target text comes not is same = (comes.any_moment, comes.ok, comes.err)
-comes_to_either disk (Err fault) result start mid now target text comes not is same = rw (is, same)
-    (not_begun_moments (disk start) (disk mid) target text fault not, tt, not_begun (disk start) (disk mid) target text fault not)
+comes_to_either disk (Err fault) result start mid now target text comes not is same =
+    let left = not_begun (disk start) (disk mid) target text fault not in rw (is, same) (left.0, tt, left.1)
 
 pub taken_at_first : {N T X P : Type 0} (begun : Result N (PutFault X)) (result : Result T (PutFault X)) (start now : Disk) (target : List ℕ) (text : Held)
     → IfOk begun (λ _. ComesTo start now target text result) → (IsErrOf begun NamesTaken → P) → IfErr begun (λ fault. result ≡ Err fault)

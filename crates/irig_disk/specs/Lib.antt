@@ -1,9 +1,6 @@
 pub mod Calls
 pub mod Disk
 pub mod Held
-pub mod Led
-pub mod Log
-pub mod LogLaws
 pub mod Moves
 pub mod Name
 pub mod Parts

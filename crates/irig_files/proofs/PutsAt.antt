@@ -1,5 +1,5 @@
 -- The texts written at a place, one after another.
-use Rattle.std.proofs.Common.{◌≡◌, ◌⊎◌, ◌++◌, ◌∷◌, [], ℕ, List, Option, Some, None, Bool, true, false, refl, sym, ap, ◌∙◌, cond, inl, inr, Ok, Err}
+use Rattle.std.proofs.Common.{◌≡◌, ◌⊎◌, ◌++◌, ◌∷◌, [], ℕ, List, Option, Some, None, Bool, true, false, refl, sym, ap, ◌∙◌, cond, inl, inr, Result, Ok, Err}
 use Rattle.std.proofs.lemmas.{List.append-nil, Slice.Eq.bytes_eq-Decides}
 use Rattle.std.specs.Prelude.{option_map, is_some, IsTrue}
 use Rattle.std.specs.Str.{bytes_eq}
@@ -35,6 +35,11 @@ grown_none : (xs ys : Option (List (List ℕ))) → ys ≡ xs → GrowsBy xs ys 
 grown_none None ys e = tt
 grown_none (Some xs) ys e = rw e (sym (append-nil xs))
 
+-- the texts that a write adds
+abbrev texts_put : {T E : Type 0} → List ℕ → Result T E → List (List ℕ)
+texts_put text (Ok x) = text ∷ []
+texts_put text (Err e) = []
+
 -- a path leads where it led
 still_at : (old new : Disk) (path place : List ℕ) → old.paths path ≡ Some place → (IsPlace old place → new.paths ≡ old.paths) → new.paths path ≡ Some place
 still_at old new path place at paths = ap (λ ps. ps path) (paths (path, at)) ∙ at
@@ -64,34 +69,23 @@ module _ (old new : Disk) (path : List ℕ) (held : Held) where
       go (inr (inr moved)) = ap (λ l. texts_of place (writes_in l)) moved
           ∙ ap (texts_of place) (writes_more old.log (NotMoved place (Some held) ∷ []) refl) ∙ texts_of-failed place held (writes_in old.log)
 
-  kept_on : {T : Type 0} (E : Type 0) (target : Option (List ℕ)) (x : T) → old.paths path ≡ target → PutsOnce {E = E} old new target held (Ok x)
-      → GrowsBy (texts_at target (Some (writes_in old.log))) (texts_at (new.paths path) (Some (writes_in new.log))) (held.bytes ∷ [])
-  kept_on E None x at once = tt
-  kept_on E (Some place) x at once = kept_in place at once.ok
-
-  tried_on : {E : Type 0} (T : Type 0) (target : Option (List ℕ)) (e : E) → old.paths path ≡ target → PutsOnce {T = T} old new target held (Err e)
-      → GrowsBy (texts_at target (Some (writes_in old.log))) (texts_at (new.paths path) (Some (writes_in new.log))) []
-  tried_on T None e at once = tt
-  tried_on T (Some place) e at once = tried_in place at once.err
+  put_on : {T E : Type 0} (target : Option (List ℕ)) (result : Result T E) → old.paths path ≡ target → PutsOnce old new target held result
+      → GrowsBy (texts_at target (Some (writes_in old.log))) (texts_at (new.paths path) (Some (writes_in new.log))) (texts_put held.bytes result)
+  put_on None result at once = tt
+  put_on (Some place) (Ok x) at once = kept_in place at once.ok
+  put_on (Some place) (Err e) at once = tried_in place at once.err
 
 untold : (target : Option (List ℕ)) (new : Option (List (List ℕ))) (more : List (List ℕ)) → GrowsBy (texts_at target None) new more
 untold None new more = tt
 untold (Some place) new more = tt
 
--- a text written at what the path leads to, and none written
-pub texts_at-put : {T : Type 0} (E : Type 0) (told : Bool) (old new : Disk) (path text : List ℕ) (x : T)
-    → (IsTrue told → (mode : ℕ) × PutsOnce {E = E} old new (old.paths path) (record { bytes = text; mode = mode }) (Ok x))
-    → GrowsBy (texts_at (old.paths path) (writes_on told old)) (texts_at (new.paths path) (writes_on told new)) (text ∷ [])
-texts_at-put E false old new path text x once = untold (old.paths path) _ _
-texts_at-put E true old new path text x once =
-    let done = once refl in kept_on old new path (record { bytes = text; mode = done.0 }) E (old.paths path) x refl done.1
-
-pub texts_at-none : {E : Type 0} (T : Type 0) (told : Bool) (old new : Disk) (path text : List ℕ) (e : E)
-    → (IsTrue told → (mode : ℕ) × PutsOnce {T = T} old new (old.paths path) (record { bytes = text; mode = mode }) (Err e))
-    → GrowsBy (texts_at (old.paths path) (writes_on told old)) (texts_at (new.paths path) (writes_on told new)) []
-texts_at-none T false old new path text e once = untold (old.paths path) _ _
-texts_at-none T true old new path text e once =
-    let done = once refl in tried_on old new path (record { bytes = text; mode = done.0 }) T (old.paths path) e refl done.1
+-- a text written at what the path leads to, or none
+pub texts_at-put : {T E : Type 0} (told : Bool) (old new : Disk) (path text : List ℕ) (result : Result T E)
+    → (IsTrue told → (mode : ℕ) × PutsOnce old new (old.paths path) (record { bytes = text; mode = mode }) result)
+    → GrowsBy (texts_at (old.paths path) (writes_on told old)) (texts_at (new.paths path) (writes_on told new)) (texts_put text result)
+texts_at-put false old new path text result once = untold (old.paths path) _ _
+texts_at-put true old new path text result once =
+    let done = once refl in put_on old new path (record { bytes = text; mode = done.0 }) (old.paths path) result refl done.1
 
 -- the texts at a place, by a path that leads there still
 pub texts_where : (told : Bool) (old new : Disk) (path path' : List ℕ) → path' ≡ path → (IsTrue told → new.paths ≡ old.paths)

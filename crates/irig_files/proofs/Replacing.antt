@@ -1,13 +1,12 @@
 -- One write is a run of writes.
-use Rattle.std.proofs.Common.{◌≡◌, ◌≢◌, ◌⊎◌, inl, inr, ⊎_elim, refl, sym, ◌∙◌, ap, subst, arith, ℕ, List, [], ◌∷◌, ◌++◌, Option, Some, None, Result, Ok, Err}
-use Rattle.std.proofs.Common.{◌≤◌}
+use Rattle.std.proofs.Common.{◌≡◌, ◌≢◌, ◌⊎◌, inl, inr, ⊎_elim, refl, sym, ◌∙◌, ap, arith, ℕ, List, [], ◌∷◌, ◌++◌, Option, Some, None, Result, Ok, Err, ◌≤◌}
 use Rattle.std.proofs.lemmas.List.{append-nil}
 use Rattle.irig_disk.specs.Disk.{Disk, IsPlace, seen_under, MayLeave, LeavesOnly}
 use Rattle.irig_disk.specs.Put.{IsKept, IsPut, OldIfThere, OldOrNewIfThere, SeenSameIfThere, TriesNone, TriesOne}
 use Rattle.irig_disk.specs.{Held.Held, Stays.Stays, Trail.Step, Trail.Moved, Trail.NotMoved, Trail.Synced, Writing.IsUnchanged}
 use Rattle.irig_disk.proofs.Names.{same_or_not}
-use Rattle.irig_files.specs.Once.{FailsToPut, PutsOnce, Replaces}
-use Rattle.irig_files.specs.Writes.{AreAt, EachIsKept, Goes, IsLeftBy, IsMeant, Write, write, writes_in}
+use Rattle.irig_files.specs.Once.{FailsToPut, PutsOnce}
+use Rattle.irig_files.specs.Writes.{AreAt, EachIsKept, Goes, IsLeftBy, IsMeant, kept_by, write, writes_in}
 
 -- what is seen is there
 shown : (d : Disk) (n : List ℕ) (h : Held) → seen_under d n ≡ Some h → d.leads n ≢ None
@@ -53,92 +52,59 @@ module _ (old new : Disk) (place : List ℕ) (held : Held)
       (λ may. inl (counts t n c le (may (meant_there old place n meant))))
       (only.before t n c le l)
 
-  first_moment : (ws : List Write) (n : List ℕ) (c : Option Held) → old.left_since old.moment n c ⊎ IsLeftBy ws n c → MayLeave old n c ⊎ IsLeftBy ws n c
-  first_moment ws n c (inl was) = inl (at_first n c was)
-  first_moment ws n c (inr by) = inr by
-
-  -- one that failed
-  pub goes_by_fault : IsPlace old place → LeavesOnly old new (OldOrNewIfThere old place held) → FailsToPut old new place held → Goes old new (Some place)
-  goes_by_fault at only fault = go fault.log
-    where
-      go : TriesOne old new place held → Goes old new (Some place)
-      go (inl none) = record {
-        more = [];
-        grows = none.log ∙ sym (append-nil old.log);
-        begins = refl;
-        later = only.later;
-        paths = fault.paths at;
-        there = there_by_fault old new place held fault.seen;
-        at_target = tt;
-        any_moment = λ n c meant l. first_moment [] n c (no_moment none.moments old.moment n c (omega arith) meant l);
-        before = no_moment none.moments;
-        kept = tt;
-      }
-      go (inr (inl moved)) = record {
-        more = Moved place (Some held) ∷ [];
-        grows = moved;
-        begins = refl;
-        later = only.later;
-        paths = fault.paths at;
-        there = there_by_fault old new place held fault.seen;
-        at_target = (refl, tt);
-        any_moment = λ n c meant l. first_moment (write place held None ∷ []) n c (one_moment only None old.moment n c (omega arith) meant l);
-        before = one_moment only None;
-        kept = (tt, tt);
-      }
-      go (inr (inr moved)) = record {
-        more = NotMoved place (Some held) ∷ [];
-        grows = moved;
-        begins = refl;
-        later = only.later;
-        paths = fault.paths at;
-        there = there_by_fault old new place held fault.seen;
-        at_target = (refl, tt);
-        any_moment = λ n c meant l. first_moment (write place held None ∷ []) n c (one_moment only None old.moment n c (omega arith) meant l);
-        before = one_moment only None;
-        kept = (tt, tt);
-      }
-
-  -- one that succeeded
-  pub goes_by_write : IsPlace old place → LeavesOnly old new (OldOrNewIfThere old place held) → IsKept old new place held
-      → ((n : List ℕ) (c : Option Held) → new.left_since new.moment n c → MayLeave new n c) → Goes old new (Some place)
-  goes_by_write at only kept now = record {
-    more = Moved place (Some held) ∷ Synced new.moment ∷ [];
-    grows = kept.log;
-    begins = refl;
-    later = only.later;
-    paths = kept.paths at;
-    there = there_by_put old new place held kept.put;
-    at_target = (refl, tt);
-    any_moment = λ n c meant l.
-        first_moment (write place held (Some new.moment) ∷ []) n c (one_moment only (Some new.moment) old.moment n c (omega arith) meant l);
-    before = one_moment only (Some new.moment);
-    kept = (
-      record {
-        began = only.later;
-        ended = omega arith;
-        there = shown new place held kept.put.at_target;
-        left = λ c l. inl (kept.kept c (now place c l));
-      },
-      tt,
-    );
+  -- these steps were done, and their writes leave what a crash finds
+  goes_by : (target : Option (List ℕ)) (more : List Step) → new.log ≡ old.log ++ more → kept_by more ≡ None → old.moment ≤ new.moment → new.paths ≡ old.paths
+      → ((n : List ℕ) → old.leads n ≢ None → new.leads n ≢ None) → AreAt target (writes_in more) → EachIsKept old new (writes_in more)
+      → ((t : ℕ) (n : List ℕ) (c : Option Held) → t ≤ old.moment → IsMeant old target n → new.left_since t n c
+      → old.left_since t n c ⊎ IsLeftBy (writes_in more) n c) → Goes old new target
+  goes_by target more grows begins later paths there at_target kept before = record {
+    more = more;
+    grows = grows;
+    begins = begins;
+    later = later;
+    paths = paths;
+    there = there;
+    at_target = at_target;
+    any_moment = λ n c meant l. ⊎_elim (λ was. inl (at_first n c was)) (λ by. inr by) (before old.moment n c (omega arith) meant l);
+    before = before;
+    kept = kept;
   }
 
--- no file was changed
-goes_unchanged : (old new : Disk) → ((t : ℕ) (n : List ℕ) (c : Option Held) → t ≤ old.moment → MayLeave old n c → old.left_since t n c)
-    → IsUnchanged old new → Goes old new None
-goes_unchanged old new counts same = record {
-  any_moment = λ n c meant l. inl (same.moments.each n c l);
-  more = [];
-  grows = same.stays.names.log ∙ sym (append-nil old.log);
-  begins = refl;
-  later = same.moments.later;
-  paths = same.stays.names.paths;
-  there = λ n is none. is (sym (same.stays.names.seen n) ∙ none);
-  at_target = tt;
-  before = λ t n c le meant l. ⊎_elim (λ was. inl was) (λ may. inl (counts t n c le may)) (same.moments.before t n c le l);
-  kept = tt;
-}
+  -- one that failed
+  goes_by_fault : IsPlace old place → LeavesOnly old new (OldOrNewIfThere old place held) → FailsToPut old new place held → Goes old new (Some place)
+  goes_by_fault at only fault = go fault.log
+    where
+      there : (n : List ℕ) → old.leads n ≢ None → new.leads n ≢ None
+      there = there_by_fault old new place held fault.seen
+
+      go : TriesOne old new place held → Goes old new (Some place)
+      go (inl none) =
+          goes_by (Some place) [] (none.log ∙ sym (append-nil old.log)) refl only.later (fault.paths at) there tt tt (no_moment none.moments)
+      go (inr (inl moved)) =
+          goes_by (Some place) (Moved place (Some held) ∷ []) moved refl only.later (fault.paths at) there (refl, tt) (tt, tt) (one_moment only None)
+      go (inr (inr moved)) =
+          goes_by (Some place) (NotMoved place (Some held) ∷ []) moved refl only.later (fault.paths at) there (refl, tt) (tt, tt) (one_moment only None)
+
+  -- one that succeeded
+  goes_by_write : IsPlace old place → LeavesOnly old new (OldOrNewIfThere old place held) → IsKept old new place held
+      → ((n : List ℕ) (c : Option Held) → new.left_since new.moment n c → MayLeave new n c) → Goes old new (Some place)
+  goes_by_write at only kept now = goes_by (Some place) (Moved place (Some held) ∷ Synced new.moment ∷ []) kept.log refl only.later (kept.paths at)
+      (there_by_put old new place held kept.put) (refl, tt) (
+        record {
+          began = only.later;
+          ended = omega arith;
+          there = shown new place held kept.put.at_target;
+          left = λ c l. inl (kept.kept c (now place c l));
+        },
+        tt,
+      )
+      (one_moment only (Some new.moment))
+
+  -- none, since no file was changed
+  goes_unchanged : IsUnchanged old new → Goes old new None
+  goes_unchanged same = goes_by None [] (same.stays.names.log ∙ sym (append-nil old.log)) refl same.moments.later same.stays.names.paths
+      (λ n is none. is (sym (same.stays.names.seen n) ∙ none)) tt tt
+      (λ t n c le meant l. ⊎_elim (λ was. inl was) (λ may. inl (counts t n c le may)) (same.moments.before t n c le l))
 
 -- one write, whatever the path leads to
 pub goes_once : {T E : Type 0} (old new : Disk) (target : Option (List ℕ)) (path : List ℕ) (held : Held) (result : Result T E)
@@ -146,6 +112,6 @@ pub goes_once : {T E : Type 0} (old new : Disk) (target : Option (List ℕ)) (pa
     → ((n : List ℕ) (c : Option Held) → old.left_since old.moment n c → MayLeave old n c)
     → ((n : List ℕ) (c : Option Held) → new.left_since new.moment n c → MayLeave new n c)
     → old.paths path ≡ target → PutsOnce old new target held result → Goes old new target
-goes_once old new None path held result counts first now at once = goes_unchanged old new counts once
+goes_once old new None path held result counts first now at once = goes_unchanged old new path held counts first once
 goes_once old new (Some place) path held (Ok x) counts first now at once = goes_by_write old new place held counts first (path, at) once.any_moment once.ok now
 goes_once old new (Some place) path held (Err e) counts first now at once = goes_by_fault old new place held counts first (path, at) once.any_moment once.err

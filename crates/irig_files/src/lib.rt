@@ -10,7 +10,6 @@ mod files;
 mod in_place;
 mod intake;
 mod links;
-mod memory_system;
 mod opening;
 mod plain_calls;
 mod put_file;
@@ -22,7 +21,7 @@ mod written;
 
 pub use described::Described;
 pub use disk::Disk;
-pub use dump_file::DumpFileFault;
+pub use dump_file::{DumpFileFault, read_whole};
 pub use file_shelf::FileShelf;
 pub use file_system::FileSystem;
 pub use files::Files;

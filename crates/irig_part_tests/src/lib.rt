@@ -4,8 +4,6 @@
 #[cfg(test)]
 mod codes;
 #[cfg(test)]
-mod disks;
-#[cfg(test)]
 mod dumps;
 #[cfg(test)]
 mod edges;

@@ -7,6 +7,3 @@ mod row;
 mod rows;
 mod stopped_disks;
 mod stops;
-pub mod tree_folders;
-pub mod tree_stops;
-mod tree_ways;

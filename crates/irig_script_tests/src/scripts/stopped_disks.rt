@@ -3,9 +3,9 @@
 use crate::scripts::failing_ends::REFUSED;
 use crate::scripts::helpers::two_pulses;
 use crate::scripts::stops::INVERTED;
-use irig_disk::{Call, Memory, bytes_of, file_at, is_kept};
 use irig_edit::Session;
 use irig_files::{FileShelf, Files, Room};
+use irig_folders::{Call, Memory, bytes_of, file_at, is_kept};
 use irig_script::{NoWitness, RunFault, Screen, Status, run};
 use std::alloc::Global;
 

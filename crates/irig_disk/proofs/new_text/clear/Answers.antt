@@ -1,4 +1,4 @@
-use Rattle.irig_disk.proofs.Steps.{after_removal, moments_of_removal}
+use Rattle.irig_disk.proofs.Steps.{after_removal, freed_moments, may_remove}
 use Rattle.irig_disk.proofs.new_text.clear.Goals as goal
 
 pub returns-clause-left : goal.returns-clause-left
@@ -8,4 +8,4 @@ returns-clause-left g c told start target text s =
 
 pub returns-clause-any_moment : goal.returns-clause-any_moment
 returns-clause-any_moment g c told start target text s =
-    moments_of_removal _ _ _ _ _ _ c.remove.result s (c.remove.ensures.ok told) (c.remove.ensures.err told) (c.remove.ensures.time told)
+    freed_moments _ _ _ _ _ _ s (may_remove _ _ _ c.remove.result (c.remove.ensures.ok told) (c.remove.ensures.err told)) (c.remove.ensures.time told)

@@ -1,5 +1,6 @@
+use Rattle.std.proofs.Common.{◌∙◌}
 use Rattle.std.proofs.lemmas.Result.{on_ok_weaker, on_err_weaker}
-use Rattle.irig_disk.proofs.Steps.{stuck, freed, not_freed, old_moments_of_removal, rest_of_removal}
+use Rattle.irig_disk.proofs.Steps.{stuck, freed, given_up_moments, may_remove, not_freed}
 use Rattle.irig_disk.proofs.new_text.NewText.give_up.Goals as goal
 
 pub returns-clause-ok : goal.returns-clause-ok
@@ -14,8 +15,9 @@ returns-clause-err g c told mode start text w =
 
 pub returns-clause-any_moment : goal.returns-clause-any_moment
 returns-clause-any_moment g c told mode start text w =
-    old_moments_of_removal _ _ _ _ _ _ c.remove.result w.stands (c.remove.ensures.ok told) (c.remove.ensures.err told) (c.remove.ensures.time told)
+    given_up_moments _ _ _ _ _ _ w.stands (may_remove _ _ _ c.remove.result (c.remove.ensures.ok told) (c.remove.ensures.err told)) (c.remove.ensures.time told)
 
 pub returns-clause-rest : goal.returns-clause-rest
 returns-clause-rest g c told mode start text w =
-    rest_of_removal _ _ _ _ _ _ c.remove.result w.stands (c.remove.ensures.ok told) (c.remove.ensures.err told)
+    let may = may_remove _ _ _ c.remove.result (c.remove.ensures.ok told) (c.remove.ensures.err told) in
+    (may.log ∙ w.stands.log, may.paths _ w.stands.leads w.stands.regular ∙ w.stands.paths)

@@ -1,19 +1,17 @@
-use Rattle.irig_text.specs.declared.shelf.ShelfFault.{ShelfFault}
-use Rattle.irig_files.specs.declared.written.Written.{Written}
 use Rattle.std.proofs.Common.{refl, arith}
-use Rattle.irig_files.proofs.{PutsAt.texts_at-put, PutsAt.texts_at-none, Replacing.goes_once}
+use Rattle.irig_files.proofs.{PutsAt.texts_at-put, Replacing.goes_once}
 use Rattle.irig_files.proofs.file_shelf.FileShelfShelf.put.Goals as goal
 
 pub returns-in-Ok-clause-ok : goal.returns-in-Ok-clause-ok
 returns-in-Ok-clause-ok g c = record {
-  put = texts_at-put ShelfFault g.D.Disk.is_told (g.D.Disk.disk c.args.self.now.disk.now) (g.D.Disk.disk c.put.new.self) c.args.self.now.path.now (g.T.Text.rest c.args.text.now) c.in-Ok.written (rw c.in-Ok.is at c.put.ensures.put);
+  put = rw c.in-Ok.is at (texts_at-put g.D.Disk.is_told (g.D.Disk.disk c.args.self.now.disk.now) (g.D.Disk.disk c.put.new.self) c.args.self.now.path.now (g.T.Text.rest c.args.text.now) c.put.result c.put.ensures.put);
   failed = omega arith;
   label = refl;
 }
 
 pub returns-in-Err-clause-err : goal.returns-in-Err-clause-err
 returns-in-Err-clause-err g c = record {
-  put = texts_at-none Written g.D.Disk.is_told (g.D.Disk.disk c.args.self.now.disk.now) (g.D.Disk.disk c.put.new.self) c.args.self.now.path.now (g.T.Text.rest c.args.text.now) c.in-Err.fault (rw c.in-Err.is at c.put.ensures.put);
+  put = rw c.in-Err.is at (texts_at-put g.D.Disk.is_told (g.D.Disk.disk c.args.self.now.disk.now) (g.D.Disk.disk c.put.new.self) c.args.self.now.path.now (g.T.Text.rest c.args.text.now) c.put.result c.put.ensures.put);
   failed = omega arith;
   label = refl;
 }

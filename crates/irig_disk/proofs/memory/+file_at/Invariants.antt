@@ -1,5 +1,0 @@
-use Rattle.std.proofs.Common.{length}
-use Rattle.irig_disk.proofs.memory.+file_at.Given as goal
-
-abbrev pub decreases-file_at : goal.decreases-file_at
-decreases-file_at l = length l.calls.now

@@ -1,0 +1,11 @@
+//! Writes of texts, tested over folders in memory. It has no code of its own.
+#![tactic(auto)]
+
+#[cfg(test)]
+mod disks;
+#[cfg(test)]
+mod tree_folders;
+#[cfg(test)]
+mod tree_stops;
+#[cfg(test)]
+mod tree_ways;

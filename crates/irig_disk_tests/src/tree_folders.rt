@@ -1,0 +1,101 @@
+//! Folders with links and other files, and writes in them.
+
+use irig_files::{Disk, Files, Room, Written};
+use irig_folders::{MemoryFault, Tree, TreeDir};
+use irig_text::{Bytes, ShelfFault};
+use std::alloc::Global;
+
+/// How many links the folders follow. The program's own limit is 40.
+const LIMIT: u64 = 64;
+
+/// The mode of each regular file.
+pub const MODE: u32 = 0o640;
+
+/// The paths of folders, and what their places begin with.
+static PATHS: [(&str, &str); 6] = [
+    (".", "/"),
+    ("a", "a/"),
+    ("b", "b/"),
+    ("a/../b", "b/"),
+    ("/top/b", "b/"),
+    ("/top", "/"),
+];
+
+/// The places of regular files, which hold the text `old`.
+pub static OLD: [&str; 4] = ["/t", "/u", "a/t", "b/t"];
+
+/// The places of links, and their texts.
+pub static LINKS: [(&str, &str); 8] = [
+    ("/relative", "a/t"),
+    ("a/upward", "../b/t"),
+    ("/absolute", "/top/b/t"),
+    ("/chain", "relative"),
+    ("/dangling", "b/none"),
+    ("/loop", "pool"),
+    ("/pool", "loop"),
+    ("/piped", "pipe"),
+];
+
+/// A write that succeeds: its path, the place that it goes to, and whether a file is there.
+#[derive(Clone, Copy)]
+pub struct Row {
+    pub path: &'static str,
+    pub place: &'static str,
+    pub is_there: bool,
+}
+
+/// A write that succeeds.
+pub fn row_of(path: &'static str, place: &'static str, is_there: bool) -> Row {
+    Row {
+        path,
+        place,
+        is_there,
+    }
+}
+
+/// The writes.
+pub static WRITES: [(&str, &str, bool); 8] = [
+    ("t", "/t", true),
+    ("a/t", "a/t", true),
+    ("relative", "a/t", true),
+    ("a/upward", "b/t", true),
+    ("absolute", "b/t", true),
+    ("chain", "a/t", true),
+    ("dangling", "b/none", false),
+    ("a/none", "a/none", false),
+];
+
+/// The folders of the rows.
+pub fn folders(alloc: Global) -> Result<Tree, MemoryFault> {
+    let mut tree = Tree::new(alloc, LIMIT);
+    for (path, front) in PATHS.iter() {
+        tree.add_path(path, front)?;
+    }
+    for place in OLD.iter() {
+        tree.add_file(place, b"old", MODE)?;
+    }
+    for (place, text) in LINKS.iter() {
+        tree.add_other(place, Some(String::from_str(alloc, text)?))?;
+    }
+    tree.add_file("/locked", b"old", 0o440)?;
+    tree.add_other("/pipe", None)?;
+    Ok(tree)
+}
+
+/// Writes the text `new` to a path.
+pub fn write(alloc: Global, files: &mut Files<Tree>, path: &str) -> Result<Written, ShelfFault> {
+    let Ok(mut room) = Room::new(alloc) else {
+        return Err(ShelfFault);
+    };
+    files.put(path, &mut Bytes::new(b"new"), &mut room)
+}
+
+/// The files of these folders.
+pub fn files_of(alloc: Global, tree: Tree) -> Files<Tree> {
+    Files::new(
+        tree,
+        TreeDir {
+            front: String::new(alloc),
+        },
+    )
+}

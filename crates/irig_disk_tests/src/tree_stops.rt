@@ -1,0 +1,136 @@
+//! Writes through links and in several folders: failed at each call, and stopped after each.
+
+use crate::tree_folders::{LINKS, MODE, OLD, Row, WRITES, files_of, folders, row_of, write};
+use irig_folders::{Call, Tree, USUAL, bytes_of, file_at, is_kept, mode_of};
+use std::alloc::Global;
+
+/// Whether a file holds one of the two texts, and each crash leaves it so.
+fn is_whole(alloc: Global, calls: &[Call], file: usize, row: Row) -> bool {
+    match bytes_of(alloc, calls, file) {
+        Ok(held) => {
+            (held.as_slice() == b"old".as_slice() || held.as_slice() == b"new".as_slice())
+                && mode_of(calls, file) == if row.is_there { MODE } else { USUAL }
+                && is_kept(calls, file)
+        }
+        Err(_) => false,
+    }
+}
+
+/// Whether a crash after these calls, the newest first, leaves a whole text at a place: in the file
+/// that it leads to, and in each that it led to since its name was kept.
+fn leaves_whole(alloc: Global, calls: &[Call], row: Row) -> bool {
+    for gone in 0..=calls.len() {
+        let Some(older) = calls.get(gone..) else {
+            return false;
+        };
+        match file_at(older, row.place.as_bytes()) {
+            Some(file) if !is_whole(alloc, calls, file, row) => return false,
+            None if row.is_there => return false,
+            _ => {}
+        }
+        if keeps_name(older, row.place) {
+            return true;
+        }
+    }
+    false
+}
+
+/// Whether the newest of the calls keeps a name.
+fn keeps_name(calls: &[Call], place: &str) -> bool {
+    match calls.first() {
+        Some(Call::SyncNames(front)) => place.as_bytes().starts_with(front),
+        _ => false,
+    }
+}
+
+/// Whether the other names of files and links lead where they led before these last calls.
+fn others_stay(calls: &[Call], last: usize, row: Row) -> bool {
+    let Some(before) = calls.get(last..) else {
+        return false;
+    };
+    for place in OLD.iter() {
+        if *place != row.place && !is_same(calls, before, place) {
+            return false;
+        }
+    }
+    for (place, _) in LINKS.iter() {
+        if !is_same(calls, before, place) {
+            return false;
+        }
+    }
+    is_same(calls, before, "/pipe")
+}
+
+/// Whether a name leads to the same file after calls as before them.
+fn is_same(calls: &[Call], before: &[Call], place: &str) -> bool {
+    let file = file_at(calls, place.as_bytes());
+    file.is_some() && file == file_at(before, place.as_bytes())
+}
+
+/// Whether it is so after each of the last calls.
+fn is_whole_at_each_stop(alloc: Global, calls: &[Call], last: usize, row: Row) -> bool {
+    for gone in 0..=last {
+        match calls.get(gone..) {
+            Some(older)
+                if leaves_whole(alloc, older, row)
+                    && others_stay(older, last.saturating_sub(gone), row) => {}
+            _ => return false,
+        }
+    }
+    true
+}
+
+/// Whether a place leads to a file with this text.
+fn holds(alloc: Global, calls: &[Call], place: &str, text: &[u8]) -> bool {
+    let Some(file) = file_at(calls, place.as_bytes()) else {
+        return false;
+    };
+    match bytes_of(alloc, calls, file) {
+        Ok(held) => held.as_slice() == text,
+        Err(_) => false,
+    }
+}
+
+/// How many calls the write of a row makes: make, append, take the mode of the file that is there,
+/// sync the file, rename, sync the folder.
+fn calls_of(row: Row) -> u64 {
+    if row.is_there { 6 } else { 5 }
+}
+
+/// Whether the write of a row with one call that fails, by its number from 0, is answered so,
+/// and leaves a whole text at each stop.
+pub fn is_written(alloc: Global, mut tree: Tree, row: Row, fails: u64) -> bool {
+    let before = tree.memory.calls().len();
+    tree.memory.fail(fails, fails.saturating_add(1));
+    let mut files = files_of(alloc, tree);
+    let written = write(alloc, &mut files, row.path);
+    let calls = files.system().memory.calls();
+    let last = calls.len().saturating_sub(before);
+    is_whole_at_each_stop(alloc, calls, last, row)
+        && match written {
+            Ok(_) => fails == calls_of(row) && holds(alloc, calls, row.place, b"new"),
+            Err(_) => fails < calls_of(row),
+        }
+}
+
+/// Whether it is so with each call that fails, and with none.
+fn is_written_once(alloc: Global, row: Row) -> bool {
+    for fails in 0..=calls_of(row) {
+        let Ok(tree) = folders(alloc) else {
+            return false;
+        };
+        if !is_written(alloc, tree, row, fails) {
+            return false;
+        }
+    }
+    true
+}
+
+// A write goes to where the links lead. A call that fails, and a crash after each, leave the old
+// text there or the new one, and all other names.
+#[test]
+fn a_write_through_links_is_whole_at_each_stop(rt: HostRuntime) {
+    for (path, place, is_there) in WRITES.iter() {
+        assert!(rt; is_written_once(rt.alloc(), row_of(path, place, *is_there)));
+    }
+}

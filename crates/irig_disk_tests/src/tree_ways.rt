@@ -1,0 +1,105 @@
+//! What is not written, what is written in place, and how many links are followed.
+
+use crate::tree_folders::{files_of, folders, row_of, write};
+use crate::tree_stops::is_written;
+use irig_files::Written;
+use irig_folders::{MemoryFault, Plain, Tree};
+use std::alloc::Global;
+
+/// Whether a write to a path with a call that fails is refused, and no call was done.
+fn is_refused(alloc: Global, mut tree: Tree, path: &str, blind: Option<Plain>) -> bool {
+    let before = tree.memory.calls().len();
+    tree.blind = blind;
+    let mut files = files_of(alloc, tree);
+    write(alloc, &mut files, path).is_err() && files.system().memory.calls().len() == before
+}
+
+/// Whether it is so in the folders of the rows.
+fn is_refused_once(alloc: Global, path: &str, blind: Option<Plain>) -> bool {
+    match folders(alloc) {
+        Ok(tree) => is_refused(alloc, tree, path, blind),
+        Err(_) => false,
+    }
+}
+
+/// Paths to which nothing is written, with the call that fails, if one does.
+static REFUSED: [(&str, Option<Plain>); 11] = [
+    ("loop", None),
+    ("locked", None),
+    ("nowhere/t", None),
+    ("a/..", None),
+    ("chain", Some(Plain::Describe)),
+    ("chain", Some(Plain::Output)),
+    ("chain", Some(Plain::ReadLink)),
+    ("chain", Some(Plain::OpenFolder)),
+    ("chain", Some(Plain::OpenSeen)),
+    ("chain", Some(Plain::Seen)),
+    ("pipe", Some(Plain::OpenOther)),
+];
+
+// A loop, a file that must not be written, a path without a folder or a name, and a call that fails
+// before the new file is made change nothing.
+#[test]
+fn a_write_that_is_refused_changes_nothing(rt: HostRuntime) {
+    for (path, blind) in REFUSED.iter() {
+        assert!(rt; is_refused_once(rt.alloc(), path, *blind));
+    }
+}
+
+/// Whether a text is written in place to a path: all of it, and no name is changed.
+fn is_in_place(alloc: Global, path: &str) -> bool {
+    let Ok(tree) = folders(alloc) else {
+        return false;
+    };
+    let before = tree.memory.calls().len();
+    let mut files = files_of(alloc, tree);
+    let written = write(alloc, &mut files, path);
+    files.system().memory.calls().len() == before
+        && match written {
+            Ok(Written::InPlace(all)) => all.count() == 3,
+            _ => false,
+        }
+}
+
+// What is no regular file is written in place, through a link too.
+#[test]
+fn a_pipe_is_written_in_place(rt: HostRuntime) {
+    assert!(rt; is_in_place(rt.alloc(), "pipe"));
+    assert!(rt; is_in_place(rt.alloc(), "piped"));
+}
+
+/// Adds this many links: `0` leads to `1`, and so on, and the last to `a/t`.
+fn add_links(alloc: Global, tree: &mut Tree, count: u32) -> Result<(), MemoryFault> {
+    for number in 0..count {
+        let place = format!(in alloc; "/{number}")?;
+        let text = if number + 1 == count {
+            String::from_str(alloc, "a/t")?
+        } else {
+            format!(in alloc; "{}", number + 1)?
+        };
+        tree.add_other(place.as_str(), Some(text))?;
+    }
+    Ok(())
+}
+
+/// Whether a write through this many links is done, or is refused.
+fn links_are_followed(alloc: Global, count: u32, is_done: bool) -> bool {
+    let Ok(mut tree) = folders(alloc) else {
+        return false;
+    };
+    let Ok(()) = add_links(alloc, &mut tree, count) else {
+        return false;
+    };
+    if is_done {
+        is_written(alloc, tree, row_of("0", "a/t", true), 6)
+    } else {
+        is_refused(alloc, tree, "0", None)
+    }
+}
+
+// Forty links are followed, and no more.
+#[test]
+fn forty_links_are_followed(rt: HostRuntime) {
+    assert!(rt; links_are_followed(rt.alloc(), 40, true));
+    assert!(rt; links_are_followed(rt.alloc(), 41, false));
+}

@@ -1,0 +1,3 @@
+mod KeptFiles
+mod Lifted
+mod LogSteps

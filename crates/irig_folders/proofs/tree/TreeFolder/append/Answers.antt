@@ -1,0 +1,12 @@
+use Rattle.std.proofs.lemmas.Result.{on_ok_weaker, on_err_weaker}
+use Rattle.irig_folders.proofs.Lifted.{changed, elapses, wrote_some}
+use Rattle.irig_folders.proofs.tree.TreeFolder.append.Goals as goal
+
+pub returns-clause-ok : goal.returns-clause-ok
+returns-clause-ok c told = on_ok_weaker c.append.result (λ s. changed c.args.self.now.layout _ _ _ _ s) (c.append.ensures.ok told)
+
+pub returns-clause-err : goal.returns-clause-err
+returns-clause-err c told = on_err_weaker c.append.result (λ s. wrote_some c.args.self.now.layout _ _ _ _ s) (c.append.ensures.err told)
+
+pub returns-clause-time : goal.returns-clause-time
+returns-clause-time c told = elapses c.args.self.now.layout _ _ (c.append.ensures.time told)

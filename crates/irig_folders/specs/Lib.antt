@@ -1,0 +1,6 @@
+pub mod InMemory
+pub mod Led
+pub mod Log
+pub mod LogLaws
+pub mod Tree
+pub mod TreeLaws

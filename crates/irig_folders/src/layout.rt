@@ -1,0 +1,59 @@
+//! Which folders in memory there are, and which files in them are no regular ones.
+
+ghost use Rattle.std.specs.Prelude.{◌≡◌, is_none, option_copied};
+ghost use Rattle.irig_folders.specs.Tree.{front_in, other_in};
+
+/// A path of a folder. A folder can have many.
+#[derive(Drop)]
+pub struct FolderPath {
+    /// The path.
+    pub path: String,
+    /// What the places of names in the folder begin with.
+    pub front: String,
+}
+
+/// A file that is no regular one.
+#[derive(Drop)]
+pub struct Other {
+    /// Its number.
+    pub number: usize,
+    /// Where it leads, if it is a link.
+    pub text: Option<String>,
+}
+
+/// Which folders there are, which files are no regular ones, and how many links a path may follow.
+#[derive(Drop)]
+pub struct Layout {
+    pub folders: Vec<FolderPath>,
+    pub others: Vec<Other>,
+    pub limit: u64,
+}
+
+/// What the places of names in a folder begin with, by a path of it.
+pub fn front_at<'f>(folders: &'f [FolderPath], path: &[u8]) -> Option<&'f str>
+    ensures { option_copied result ≡ front_in folders.now path.now }
+{
+    let (folder, rest) = folders.split_first()?;
+    if folder.path.as_bytes() == path {
+        return Some(folder.front.as_str());
+    }
+    front_at(rest, path)
+}
+
+/// Whether a file is a regular one.
+pub fn is_regular(others: &[Other], number: usize) -> bool
+    ensures { result ≡ is_none (other_in others.now number) }
+{
+    other_at(others, number).is_none()
+}
+
+/// A file that is no regular one, by its number.
+pub fn other_at<'o>(others: &'o [Other], number: usize) -> Option<&'o Other>
+    ensures { option_copied result ≡ other_in others.now number }
+{
+    let (other, rest) = others.split_first()?;
+    if other.number == number {
+        return Some(other);
+    }
+    other_at(rest, number)
+}

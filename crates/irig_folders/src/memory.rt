@@ -1,0 +1,286 @@
+//! A folder in memory, for tests. It is the log of the calls that were done on it, the newest
+//! first.
+
+ghost use Rattle.std.specs.Prelude.{◌≡◌, ◌↔◌, ◌≤◌, ◌<◌, ◌∷◌, ◌++◌, ◌+◌, ◌-◌, ◌^◌, [], List, false, true};
+ghost use Rattle.std.specs.Prelude.{None, OnOk, OnErr, IfOk, IfErr, IfSome, IsTrue, MatchOption, min};
+ghost use Rattle.std.specs.Prelude.{MatchResult};
+ghost use Rattle.std.specs.Prelude.{vec_len, vec_capacity};
+ghost use Rattle.irig_folders.specs.LogLaws.{log_counts_now, log_only_now};
+ghost use Rattle.irig_folders.specs.declared.memory_fault.MemoryFault.TheVariants.{NoMemory};
+ghost use Rattle.irig_disk.specs.Calls.{IsTaken, Made, SyncedNames, mode_made};
+ghost use Rattle.irig_disk.specs.{Disk.Elapses, Stays.Stays};
+ghost use Rattle.irig_folders.specs.{Led.makes, Log.disk_of, Log.leads_in, declared.call.Call.Call};
+ghost use Rattle.irig_folders.specs.declared.memory.TheConstants.{USUAL};
+
+use crate::call::Call;
+use crate::memory_fault::MemoryFault;
+use irig_disk::Folder;
+use std::alloc::Global;
+
+/// The mode of a file that is its owner's alone.
+const OWNER_ONLY: u32 = 0o600;
+
+/// The mode of any other new file of a folder in memory.
+pub const USUAL: u32 = 0o644;
+
+/// A file of a folder in memory.
+#[derive(Drop)]
+pub struct MemoryFile {
+    number: usize,
+}
+
+/// A folder in memory. It can let some calls fail.
+#[derive(Drop)]
+pub struct Memory {
+    alloc: Global,
+    calls: Vec<Call>,
+    done: u64,
+    fails_from: u64,
+    fails_to: u64,
+}
+
+/// The number of the file that a name leads to.
+pub fn file_at(calls: &[Call], name: &[u8]) -> Option<usize>
+    ensures { result ≡ leads_in calls.now name.now }
+{
+    let (call, older) = calls.split_first()?;
+    if is_made(call, name) {
+        return Some(older.len());
+    }
+    file_at(older, name_before(call, name)?)
+}
+
+/// Whether a call makes a file of a name.
+fn is_made(call: &Call, name: &[u8]) -> bool
+    ensures { result ≡ makes call.now name.now }
+{
+    match call {
+        Call::Make(made, _) => made.as_slice() == name,
+        _ => false,
+    }
+}
+
+/// The name that led, before a call that does not make it, to the file of a name. `None`: no file.
+fn name_before<'n>(call: &'n Call, name: &'n [u8]) -> Option<&'n [u8]>
+    ensures { (older : List Call) → makes call.now name.now ≡ false → MatchOption result
+        (leads_in (call.now ∷ older) name.now ≡ None)
+        (λ before. leads_in (call.now ∷ older) name.now ≡ leads_in older before.now) }
+{
+    match call {
+        Call::Rename(from, to) if to.as_slice() == name => Some(from.as_slice()),
+        Call::Rename(gone, _) | Call::Remove(gone) if gone.as_slice() == name => None,
+        _ => Some(name),
+    }
+}
+
+/// Adds a call to a log.
+fn add(calls: &mut Vec<Call>, call: Call) -> Result<(), MemoryFault>
+    ensures ok { OnOk result (calls.new.items ≡ call ∷ calls.old.items) }
+    ensures err { OnErr result (calls.new.items ≡ calls.old.items) }
+    ensures fault { IfErr result (λ fault. fault ≡ NoMemory) }
+    ensures full { OnErr result (vec_capacity calls.old ≤ vec_len calls.old) }
+{
+    calls.insert(0, call)?;
+    Ok(())
+}
+
+impl Memory {
+    /// An empty folder.
+    pub fn new(alloc: Global) -> Self
+        ensures empty { result.calls.items ≡ [] }
+        ensures unplanned { result.fails_to ≡ 0 }
+    {
+        Memory {
+            alloc,
+            calls: Vec::new(alloc),
+            done: 0,
+            fails_from: 0,
+            fails_to: 0,
+        }
+    }
+
+    /// The calls that were done, the newest first.
+    pub fn calls(&self) -> &[Call]
+        ensures { result.now ≡ self.now.calls.items }
+    {
+        &self.calls
+    }
+
+    /// Lets the calls from one on fail, up to but not including another, counted from here from 0.
+    pub fn fail(&mut self, from: u64, to: u64)
+        ensures calls { self.new.calls ≡ self.old.calls }
+        ensures done { self.new.done ≡ 0 }
+        ensures from { self.new.fails_from ≡ from }
+        ensures to { self.new.fails_to ≡ to }
+    {
+        self.done = 0;
+        self.fails_from = from;
+        self.fails_to = to;
+    }
+
+    /// Whether this call is to fail. It counts the call.
+    fn is_planned(&mut self) -> bool
+        ensures planned { IsTrue result
+            ↔ (self.old.fails_from ≤ self.old.done) × (self.old.done < self.old.fails_to) }
+        ensures calls { self.new.calls ≡ self.old.calls }
+        ensures done { self.new.done ≡ min (self.old.done + 1) (2 ^ 64 - 1) }
+        ensures from { self.new.fails_from ≡ self.old.fails_from }
+        ensures to { self.new.fails_to ≡ self.old.fails_to }
+    {
+        let now = self.done;
+        self.done = now.saturating_add(1);
+        self.fails_from <= now && now < self.fails_to
+    }
+}
+
+impl Memory {
+    /// Adds a new file.
+    fn add_file(&mut self, name: &str, mode: u32) -> Result<MemoryFile, MemoryFault>
+        ensures ok { leads_in self.old.calls.items name.now ≡ None → IfOk result
+            (λ file. Made (disk_of self.old.calls.items) (disk_of self.new.calls.items)
+            name.now file.number mode) }
+        ensures err { OnErr result (self.new.calls.items ≡ self.old.calls.items) }
+        ensures fault { IfErr result (λ fault. fault ≡ NoMemory) }
+        ensures number { IfOk result (λ file. file.number ≡ vec_len self.old.calls) }
+        ensures time { Elapses (disk_of self.old.calls.items) (disk_of self.new.calls.items) }
+    {
+        let number = self.calls.len();
+        let name = name.as_bytes().to_vec(self.alloc)?;
+        add(&mut self.calls, Call::Make(name, mode))?;
+        Ok(MemoryFile { number })
+    }
+}
+
+impl Memory {
+    /// Makes a new file under a name if it is free; a hidden one is its owner's alone.
+    pub fn make_new(&mut self, name: &str, hidden: bool) -> Result<Option<MemoryFile>, MemoryFault>
+        ensures done { MatchResult result (λ made. MatchOption made
+            (IsTaken (disk_of self.old.calls.items) (disk_of self.new.calls.items) name.now)
+            (λ file. Made (disk_of self.old.calls.items) (disk_of self.new.calls.items)
+            name.now file.number (mode_made USUAL hidden)))
+            (λ _. Stays (disk_of self.old.calls.items) (disk_of self.new.calls.items)) }
+        ensures number { IfOk result (λ made. IfSome made
+            (λ file. file.number ≡ vec_len self.old.calls)) }
+        ensures time { Elapses (disk_of self.old.calls.items) (disk_of self.new.calls.items) }
+    {
+        if self.is_planned() {
+            return Err(MemoryFault::Planned);
+        }
+        if file_at(&self.calls, name.as_bytes()).is_some() {
+            return Ok(None);
+        }
+        let file = self.add_file(name, if hidden { OWNER_ONLY } else { USUAL })?;
+        Ok(Some(file))
+    }
+
+    /// Keeps the names that begin with the front: after it, a crash leaves each as it is seen.
+    pub fn sync_front(&mut self, front: &str) -> Result<(), MemoryFault>
+        ensures ok { OnOk result (SyncedNames (disk_of self.old.calls.items)
+            (disk_of self.new.calls.items) (λ name. front.now ++ name)) }
+        ensures err { OnErr result
+            (Stays (disk_of self.old.calls.items) (disk_of self.new.calls.items)) }
+        ensures time { Elapses (disk_of self.old.calls.items) (disk_of self.new.calls.items) }
+    {
+        if self.is_planned() {
+            return Err(MemoryFault::Planned);
+        }
+        let kept = front.as_bytes().to_vec(self.alloc)?;
+        add(&mut self.calls, Call::SyncNames(kept))
+    }
+}
+
+impl Folder for Memory {
+    type Dir = ();
+
+    type File = MemoryFile;
+
+    type Appended = ();
+
+    type ModeTaken = ();
+
+    type FileSynced = ();
+
+    type Renamed = ();
+
+    type NameRemoved = ();
+
+    type NamesSynced = ();
+
+    type Fault = MemoryFault;
+
+    ghost is_told = { true };
+
+    ghost usual_mode = { USUAL };
+
+    ghost disk = { λ folder. disk_of folder.calls.items };
+
+    ghost place = { λ _ name. name };
+
+    ghost number = { λ file. file.number };
+
+    ghost apart = { λ _ _ _ _ _ same. same };
+
+    ghost counts_now = { λ folder. log_counts_now folder.calls.items };
+
+    ghost only_now = { λ folder. log_only_now folder.calls.items };
+
+    fn make(
+        &mut self,
+        _: &(),
+        name: &str,
+        hidden: bool,
+    ) -> Result<Option<MemoryFile>, MemoryFault> {
+        self.make_new(name, hidden)
+    }
+
+    fn append(&mut self, file: &mut MemoryFile, bytes: &[u8]) -> Result<(), MemoryFault> {
+        if self.is_planned() {
+            let part = bytes[..bytes.len() / 2].to_vec(self.alloc)?;
+            add(&mut self.calls, Call::Append(file.number, part))?;
+            return Err(MemoryFault::Planned);
+        }
+        let all = bytes.to_vec(self.alloc)?;
+        add(&mut self.calls, Call::Append(file.number, all))
+    }
+
+    fn take_mode(&mut self, file: &MemoryFile, mode: u32) -> Result<(), MemoryFault> {
+        if self.is_planned() {
+            return Err(MemoryFault::Planned);
+        }
+        add(&mut self.calls, Call::TakeMode(file.number, mode))
+    }
+
+    fn sync_file(&mut self, file: &MemoryFile) -> Result<(), MemoryFault> {
+        if self.is_planned() {
+            return Err(MemoryFault::Planned);
+        }
+        add(&mut self.calls, Call::SyncFile(file.number))
+    }
+
+    fn rename(&mut self, _: &(), from: &str, to: &str) -> Result<(), MemoryFault> {
+        if self.is_planned() {
+            return Err(MemoryFault::Planned);
+        }
+        if file_at(&self.calls, from.as_bytes()).is_none() {
+            return Err(MemoryFault::NoSuchName);
+        }
+        let old_name = from.as_bytes().to_vec(self.alloc)?;
+        let new_name = to.as_bytes().to_vec(self.alloc)?;
+        add(&mut self.calls, Call::Rename(old_name, new_name))
+    }
+
+    fn remove(&mut self, _: &(), name: &str) -> Result<(), MemoryFault> {
+        if self.is_planned() {
+            return Err(MemoryFault::Planned);
+        }
+        if file_at(&self.calls, name.as_bytes()).is_none() {
+            return Err(MemoryFault::NoSuchName);
+        }
+        let gone = name.as_bytes().to_vec(self.alloc)?;
+        add(&mut self.calls, Call::Remove(gone))
+    }
+
+    fn sync_names(&mut self, _: &()) -> Result<(), MemoryFault> {
+        self.sync_front("")
+    }
+}

@@ -1,0 +1,116 @@
+//! The files of one folder in memory, for tests. It is the folder `.`, and has no links.
+
+ghost use Rattle.std.specs.Prelude.{◌≡◌, None};
+ghost use Rattle.irig_folders.specs.Log.{own_place};
+ghost use Rattle.irig_folders.specs.InMemory.{holds_at, no_links};
+
+use crate::left::{bytes_of, mode_of};
+use crate::memory::{Memory, file_at};
+use crate::memory_fault::MemoryFault;
+use irig_disk::is_name;
+use irig_files::{Described, DumpFileFault, FileSystem, Parts, PlainCalls, read_whole};
+use irig_vcd::VcdFault;
+use std::alloc::Global;
+use std::io;
+use std::io::{ErrorKind, Write};
+use std::path::PathBuf;
+
+/// What is no regular file: it takes no byte.
+#[derive(Drop)]
+pub struct Nothing;
+
+impl Write for Nothing {
+    fn write(&mut self, _: &[u8]) -> io::Result<usize> {
+        Err(io::Error::from(ErrorKind::Other))
+    }
+
+    fn flush(&mut self) -> io::Result<()> {
+        Ok(())
+    }
+}
+
+impl PlainCalls for Memory {
+    type Seen = Described;
+
+    type Other = Nothing;
+
+    fn write_output(&self, _: &[u8]) -> Result<(), MemoryFault> {
+        Err(MemoryFault::NoSuchName)
+    }
+
+    fn open_other(&self, _: &str) -> Result<Nothing, MemoryFault> {
+        Ok(Nothing)
+    }
+
+    fn open_seen(&self, path: &str) -> Result<Described, MemoryFault> {
+        match self.describe(path) {
+            Ok(Some(found)) => Ok(found),
+            _ => Err(MemoryFault::NoSuchName),
+        }
+    }
+
+    fn seen(&self, file: &Described) -> Result<Described, MemoryFault> {
+        Ok(*file)
+    }
+}
+
+impl FileSystem for Memory {
+    ghost output_id = { λ _. None };
+
+    ghost is_other = { λ _ path. own_place path ≡ None };
+
+    ghost link_at = { λ _ _. None };
+
+    ghost held = { λ m path. holds_at m.calls.items path };
+
+    ghost follows = { λ _ path text link. no_links path text link };
+
+    fn read(
+        &self,
+        alloc: Global,
+        path: &str,
+        wire: Option<&[u8]>,
+    ) -> Result<Result<Parts, VcdFault>, DumpFileFault> {
+        let Some(file) = file_at(self.calls(), path.as_bytes()) else {
+            return Err(DumpFileFault::CannotBeRead);
+        };
+        let Ok(bytes) = bytes_of(alloc, self.calls(), file) else {
+            return Err(DumpFileFault::OutOfMemory);
+        };
+        read_whole(alloc, bytes.as_slice(), wire)
+    }
+
+    fn describe(&self, path: &str) -> Result<Option<Described>, MemoryFault> {
+        if !is_name(path) {
+            return Ok(Some(Described {
+                is_file: false,
+                mode: 0,
+                id: (0, 0),
+            }));
+        }
+        match file_at(self.calls(), path.as_bytes()) {
+            Some(file) => Ok(Some(Described {
+                is_file: true,
+                mode: mode_of(self.calls(), file),
+                id: (0, file as u64),
+            })),
+            None => Ok(None),
+        }
+    }
+
+    fn output(&self) -> Result<Option<(u64, u64)>, MemoryFault> {
+        Ok(None)
+    }
+
+    fn read_link(&self, _: &str) -> Result<Option<PathBuf>, MemoryFault> {
+        Ok(None)
+    }
+
+    fn open_folder(&self, _: &mut (), path: &str) -> Result<(), MemoryFault> {
+        if path == "." {
+            Ok(())
+        } else {
+            Err(MemoryFault::NoSuchName)
+        }
+    }
+}

@@ -1,0 +1,152 @@
+//! The single calls on paths of folders in memory, for tests.
+
+ghost use Rattle.std.specs.Prelude.{◌≡◌, IfOk, None, is_none, option_copied};
+ghost use Rattle.irig_folders.specs.Log.{leads_in};
+ghost use Rattle.irig_folders.specs.Tree.{IsOther, link_at, other_in, over};
+ghost use Rattle.irig_folders.specs.TreeLaws.{follows_link};
+
+use crate::layout::{front_at, is_regular};
+use crate::left::mode_of;
+use crate::memory_fault::MemoryFault;
+use crate::tree::{Plain, Tree, TreeDir};
+use crate::tree_paths::{end_at, find, link_text, path_of};
+use irig_files::{Described, DumpFileFault, FileSystem, Parts, PlainCalls};
+use irig_vcd::VcdFault;
+use std::alloc::Global;
+use std::io::{self, Write};
+use std::path::PathBuf;
+
+/// What is no regular file: it takes all bytes.
+#[derive(Drop)]
+pub struct Pipe;
+
+impl Write for Pipe {
+    fn write(&mut self, bytes: &[u8]) -> io::Result<usize> {
+        Ok(bytes.len())
+    }
+
+    fn flush(&mut self) -> io::Result<()> {
+        Ok(())
+    }
+}
+
+impl PlainCalls for Tree {
+    type Seen = Described;
+
+    type Other = Pipe;
+
+    fn write_output(&self, _: &[u8]) -> Result<(), MemoryFault> {
+        Err(MemoryFault::NoSuchName)
+    }
+
+    fn open_other(&self, _: &str) -> Result<Pipe, MemoryFault> {
+        match self.blind {
+            Some(Plain::OpenOther) => Err(MemoryFault::Planned),
+            _ => Ok(Pipe),
+        }
+    }
+
+    fn open_seen(&self, path: &str) -> Result<Described, MemoryFault> {
+        if self.blind == Some(Plain::OpenSeen) {
+            return Err(MemoryFault::Planned);
+        }
+        match self.describe(path) {
+            Ok(Some(found)) if found.mode & 0o200 != 0 => Ok(found),
+            _ => Err(MemoryFault::NoSuchName),
+        }
+    }
+
+    fn seen(&self, file: &Described) -> Result<Described, MemoryFault> {
+        match self.blind {
+            Some(Plain::Seen) => Err(MemoryFault::Planned),
+            _ => Ok(*file),
+        }
+    }
+}
+
+/// What a file is.
+fn described(tree: &Tree, file: usize) -> Described
+    ensures { result.is_file ≡ is_none (other_in tree.now.layout.others.items file) }
+{
+    Described {
+        is_file: is_regular(&tree.layout.others, file),
+        mode: mode_of(tree.memory.calls(), file),
+        id: (0, file as u64),
+    }
+}
+
+/// The text of the link at a path, if links lead somewhere from there.
+fn read_text<'t>(tree: &'t Tree, path: &str) -> Result<Option<&'t str>, MemoryFault>
+    ensures { IfOk result (λ text. option_copied text ≡ link_at tree.now.layout
+        (over tree.now.layout (leads_in tree.now.memory.calls.items)) path.now) }
+{
+    let start = path_of(tree.alloc, path)?;
+    let Some(_) = end_at(tree, start, tree.layout.limit)? else {
+        return Err(MemoryFault::NoSuchName);
+    };
+    let text = link_text(tree, path)?;
+    Ok(text)
+}
+
+impl FileSystem for Tree {
+    ghost output_id = { λ _. None };
+
+    ghost is_other = { λ t. IsOther t.layout (over t.layout (leads_in t.memory.calls.items)) };
+
+    ghost link_at = { λ t. link_at t.layout (over t.layout (leads_in t.memory.calls.items)) };
+
+    ghost held = { λ _ _. None };
+
+    ghost follows = { λ t. follows_link t.layout
+        (over t.layout (leads_in t.memory.calls.items)) };
+
+    /// No dump is read here.
+    fn read(
+        &self,
+        _: Global,
+        _: &str,
+        _: Option<&[u8]>,
+    ) -> Result<Result<Parts, VcdFault>, DumpFileFault> {
+        Err(DumpFileFault::CannotBeRead)
+    }
+
+    fn describe(&self, path: &str) -> Result<Option<Described>, MemoryFault> {
+        if self.blind == Some(Plain::Describe) {
+            return Err(MemoryFault::Planned);
+        }
+        match find(self, path) {
+            Ok(Some(file)) => Ok(Some(described(self, file))),
+            Ok(None) => Ok(None),
+            Err(fault) => Err(fault),
+        }
+    }
+
+    fn output(&self) -> Result<Option<(u64, u64)>, MemoryFault> {
+        match self.blind {
+            Some(Plain::Output) => Err(MemoryFault::Planned),
+            _ => Ok(None),
+        }
+    }
+
+    fn read_link(&self, path: &str) -> Result<Option<PathBuf>, MemoryFault> {
+        if self.blind == Some(Plain::ReadLink) {
+            return Err(MemoryFault::Planned);
+        }
+        match read_text(self, path)? {
+            Some(text) => Ok(Some(path_of(self.alloc, text)?)),
+            None => Ok(None),
+        }
+    }
+
+    fn open_folder(&self, dir: &mut TreeDir, path: &str) -> Result<(), MemoryFault> {
+        if self.blind == Some(Plain::OpenFolder) {
+            return Err(MemoryFault::Planned);
+        }
+        let Some(front) = front_at(&self.layout.folders, path.as_bytes()) else {
+            return Err(MemoryFault::NoSuchName);
+        };
+        dir.front.clear();
+        dir.front.push_str(front)?;
+        Ok(())
+    }
+}

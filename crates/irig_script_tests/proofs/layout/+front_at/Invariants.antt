@@ -1,5 +1,0 @@
-use Rattle.std.proofs.Common.{length}
-use Rattle.irig_script_tests.proofs.layout.+front_at.Given as goal
-
-abbrev pub decreases-front_at : goal.decreases-front_at
-decreases-front_at l = length l.folders.now

@@ -1,4 +1,0 @@
-use Rattle.irig_script_tests.proofs.tree_paths.+end_at.Given as goal
-
-abbrev pub decreases-end_at : goal.decreases-end_at
-decreases-end_at l = l.links
