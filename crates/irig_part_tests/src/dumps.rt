@@ -2,14 +2,12 @@
 
 ghost use Rattle.std.specs.Prelude.{◌≤◌, ◌^◌, length};
 
-mod cuts;
 mod journals;
 mod pieces;
 mod texts;
 mod units;
 mod whole;
 
-use crate::dumps::cuts::cuts_agree;
 use crate::edges::have_edges;
 use irig_recording::Recording;
 use irig_vcd::{VcdFault, read, read_parts};
@@ -67,13 +65,11 @@ fn is_read_alone(alloc: Global, dump: &[u8], wire: Option<&[u8]>, want: &Wanted)
     }
 }
 
-/// Whether a dump without a journal is read as is wanted, with its parts too, and wherever it is
-/// cut.
+/// Whether a dump without a journal is read as is wanted, with its parts too.
 fn is_right(alloc: Global, dump: &[u8], wire: Option<&[u8]>, want: &Wanted) -> bool {
     dump.len() <= 1 << 28
         && is_read(alloc, dump, wire, want)
         && is_read_alone(alloc, dump, wire, want)
-        && cuts_agree(alloc, dump, wire)
 }
 
 /// Adds these texts to a dump, one after another.

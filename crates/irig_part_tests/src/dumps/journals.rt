@@ -3,7 +3,6 @@
 ghost use Rattle.std.specs.Prelude.{◌≤◌, ◌^◌, length};
 
 use super::Wanted::{Edges, Fault};
-use super::cuts::cuts_agree;
 use super::{HEADER, Row, check_rows, is_right, put_texts};
 use irig_vcd::{VcdFault, read_parts};
 use std::alloc::Global;
@@ -19,15 +18,12 @@ fn gives(alloc: Global, dump: &[u8], want: Option<&[u8]>) -> bool
     }
 }
 
-/// Whether a dump gives the same, wherever it is cut.
-fn is_given(alloc: Global, dump: &[u8], want: Option<&[u8]>) -> bool {
-    dump.len() <= 1 << 28 && gives(alloc, dump, want) && cuts_agree(alloc, dump, None)
-}
-
 /// Whether the dump of these changes gives the journal that is wanted, or the fault.
 fn is_right_journal(alloc: Global, changes: &str, want: Option<&[u8]>) -> bool {
     let mut dump = Vec::new(alloc);
-    put_texts(&mut dump, &[HEADER, changes]) && is_given(alloc, dump.as_slice(), want)
+    put_texts(&mut dump, &[HEADER, changes])
+        && dump.len() <= 1 << 28
+        && gives(alloc, dump.as_slice(), want)
 }
 
 /// Changes with a comment, and the journal in it.
