@@ -53,7 +53,9 @@ def stopped(top):
         filled(folder)
         os.mkdir(os.path.join(folder, "files"))
         before = contents(folder)
-        for before_it, name, status, files in (("", "HUP", 129, []), ("", "TERM", 143, []), ("trap '' HUP; ", "HUP", 1, ["new"])):
+        # the test can run under `nohup` itself
+        heeded = "env --default-signal=HUP,TERM "
+        for before_it, name, status, files in ((heeded, "HUP", 129, []), (heeded, "TERM", 143, []), ("trap '' HUP; ", "HUP", 1, ["new"])):
             done = shell(top, folder, wait % (before_it, name), TMPDIR=os.path.join(folder, "files"))
             left = os.listdir(os.path.join(folder, "files")), sorted(set(contents(folder)) - set(before))
             good = done == (status, "", "") and left == ([], files)
