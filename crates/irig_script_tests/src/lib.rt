@@ -1,5 +1,11 @@
-//! Scripts, tested by their public calls. It has no code of its own.
+//! Scripts, tested by their public calls. Its own code is a witness that keeps what it sees, and
+//! runs with it.
 #![tactic(auto)]
 
 #[cfg(test)]
 mod scripts;
+mod sights;
+mod watching;
+
+pub use sights::Sights;
+pub use watching::{new_files, watch};

@@ -7,3 +7,4 @@ mod row;
 mod rows;
 mod stopped_disks;
 mod stops;
+mod watched_files;

@@ -36,7 +36,7 @@ fn run_on_files(
 }
 
 /// How many bytes a crash leaves at the name, if it leaves the file there as it is seen.
-fn left(alloc: Global, calls: &[Call]) -> Option<usize> {
+pub fn left(alloc: Global, calls: &[Call]) -> Option<usize> {
     let file = file_at(calls, b"t")?;
     let held = bytes_of(alloc, calls, file).ok()?;
     is_kept(calls, file).then_some(held.len())

@@ -1,0 +1,3 @@
+pub mod SightCode
+pub mod Known
+pub mod Watched

@@ -1,0 +1,42 @@
+//! A run over files in memory whose witness keeps what it sees.
+
+ghost use Rattle.std.specs.Prelude.{◌≡◌, ◌≤◌, ◌^◌, [], List, Some, ℕ, length};
+ghost use Rattle.irig_script.specs.Print.Screen.{Sight};
+ghost use Rattle.irig_script_tests.specs.Known.{all_known, known, texts_in};
+ghost use Rattle.irig_script_tests.specs.Watched.{IsWatched};
+
+use crate::sights::Sights;
+use irig_codes::Format;
+use irig_files::{FileShelf, Files, Room};
+use irig_folders::Memory;
+use irig_script::{DumpRunFault, Screen, Status, run_on_dump};
+use std::alloc::Global;
+use std::io::Write;
+
+/// Files of a new folder in memory.
+pub fn new_files(alloc: Global) -> Files<Memory>
+    ensures empty { texts_in result.system.calls.items ≡ Some [] }
+{
+    Files::new(Memory::new(alloc), ())
+}
+
+/// Runs a script on a dump. The texts that it writes are the file `t` of a folder in memory, one
+/// after another.
+pub fn watch<W: Write>(
+    alloc: Global,
+    dump: Vec<u8>,
+    format: Format,
+    script: &mut &[u8],
+    screen: &mut Screen<W, Sights>,
+    files: &mut Files<Memory>,
+    room: &mut Room,
+) -> Result<Status, DumpRunFault>
+    requires { length dump.items ≤ 2 ^ 28 }
+    ensures seen { (out : List ℕ) (texts : List (List ℕ)) (sights : List Sight)
+        → known screen.old (texts_in files.old.system.calls.items) ≡ all_known out texts sights
+        → IsWatched out texts sights
+        (known screen.new (texts_in files.new.system.calls.items)) result }
+{
+    let mut shelf = FileShelf::new(files, "t", room);
+    run_on_dump(alloc, dump, None, format, script, screen, &mut shelf)
+}
