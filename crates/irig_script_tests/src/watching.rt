@@ -40,3 +40,25 @@ pub fn watch<W: Write>(
     let mut shelf = FileShelf::new(files, "t", room);
     run_on_dump(alloc, dump, None, format, script, screen, &mut shelf)
 }
+
+/// Runs a script on a dump, from an empty output and a new folder on.
+pub fn watch_anew(
+    alloc: Global,
+    dump: Vec<u8>,
+    format: Format,
+    script: &mut &[u8],
+    room: &mut Room,
+) -> (
+    Screen<Vec<u8>, Sights>,
+    Files<Memory>,
+    Result<Status, DumpRunFault>,
+)
+    requires { length dump.items ≤ 2 ^ 28 }
+    ensures seen { IsWatched [] [] []
+        (known result.0 (texts_in result.1.system.calls.items)) result.2 }
+{
+    let mut screen = Screen::new(Vec::new(alloc), Sights::new());
+    let mut files = new_files(alloc);
+    let ended = watch(alloc, dump, format, script, &mut screen, &mut files, room);
+    (screen, files, ended)
+}
