@@ -2,7 +2,7 @@
 
 ghost use Rattle.std.specs.Prelude.{◌≡◌, ◌≤◌, ◌^◌, [], List, Some, ℕ, length};
 ghost use Rattle.irig_script.specs.Print.Screen.{Sight};
-ghost use Rattle.irig_script_tests.specs.Known.{all_known, known, texts_in};
+ghost use Rattle.irig_script_tests.specs.Known.{all_known, given, known, texts_in};
 ghost use Rattle.irig_script_tests.specs.Watched.{IsWatched};
 
 use crate::sights::Sights;
@@ -34,7 +34,7 @@ pub fn watch<W: Write>(
     requires { length dump.items ≤ 2 ^ 28 }
     ensures seen { (out : List ℕ) (texts : List (List ℕ)) (sights : List Sight)
         → known screen.old (texts_in files.old.system.calls.items) ≡ all_known out texts sights
-        → IsWatched out texts sights
+        → IsWatched (given dump.items format script.old.now) out texts sights
         (known screen.new (texts_in files.new.system.calls.items)) result }
 {
     let mut shelf = FileShelf::new(files, "t", room);
@@ -54,7 +54,7 @@ pub fn watch_anew(
     Result<Status, DumpRunFault>,
 )
     requires { length dump.items ≤ 2 ^ 28 }
-    ensures seen { IsWatched [] [] []
+    ensures seen { IsWatched (given dump.items format script.old.now) [] [] []
         (known result.0 (texts_in result.1.system.calls.items)) result.2 }
 {
     let mut screen = Screen::new(Vec::new(alloc), Sights::new());
