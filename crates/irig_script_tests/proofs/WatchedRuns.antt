@@ -1,24 +1,26 @@
 -- What a witness shows that keeps what it sees: the sights before the answers of a run.
-use Rattle.std.proofs.Common.{◌≡◌, ◌<◌, ◌∷◌, ◌++◌, [], ℕ, zero, suc, Option, Some, None, List, Result, Ok, Err}
+use Rattle.std.proofs.Common.{◌≡◌, ◌<◌, ◌∷◌, ◌++◌, ◌^◌, [], ℕ, zero, suc, Option, Some, None, List, Result, Ok, Err}
 use Rattle.std.proofs.Common.{refl, ap, sym, ◌∙◌, subst, append_assoc, length, arith}
 use Rattle.std.specs.Prelude.{Contains, IsSome, take}
 use Rattle.std.proofs.lemmas.List.Elements.{Contains-append_right}
-use Rattle.std.specs.Io.KnownBytes.{Appends}
+use Rattle.std.specs.{Io.KnownBytes.Appends, Io.KnownBytes.Consumes, List.AllByRecursion}
 use Rattle.std.specs.Path.{path_file_name, split_last_component, trim_trailing, rsplit_once}
 use Rattle.std.proofs.lemmas.{List.append-nil, Grind.flat_map-append}
-use Rattle.irig_codes.specs.Format.{FormatView}
+use Rattle.irig_edit.specs.Opened.Openings.{IsOpened}
+use Rattle.irig_lines.specs.Lines.{script_lines}
 use Rattle.irig_script.specs.declared.obey.dump_run.DumpRunFault.{DumpRunFault}
 use Rattle.irig_script.specs.declared.obey.dump_run.DumpRunFault.TheVariants.{Dump, Run}
 use Rattle.irig_script.specs.declared.obey.status.RunFault.{RunFault}
 use Rattle.irig_script.specs.declared.obey.status.RunFault.TheVariants.{ReadFailed, TooManyReads, PrintFailed}
 use Rattle.irig_script.specs.declared.obey.status.Status.{Status}
 use Rattle.irig_script.specs.{Obey.Desk.Desk, Obey.Desk.Tells, Obey.DumpRun.RunsOnDump, Obey.Ending.EndsAs, Obey.Machine.Machine}
-use Rattle.irig_script.specs.{Obey.Run.Runs, Print.Printed.Answer, Print.Printed.printed}
+use Rattle.irig_script.specs.Obey.Run.{Runs, Stopped, IsObeyed, unlines}
+use Rattle.irig_script.specs.Print.Printed.{Answer, printed}
 use Rattle.irig_script.specs.Obey.Seen.{AreSeen, IsSeen, numbers_in, numbers_of}
-use Rattle.irig_script.proofs.ObeyLemmas.Sights.{numbers_in-append}
+use Rattle.irig_script.proofs.{ObeyLemmas.Lines.lines_and, ObeyLemmas.Sights.numbers_in-append}
 use Rattle.irig_script.specs.Print.Screen.{Sight, sight}
 use Rattle.irig_text.specs.Shelved.{GrowsBy}
-use Rattle.irig_script_tests.specs.{Known.Known, Known.all_known, Known.texts_in}
+use Rattle.irig_script_tests.specs.{Known.Given, Known.Known, Known.all_known, Known.texts_in}
 use Rattle.irig_script_tests.specs.Watched.{IsKeptFirst, IsWatched, Watched, sight_before, sights_of}
 
 -- a folder on which no call was done has no text
@@ -112,11 +114,21 @@ kept_first out shelf texts answers before after number many cut one =
 abbrev known_of : Desk → Known
 known_of d = record { out = d.out; texts = d.shelf.texts; seen = d.seen }
 
+-- whole lines that were read are the first of a script
+first_lines : (script bytes rest : List ℕ) (left : Option (List ℕ)) (lines : List (List ℕ)) → Consumes (Some script) left bytes
+    → AllByRecursion IsObeyed lines → bytes ≡ unlines lines ++ rest → (others : List (List ℕ)) × (script_lines script ≡ lines ++ others)
+first_lines script bytes rest None lines read each cut = absurd read
+first_lines script bytes rest (Some left) lines read each cut =
+    let whole : script ≡ unlines lines ++ (rest ++ left) = read ∙ (ap (λ (l : List ℕ). l ++ left) cut ∙ append_assoc (unlines lines) rest left) in
+    (script_lines (rest ++ left), ap script_lines whole ∙ lines_and lines (rest ++ left) each)
+
 -- the answers of some lines, printed whole or in part, from a desk of which all is known
-module _ (out : List ℕ) (shelf : List (List ℕ)) (seen : List Sight) (old new : Desk) (shows : known_of old ≡ all_known out shelf seen) where
-  watched_by : (lines : List (List ℕ)) (answers : List Answer) (texts : List (List ℕ)) (first last : Machine) (text missing : List ℕ)
-      → Runs first lines answers texts last → printed answers ≡ text ++ missing → Tells old new text answers texts → Watched out shelf seen (known_of new)
-  watched_by lines answers texts first last text missing runs whole told =
+module _ (of : Given) (out : List ℕ) (shelf : List (List ℕ)) (seen : List Sight) (old new : Desk) (shows : known_of old ≡ all_known out shelf seen)
+    (first last : Machine) (opened : IsOpened None of.dump of.format first) where
+  watched_by : (lines others : List (List ℕ)) (answers : List Answer) (texts : List (List ℕ)) (text missing : List ℕ)
+      → script_lines of.script ≡ lines ++ others → Runs first lines answers texts last → printed answers ≡ text ++ missing → Tells old new text answers texts
+      → Watched of out shelf seen (known_of new)
+  watched_by lines others answers texts text missing cut runs whole told =
       let sees : old.seen ≡ Some seen = ap (λ (k : Known). k.seen) shows in
       let each = told.each (subst (λ (o : Option (List Sight)). IsSome o) (sym sees) refl) in
       let are : AreSeen (Some out) (Some shelf) [] answers texts told.sights =
@@ -127,11 +139,14 @@ module _ (out : List ℕ) (shelf : List (List ℕ)) (seen : List Sight) (old new
       let seen_then = known_list seen new.seen told.sights (subst (λ (k : Known). GrowsBy k.seen new.seen told.sights) shows told.seen)
       ∙ ap (λ (l : List Sight). Some (seen ++ l)) same in
       record {
-        lines = lines;
-        answers = answers;
-        texts = texts;
         first = first;
         last = last;
+        opened = opened;
+        lines = lines;
+        others = others;
+        cut = cut;
+        answers = answers;
+        texts = texts;
         runs = runs;
         many = told.many;
         text = text;
@@ -141,24 +156,29 @@ module _ (out : List ℕ) (shelf : List (List ℕ)) (seen : List Sight) (old new
         numbers = λ before after number. kept_first out shelf texts answers before after number told.many;
       }
 
+  watched_stop : (left : Option (List ℕ)) (least : ℕ) → Stopped old new (Some of.script) left first last least → Watched of out shelf seen (known_of new)
+  watched_stop left least h =
+      let before = first_lines of.script h.bytes h.rest left h.goes.lines h.read h.goes.each h.goes.cut in
+      watched_by h.goes.lines before.0 h.answers h.texts (printed h.answers) [] before.1 h.goes.runs (sym (append-nil (printed h.answers))) h.told
+
   -- a run of a known script, however it ended
-  watched_end : (script : List ℕ) (left : Option (List ℕ)) (first last : Machine) (result : Result Status RunFault)
-      → EndsAs (Some script) left old new first last result → Watched out shelf seen (known_of new)
-  watched_end script left first last (Ok status) h =
-      watched_by _ h.answers h.texts first last (printed h.answers) [] h.runs (sym (append-nil (printed h.answers))) h.told
-  watched_end script left first last (Err ReadFailed) h =
-      watched_by h.goes.lines h.answers h.texts first last (printed h.answers) [] h.goes.runs (sym (append-nil (printed h.answers))) h.told
-  watched_end script left first last (Err TooManyReads) h =
-      watched_by h.goes.lines h.answers h.texts first last (printed h.answers) [] h.goes.runs (sym (append-nil (printed h.answers))) h.told
-  watched_end script left first last (Err PrintFailed) h =
+  watched_end : (left : Option (List ℕ)) (result : Result Status RunFault) → EndsAs (Some of.script) left old new first last result
+      → Watched of out shelf seen (known_of new)
+  watched_end left (Ok status) h =
+      watched_by (script_lines of.script) [] h.answers h.texts (printed h.answers) [] (sym (append-nil (script_lines of.script))) h.runs
+      (sym (append-nil (printed h.answers))) h.told
+  watched_end left (Err ReadFailed) h = watched_stop left 0 h
+  watched_end left (Err TooManyReads) h = watched_stop left (2 ^ 32) h
+  watched_end left (Err PrintFailed) h =
       let whole : printed (h.answers ++ h.last ∷ []) ≡ (printed h.answers ++ h.front) ++ h.back =
       flat_map-append (λ (answer : Answer). answer.text) h.answers (h.last ∷ [])
       ∙ (ap (λ (l : List ℕ). printed h.answers ++ l) (append-nil h.last.text ∙ h.part) ∙ sym (append_assoc (printed h.answers) h.front h.back)) in
-      watched_by h.lines (h.answers ++ h.last ∷ []) h.texts first last (printed h.answers ++ h.front) h.back h.runs whole h.told
+      watched_by h.lines h.others (h.answers ++ h.last ∷ []) h.texts (printed h.answers ++ h.front) h.back h.cut h.runs whole h.told
 
-  -- a run on a dump
-  pub watched_run : (wire : Option (List ℕ)) (chosen : FormatView) (source script : List ℕ) (left : Option (List ℕ)) (result : Result Status DumpRunFault)
-      → RunsOnDump wire chosen source (Some script) left old new result → IsWatched out shelf seen (known_of new) result
-  watched_run wire chosen source script left (Err (Dump fault)) h = ap known_of h.2 ∙ shows
-  watched_run wire chosen source script left (Err (Run fault)) h = watched_end script left h.first h.last (Err fault) h.ran
-  watched_run wire chosen source script left (Ok status) h = watched_end script left h.first h.last (Ok status) h.ran
+-- a run on a dump
+pub watched_run : (of : Given) (out : List ℕ) (shelf : List (List ℕ)) (seen : List Sight) (old new : Desk) → known_of old ≡ all_known out shelf seen
+    → (left : Option (List ℕ)) (result : Result Status DumpRunFault) → RunsOnDump None of.format of.dump (Some of.script) left old new result
+    → IsWatched of out shelf seen (known_of new) result
+watched_run of out shelf seen old new shows left (Err (Dump fault)) h = ap known_of h.2 ∙ shows
+watched_run of out shelf seen old new shows left (Err (Run fault)) h = watched_end of out shelf seen old new shows h.first h.last h.opened left (Err fault) h.ran
+watched_run of out shelf seen old new shows left (Ok status) h = watched_end of out shelf seen old new shows h.first h.last h.opened left (Ok status) h.ran

@@ -1,8 +1,20 @@
--- What is known of the ends of a run, and of what its witness saw. This project's own.
+-- What a run is given, and what is known of its ends and of what its witness saw. This project's
+-- own.
 use Rattle.std.specs.Prelude.{ℕ, List, Option, Some, codes}
+use Rattle.irig_codes.specs.Format.{FormatView}
 use Rattle.irig_script.specs.Print.Screen.{Shown, Sight}
 use Rattle.irig_files.specs.{Puts.texts_at, Writes.writes_in}
 use Rattle.irig_folders.specs.{Log.own_place, Log.steps_in, declared.call.Call.Call}
+
+-- a dump, a format and a script
+pub record Given : Type 0 where
+  pub dump : List ℕ
+  pub format : FormatView
+  pub script : List ℕ
+
+-- these
+abbrev pub given : List ℕ → FormatView → List ℕ → Given
+given dump format script = record { dump = dump; format = format; script = script }
 
 -- what is known of an output, of the texts written, and of what a witness saw of both
 pub record Known : Type 0 where

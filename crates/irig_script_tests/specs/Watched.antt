@@ -1,6 +1,8 @@
 -- What a run leaves whose witness keeps what it sees. This project's own.
-use Rattle.std.specs.Prelude.{◌≡◌, ◌∷◌, ◌++◌, ℕ, List, [], Some, Result, Ok, Err}
+use Rattle.std.specs.Prelude.{◌≡◌, ◌∷◌, ◌++◌, ℕ, List, [], Some, None, Result, Ok, Err}
 use Rattle.std.specs.Prelude.{Contains, length, take}
+use Rattle.irig_lines.specs.Lines.{script_lines}
+use Rattle.irig_edit.specs.Opened.Openings.{IsOpened}
 use Rattle.irig_script.specs.declared.obey.dump_run.DumpRunFault.{DumpRunFault}
 use Rattle.irig_script.specs.declared.obey.dump_run.DumpRunFault.TheVariants.{Dump, Run}
 use Rattle.irig_script.specs.declared.obey.status.Status.{Status}
@@ -8,7 +10,7 @@ use Rattle.irig_script.specs.{Obey.Machine.Machine, Obey.Run.Runs, Obey.Seen.num
 use Rattle.irig_script.specs.Obey.Seen.{numbers_of}
 use Rattle.irig_script.specs.Print.Printed.{Answer, printed}
 use Rattle.irig_script.specs.Print.Screen.{Sight, sight}
-use Rattle.irig_script_tests.specs.Known.{Known, all_known}
+use Rattle.irig_script_tests.specs.Known.{Given, Known, all_known}
 
 -- what is printed and written before an answer is printed: the answers before it, and the texts of
 -- all numbers up to its own
@@ -42,15 +44,19 @@ AreKeptFirst out shelf answers texts sights = (before after : List Answer) (numb
     → answers ≡ before ++ number ∷ after → numbers_of number.reply ≡ 1
     → IsKeptFirst out shelf before texts sights
 
--- Lines were obeyed, their answers printed, the last one whole or in part, and a text was written
--- for each number. The witness saw just what there was before each answer.
-pub record Watched (out : List ℕ) (shelf : List (List ℕ)) (sights : List Sight) (new : Known)
-    : Type 0 where
-  pub lines : List (List ℕ)
-  pub answers : List Answer
-  pub texts : List (List ℕ)
+-- The dump was opened, and the first lines of the script were obeyed, all of them or some. Their
+-- answers were printed, the last one whole or in part, and a text was written for each number. The
+-- witness saw just what there was before each answer.
+pub record Watched (of : Given) (out : List ℕ) (shelf : List (List ℕ)) (sights : List Sight)
+    (new : Known) : Type 0 where
   pub first : Machine
   pub last : Machine
+  pub opened : IsOpened None of.dump of.format first
+  pub lines : List (List ℕ)
+  pub others : List (List ℕ)
+  pub cut : script_lines of.script ≡ lines ++ others
+  pub answers : List Answer
+  pub texts : List (List ℕ)
   pub runs : Runs first lines answers texts last
   pub many : length texts ≡ numbers_in answers
   pub text : List ℕ
@@ -61,8 +67,8 @@ pub record Watched (out : List ℕ) (shelf : List (List ℕ)) (sights : List Sig
   pub numbers : AreKeptFirst out shelf answers texts (sights_of out shelf [] answers texts)
 
 -- the dump was not opened, and all is as it was; or it ran so
-abbrev pub IsWatched : List ℕ → List (List ℕ) → List Sight → Known → Result Status DumpRunFault
-    → Type 0
-IsWatched out shelf sights new (Err (Dump fault)) = new ≡ all_known out shelf sights
-IsWatched out shelf sights new (Err (Run fault)) = Watched out shelf sights new
-IsWatched out shelf sights new (Ok status) = Watched out shelf sights new
+abbrev pub IsWatched : Given → List ℕ → List (List ℕ) → List Sight → Known
+    → Result Status DumpRunFault → Type 0
+IsWatched of out shelf sights new (Err (Dump fault)) = new ≡ all_known out shelf sights
+IsWatched of out shelf sights new (Err (Run fault)) = Watched of out shelf sights new
+IsWatched of out shelf sights new (Ok status) = Watched of out shelf sights new

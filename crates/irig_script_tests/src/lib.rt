@@ -8,4 +8,4 @@ mod sights;
 mod watching;
 
 pub use sights::Sights;
-pub use watching::{new_files, watch};
+pub use watching::{new_files, watch, watch_anew};

@@ -2,7 +2,7 @@
 
 ghost use Rattle.std.specs.Prelude.{◌≡◌, ◌≤◌, ◌^◌, [], List, Some, ℕ, length};
 ghost use Rattle.irig_script.specs.Print.Screen.{Sight};
-ghost use Rattle.irig_script_tests.specs.Known.{all_known, known, texts_in};
+ghost use Rattle.irig_script_tests.specs.Known.{all_known, given, known, texts_in};
 ghost use Rattle.irig_script_tests.specs.Watched.{IsWatched};
 
 use crate::sights::Sights;
@@ -34,9 +34,31 @@ pub fn watch<W: Write>(
     requires { length dump.items ≤ 2 ^ 28 }
     ensures seen { (out : List ℕ) (texts : List (List ℕ)) (sights : List Sight)
         → known screen.old (texts_in files.old.system.calls.items) ≡ all_known out texts sights
-        → IsWatched out texts sights
+        → IsWatched (given dump.items format script.old.now) out texts sights
         (known screen.new (texts_in files.new.system.calls.items)) result }
 {
     let mut shelf = FileShelf::new(files, "t", room);
     run_on_dump(alloc, dump, None, format, script, screen, &mut shelf)
+}
+
+/// Runs a script on a dump, from an empty output and a new folder on.
+pub fn watch_anew(
+    alloc: Global,
+    dump: Vec<u8>,
+    format: Format,
+    script: &mut &[u8],
+    room: &mut Room,
+) -> (
+    Screen<Vec<u8>, Sights>,
+    Files<Memory>,
+    Result<Status, DumpRunFault>,
+)
+    requires { length dump.items ≤ 2 ^ 28 }
+    ensures seen { IsWatched (given dump.items format script.old.now) [] [] []
+        (known result.0 (texts_in result.1.system.calls.items)) result.2 }
+{
+    let mut screen = Screen::new(Vec::new(alloc), Sights::new());
+    let mut files = new_files(alloc);
+    let ended = watch(alloc, dump, format, script, &mut screen, &mut files, room);
+    (screen, files, ended)
 }
