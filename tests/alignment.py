@@ -167,13 +167,13 @@ def silence_is_sound(rng):
 # what a repair did
 
 
-def as_it_is(options, path, script):
-    """A script that is not changed."""
-    return script
+def as_it_is(_options, _path, repairs):
+    """The script of some repairs."""
+    return mend.script_text(repairs)
 
 
 def judged(case, move=False, through=as_it_is):
-    """What the script that irig_mend proposes does to the data, or what `through` makes of that script."""
+    """What the script that irig_mend proposes does to the data, or what `through` makes of its repairs."""
     options = case.recording.options()
     with tempfile.TemporaryDirectory() as folder:
         true_path, path = os.path.join(folder, "true.vcd"), os.path.join(folder, "damaged.vcd")
@@ -185,7 +185,7 @@ def judged(case, move=False, through=as_it_is):
                 file.write(damages.dump(pulses, length))
         opened = editor.Editor([*options, path])
         repairs = mend.propose(opened, lambda text: None, **({"move": True} if move else {}))
-        script = through(options, path, mend.script_text(repairs))
+        script = through(options, path, repairs)
         _, true_frames, _ = mending.listed(options, true_path, "")
         _, before, _ = mending.listed(options, path, "")
         refused, after, edges = mending.listed(options, path, script)

@@ -129,7 +129,7 @@ def says_cut(case, script):
 
 
 def mended(case, through=None):
-    """Damages are in the case: the verdict, and the script; `through` makes another one of what irig_mend proposes."""
+    """Damages are in the case: the verdict, and the script; `through` makes it of the repairs that irig_mend proposes."""
     options = case.recording.options()
     with tempfile.TemporaryDirectory() as folder:
         true_path, damaged_path = os.path.join(folder, "true.vcd"), os.path.join(folder, "damaged.vcd")
@@ -140,6 +140,6 @@ def mended(case, through=None):
             with open(path, "w") as file:
                 file.write(damages.dump(pulses, length))
         opened = editor.Editor([*options, damaged_path])
-        script = mend.script_text(mend.propose(opened, lambda text: None, case.steady, case.move))
-        script = through(options, damaged_path, script) if through else script
+        repairs = mend.propose(opened, lambda text: None, case.steady, case.move)
+        script = through(options, damaged_path, repairs) if through else mend.script_text(repairs)
         return judge(case, options, true_path, damaged_path, script), script

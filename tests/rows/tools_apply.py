@@ -27,6 +27,12 @@ def both(pulses):
     glitch(pulses)
 
 
+def two_in_a_frame(pulses):
+    """Once the position identifier is whole, the frame reads day 063."""
+    for number, width in ((331, 5000), (359, 2000)):
+        pulses[number][1] = pulses[number][0] + width
+
+
 def recorded(change=lambda pulses: None):
     pulses = tools.recording()
     change(pulses)
@@ -82,6 +88,8 @@ APPLIED = (
      "0 places found, 0 repaired, 0 undecided, 0 left, 0 steps that stay; 7 frames sound before, 7 after", recorded),
     ("a glitch", glitch, "", 0,
      "1 place found, 1 repaired, 0 undecided, 0 left, 0 steps that stay; 6 frames sound before, 7 after", recorded),
+    ("two damages in a frame, which reads another time after one repair alone", two_in_a_frame, "", 0,
+     "2 places found, 2 repaired, 0 undecided, 0 left, 0 steps that stay; 6 frames sound before, 7 after", recorded),
     ("a glitch, and a step that stays", both, "", 1,
      "2 places found, 1 repaired, 0 undecided, 0 left, 1 step that stays; 5 frames sound before, 6 after", lambda: recorded(late)),
     ("the same, with --move", both, "--move", 0,

@@ -13,6 +13,7 @@ from .dump_choice import choose, singles
 from .dump_source import Source
 from .editor import CUT_OFF, Problem, find_beside, find_editor
 from .facts import STEPS, TURNED, is_undecided, kind_of
+from .joining import frames_at_fault, joined
 from .opening import Opened
 from .output import output
 from .put_back import PutBack, TrackEdges
@@ -70,16 +71,17 @@ def find_guard() -> str:
 
 @dataclass(frozen=True)
 class Refused:
-    """How many lines of a script were refused, and the comments of irig_guard that say why."""
+    """How many lines of a script were refused, the comments of irig_guard that say why, and all that it printed."""
 
     lines: int
     reasons: Sequence[str] = ()
+    printed: Sequence[str] = ()
 
 
-def run_script(track: Opened, script: Sequence[Repair], save: bool, out: str, is_guarded: bool) -> Refused:
-    """Runs a script on the track and writes a file, with its history if `save`; what was refused. Which program runs it
-    is decided here alone: irig_guard, or if the script moves frames the editor. A wire that is upside down is first turned
-    over by the editor, since irig_guard goes by the frames that are fine."""
+def run_script(track: Opened, script: Sequence[Repair], save: bool, out: str, is_guarded: bool, kind: str) -> Refused:
+    """Runs a script on the track, of this format, and writes a file, with its history if `save`; what was refused. Which
+    program runs it is decided here alone: irig_guard, or if the script moves frames the editor. A wire that is upside down
+    is first turned over by the editor, since irig_guard goes by the frames that are fine."""
     ending = "save" if save else "write"
     if not is_guarded:
         said = _run([find_editor(), *track.options], track.path, [*lines_of_all(script), ending], out)
@@ -90,9 +92,34 @@ def run_script(track: Opened, script: Sequence[Repair], save: bool, out: str, is
     else:
         guard, path = [*guard, *track.code], out + ".turned"
         _run([find_editor(), *track.options], track.path, [*lines_of_all(script[:many]), ending], path)
-    lines = lines_of_all(script[many:])
-    printed = _run([*guard, *["--save"] * save], path, lines, out)
-    return Refused(_refused_by_guard(lines, printed), [line for line in printed if line.startswith(REASONS)])
+    return run_guarded([*guard, *["--save"] * save], path, script[many:], out, kind)
+
+
+def run_guarded(command: List[str], path: str, script: Sequence[Repair], out: str, kind: str) -> Refused:
+    """Runs a script through irig_guard. If it drops repairs because of a frame, those of the frame are tried again as one:
+    a frame with two damages can read another time after one repair alone. If that helps some frames only, only theirs are
+    one. The run that drops fewest lines counts."""
+    best = _run_guard(command, path, script, out)
+    frames, again = frames_at_fault(best.reasons), out + ".joined"
+    for _ in range(2):
+        as_one = joined(script, frames, kind)
+        if len(as_one) == len(script):
+            break
+        found = _run_guard(command, path, as_one, again)
+        if found.lines < best.lines:
+            os.replace(again, out)
+            best = found
+        in_vain = frames & frames_at_fault(found.reasons)
+        if not in_vain:
+            break
+        frames -= in_vain
+    return best
+
+
+def _run_guard(command: List[str], path: str, script: Sequence[Repair], out: str) -> Refused:
+    lines = lines_of_all(script)
+    printed = _run(command, path, lines, out)
+    return Refused(_refused_by_guard(lines, printed), [line for line in printed if line.startswith(REASONS)], printed)
 
 
 def _turning(script: Sequence[Repair]) -> int:

@@ -139,8 +139,8 @@ def apply(given: Given, track: Opened, script: List[Repair], progress: Progress)
                     given.number(DUMP))
     with temporary_folder() as folder:
         repaired = os.path.join(folder, "repaired.vcd")
-        refused = run_script(track, script, given.has(SAVE), repaired, not given.has(MOVE))
         before = look(Editor(track.words), progress, given.has(STEADY))
+        refused = run_script(track, script, given.has(SAVE), repaired, not given.has(MOVE), before.listing.kind)
         after = look(Editor([*track.code, repaired]), progress, given.has(STEADY))
         frames = sound_frames(track.options, track.path), sound_frames(track.code, repaired)
         with ExitStack() as stack:
