@@ -1,21 +1,29 @@
 //! A script whose witness keeps what it sees, over files in memory.
 
+ghost use Rattle.std.specs.Prelude.{◌≤◌, ◌^◌, IfSome, length};
+
 use crate::scripts::helpers::TWO_PULSES;
 use crate::scripts::stopped_disks::left;
 use crate::scripts::stops::INVERTED;
 use crate::sights::Sights;
-use crate::watching::{new_files, watch};
+use crate::watching::{new_files, watch, watch_anew};
 use irig_codes::{Format, Kind};
 use irig_files::Room;
 use irig_script::{Screen, Status};
 use std::alloc::Global;
 
+/// The dump, and the format in which it is read.
+fn opening(alloc: Global) -> Option<(Vec<u8>, Format)>
+    ensures { IfSome result (λ opened. length opened.0.items ≤ 2 ^ 28) }
+{
+    let format = Format::new(Kind::G, 2).ok()?;
+    let dump = Vec::from_slice(alloc, TWO_PULSES).ok()?;
+    Some((dump, format))
+}
+
 /// Whether the script prints what it is to print, and leaves the text of its last write.
 fn is_right(alloc: Global, room: &mut Room) -> bool {
-    let Ok(format) = Format::new(Kind::G, 2) else {
-        return false;
-    };
-    let Ok(dump) = Vec::from_slice(alloc, TWO_PULSES) else {
+    let Some((dump, format)) = opening(alloc) else {
         return false;
     };
     let mut files = new_files(alloc);
@@ -36,10 +44,22 @@ fn is_right(alloc: Global, room: &mut Room) -> bool {
         && left(alloc, files.system().calls()) == Some(163)
 }
 
+/// Whether it leaves that text if the run makes its screen and its files.
+fn is_right_anew(alloc: Global, room: &mut Room) -> bool {
+    let Some((dump, format)) = opening(alloc) else {
+        return false;
+    };
+    let mut script = INVERTED.script;
+    let (_, files, outcome) = watch_anew(alloc, dump, format, &mut script, room);
+    outcome == Ok(Status::AllAccepted) && left(alloc, files.system().calls()) == Some(163)
+}
+
 // A witness that keeps what it sees changes nothing.
 #[test]
 fn a_watched_script_prints_and_writes_the_same(rt: HostRuntime) {
-    if let Ok(mut room) = Room::new(rt.alloc()) {
-        assert!(rt; is_right(rt.alloc(), &mut room));
-    }
+    let Ok(mut room) = Room::new(rt.alloc()) else {
+        return;
+    };
+    assert!(rt; is_right(rt.alloc(), &mut room));
+    assert!(rt; is_right_anew(rt.alloc(), &mut room));
 }
