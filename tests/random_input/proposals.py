@@ -116,8 +116,20 @@ def frame_lost(rng, pulses, recording):
     del pulses[at:at + rng.choice((99, 99, 100, 150))]
 
 
+def function_changed(rng, pulses, recording):
+    """A control function of a frame is the other one."""
+    elements = [element for element, _ in timecode.layout(recording.kind, recording.expression).get("control", [[]])[0]]
+    if not elements:
+        return
+    pulse = pulses[min(100 * rng.randrange(recording.many) + rng.choice(elements), len(pulses) - 1)]
+    is_one = timecode.class_of(recording.interval, pulse[1] - pulse[0]) == "one"
+    pulse[1] = pulse[0] + timecode.nominal(recording.interval, "zero" if is_one else "one")
+
+
 def damaged(rng, recording, pulses):
     found = [list(pulse) for pulse in pulses]
+    for _ in range(rng.choice((0, 0, 1, 2))):
+        function_changed(rng, found, recording)
     if rng.random() < 0.4:
         frame_lost(rng, found, recording)
     for _ in range(rng.choice((0, 1, 1, 2, 3))):

@@ -73,8 +73,8 @@ class Safety:
         return None if was == shown or self.controls.are_supported(near, frame) else named(shown, UNRECORDED)
 
     def _fault_at(self, rise: int, frame: Optional[Shown]) -> Optional[str]:
-        """What is wrong with the frame that begins here, if it is not as it was, nor was wrong and is mended, nor was not
-        fine and is borne out."""
+        """What is wrong with the frame that begins here, if it is not as it was, nor was wrong and is mended, nor has other
+        control functions alone that both next to it have, nor was not fine and is borne out."""
         place = bisect_left(self.rises, rise)
         if place == len(self.old) or self.rises[place] != rise:
             assert frame is not None
@@ -83,11 +83,20 @@ class Safety:
         if frame is None:
             return named(was, LOST)
         mended = self.bearing.is_contradicted(near, was) and self.bearing.is_borne(near, frame)
-        return None if frame == was or mended else named(was, CHANGED)
+        return None if frame == was or mended or has_control_of_both(near, was, frame) else named(was, CHANGED)
 
     def _support_each_other(self, new: Sequence[Shown]) -> bool:
         """If nothing was fine: whether there are none, or at least three, each of which leads to the next."""
         return not new or (len(new) >= 3 and all(self.bearing.leads(*pair) for pair in zip(new, new[1:])))
+
+
+def has_control_of_both(near: Near, was: Shown, frame: Shown) -> bool:
+    """Whether a frame has other control functions than it had, nothing else is another, and both next to it have those."""
+    if "control" not in frame.values or near.before is None or near.after is None:
+        return False
+    control = frame.values["control"]
+    same = {**was.values, "control": control} == frame.values
+    return same and all(one.values["control"] == control for one in (near.before, near.after))
 
 
 class Controls:

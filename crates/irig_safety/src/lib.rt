@@ -5,6 +5,7 @@ mod bearing;
 mod controls;
 mod fault;
 mod law;
+mod mended;
 mod original;
 mod safety;
 mod shown;
