@@ -40,11 +40,18 @@ fn has_control_of_both(near: &Witnesses, former: &Shown, frame: &Shown) -> bool
     match (near.before, near.after) {
         (Some(before), Some(after)) => {
             is_same(&with_control(former, frame.fields.control), frame)
-                && before.fields.control == frame.fields.control
-                && after.fields.control == frame.fields.control
+                && both_have(&before, &after, frame.fields.control)
         }
         _ => false,
     }
+}
+
+/// Whether two frames have these control functions.
+fn both_have(one: &Shown, other: &Shown, control: Option<u64>) -> bool
+    ensures { IsTrue result
+        ↔ (one.now.fields.control ≡ control) × (other.now.fields.control ≡ control) }
+{
+    one.fields.control == control && other.fields.control == control
 }
 
 /// A frame with these control functions instead of its own.
