@@ -22,6 +22,10 @@ def late(pulses):
     tools.moved(pulses, 450, 3300)
 
 
+def function(pulses):
+    pulses[364][1] = 3645000  # a control function that no other frame has
+
+
 def both(pulses):
     late(pulses)
     glitch(pulses)
@@ -171,6 +175,19 @@ def upside_down():
     return in_folder(lambda: list(holds()), rec=damages.dump(recorded(turned), END + 40000))
 
 
+def steady():
+    """With --steady a control function that one frame alone has is mended, and the guard keeps that."""
+    def holds():
+        status, printed, said = run("irig_mend", ["--expression=4", "--steady", "--apply", "new.vcd", "rec.vcd"])
+        found = text_of("new.vcd").partition("$dumpvars")[2]
+        edges = [int(word[1:]) for word in found.split() if word[0] == "#"]
+        wanted = [edge for pulse in recorded() for edge in pulse if 0 < edge < END]
+        yield same("--steady", (status, len(printed.splitlines()), said), (0, 1, ""))
+        yield same("--steady, edges", [edge for edge in edges if edge < END], wanted)
+
+    return in_folder(lambda: list(holds()), rec=damages.dump(recorded(function), END))
+
+
 def guarded():
     """A guard next to the editor runs the script; what it refuses is counted, and why is printed. With --move the editor
     runs it."""
@@ -260,4 +277,5 @@ def kinds():
 def cases(top):
     """Each part by its name."""
     return [*(case("apply: " + row[0], applied, *row) for row in APPLIED),
-            *(case("apply: " + part.__name__, part) for part in (into, late_times, saved, upside_down, guarded, refused, objects, kinds))]
+            *(case("apply: " + part.__name__, part)
+              for part in (into, late_times, saved, upside_down, steady, guarded, refused, objects, kinds))]
