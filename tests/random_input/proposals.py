@@ -176,6 +176,7 @@ def wild(rng, recording, pulses):
         "%d delete" % n, "%d force %s" % (n, rng.choice(CLASSES)), "%d,%d join" % (n, n + 1),
         "%d shift %d" % (n, rng.choice((1, -1, recording.interval // 20, 7))), "insert %d %d" % (time, time + recording.interval // 5),
         "%d,$ shift %d" % (max(1, n), rng.choice((1, -1, recording.interval // 9))), "1,%d delete" % count,
+        "%d,$ shift %d" % (rng.choice((1, 101, 201, 301)), rng.choice((1, -1, 3, -3, -30, -60, -100)) * recording.interval // 3),
         "invert 0 %d" % recording.length, "mark %s %d" % (rng.choice("ab"), time), "invert %d %d" % (time, time + 3),
     ))]
 

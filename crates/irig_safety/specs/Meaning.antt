@@ -50,6 +50,5 @@ IsTold f old y =
 -- if frames are safe by former ones, each of the former is kept or mended, and each other one is
 -- borne out by the former
 abbrev pub SafeMeans : Type 0
-SafeMeans = (f : FormatView) (old new : List Shown) → AreRising old → AreRising new
-    → IsSafeFrom f None None old new
+SafeMeans = (f : FormatView) (old new : List Shown) → AreRising new → IsSafeFrom f None None old new
     → AllByRecursion (IsKept f old new) old × AllByRecursion (IsTold f old) new
