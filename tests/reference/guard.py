@@ -122,7 +122,8 @@ def near(old: Sequence[Shown], place: int, after: int) -> Near:
 
 def located(old: Sequence[Shown], now: Sequence[Shown]) -> List[Shown]:
     """The frames where they are now: each where the next frame is that has its time; one without such a frame where it was."""
-    found, at = [], 0
+    found: List[Shown] = []
+    at = 0
     for frame in old:
         there = [place for place in range(at, len(now)) if clock(now[place].values) == clock(frame.values)]
         found.append(Shown(now[there[0]].rise, frame.values) if there else frame)
