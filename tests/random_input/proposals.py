@@ -116,8 +116,20 @@ def frame_lost(rng, pulses, recording):
     del pulses[at:at + rng.choice((99, 99, 100, 150))]
 
 
+def function_changed(rng, pulses, recording):
+    """A control function of a frame is the other one."""
+    elements = [element for element, _ in timecode.layout(recording.kind, recording.expression).get("control", [[]])[0]]
+    if not elements:
+        return
+    pulse = pulses[min(100 * rng.randrange(recording.many) + rng.choice(elements), len(pulses) - 1)]
+    is_one = timecode.class_of(recording.interval, pulse[1] - pulse[0]) == "one"
+    pulse[1] = pulse[0] + timecode.nominal(recording.interval, "zero" if is_one else "one")
+
+
 def damaged(rng, recording, pulses):
     found = [list(pulse) for pulse in pulses]
+    for _ in range(rng.choice((0, 0, 1, 2))):
+        function_changed(rng, found, recording)
     if rng.random() < 0.4:
         frame_lost(rng, found, recording)
     for _ in range(rng.choice((0, 1, 1, 2, 3))):
@@ -164,6 +176,7 @@ def wild(rng, recording, pulses):
         "%d delete" % n, "%d force %s" % (n, rng.choice(CLASSES)), "%d,%d join" % (n, n + 1),
         "%d shift %d" % (n, rng.choice((1, -1, recording.interval // 20, 7))), "insert %d %d" % (time, time + recording.interval // 5),
         "%d,$ shift %d" % (max(1, n), rng.choice((1, -1, recording.interval // 9))), "1,%d delete" % count,
+        "%d,$ shift %d" % (rng.choice((1, 101, 201, 301)), rng.choice((1, -1, 3, -3, -30, -60, -100)) * recording.interval // 3),
         "invert 0 %d" % recording.length, "mark %s %d" % (rng.choice("ab"), time), "invert %d %d" % (time, time + 3),
     ))]
 

@@ -3,7 +3,7 @@ from bisect import bisect_left, bisect_right
 from typing import Iterator, List, NamedTuple, Optional, Sequence, Tuple
 
 from reference import language, machine, timecode
-from reference.bearing import Bearing, Near, Shown
+from reference.bearing import Bearing, Near, Shown, clock
 
 LONGEST_LINE, LONGEST_COMMENT = 1000, 900
 NOTHING_FINE, NOT_KEPT = b"# nothing to go by: no frame of the recording is fine", b"# not kept: "
@@ -40,54 +40,95 @@ def fine(state: machine.State) -> List[Fine]:
 class Safety:
     """What is safe for a recording."""
 
-    def __init__(self, opened: machine.State) -> None:
+    def __init__(self, opened: machine.State, moved: bool) -> None:
         self.bearing = Bearing(opened.kind)
         self.old = [frame.shown for frame in fine(opened)]
-        self.rises = [frame.rise for frame in self.old]
+        self.moved = moved
         self.controls = Controls(opened)
-
-    def near(self, place: int, after: int) -> Near:
-        """The frames next to a place: those before `place`, and those from `after` on."""
-        def at(k: int) -> Optional[Shown]:
-            return self.old[k] if 0 <= k < len(self.old) else None
-
-        return Near(at(place - 2), at(place - 1), at(after), at(after + 1))
 
     def fault(self, last: Sequence[Shown], new: Sequence[Fine]) -> Optional[str]:
         """Why what is fine now is not safe; `last` was fine after the last repair that was kept."""
-        now = {frame.shown.rise: frame.shown for frame in new}
-        if self.old:
-            found = [self._fault_at(rise, now.get(rise)) for rise in sorted({*self.rises, *now})]
-            found += [self._unrecorded(frame) for frame in new]
-        else:
-            found = [None if self._support_each_other([frame.shown for frame in new]) else ALONE]
-        found += [None if frame.rise in now else named(frame, LOST) for frame in last]
+        now = [frame.shown for frame in new]
+        if not self.old:
+            return self._first([None if self._support_each_other(now) else ALONE, self._lost(last, now)])
+        old = located(self.old, now) if self.moved else self.old
+        found = [self._times(old, now), self._controls(old, new)]
+        return self._first([*found, self._lost(located(last, now) if self.moved else last, now)])
+
+    def _first(self, found: Sequence[Optional[str]]) -> Optional[str]:
         return next((why for why in found if why), None)
 
-    def _unrecorded(self, frame: Fine) -> Optional[str]:
-        """What is wrong with the control functions of a frame that is not as it was."""
-        shown = frame.shown
-        place = bisect_left(self.rises, shown.rise)
-        was = self.old[place] if self.rises[place:place + 1] == [shown.rise] else None
-        near = self.near(place, place + 1 if was else place)
-        return None if was == shown or self.controls.are_supported(near, frame) else named(shown, UNRECORDED)
+    def _lost(self, last: Sequence[Shown], now: Sequence[Shown]) -> Optional[str]:
+        """The first frame that was fine after the last repair, and that has no fine frame of its own at its place now."""
+        rises = [frame.rise for frame in now]
+        for frame in last:
+            if frame.rise not in rises:
+                return named(frame, LOST)
+            rises = rises[rises.index(frame.rise) + 1:]
+        return None
 
-    def _fault_at(self, rise: int, frame: Optional[Shown]) -> Optional[str]:
-        """What is wrong with the frame that begins here, if it is not as it was, nor was wrong and is mended, nor was not
-        fine and is borne out."""
-        place = bisect_left(self.rises, rise)
-        if place == len(self.old) or self.rises[place] != rise:
-            assert frame is not None
-            return None if self.bearing.is_borne(self.near(place, place), frame) else named(frame, UNSUPPORTED)
-        was, near = self.old[place], self.near(place, place + 1)
-        if frame is None:
-            return named(was, LOST)
-        mended = self.bearing.is_contradicted(near, was) and self.bearing.is_borne(near, frame)
-        return None if frame == was or mended else named(was, CHANGED)
+    def _times(self, old: Sequence[Shown], now: Sequence[Shown]) -> Optional[str]:
+        """The first of the frames, one by one, that is lost, changed or not supported."""
+        place = 0
+        for frame in now:
+            if place < len(old) and old[place].rise < frame.rise:
+                return named(old[place], LOST)
+            if place < len(old) and old[place].rise == frame.rise:
+                if not self._stays(near(old, place, place + 1), old[place], frame):
+                    return named(old[place], CHANGED)
+                place += 1
+            elif not self.bearing.is_borne(near(old, place, place), frame):
+                return named(frame, UNSUPPORTED)
+        return named(old[place], LOST) if place < len(old) else None
+
+    def _stays(self, beside: Near, was: Shown, frame: Shown) -> bool:
+        """Whether a frame is as it was, or was wrong and is mended, or has other control functions alone that both next to
+        it have."""
+        mended = self.bearing.is_contradicted(beside, was) and self.bearing.is_borne(beside, frame)
+        return frame == was or mended or has_control_of_both(beside, was, frame)
+
+    def _controls(self, old: Sequence[Shown], new: Sequence[Fine]) -> Optional[str]:
+        """The first frame that is not as it was, and whose control functions are not supported."""
+        rises = [frame.rise for frame in old]
+        for frame in new:
+            place = bisect_left(rises, frame.shown.rise)
+            was = old[place] if rises[place:place + 1] == [frame.shown.rise] else None
+            beside = near(old, place, place + 1 if was else place)
+            if was != frame.shown and not self.controls.are_supported(beside, frame):
+                return named(frame.shown, UNRECORDED)
+        return None
 
     def _support_each_other(self, new: Sequence[Shown]) -> bool:
         """If nothing was fine: whether there are none, or at least three, each of which leads to the next."""
         return not new or (len(new) >= 3 and all(self.bearing.leads(*pair) for pair in zip(new, new[1:])))
+
+
+def has_control_of_both(near: Near, was: Shown, frame: Shown) -> bool:
+    """Whether a frame has other control functions than it had, nothing else is another, and both next to it have those."""
+    if "control" not in frame.values or near.before is None or near.after is None:
+        return False
+    control = frame.values["control"]
+    same = {**was.values, "control": control} == frame.values
+    return same and all(one.values["control"] == control for one in (near.before, near.after))
+
+
+def near(old: Sequence[Shown], place: int, after: int) -> Near:
+    """The frames next to a place: those before `place`, and those from `after` on."""
+    def at(k: int) -> Optional[Shown]:
+        return old[k] if 0 <= k < len(old) else None
+
+    return Near(at(place - 2), at(place - 1), at(after), at(after + 1))
+
+
+def located(old: Sequence[Shown], now: Sequence[Shown]) -> List[Shown]:
+    """The frames where they are now: each where the next frame is that has its time; one without such a frame where it was."""
+    found: List[Shown] = []
+    at = 0
+    for frame in old:
+        there = [place for place in range(at, len(now)) if clock(now[place].values) == clock(frame.values)]
+        found.append(Shown(now[there[0]].rise, frame.values) if there else frame)
+        at = there[0] + 1 if there else at
+    return found
 
 
 class Controls:
@@ -127,9 +168,9 @@ class Controls:
 class Guard:
     """A run over a proposed script. `printed` has its lines, `refused` is whether some were not kept."""
 
-    def __init__(self, opened: machine.Machine) -> None:
+    def __init__(self, opened: machine.Machine, moved: bool = False) -> None:
         self.machine = opened
-        self.safety = Safety(opened.present)
+        self.safety = Safety(opened.present, moved)
         self.last = self.safety.old
         self.printed: List[bytes] = []
         self.refused = False

@@ -22,6 +22,7 @@ class Row(NamedTuple):
     pulses: Pulses
     script: Sequence[str]
     wanted: Sequence[str]
+    moved: bool = False  # with --moved
 
 
 def values_of(form: str, when: datetime.datetime, control: int = 0, second: int = -1) -> Dict[str, int]:
@@ -118,6 +119,8 @@ SLOW = moved(SOUND, lambda at: at * 51 // 50)
 HUNDREDTHS = [[rise // 10, fall // 10] for rise, fall in frames("A0", [
     dict(values_of("A0", NOON), hundredths=10 * k) for k in range(7)])]
 TURNED = [[one[1], other[0]] for one, other in zip(SOUND, SOUND[1:])]
+EARLY = SOUND[:349] + moved(SOUND[349:], lambda at: at - 7300)  # from element 49 of frame 3 on
+LATE = [*SOUND[:600], *moved(SOUND[600:], lambda at: at + 7300)]  # from frame 6 on
 NO_REPAIR = "not a repair"
 LOST, CHANGED, UNSUPPORTED = "would be lost", "would change", "would have a time that is not supported"
 UNRECORDED = "would have control functions that are not supported"
@@ -164,6 +167,35 @@ ROWS = (
     Row("a recording that is upside down", "B4", TURNED,
         ["invert 0 7000000"], [NOTHING_FINE, "invert 0 7000000"]),
     Row("an empty script for it", "B4", TURNED, [], [NOTHING_FINE]),
+    # control functions alone of frames that were fine
+    Row("a control function that both nearest frames do not have", "B4", changed(SOUND, 363, "one"),
+        ["363 force zero"], ["363 force zero"]),
+    Row("one that both nearest frames have", "B4", changed(SET_FUNCTION, 363, "zero"), ["363 force one"], ["363 force one"]),
+    Row("two at once", "B4", changed(changed(SOUND, 363, "one"), 379, "one"),
+        ["begin", "363 force zero", "379 force zero", "end"], ["begin", "363 force zero", "379 force zero", "end"]),
+    Row("the nearest frames that are fine, next to one that is not", "B4", without(changed(SOUND, 363, "one"), 444),
+        ["363 force zero"], ["363 force zero"]),
+    Row("one of two alone", "B4", changed(changed(SOUND, 363, "one"), 379, "one"), ["363 force zero"],
+        unsafe("138 12:34:53", 3000000, CHANGED, "363 force zero")),
+    Row("one that the frame before it has, and the frame after it does not", "B4", joined(SET_FUNCTION, SOUND, 4), ["363 force zero"],
+        unsafe("138 12:34:53", 3000000, CHANGED, "363 force zero")),
+    Row("one that the frame before it has alone", "B4", joined(SET_FUNCTION, SOUND, 3), ["363 force one"],
+        unsafe("138 12:34:53", 3000000, CHANGED, "363 force one")),
+    Row("one of the last frame, where both nearest frames are before it", "B4", changed(SOUND, 663, "one"), ["663 force zero"],
+        unsafe("138 12:34:56", 6000000, CHANGED, "663 force zero")),
+    Row("one that both have, and another that they do not have", "B4", changed(SOUND, 363, "one"),
+        ["begin", "363 force zero", "379 force one", "end"],
+        unsafe("138 12:34:53", 3000000, CHANGED, "begin", "363 force zero", "379 force one", "end")),
+    Row("one that both have, and another time", "B5", changed(steady("B5"), 363, "one"),
+        ["begin", "363 force zero", "312 force one", "end"],
+        unsafe("138 12:34:53", 3000000, CHANGED, "begin", "363 force zero", "312 force one", "end")),
+    Row("one that both have, and straight binary seconds of another time", "B4", changed(SOUND, 363, "one"),
+        ["begin", "363 force zero", "381 force zero", "end"],
+        unsafe("138 12:34:53", 3000000, LOST, "begin", "363 force zero", "381 force zero", "end")),
+    Row("one that both have, at another rise", "B4", changed(SOUND, 363, "one"), ["begin", "363 force zero", "301,400 shift 600", "end"],
+        unsafe("138 12:34:53", 3000000, LOST, "begin", "363 force zero", "301,400 shift 600", "end")),
+    Row("one that both have in the recording, whatever became of them", "B4", changed(changed(SOUND, 363, "one"), 563, "one"),
+        ["463 force one", "363 force zero", "563 force zero"], ["463 force one", "363 force zero", "563 force zero"]),
     # frames that were fine
     Row("a pulse of a frame that is fine", "B4", SOUND, ["343 delete"],
         unsafe("138 12:34:53", 3000000, LOST, "343 delete")),
@@ -214,6 +246,30 @@ ROWS = (
         ["begin", "insert 3420000 3422000", "363 force one", "regen 5000000 1 " + FOURTH, "end"],
         unsafe("138 12:34:54", 5000000, UNSUPPORTED, "begin", "insert 3420000 3422000", "363 force one",
                "regen 5000000 1 " + FOURTH, "end")),
+    # frames that move
+    Row("a rest that is early", "B4", EARLY, ["350,$ shift 7300"],
+        unsafe("138 12:34:54", 3992700, LOST, "350,$ shift 7300")),
+    Row("a rest that is early, moved", "B4", EARLY, ["350,$ shift 7300"], ["350,$ shift 7300"], True),
+    Row("a rest that is moved back again", "B4", SOUND, ["601,$ shift 600", "601,$ shift -600"],
+        ["601,$ shift 600", "601,$ shift -600"], True),
+    Row("a frame that no neighbour is as far from as it should, moved", "B4", LATE, ["601,$ shift 900"], ["601,$ shift 900"], True),
+    Row("what is not moved, with --moved", "B4", WITHOUT_ZERO, [MEND, "343 delete"],
+        [MEND, *unsafe("138 12:34:53", 3000000, LOST, "343 delete")], True),
+    Row("a frame that an earlier repair mended, moved and lost", "B4", WITHOUT_ZERO, [MEND, "201,$ shift 600", "243 delete"],
+        [MEND, "201,$ shift 600", *unsafe("138 12:34:52", 2000600, LOST, "243 delete")], True),
+    Row("a time that the distances of the result support", "B4", hole(SOUND, 3, 2)[:-10],
+        ["301,$ shift 30000", "regen 3030000 2 " + THIRD], ["301,$ shift 30000", "regen 3030000 2 " + THIRD], True),
+    Row("a time that only those of another result would support", "B4", hole(SOUND, 3, 2)[:-10], ["regen 3030000 2 " + THIRD],
+        unsafe("138 12:34:54", 4030000, UNSUPPORTED, "regen 3030000 2 " + THIRD), True),
+    Row("another time of a frame that moves", "B6", steady("B6"), ["begin", "302 force zero", "601,$ shift 600", "end"],
+        unsafe("138 12:34:53", 3000000, CHANGED, "begin", "302 force zero", "601,$ shift 600", "end"), True),
+    Row("a control function of the last frame, which moves", "B4", SOUND, ["begin", "663 force one", "601,$ shift 600", "end"],
+        unsafe("138 12:34:56", 6000600, CHANGED, "begin", "663 force one", "601,$ shift 600", "end"), True),
+    Row("a control function that both nearest frames do not have, which moves", "B4", changed(SOUND, 563, "one"),
+        ["begin", "563 force zero", "501,$ shift 600", "end"], ["begin", "563 force zero", "501,$ shift 600", "end"], True),
+    Row("a frame that an earlier repair mended, and the next one in its place", "B4", WITHOUT_ZERO,
+        [MEND, "begin", "regen 2000000 1 " + THIRD, "343 delete", "end"],
+        [MEND, *unsafe("138 12:34:53", 2000000, LOST, "begin", "regen 2000000 1 " + THIRD, "343 delete", "end")], True),
     # no fine frame
     Row("two frames alone", "B4", TURNED[:299], ["invert 0 3000000"],
         [NOTHING_FINE, *dropped("fine frames would not support each other", "invert 0 3000000")]),

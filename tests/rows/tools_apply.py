@@ -22,6 +22,10 @@ def late(pulses):
     tools.moved(pulses, 450, 3300)
 
 
+def function(pulses):
+    pulses[364][1] = 3645000  # a control function that no other frame has
+
+
 def both(pulses):
     late(pulses)
     glitch(pulses)
@@ -179,23 +183,36 @@ def upside_down():
     return in_folder(lambda: list(holds()), rec=damages.dump(recorded(turned), END + 40000))
 
 
+def steady():
+    """With --steady a control function that one frame alone has is mended, and the guard keeps that."""
+    def holds():
+        status, printed, said = run("irig_mend", ["--expression=4", "--steady", "--apply", "new.vcd", "rec.vcd"])
+        found = text_of("new.vcd").partition("$dumpvars")[2]
+        edges = [int(word[1:]) for word in found.split() if word[0] == "#"]
+        wanted = [edge for pulse in recorded() for edge in pulse if 0 < edge < END]
+        yield same("--steady", (status, len(printed.splitlines()), said), (0, 1, ""))
+        yield same("--steady, edges", [edge for edge in edges if edge < END], wanted)
+
+    return in_folder(lambda: list(holds()), rec=damages.dump(recorded(function), END))
+
+
 def guarded():
-    """A guard next to the editor runs the script; what it refuses is counted, and why is printed. With --move the editor
-    runs it."""
+    """A guard next to the editor runs the script; what it refuses is counted, and why is printed. With --move it gets
+    --moved."""
     def holds():
         os.symlink(os.path.abspath(os.environ["IRIG_ED"]), "irig_ed")
         with open("irig_guard", "w", encoding="ascii") as file:
-            file.write('#!/bin/sh\nwhile [ "$1" != --out ]; do shift; done; cp "$3" "$2"\n'
+            file.write('#!/bin/sh\necho "$*" > words; while [ "$1" != --out ]; do shift; done; cp "$3" "$2"\n'
                        'echo "# nothing to go by: no frame of the recording is fine"\n'
                        'sed "/^#/!s/^/# not kept: not a repair\\n# /"; exit 1\n')
         os.chmod("irig_guard", 0o755)
         with mock.patch.dict(os.environ, IRIG_ED=os.path.abspath("irig_ed")):
-            for words, status, text in (("", 1, "1 place found, 0 repaired, 0 undecided, 1 left, 0 steps that stay, 1 line refused"),
-                                        ("--move", 0, "1 place found, 1 repaired, 0 undecided, 0 left, 0 steps that stay;")):
+            text = "1 place found, 0 repaired, 0 undecided, 1 left, 0 steps that stay, 1 line refused"
+            for words in ("", "--move"):
                 got, said, _ = run("irig_mend", ["--expression=4", *words.split(), "--apply", "new.vcd", "rec.vcd"])
                 why = [line for line in said.decode().splitlines() if line.startswith("# not kept: ")]
-                yield same("a guard " + words, (got, text in said.decode(), why),
-                           (status, True, [] if words else ["# not kept: not a repair"]))
+                yield same("a guard " + words, (got, text in said.decode(), why), (1, True, ["# not kept: not a repair"]))
+                yield same("what it gets " + words, "--moved" in text_of("words").split(), words == "--move")
 
     return in_folder(lambda: list(holds()), rec=damages.dump(recorded(glitch), END))
 
@@ -268,4 +285,5 @@ def kinds():
 def cases(top):
     """Each part by its name."""
     return [*(case("apply: " + row[0], applied, *row) for row in APPLIED),
-            *(case("apply: " + part.__name__, part) for part in (into, late_times, saved, upside_down, guarded, refused, objects, kinds))]
+            *(case("apply: " + part.__name__, part)
+              for part in (into, late_times, saved, upside_down, steady, guarded, refused, objects, kinds))]

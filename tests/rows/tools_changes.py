@@ -197,7 +197,7 @@ def troubled(top):
 
 
 def unguarded(top):
-    """Without irig_guard nothing is written, unless frames are moved; one line says why."""
+    """Without irig_guard nothing is written, also if frames are moved; one line says why."""
     with tempfile.TemporaryDirectory() as folder:
         filled(folder)
         shutil.copytree(top + "/tools", folder + "/share/irig_ed/tools")
@@ -206,10 +206,10 @@ def unguarded(top):
         before = contents(folder)
         tool = "unset IRIG_ED; python3 share/irig_ed/tools/irig_mend --expression 2 --apply new.vcd %srec.vcd"
         text = "irig_guard is not found next to irig_ed, and --apply tries each repair in it; in a clone ./build makes it\n"
-        status, out, said = shell(top, folder, tool % "")
-        yield same("no irig_guard", (status, out, said.count("\n"), said.endswith(text)), (2, "", 1, True))
-        yield same("no irig_guard, the files", contents(folder), before)
-        yield same("no irig_guard, but frames are moved", shell(top, folder, tool % "--move ")[0] in (0, 1), True)
+        for words in ("", "--move "):
+            status, out, said = shell(top, folder, tool % words)
+            yield same("no irig_guard " + words, (status, out, said.count("\n"), said.endswith(text)), (2, "", 1, True))
+            yield same("no irig_guard, the files", contents(folder), before)
 
 
 def unwritten(top):

@@ -78,15 +78,12 @@ class Refused:
     printed: Sequence[str] = ()
 
 
-def run_script(track: Opened, script: Sequence[Repair], save: bool, out: str, is_guarded: bool, kind: str) -> Refused:
-    """Runs a script on the track, of this format, and writes a file, with its history if `save`; what was refused. Which
-    program runs it is decided here alone: irig_guard, or if the script moves frames the editor. A wire that is upside down
-    is first turned over by the editor, since irig_guard goes by the frames that are fine."""
+def run_script(track: Opened, script: Sequence[Repair], save: bool, out: str, moved: bool, kind: str) -> Refused:
+    """Runs a script on the track, of this format, through irig_guard and writes a file, with its history if `save`; what was
+    refused. Frames that are fine may move if `moved`. A wire that is upside down is first turned over by the editor, since
+    irig_guard goes by the frames that are fine."""
     ending = "save" if save else "write"
-    if not is_guarded:
-        said = _run([find_editor(), *track.options], track.path, [*lines_of_all(script), ending], out)
-        return Refused(sum(line.startswith("? ") for line in said))
-    guard, many = [find_guard()], _turning(script)
+    guard, many = [find_guard()] + ["--moved"] * moved, _turning(script)
     if not many:
         guard, path = [*guard, *track.options], track.path
     else:

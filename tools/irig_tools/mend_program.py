@@ -60,7 +60,7 @@ track was not read, and 70 if memory ran out or the tool has a defect. With
 
 def find_programs(given: Given) -> None:
     """Without the programs that --apply needs nothing is read or written."""
-    if given.has(APPLY) and not given.has(MOVE):
+    if given.has(APPLY):
         find_guard()
     if given.has(APPLY) and given.has(PAGE_OF_REPAIRS):
         find_differ()
@@ -140,7 +140,7 @@ def apply(given: Given, track: Opened, script: List[Repair], progress: Progress)
     with temporary_folder() as folder:
         repaired = os.path.join(folder, "repaired.vcd")
         before = look(Editor(track.words), progress, given.has(STEADY))
-        refused = run_script(track, script, given.has(SAVE), repaired, not given.has(MOVE), before.listing.kind)
+        refused = run_script(track, script, given.has(SAVE), repaired, given.has(MOVE), before.listing.kind)
         after = look(Editor([*track.code, repaired]), progress, given.has(STEADY))
         frames = sound_frames(track.options, track.path), sound_frames(track.code, repaired)
         with ExitStack() as stack:

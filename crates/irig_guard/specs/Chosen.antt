@@ -40,6 +40,7 @@ pub record IsChosen (a : Asked) (s : Settings) : Type 0 where
   pub wire : s.wire ≡ a.wire
   pub out : s.out ≡ a.out
   pub save : s.save ≡ a.save
+  pub moved : s.moved ≡ a.moved
   pub format : IsFormat a s.format
   pub apart : is_over a ≡ false
   pub saved : (a.save && not (is_some a.out)) ≡ false

@@ -54,7 +54,7 @@ pub record RunsBy (given : Files) (chosen : Settings) (source : List ℕ) (old n
     (result : Result Status GuardFault) : Type 0 where
   pub label : List ℕ
   pub failures : ℕ
-  pub ran : GuardsOnDump (option_map (λ w. w.now) chosen.wire) chosen.format source
+  pub ran : GuardsOnDump (option_map (λ w. w.now) chosen.wire) chosen.format chosen.moved source
       (product_of chosen) old.script new.script
       (desk old.out (shelved (texts_at (given.paths (place_of chosen)) old.writes) 0 label))
       (desk new.out (shelved (texts_at (given.paths (place_of chosen)) new.writes) failures label))

@@ -1,4 +1,4 @@
--- The command line: four options, a flag and the track. This project's own.
+-- The command line: four options, two flags and the track. This project's own.
 use Rattle.std.specs.Prelude.{◌≡◌, List, codes, None, Some}
 use Rattle.clap.specs.Words.{App, Rule, Text, new_app, new_rule, with_rule, HasMatchesOf}
 use Rattle.clap.specs.declared.builder.ArgAction.TheVariants.{SetTrue}
@@ -9,16 +9,20 @@ use Rattle.irig_words.specs.Arguments.{needed, option}
 abbrev pub flag : Rule
 flag = record (new_rule (codes "save")) { long = Some (codes "save"); action = Some SetTrue }
 
+-- the flag that says that frames may move
+abbrev pub moving : Rule
+moving = record (new_rule (codes "moved")) { long = Some (codes "moved"); action = Some SetTrue }
+
 -- how the track is read
 abbrev pub reading : App
 reading =
     with_rule (with_rule (with_rule (new_app (codes "irig_guard")) (option (codes "wire") None))
     (option (codes "format") None)) (option (codes "expression") None)
 
--- the command: how the track is read, what is written, and the track
+-- the command: how the track is read, whether frames may move, what is written, and the track
 abbrev pub the_command : App
 the_command =
-    with_rule (with_rule (with_rule reading (option (codes "out") None)) flag)
+    with_rule (with_rule (with_rule (with_rule reading moving) (option (codes "out") None)) flag)
     (needed (codes "TRACK"))
 
 -- it says how the track is read

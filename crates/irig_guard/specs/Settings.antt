@@ -21,6 +21,9 @@ pub record AreValues (f : Found) (a : Asked) : Type 0 where
   pub saved : one_text f (codes "save") ≡ Some (codes "true") → a.save ≡ true
   pub not_saved : one_text f (codes "save") ≡ Some (codes "false") → a.save ≡ false
   pub not_asked : one_text f (codes "save") ≡ None → a.save ≡ false
+  pub moved : one_text f (codes "moved") ≡ Some (codes "true") → a.moved ≡ true
+  pub not_moved : one_text f (codes "moved") ≡ Some (codes "false") → a.moved ≡ false
+  pub moved_not_asked : one_text f (codes "moved") ≡ None → a.moved ≡ false
 
 -- there are matches that a parse of the words may give, and these are their values
 pub record Values (words : List Text) (asked : Asked) : Type 0 where

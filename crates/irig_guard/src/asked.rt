@@ -12,4 +12,6 @@ pub struct Asked<'a> {
     pub out: Option<&'a str>,
     /// Whether `--save` is given.
     pub save: bool,
+    /// Whether `--moved` is given.
+    pub moved: bool,
 }

@@ -14,6 +14,8 @@ pub struct Settings<'a> {
     pub out: Option<&'a str>,
     /// Whether the journal is written with it.
     pub save: bool,
+    /// Whether frames that are fine may move.
+    pub moved: bool,
     /// The format in which frames are read: B with expression 2, if none is given.
     pub format: Format,
 }

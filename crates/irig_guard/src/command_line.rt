@@ -2,7 +2,8 @@
 
 ghost use Rattle.std.specs.Prelude.{◌≡◌, IfErr, IfOk, None, false, map, string_bytes};
 ghost use Rattle.clap.specs.Words.{app_of, found_of, rule_of};
-ghost use Rattle.irig_guard.specs.Options.{IsCommand, IsParsed, IsReading, flag, the_command};
+ghost use Rattle.irig_guard.specs.Options.{IsCommand, IsParsed, IsReading, flag, moving};
+ghost use Rattle.irig_guard.specs.Options.{the_command};
 ghost use Rattle.irig_guard.specs.Settings.{AreValues, Reads, Values};
 ghost use Rattle.irig_words.specs.Arguments.{option};
 ghost use Rattle.irig_words.specs.Errors.{IsMistake, MayRefuse, WantsMemory};
@@ -70,6 +71,7 @@ fn values_of<'a>(matches: &ArgMatches<'a>) -> Result<Asked<'a>, Error>
         expression: matches.get_str("expression"),
         out: matches.get_str("out"),
         save: matches.get_flag("save"),
+        moved: matches.get_flag("moved"),
     })
 }
 
@@ -87,7 +89,11 @@ fn command<'a>(alloc: Global) -> Result<Command<'a>, AllocError>
 {
     let out = option_arg(alloc, "out", "PATH", "where the mended track is written");
     let track = needed_arg(alloc, "TRACK", "the dump; repairs come on standard input");
-    reading(alloc)?.arg(out)?.arg(save_arg(alloc))?.arg(track)
+    reading(alloc)?
+        .arg(moved_arg(alloc))?
+        .arg(out)?
+        .arg(save_arg(alloc))?
+        .arg(track)
 }
 
 /// Its options that say how the track is read.
@@ -101,6 +107,17 @@ fn reading<'a>(alloc: Global) -> Result<Command<'a>, AllocError>
         .arg(wire)?
         .arg(format)?
         .arg(expression)
+}
+
+/// Whether frames that are fine may move.
+fn moved_arg<'a>(alloc: Global) -> Arg<'a>
+    ensures rule { rule_of result ≡ moving }
+    ensures local { result.global ≡ false }
+{
+    Arg::new(alloc, "moved")
+        .long("moved")
+        .help("frames that are fine may move, in their order")
+        .action(ArgAction::SetTrue)
 }
 
 /// Whether the journal is written too.

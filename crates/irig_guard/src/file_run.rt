@@ -113,6 +113,7 @@ fn run_on_read<D: Disk, R: Read, W: Write>(
         recording,
         journal,
         chosen.format,
+        chosen.moved,
         product_of(chosen),
         script,
         out,

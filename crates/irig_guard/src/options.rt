@@ -28,6 +28,7 @@ pub fn settings_of<'a>(asked: &Asked<'a>) -> Result<Settings<'a>, OptionFault>
         wire: asked.wire,
         out: asked.out,
         save: asked.save,
+        moved: asked.moved,
         format,
     })
 }

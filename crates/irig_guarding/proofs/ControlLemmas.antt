@@ -14,13 +14,14 @@ use Rattle.irig_track.specs.Edges.{pulse}
 use Rattle.irig_index.specs.declared.record.Verdict.TheVariants.{Broken, Read}
 use Rattle.irig_index.specs.{declared.record.Record.Record, declared.record.Verdict.Verdict}
 use Rattle.irig_edit.specs.State.State.{State, frames_of}
+use Rattle.irig_safety.specs.{Moved.located, Moved.moved_in, Original.with_frames}
 use Rattle.irig_safety.specs.{Original.OriginalView, Original.near_by, Original.near_in, Safety.behind, declared.fault.Fault.Fault, declared.shown.Shown.Shown}
 use Rattle.irig_safety.specs.{Faults.IsFault, Faults.IsSpoiledBy, Safety.IsSafe, Safety.NoneIsSpoiled}
 use Rattle.irig_safety.specs.declared.witnesses.Witnesses.{Witnesses}
 use Rattle.irig_safety.specs.declared.fault.Fault.TheVariants.{Lost, Unrecorded}
 use Rattle.irig_safety.proofs.SafetyLemmas.{drop-item, drop_past, next_behind}
 use Rattle.irig_guarding.specs.Controls.{AreBorneBy, AreBorneFrom, ControlsAt, ControlsFrom, IsAs, IsBorne, IsUnborneBy, IsUnborneFrom, Judges}
-use Rattle.irig_guarding.specs.Trials.{HasFault, MayStay}
+use Rattle.irig_guarding.specs.Trials.{HasFault, HasFaultAt, MayStay, StaysAt}
 use Rattle.irig_guarding.specs.Reading.{fine_frames, original_of, seen_at, seen_by, seen_frames, shown_at, shown_by}
 use Rattle.irig_guarding.specs.declared.seen.Seen.{Seen}
 
@@ -197,8 +198,8 @@ by_frames : (o : OriginalView) (s : State) (frames : List Shown) → AreBorneFro
 by_frames o s [] h = tt
 by_frames o s (x ∷ frames) h = h
 
-pub borne_self : (s : State) → AreBorneBy (fine_frames s) (original_of s) s
-borne_self s = by_frames (original_of s) s (fine_frames s) (themselves (original_of s) s s.pulses None None (frames_of s))
+pub borne_self : (moved : Bool) (s : State) → AreBorneBy (fine_frames s) (original_of moved s) s
+borne_self moved s = by_frames (original_of moved s) s (fine_frames s) (themselves (original_of moved s) s s.pulses None None (frames_of s))
 
 -- if some frame of the recording reads well
 none_there : (n : ℕ) (r : Bool) → r ≡ (n == 0) → r ≡ true → n ≡ 0
@@ -267,7 +268,7 @@ copied_all ps xs i last past h = h.all ∙ take_all i ps past
 
 -- what is found of all that may stay
 pub stays_all : (o : OriginalView) (last : List Shown) (s : State) (now : List Shown) (r : Result Unit Fault) → now ≡ fine_frames s
-    → IsSafe s.format o.frames now → AreBorneBy o.frames o s → OnOk r (NoneIsSpoiled last now) → OnOk r (MayStay o last s)
+    → IsSafe s.format o.frames now → AreBorneBy o.frames o s → OnOk r (NoneIsSpoiled last now) → OnOk r (StaysAt o last s)
 stays_all o last s now (Ok u) e safe borne h = (
   (subst (λ (l : List Shown). IsSafe s.format o.frames l) e safe, borne),
   subst (λ (l : List Shown). NoneIsSpoiled last l) e h,
@@ -275,12 +276,12 @@ stays_all o last s now (Ok u) e safe borne h = (
 stays_all o last s now (Err why) e safe borne h = tt
 
 pub spoiled_all : (o : OriginalView) (last : List Shown) (s : State) (now : List Shown) (r : Result Unit Fault) → now ≡ fine_frames s
-    → OnErr r (NoneIsSpoiled last now → ⊥) → OnErr r (MayStay o last s → ⊥)
+    → OnErr r (NoneIsSpoiled last now → ⊥) → OnErr r (StaysAt o last s → ⊥)
 spoiled_all o last s now (Ok u) e h = tt
 spoiled_all o last s now (Err why) e h = λ k. h (subst (λ (l : List Shown). NoneIsSpoiled last l) (sym e) k.1)
 
 pub spoiled_fault : (o : OriginalView) (last : List Shown) (s : State) (now : List Shown) (r : Result Unit Fault) → now ≡ fine_frames s
-    → IsSafe s.format o.frames now → AreBorneBy o.frames o s → IfErr r (IsSpoiledBy last now) → IfErr r (HasFault o last s)
+    → IsSafe s.format o.frames now → AreBorneBy o.frames o s → IfErr r (IsSpoiledBy last now) → IfErr r (HasFaultAt o last s)
 spoiled_fault o last s now (Ok u) e safe borne h = tt
 spoiled_fault o last s now (Err why) e safe borne h = inr (
   subst (λ (l : List Shown). IsSafe s.format o.frames l) e safe,
@@ -288,13 +289,43 @@ spoiled_fault o last s now (Err why) e safe borne h = inr (
 )
 
 pub unsafe_fault : (o : OriginalView) (last : List Shown) (s : State) (now : List Shown) (why : Fault) → now ≡ fine_frames s
-    → IsFault s.format o.frames now why → HasFault o last s why
+    → IsFault s.format o.frames now why → HasFaultAt o last s why
 unsafe_fault o last s now why e h = inl (subst (λ (l : List Shown). IsFault s.format o.frames l why) e h)
 
 pub unsafe_so : (o : OriginalView) (last : List Shown) (s : State) (now : List Shown) → now ≡ fine_frames s → (IsSafe s.format o.frames now → ⊥)
-    → MayStay o last s → ⊥
+    → StaysAt o last s → ⊥
 unsafe_so o last s now e h k = h (subst (λ (l : List Shown). IsSafe s.format o.frames l) (sym e) k.0.0)
 
 pub unborne_fault_of : (o : OriginalView) (last : List Shown) (s : State) (now : List Shown) (why : Fault) → now ≡ fine_frames s
-    → IsSafe s.format o.frames now → IsUnborneBy o.frames o s why → HasFault o last s why
+    → IsSafe s.format o.frames now → IsUnborneBy o.frames o s why → HasFaultAt o last s why
 unborne_fault_of o last s now why e safe h = inr (subst (λ (l : List Shown). IsSafe s.format o.frames l) e safe, inl h)
+
+-- where the frames are, if they may move and if not
+rest_located : (o : OriginalView) (xs now : List Shown) → o.moved ≡ false → xs ≡ located o.moved xs now
+rest_located o xs now e = sym (ap (λ (m : Bool). located m xs now) e)
+
+moved_located : (o : OriginalView) (xs now : List Shown) → o.moved ≡ true → moved_in xs now ≡ located o.moved xs now
+moved_located o xs now e = sym (ap (λ (m : Bool). located m xs now) e)
+
+-- what is found by these places
+pub found_stays : (o : OriginalView) (last at late : List Shown) (s : State) → at ≡ located o.moved o.frames (fine_frames s)
+    → late ≡ located o.moved last (fine_frames s) → StaysAt (with_frames at o) late s → MayStay o last s
+found_stays o last at late s p q h = subst (λ (T : Type 0). T) (λ i. StaysAt (with_frames (p i) o) (q i) s) h
+
+pub found_sways : (o : OriginalView) (last at late : List Shown) (s : State) → at ≡ located o.moved o.frames (fine_frames s)
+    → late ≡ located o.moved last (fine_frames s) → (StaysAt (with_frames at o) late s → ⊥) → MayStay o last s → ⊥
+found_sways o last at late s p q h k = h (subst (λ (T : Type 0). T) (λ i. StaysAt (with_frames (sym p i) o) (sym q i) s) k)
+
+pub found_fault : (o : OriginalView) (last at late : List Shown) (s : State) (why : Fault) → at ≡ located o.moved o.frames (fine_frames s)
+    → late ≡ located o.moved last (fine_frames s) → HasFaultAt (with_frames at o) late s why → HasFault o last s why
+found_fault o last at late s why p q h = subst (λ (T : Type 0). T) (λ i. HasFaultAt (with_frames (p i) o) (q i) s why) h
+
+-- of those that are where they were
+pub unmoved_at : (o : OriginalView) (at frames : List Shown) → o.moved ≡ false → at ≡ o.frames → at ≡ located o.moved o.frames frames
+unmoved_at o at frames e is = is ∙ rest_located o o.frames frames e
+
+pub unmoved_last : (o : OriginalView) (last frames : List Shown) → o.moved ≡ false → last ≡ located o.moved last frames
+unmoved_last o last frames e = rest_located o last frames e
+
+pub moved_at : (o : OriginalView) (xs at now frames : List Shown) → o.moved ≡ true → at ≡ moved_in xs now → now ≡ frames → at ≡ located o.moved xs frames
+moved_at o xs at now frames e is same = is ∙ (ap (moved_in xs) same ∙ moved_located o xs frames e)

@@ -11,11 +11,13 @@ use Rattle.irig_lines.specs.{Lines.script_lines, declared.command.Command.Comman
 use Rattle.irig_lines.specs.declared.command.Command.TheVariants as command
 use Rattle.irig_script.specs.{Obey.Machine.Machine, Obey.Run.IsObeyed, Obey.Run.IsPlain, Obey.Run.Runs, Obey.Run.unlines}
 use Rattle.irig_script.proofs.{ObeyLemmas.Lines.lines_and, ObeyLemmas.Quits.other_goes_on}
-use Rattle.irig_guarding.specs.{Controls.IsSafeBy, Guarded.IsGuarded, Guarded.IsRemark, Guarded.IsSafeAfter, Guarded.Stands, Guarded.silence, Reading.fine_frames}
+use Rattle.irig_guarding.specs.{Controls.IsSafeAt, Controls.IsSafeBy, Guarded.IsGuarded, Guarded.IsRemark, Guarded.IsSafeAfter, Guarded.Stands, Guarded.silence, Reading.fine_frames}
 use Rattle.irig_guarding.specs.{Reading.original_of, Repair.Agrees}
 use Rattle.irig_guarding.specs.{Repair.Asks, Repair.IsGroup, Repair.IsPrinted, Repair.ObeyedAll, Repair.texts, Trials.AreRemarksOf, Trials.IsIdle}
 use Rattle.irig_guarding.specs.{Trials.IsRemarkOf, Trials.Prints, Trials.Shows, Trials.Tries, declared.reason.Reason.Reason, declared.line.Line.Line}
 use Rattle.irig_guarding.specs.Reasons.{head_lines, reason_line}
+use Rattle.irig_safety.specs.{Moved.located, Original.with_frames}
+use Rattle.irig_safety.proofs.MovedLemmas.{located_self}
 use Rattle.irig_safety.specs.{Original.OriginalView, Safety.IsSafe, Safety.IsSafeFrom, Safety.NoneIsSpoiled, declared.shown.Shown.Shown}
 use Rattle.irig_guarding.proofs.{AgainLemmas.obeyed_again, ControlLemmas.borne_self, ReasonLemmas.head_remarks, ReasonLemmas.reason_remark, RepairLemmas.obeyed_then}
 
@@ -119,8 +121,10 @@ safe_whole : (f : FormatView) (xs : List Shown) → IsSafe f xs xs
 safe_whole f [] = inl refl
 safe_whole f (x ∷ xs) = safe_self f None None (x ∷ xs)
 
-safe_by_self : (s : State) → IsSafeBy (original_of s) s
-safe_by_self s = (safe_whole s.format (fine_frames s), borne_self s)
+safe_by_self : (moved : Bool) (s : State) → IsSafeBy (original_of moved s) s
+safe_by_self moved s =
+    subst (λ (l : List Shown). IsSafeAt (with_frames l (original_of moved s)) s) (sym (located_self moved (fine_frames s)))
+    (safe_whole s.format (fine_frames s), borne_self moved s)
 
 -- the run of the script that is printed
 not_quit : (c : Command) → IsPrinted c → c ≢ command.Quit
@@ -137,34 +141,35 @@ runs_of a b [] h = (refl, h)
 runs_of a b (line ∷ lines) h =
     (h.0, [], (inr (inr (h.1.1.0, (h.1.0, h.1.1.1, h.1.3, refl))), refl), ([], refl, runs_of h.0 b lines h.2))
 
-pub stands_guarded : (first now : Machine) (script : List ℕ) → Stands first script now → IsSafeAfter first.state now.state
-    → IsGuarded first script now
-stands_guarded first now script s safe =
+pub stands_guarded : (moved m : Bool) (first now : Machine) (script : List ℕ) → m ≡ moved → Stands first script now → IsSafeAfter m first.state now.state
+    → IsGuarded moved first script now
+stands_guarded moved m first now script e s safe =
     let each = obeyed_goes first s.left s.lines s.plain s.obeyed in
     let lines : script_lines script ≡ s.lines = ap script_lines (s.cut ∙ sym (append-nil (unlines s.lines))) ∙ (lines_and s.lines [] each ∙ append-nil s.lines) in
     record {
       left = s.left;
       runs = subst (λ (l : List (List ℕ)). Runs first l (map silence l) [] s.left) (sym lines) (runs_of first s.left s.lines s.obeyed);
       same = s.same;
-      safe = safe;
+      safe = subst (λ (b : Bool). IsSafeAfter b first.state now.state) e safe;
     }
 
 -- a comment is obeyed, and does nothing
 pub idle_obeyed : (m : Machine) (lines : List (List ℕ)) → IsIdle lines → ObeyedAll m lines m
 idle_obeyed m lines h = subst (λ (l : List (List ℕ)). ObeyedAll m l m) (sym h.1) (m, (command.Nothing, h.2, tt, (refl, refl)), refl)
 
-pub unspoiled_self : (xs : List Shown) → NoneIsSpoiled xs xs
+unspoiled_self : (xs : List Shown) → NoneIsSpoiled xs xs
 unspoiled_self [] = tt
 unspoiled_self (x ∷ xs) = inl (refl, unspoiled_self xs)
 
-pub safe_at_first : (s : State) (known : OriginalView) → known ≡ original_of s → IsSafeBy known s
-safe_at_first s known e = subst (λ (o : OriginalView). IsSafeBy o s) (sym e) (safe_by_self s)
+pub unspoiled_there : (moved : Bool) (xs : List Shown) → NoneIsSpoiled (located moved xs xs) xs
+unspoiled_there moved xs = subst (λ (l : List Shown). NoneIsSpoiled l xs) (sym (located_self moved xs)) (unspoiled_self xs)
 
-pub safe_then : (first now : State) (known : OriginalView) → known ≡ original_of first → now.format ≡ first.format → IsSafeBy known now
-    → IsSafeAfter first now
-safe_then first now known e same h =
-    let by : IsSafeBy (original_of first) now = subst (λ (o : OriginalView). IsSafeBy o now) e h in
-    record { format = same; frames = subst (λ (f : FormatView). IsSafe f (fine_frames first) (fine_frames now)) same by.0; controls = by.1 }
+pub safe_at_first : (s : State) (known : OriginalView) → known ≡ original_of known.moved s → IsSafeBy known s
+safe_at_first s known e = subst (λ (o : OriginalView). IsSafeBy o s) (sym e) (safe_by_self known.moved s)
+
+pub safe_then : (first now : State) (known : OriginalView) → known ≡ original_of known.moved first → now.format ≡ first.format → IsSafeBy known now
+    → IsSafeAfter known.moved first now
+safe_then first now known e same h = record { format = same; safe = subst (λ (o : OriginalView). IsSafeBy o now) e h }
 
 -- the head alone was printed
 pub stands_head : (m : Machine) (opened : List Shown) (out : List ℕ) → out ≡ unlines (head_lines opened) → Stands m out m

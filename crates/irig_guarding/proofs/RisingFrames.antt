@@ -1,5 +1,5 @@
 -- The frames that read well are in rising order.
-use Rattle.std.proofs.Common.{◌≢◌, ◌+◌, ◌<◌, ◌≤◌, ◌++◌, ℕ, zero, suc, List, [], ◌∷◌, None, length, get_or, refl, arith}
+use Rattle.std.proofs.Common.{◌≢◌, ◌+◌, ◌<◌, ◌≤◌, ◌++◌, ℕ, zero, suc, List, [], ◌∷◌, None, length, get_or, refl, subst, arith}
 use Rattle.std.specs.Prelude.{AllPairs}
 use Rattle.std.specs.List.{AllByRecursion, flat_map}
 use Rattle.std.proofs.lemmas.Option.{slice_get-get_or}
@@ -13,8 +13,9 @@ use Rattle.irig_index.proofs.MarkerLaws.{markers_rise}
 use Rattle.irig_edit.specs.State.State.{State, frames_of}
 use Rattle.irig_script.proofs.PrintLemmas.FrameLines.{marker_within}
 use Rattle.irig_safety.specs.{Safety.IsSafe, Safety.IsSafeFrom, Meaning.AreRising, declared.shown.Shown.Shown}
-use Rattle.irig_guarding.specs.{Meaning.SafeStatesMean, Reading.fine_frames, Reading.shown_at, Reading.shown_by}
-use Rattle.irig_safety.proofs.MeaningLemmas.{safe_means}
+use Rattle.irig_safety.specs.Moved.{located}
+use Rattle.irig_guarding.specs.{Meaning.IsKeptAt, Meaning.SafeStatesMean, Reading.fine_frames, Reading.shown_at, Reading.shown_by}
+use Rattle.irig_safety.proofs.{MeaningLemmas.safe_means, MovedLemmas.located_fields, MovedLemmas.located_some}
 
 -- pulses rise one after the other
 lower : (low : ℕ) (ps : List Pulse) (j : ℕ) (d : Pulse) → RisesFrom low (edges_of ps) → j < length ps → low ≤ (get_or ps j d).rise
@@ -84,6 +85,12 @@ from_first f [] new some h = absurd (some refl)
 from_first f (o ∷ old) new some h = h
 
 pub safe_states : SafeStatesMean
-safe_states old new was track some safe =
-    safe_means old.format (fine_frames old) (fine_frames new) (rising_frames old was) (rising_frames new track)
-    (from_first old.format (fine_frames old) (fine_frames new) some safe.frames)
+safe_states moved old new track some safe =
+    let at = located moved (fine_frames old) (fine_frames new) in
+    let first = from_first new.format at (fine_frames new) (λ e. some (located_some moved (fine_frames old) (fine_frames new) e)) safe.safe.0 in
+    let means = safe_means new.format at (fine_frames new) (rising_frames new track) first in
+    subst (λ (f : FormatView). IsKeptAt f (fine_frames old) at (fine_frames new)) safe.format (record {
+      fields = located_fields moved (fine_frames old) (fine_frames new);
+      kept = means.0;
+      told = means.1;
+    })

@@ -4,8 +4,8 @@ use Rattle.std.specs.Prelude.{◌≡◌, ◌<◌, ◌⊎◌, ◌-◌, ℕ, List,
 use Rattle.std.specs.Prelude.{drop}
 use Rattle.irig_edit.specs.State.State.{State}
 use Rattle.irig_safety.specs.{Controls.AreFunctionsBorne, Faults.NextOrLater}
-use Rattle.irig_safety.specs.Original.{OriginalView, near_by}
-use Rattle.irig_safety.specs.{Safety.IsSafe, Safety.behind, declared.fault.Fault.Fault}
+use Rattle.irig_safety.specs.Original.{OriginalView, near_by, with_frames}
+use Rattle.irig_safety.specs.{Moved.located, Safety.IsSafe, Safety.behind, declared.fault.Fault.Fault}
 use Rattle.irig_safety.specs.declared.fault.Fault.TheVariants.{Lost, Unrecorded}
 use Rattle.irig_safety.specs.declared.shown.Shown.{Shown}
 use Rattle.irig_safety.specs.declared.witnesses.Witnesses.{Witnesses}
@@ -76,7 +76,15 @@ abbrev pub IsUnborneBy : List Shown → OriginalView → State → Fault → Typ
 IsUnborneBy [] o s why = ⊥
 IsUnborneBy (x ∷ frames) o s why = IsUnborneFrom o s None None (x ∷ frames) (seen_frames s) why
 
--- the frames of a state are safe by those of the recording: their times, and their control
--- functions
+-- the frames of a state are safe by those of the recording at some places: their times, and their
+-- control functions
+abbrev pub IsSafeAt : OriginalView → State → Type 0
+IsSafeAt o s = IsSafe s.format o.frames (fine_frames s) × AreBorneBy o.frames o s
+
+-- the recording, its frames where they are in a state if they may move
+abbrev pub located_by : OriginalView → State → OriginalView
+located_by o s = with_frames (located o.moved o.frames (fine_frames s)) o
+
+-- the frames of a state are safe by those of the recording
 abbrev pub IsSafeBy : OriginalView → State → Type 0
-IsSafeBy o s = IsSafe s.format o.frames (fine_frames s) × AreBorneBy o.frames o s
+IsSafeBy o s = IsSafeAt (located_by o s) s

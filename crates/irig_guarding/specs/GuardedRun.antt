@@ -1,5 +1,5 @@
 -- A run under guard, from the bytes of a dump and of a proposed script on. This project's own.
-use Rattle.std.specs.Prelude.{◌≡◌, ℕ, List, [], ◌∷◌, Option, Result, Ok, Err, IfSome}
+use Rattle.std.specs.Prelude.{◌≡◌, ℕ, Bool, List, [], ◌∷◌, Option, Result, Ok, Err, IfSome}
 use Rattle.std.specs.Io.KnownBytes.{Appends}
 use Rattle.irig_codes.specs.Format.{FormatView}
 use Rattle.irig_edit.specs.Opened.Openings.{IsOpened, IsUnopened}
@@ -22,39 +22,39 @@ product_texts product.Session m = saved_text (work_in m) ∷ []
 
 -- the proposed script was run under guard, repair by repair: what it printed, what it left, and its
 -- status
-pub record Guards (first : Machine) (script : Option (List ℕ)) : Type 0 where
+pub record Guards (moved : Bool) (first : Machine) (script : Option (List ℕ)) : Type 0 where
   pub proposal : List ℕ
   pub whole : IfSome script (λ all. proposal ≡ all)
   pub printed : List ℕ
   pub last : Machine
-  pub guarded : IsGuarded first printed last
+  pub guarded : IsGuarded moved first printed last
   pub status : Status
-  pub tried : IsTried first proposal printed status last
+  pub tried : IsTried moved first proposal printed status last
 
 -- it was run, its result was printed, what is asked for was written, and the status says whether all
 -- of it was kept; or memory ran out, or a
 -- read failed, and nothing was printed or written; or the printing failed, and nothing was written;
 -- or the writing failed
-abbrev pub RunsUnderGuard : Product → Machine → Option (List ℕ) → Desk → Desk
+abbrev pub RunsUnderGuard : Bool → Product → Machine → Option (List ℕ) → Desk → Desk
     → Result Status GuardFault → Type 0
-RunsUnderGuard asked first script from to (Ok status) =
-    (run : Guards first script) × (run.status ≡ status) × Appends from.out to.out run.printed
+RunsUnderGuard moved asked first script from to (Ok status) =
+    (run : Guards moved first script) × (run.status ≡ status) × Appends from.out to.out run.printed
     × Puts from.shelf to.shelf (product_texts asked run.last) 0
-RunsUnderGuard asked first script from to (Err PrintFailed) =
-    (run : Guards first script) × AppendsFront from.out to.out run.printed
+RunsUnderGuard moved asked first script from to (Err PrintFailed) =
+    (run : Guards moved first script) × AppendsFront from.out to.out run.printed
     × (to.shelf ≡ from.shelf)
-RunsUnderGuard asked first script from to (Err WriteFailed) =
-    (run : Guards first script) × Appends from.out to.out run.printed
+RunsUnderGuard moved asked first script from to (Err WriteFailed) =
+    (run : Guards moved first script) × Appends from.out to.out run.printed
     × Puts from.shelf to.shelf [] 1
-RunsUnderGuard asked first script from to (Err ReadFailed) = to ≡ from
-RunsUnderGuard asked first script from to (Err OutOfMemory) = to ≡ from
-RunsUnderGuard asked first script from to (Err (Dump fault)) = ⊥
+RunsUnderGuard moved asked first script from to (Err ReadFailed) = to ≡ from
+RunsUnderGuard moved asked first script from to (Err OutOfMemory) = to ≡ from
+RunsUnderGuard moved asked first script from to (Err (Dump fault)) = ⊥
 
 -- the same on the session that is opened from a dump; or that was not opened, and nothing was done
-abbrev pub GuardsOnDump : Option (List ℕ) → FormatView → List ℕ → Product → Option (List ℕ)
-    → Option (List ℕ) → Desk → Desk → Result Status GuardFault → Type 0
-GuardsOnDump wire chosen source asked script left from to (Err (Dump fault)) =
+abbrev pub GuardsOnDump : Option (List ℕ) → FormatView → Bool → List ℕ → Product
+    → Option (List ℕ) → Option (List ℕ) → Desk → Desk → Result Status GuardFault → Type 0
+GuardsOnDump wire chosen moved source asked script left from to (Err (Dump fault)) =
     IsUnopened wire source fault × (to ≡ from) × (left ≡ script)
-GuardsOnDump wire chosen source asked script left from to result =
+GuardsOnDump wire chosen moved source asked script left from to result =
     (first : Machine) × IsOpened wire source chosen first
-    × RunsUnderGuard asked first script from to result
+    × RunsUnderGuard moved asked first script from to result

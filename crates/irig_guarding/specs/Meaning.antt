@@ -1,16 +1,24 @@
 -- What it means that a state is safe by another, frame by frame. This project's own.
-use Rattle.std.specs.Prelude.{◌≢◌, []}
+use Rattle.std.specs.Prelude.{◌≡◌, ◌≢◌, Bool, List, [], map}
 use Rattle.std.specs.List.{AllByRecursion}
+use Rattle.irig_codes.specs.Format.{FormatView}
 use Rattle.irig_track.specs.Track.{IsTrack}
 use Rattle.irig_edit.specs.State.State.{State}
 use Rattle.irig_safety.specs.Meaning.{IsKept, IsTold}
+use Rattle.irig_safety.specs.{Moved.located, declared.shown.Shown.Shown}
 use Rattle.irig_guarding.specs.{Guarded.IsSafeAfter, Reading.fine_frames}
 
--- a state that is safe by another in which some frame reads well: each frame that reads well in the
--- other does so in it, at the same time and with the same fields, or was wrong and is mended; and
--- each other one that does is borne out by those
+-- frames at other places, or at theirs, have the same fields in the same order; each of them is one
+-- of the new ones, or was wrong and is mended; and each other new one is borne out by those
+pub record IsKeptAt (f : FormatView) (old at new : List Shown) : Type 0 where
+  pub fields : map (λ x. x.fields) at ≡ map (λ x. x.fields) old
+  pub kept : AllByRecursion (IsKept f at new) at
+  pub told : AllByRecursion (IsTold f at) new
+
+-- a state that is safe by another in which some frame reads well: the frames of the other that read
+-- well, where they were or if they may move where they are now, are kept in it
 abbrev pub SafeStatesMean : Type 0
-SafeStatesMean = (old new : State) → IsTrack old.micros old.pulses
-    → IsTrack new.micros new.pulses → fine_frames old ≢ [] → IsSafeAfter old new
-    → AllByRecursion (IsKept old.format (fine_frames old) (fine_frames new)) (fine_frames old)
-    × AllByRecursion (IsTold old.format (fine_frames old)) (fine_frames new)
+SafeStatesMean = (moved : Bool) (old new : State) → IsTrack new.micros new.pulses
+    → fine_frames old ≢ [] → IsSafeAfter moved old new
+    → IsKeptAt old.format (fine_frames old) (located moved (fine_frames old) (fine_frames new))
+    (fine_frames new)

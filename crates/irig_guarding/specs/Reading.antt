@@ -1,5 +1,5 @@
 -- The frames that read well, and what is known of a recording by them. This project's own.
-use Rattle.std.specs.Prelude.{ℕ, List, [], ◌∷◌, get_or}
+use Rattle.std.specs.Prelude.{ℕ, Bool, List, [], ◌∷◌, get_or}
 use Rattle.std.specs.List.{flat_map}
 use Rattle.irig_codes.specs.declared.note.Note.TheVariants.{Fine}
 use Rattle.irig_recording.specs.declared.pulse.Pulse.{Pulse}
@@ -37,6 +37,6 @@ seen_by pulses r = seen_at (get_or pulses r.marker (pulse 0 0)).rise r.marker r.
 abbrev pub seen_frames : State → List Seen
 seen_frames s = flat_map (seen_by s.pulses) (frames_of s)
 
--- what is known of a recording that was opened as a state
-abbrev pub original_of : State → OriginalView
-original_of s = record { frames = fine_frames s; pulses = s.pulses }
+-- what is known of a recording that was opened as a state, and whether its frames may move
+abbrev pub original_of : Bool → State → OriginalView
+original_of moved s = record { frames = fine_frames s; pulses = s.pulses; moved = moved }

@@ -3,7 +3,7 @@
 ghost use Rattle.std.specs.Prelude.{◌≡◌, ◌↔◌, ◌+◌, ◌<◌, ◌≤◌, ◌∷◌, List, IsTrue, None, Option, Some};
 ghost use Rattle.std.specs.Prelude.{IfErr, IfOk, MatchOption, OnErr, OnOk, length, slice_get};
 ghost use Rattle.irig_safety.specs.Controls.{IsFunctionBorne, function_element};
-ghost use Rattle.irig_safety.specs.Original.{IsRecorded};
+ghost use Rattle.irig_safety.specs.Original.{IsRecorded, with_frames};
 ghost use Rattle.irig_safety.specs.declared.fault.Fault.{Fault as SomeFault};
 ghost use Rattle.irig_guarding.specs.Controls.{AreBorneFrom, ControlsAt, IsBorne, IsUnborneFrom};
 ghost use Rattle.irig_guarding.specs.Controls.{Judges};
@@ -12,22 +12,28 @@ ghost use Rattle.irig_guarding.specs.declared.seen.Seen.{Seen as SeenFrame};
 use crate::seen::Seen;
 use irig_edit::{Pulse, Session};
 use irig_safety::{
-    Fault, Original, Witnesses, frame_at, function_element, functions, is_same, is_shared,
+    Fault, Original, Shown, Witnesses, frame_at, function_element, functions, is_same, is_shared,
+    near_in,
 };
 
-/// Whether each frame that reads well did so before, or its control functions are borne out. If not,
-/// the first that is at fault.
-pub fn check_controls(session: &Session, opened: &Original, frames: &[Seen]) -> Result<(), Fault>
-    ensures borne { OnOk result (AreBorneFrom opened.now session.now.state None None
-        opened.now.frames frames.now) }
-    ensures unborne { OnErr result (AreBorneFrom opened.now session.now.state None None
-        opened.now.frames frames.now → ⊥) }
-    ensures fault { IfErr result (IsUnborneFrom opened.now session.now.state None None
-        opened.now.frames frames.now) }
+/// Whether each frame that reads well did so before, at the old places, or its control functions are
+/// borne out. If not, the first that is at fault.
+pub fn check_controls(
+    session: &Session,
+    opened: &Original,
+    old: &[Shown],
+    frames: &[Seen],
+) -> Result<(), Fault>
+    ensures borne { OnOk result (AreBorneFrom (with_frames old.now opened.now) session.now.state
+        None None old.now frames.now) }
+    ensures unborne { OnErr result (AreBorneFrom (with_frames old.now opened.now) session.now.state
+        None None old.now frames.now → ⊥) }
+    ensures fault { IfErr result (IsUnborneFrom (with_frames old.now opened.now) session.now.state
+        None None old.now frames.now) }
 {
     let mut passed = 0;
     for frame in frames {
-        match pass(session, opened, passed, frame) {
+        match pass(session, opened, old, passed, frame) {
             Ok(place) => passed = place,
             Err(why) => return Err(why),
         }
@@ -36,18 +42,25 @@ pub fn check_controls(session: &Session, opened: &Original, frames: &[Seen]) -> 
 }
 
 /// How many of the former frames are passed after one more frame, or why it is at fault.
-fn pass(session: &Session, opened: &Original, passed: usize, frame: &Seen) -> Result<usize, Fault>
-    requires { passed ≤ length opened.now.frames }
-    ensures within { IfOk result (λ place. place ≤ length opened.now.frames) }
+fn pass(
+    session: &Session,
+    opened: &Original,
+    old: &[Shown],
+    passed: usize,
+    frame: &Seen,
+) -> Result<usize, Fault>
+    requires { passed ≤ length old.now }
+    ensures within { IfOk result (λ place. place ≤ length old.now) }
     ensures borne { (rest : List SeenFrame) (found : Option SomeFault) → IfOk result (λ place.
-        ControlsAt opened.now session.now.state place rest found
-        → ControlsAt opened.now session.now.state passed (frame.now ∷ rest) found) }
+        ControlsAt (with_frames old.now opened.now) session.now.state place rest found
+        → ControlsAt (with_frames old.now opened.now) session.now.state passed (frame.now ∷ rest)
+        found) }
     ensures fault { (rest : List SeenFrame) → IfErr result (λ why.
-        ControlsAt opened.now session.now.state passed (frame.now ∷ rest) (Some why)) }
+        ControlsAt (with_frames old.now opened.now) session.now.state passed (frame.now ∷ rest)
+        (Some why)) }
 {
-    let frames = opened.frames();
-    let next = opened.near(passed, passed);
-    let Some(former) = frame_at(frames, passed) else {
+    let next = near_in(old, passed, passed);
+    let Some(former) = frame_at(old, passed) else {
         return judge(session, opened, &next, frame, passed);
     };
     if frame.shown.rise < former.rise {
@@ -59,7 +72,7 @@ fn pass(session: &Session, opened: &Original, passed: usize, frame: &Seen) -> Re
     if is_same(&former, &frame.shown) {
         return Ok(passed + 1);
     }
-    let near = opened.near(passed, passed + 1);
+    let near = near_in(old, passed, passed + 1);
     judge(session, opened, &near, frame, passed + 1)
 }
 

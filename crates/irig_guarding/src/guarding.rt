@@ -25,19 +25,20 @@ use std::alloc::{AllocError, Global};
 
 /// Runs a proposed script on a session repair by repair: an edit, or the lines from a `begin` to the
 /// next `end` or `abort`. A repair that is accepted and safe is kept and printed, as comments are;
-/// any other line is printed as a comment, after the reason. Returns what is printed, and whether all
-/// was kept.
+/// any other line is printed as a comment, after the reason. Frames of the recording may move or not.
+/// Returns what is printed, and whether all was kept.
 pub fn guard(
     alloc: Global,
     session: &mut Session,
+    moved: bool,
     script: &[u8],
 ) -> Result<(Vec<u8>, Status), AllocError>
     requires { session.old.floor ≡ None }
-    ensures guarded { IfOk result (λ done. IsGuarded session.old done.0.items session.new) }
-    ensures tried { IfOk result (λ done. IsTried session.old script.now done.0.items done.1
+    ensures guarded { IfOk result (λ done. IsGuarded moved session.old done.0.items session.new) }
+    ensures tried { IfOk result (λ done. IsTried moved session.old script.now done.0.items done.1
         session.new) }
 {
-    let opened = original_of(alloc, session)?;
+    let opened = original_of(alloc, session, moved)?;
     let lines = lines_of(alloc, script)?;
     let mut out = Vec::new(alloc);
     put_head(&mut out, opened.frames())?;
@@ -54,12 +55,13 @@ fn guard_lines(
     out: &mut Vec<u8>,
 ) -> Result<Status, AllocError>
     requires closed { session.old.floor ≡ None }
-    requires opened { opened.now ≡ original_of session.old.state }
+    requires opened { opened.now ≡ original_of opened.now.moved session.old.state }
     requires head { out.old.items ≡ unlines (head_lines opened.now.frames) }
     ensures stands { OnOk result (Stands session.old out.new.items session.new) }
-    ensures safe { OnOk result (IsSafeAfter session.old.state session.new.state) }
-    ensures tried { IfOk result (λ status. IsTriedBefore session.old (texts lines.now) []
-        out.new.items status session.new) }
+    ensures safe { OnOk result (IsSafeAfter opened.now.moved session.old.state
+        session.new.state) }
+    ensures tried { IfOk result (λ status. IsTriedBefore opened.now.moved session.old
+        (texts lines.now) [] out.new.items status session.new) }
 {
     let mut at = 0;
     let mut status = Status::AllAccepted;

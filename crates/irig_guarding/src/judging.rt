@@ -1,8 +1,9 @@
 //! Whether what a repair leads to may stay.
 
-ghost use Rattle.std.specs.Prelude.{◌≡◌, IfErr, OnErr, OnOk};
+ghost use Rattle.std.specs.Prelude.{◌≡◌, IfErr, OnErr, OnOk, false, true};
+ghost use Rattle.irig_safety.specs.Original.{with_frames};
 ghost use Rattle.irig_guarding.specs.Controls.{AreBorneBy, IsUnborneBy};
-ghost use Rattle.irig_guarding.specs.Trials.{HasFault, MayStay, Sways};
+ghost use Rattle.irig_guarding.specs.Trials.{HasFaultAt, MayStay, StaysAt, Sways};
 ghost use Rattle.irig_guarding.specs.{Reading.fine_frames, Reading.seen_frames};
 
 use crate::controls::check_controls;
@@ -10,7 +11,7 @@ use crate::reading::fine_frames;
 use crate::reason::Reason;
 use crate::seen::{Seen, seen_frames};
 use irig_edit::Session;
-use irig_safety::{Fault, Original, Shown, check_safe, check_unspoiled};
+use irig_safety::{Fault, Original, Shown, check_safe, check_unspoiled, moved_in};
 use std::alloc::Global;
 
 /// Whether what the frames show may stay: it is safe by what they showed at first, and none is
@@ -30,44 +31,112 @@ pub fn check(
     let Ok(seen) = seen_frames(alloc, session) else {
         return Err(Reason::OutOfMemory);
     };
-    match check_frames(session, opened, before, frames.as_slice(), seen.as_slice()) {
-        Ok(()) => Ok(()),
-        Err(why) => Err(Reason::NotSafe(why)),
+    if opened.is_moved() {
+        check_moved(
+            alloc,
+            session,
+            opened,
+            before,
+            frames.as_slice(),
+            seen.as_slice(),
+        )
+    } else {
+        check_unmoved(session, opened, before, frames.as_slice(), seen.as_slice())
     }
 }
 
-/// The same of the frames that read well. If they may not stay, their first fault.
-fn check_frames(
+/// The same of the frames that read well, if none may move.
+fn check_unmoved(
     session: &Session,
     opened: &Original,
     before: &[Shown],
     now: &[Shown],
     seen: &[Seen],
+) -> Result<(), Reason>
+    requires now { now.now ≡ fine_frames session.now.state }
+    requires seen { seen.now ≡ seen_frames session.now.state }
+    requires unmoved { opened.now.moved ≡ false }
+    ensures stays { OnOk result (MayStay opened.now before.now session.now.state) }
+    ensures sways { IfErr result (Sways opened.now before.now session.now.state) }
+{
+    match check_frames(session, opened, opened.frames(), before, now, seen) {
+        Ok(()) => Ok(()),
+        Err(why) => Err(Reason::NotSafe(why)),
+    }
+}
+
+/// The same if they may move: by the places where the former ones are now.
+fn check_moved(
+    alloc: Global,
+    session: &Session,
+    opened: &Original,
+    before: &[Shown],
+    now: &[Shown],
+    seen: &[Seen],
+) -> Result<(), Reason>
+    requires now { now.now ≡ fine_frames session.now.state }
+    requires seen { seen.now ≡ seen_frames session.now.state }
+    requires moved { opened.now.moved ≡ true }
+    ensures stays { OnOk result (MayStay opened.now before.now session.now.state) }
+    ensures sways { IfErr result (Sways opened.now before.now session.now.state) }
+{
+    let Ok(old) = moved_in(alloc, opened.frames(), now) else {
+        return Err(Reason::OutOfMemory);
+    };
+    let Ok(last) = moved_in(alloc, before, now) else {
+        return Err(Reason::OutOfMemory);
+    };
+    match check_frames(session, opened, old.as_slice(), last.as_slice(), now, seen) {
+        Ok(()) => Ok(()),
+        Err(why) => Err(Reason::NotSafe(why)),
+    }
+}
+
+/// Whether the frames may stay by those of the recording at the old places, and by those before the
+/// repair at their last ones. If not, their first fault.
+fn check_frames(
+    session: &Session,
+    opened: &Original,
+    old: &[Shown],
+    last: &[Shown],
+    now: &[Shown],
+    seen: &[Seen],
 ) -> Result<(), Fault>
     requires now { now.now ≡ fine_frames session.now.state }
     requires seen { seen.now ≡ seen_frames session.now.state }
-    ensures stays { OnOk result (MayStay opened.now before.now session.now.state) }
-    ensures unsafe_so { OnErr result (MayStay opened.now before.now session.now.state → ⊥) }
-    ensures fault { IfErr result (HasFault opened.now before.now session.now.state) }
+    ensures stays { OnOk result (StaysAt (with_frames old.now opened.now) last.now
+        session.now.state) }
+    ensures unsafe_so { OnErr result (StaysAt (with_frames old.now opened.now) last.now
+        session.now.state → ⊥) }
+    ensures fault { IfErr result (HasFaultAt (with_frames old.now opened.now) last.now
+        session.now.state) }
 {
-    if let Err(why) = check_safe(session.current_format(), opened.frames(), now) {
+    if let Err(why) = check_safe(session.current_format(), old, now) {
         return Err(why);
     }
-    if let Err(why) = check_borne(session, opened, seen) {
+    if let Err(why) = check_borne(session, opened, old, seen) {
         return Err(why);
     }
-    check_unspoiled(before, now)
+    check_unspoiled(last, now)
 }
 
 /// Whether the control functions are borne out, if some frame of the recording reads well.
-fn check_borne(session: &Session, opened: &Original, seen: &[Seen]) -> Result<(), Fault>
+fn check_borne(
+    session: &Session,
+    opened: &Original,
+    old: &[Shown],
+    seen: &[Seen],
+) -> Result<(), Fault>
     requires { seen.now ≡ seen_frames session.now.state }
-    ensures borne { OnOk result (AreBorneBy opened.now.frames opened.now session.now.state) }
-    ensures unborne { OnErr result (AreBorneBy opened.now.frames opened.now session.now.state → ⊥) }
-    ensures fault { IfErr result (IsUnborneBy opened.now.frames opened.now session.now.state) }
+    ensures borne { OnOk result (AreBorneBy old.now (with_frames old.now opened.now)
+        session.now.state) }
+    ensures unborne { OnErr result (AreBorneBy old.now (with_frames old.now opened.now)
+        session.now.state → ⊥) }
+    ensures fault { IfErr result (IsUnborneBy old.now (with_frames old.now opened.now)
+        session.now.state) }
 {
-    if opened.frames().is_empty() {
+    if old.is_empty() {
         return Ok(());
     }
-    check_controls(session, opened, seen)
+    check_controls(session, opened, old, seen)
 }

@@ -10,13 +10,14 @@ use irig_edit::{Pulse, Session};
 use irig_safety::Original;
 use std::alloc::{AllocError, Global};
 
-/// What is known of a recording by the session that was opened on it.
-pub fn original_of(alloc: Global, session: &Session) -> Result<Original, AllocError>
-    ensures { IfOk result (λ opened. opened ≡ original_of session.now.state) }
+/// What is known of a recording by the session that was opened on it, and whether its frames may
+/// move.
+pub fn original_of(alloc: Global, session: &Session, moved: bool) -> Result<Original, AllocError>
+    ensures { IfOk result (λ opened. opened ≡ original_of moved session.now.state) }
 {
     let frames = fine_frames(alloc, session)?;
     let pulses = pulses_of(alloc, session)?;
-    Ok(Original::new(frames, pulses))
+    Ok(Original::new(frames, pulses, moved))
 }
 
 /// The pulses of a session.

@@ -21,12 +21,13 @@ use std::alloc::Global;
 use std::io::{Read, Write};
 
 /// Opens a dump by what was read of it, runs a proposed script on it under guard, prints the script
-/// that is accepted and writes what it leaves.
+/// that is accepted and writes what it leaves. Frames of the recording may move or not.
 pub fn guard_on_parts<R: Read, W: Write, S: Shelf>(
     alloc: Global,
     recording: Recording,
     journal: Option<Vec<u8>>,
     format: Format,
+    moved: bool,
     product: Product,
     script: &mut R,
     out: &mut W,
@@ -35,14 +36,14 @@ pub fn guard_on_parts<R: Read, W: Write, S: Shelf>(
     requires { IfSome journal (λ text. length text.items ≤ 2 ^ 28) }
     ensures ends { (wire : Option (List ℕ)) (bytes : List ℕ)
         → dump_parts wire bytes ≡ Ok (recording, bytes_of journal)
-        → GuardsOnDump wire format bytes product (R.remaining script.old)
+        → GuardsOnDump wire format moved bytes product (R.remaining script.old)
         (R.remaining script.new) (desk (W.contents out.old) (S.known shelf.old))
         (desk (W.contents out.new) (S.known shelf.new)) result }
     ensures label { (S.known shelf.new).label ≡ (S.known shelf.old).label }
     ensures since { S.since shelf.old shelf.new }
 {
     match open_closed(alloc, recording, journal, format) {
-        Ok(mut session) => guard_session(alloc, &mut session, product, script, out, shelf),
+        Ok(mut session) => guard_session(alloc, &mut session, moved, product, script, out, shelf),
         Err(fault) => Err(GuardFault::Dump(fault)),
     }
 }
@@ -78,13 +79,14 @@ fn open_closed(
 pub fn guard_session<R: Read, W: Write, S: Shelf>(
     alloc: Global,
     session: &mut Session,
+    moved: bool,
     product: Product,
     script: &mut R,
     out: &mut W,
     shelf: &mut S,
 ) -> Result<Status, GuardFault>
     requires { session.old.floor ≡ None }
-    ensures ends { RunsUnderGuard product session.old (R.remaining script.old)
+    ensures ends { RunsUnderGuard moved product session.old (R.remaining script.old)
         (desk (W.contents out.old) (S.known shelf.old))
         (desk (W.contents out.new) (S.known shelf.new)) result }
     ensures label { (S.known shelf.new).label ≡ (S.known shelf.old).label }
@@ -94,7 +96,7 @@ pub fn guard_session<R: Read, W: Write, S: Shelf>(
     let Ok(_) = script.read_to_end(&mut bytes) else {
         return Err(GuardFault::ReadFailed);
     };
-    let Ok((printed, status)) = guard(alloc, session, bytes.as_slice()) else {
+    let Ok((printed, status)) = guard(alloc, session, moved, bytes.as_slice()) else {
         return Err(GuardFault::OutOfMemory);
     };
     let Ok(()) = put_all(out, printed.as_slice()) else {

@@ -2,5 +2,6 @@ pub mod ControlLemmas
 pub mod FaultLemmas
 pub mod SafetyLemmas
 pub mod MeaningLemmas
+pub mod MovedLemmas
 pub mod RecordedLemmas
 pub mod WorkedValues

@@ -1,5 +1,5 @@
 -- Frames that are safe are kept, mended, or borne out.
-use Rattle.std.proofs.Common.{◌≡◌, ◌<◌, ◌++◌, ◌-◌, ℕ, suc, List, [], ◌∷◌, Option, Some, length, slice_get, inl, inr, refl, ap, sym, ◌∙◌, append_assoc}
+use Rattle.std.proofs.Common.{◌≡◌, ◌<◌, ◌++◌, ◌-◌, ℕ, suc, List, [], ◌∷◌, Option, Some, None, length, slice_get, inl, inr, refl, ap, sym, ◌∙◌, append_assoc}
 use Rattle.std.proofs.Common.{length-append, subst, arith}
 use Rattle.std.specs.List.{AllByRecursion}
 use Rattle.irig_codes.specs.Format.{FormatView}
@@ -118,5 +118,21 @@ none_below : (new : List Shown) → AllByRecursion (λ n. AllByRecursion (λ (p 
 none_below [] = tt
 none_below (n ∷ new) = (tt, none_below new)
 
+-- the former frames rise as the others do
+all_above : (f : FormatView) (a2 a : Option Shown) (old new : List Shown) (n : ℕ) → IsSafeFrom f a2 a old new → AllByRecursion (λ x. n < x.rise) new
+    → AllByRecursion (λ x. n < x.rise) old
+all_above f a2 a [] new n h all = tt
+all_above f a2 a (o ∷ old) [] n h all = absurd h
+all_above f a2 a (o ∷ old) (m ∷ new) n (inl k) all = (omega (arith, k.0, all.0), all_above f a (Some o) old new n k.2 all.1)
+all_above f a2 a (o ∷ old) (m ∷ new) n (inr k) all = all_above f a2 a (o ∷ old) new n k.2 all.1
+
+former_rise : (f : FormatView) (a2 a : Option Shown) (old new : List Shown) → IsSafeFrom f a2 a old new → AreRising new → AreRising old
+former_rise f a2 a [] new h rising = tt
+former_rise f a2 a (o ∷ old) [] h rising = absurd h
+former_rise f a2 a (o ∷ old) (n ∷ new) (inl k) rising =
+    let over : AllByRecursion (λ m. o.rise < m.rise) new = all_map (λ m. n.rise < m.rise) (λ m. o.rise < m.rise) (λ m less. omega (arith, k.0, less)) new rising.0 in
+    (all_above f a (Some o) old new o.rise k.2 over, former_rise f a (Some o) old new k.2 rising.1)
+former_rise f a2 a (o ∷ old) (n ∷ new) (inr k) rising = former_rise f a2 a (o ∷ old) new k.2 rising.1
+
 pub safe_means : SafeMeans
-safe_means f old new former rising h = (kept f [] old new h, others f [] old new h former rising (none_below new))
+safe_means f old new rising h = (kept f [] old new h, others f [] old new h (former_rise f None None old new h rising) rising (none_below new))

@@ -6,9 +6,9 @@ use Rattle.std.specs.Prelude.{IfErr, IfOk, IsTrue, Result, Ok, Err}
 use Rattle.std.proofs.lemmas.{List.drop_all, Option.get_or_from_slice_get, Option.slice_get_within}
 use Rattle.irig_codes.specs.Format.{FormatView}
 use Rattle.irig_safety.specs.Faults.{FaultFrom, Finds, IsSpoiledBy, JudgedAt, JudgedFrom}
-use Rattle.irig_safety.specs.Safety.{Comes, IsSafeFrom, LeadOn, NoneIsSpoiled, Stays, behind, is_mended}
+use Rattle.irig_safety.specs.Safety.{Comes, IsSafeFrom, LeadOn, NoneIsSpoiled, Stays, behind}
 use Rattle.irig_safety.specs.declared.fault.Fault.TheVariants.{Changed, Lost, Unsupported}
-use Rattle.irig_safety.specs.{Bearing.leads, Witnesses.is_borne, declared.fault.Fault.Fault, declared.shown.Shown.Shown}
+use Rattle.irig_safety.specs.{Bearing.leads, Mended.Mends, Witnesses.is_borne, declared.fault.Fault.Fault, declared.shown.Shown.Shown}
 
 -- from a place on: what is there, and what follows
 pub drop-item : (xs : List Shown) (i : ℕ) (x : Shown) → slice_get xs i ≡ Some x → drop i xs ≡ x ∷ drop (i + 1) xs
@@ -253,17 +253,18 @@ lead_last f (x ∷ xs) (suc k) few = lead_last f xs k (omega arith)
 
 -- whether a frame stays
 pub stays_if : (f : FormatView) (a2 a : Option Shown) (o n : Shown) (old : List Shown) (k : ℕ) (r : Bool) → (o ≡ n → ⊥)
-    → r ≡ is_mended f a2 a o (slice_get old (k + 1)) (slice_get old (k + 2)) n → IsTrue r ↔ Stays f a2 a o (drop (k + 1) old) n
+    → IsTrue r ↔ Mends f a2 a o (slice_get old (k + 1)) (slice_get old (k + 2)) n → IsTrue r ↔ Stays f a2 a o (drop (k + 1) old) n
 stays_if f a2 a o n old k r other e =
     let first : slice_get (drop (k + 1) old) 0 ≡ slice_get old (k + 1) = first_from (k + 1) old in
     let at : k + 1 + 1 ≡ k + 2 = omega arith in
     let second : slice_get (drop (k + 1) old) 1 ≡ slice_get old (k + 2) = get-drop (k + 1) 1 old ∙ ap (slice_get old) at in
-    let same : is_mended f a2 a o (slice_get (drop (k + 1) old) 0) (slice_get (drop (k + 1) old) 1) n ≡ r =
-    (λ i. is_mended f a2 a o (first i) (second i) n) ∙ sym e in (
-      λ t. inr (same ∙ t),
+    let same : Mends f a2 a o (slice_get old (k + 1)) (slice_get old (k + 2)) n
+    ≡ Mends f a2 a o (slice_get (drop (k + 1) old) 0) (slice_get (drop (k + 1) old) 1) n =
+    λ i. Mends f a2 a o (sym first i) (sym second i) n in (
+      λ t. inr (subst (λ (T : Type 0). T) same (e.0 t)),
       λ s. elim s [
         | inl one ↦ absurd (other one)
-        | inr two ↦ sym same ∙ two
+        | inr two ↦ e.1 (subst (λ (T : Type 0). T) (sym same) two)
       ],
     )
 

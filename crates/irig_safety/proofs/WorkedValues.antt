@@ -1,10 +1,12 @@
 -- Worked values of what bears out a frame, in format B with expression 4 (a period of 1 s, an interval of 10 ms).
-use Rattle.std.proofs.Common.{◌≡◌, ◌^◌, ℕ, true, false, List, None, Some, map, refl}
+use Rattle.std.proofs.Common.{◌≡◌, ◌^◌, ℕ, true, false, List, None, Some, ap, arith, map, refl}
+use Rattle.std.specs.Prelude.{unwrap_or}
 use Rattle.std.specs.List.{range_with_len}
 use Rattle.irig_codes.specs.{Format.FormatView, Format.control_count_of, declared.fields.Fields.Fields, declared.format.Kind.Kind}
 use Rattle.irig_codes.specs.{Layout.control, Layout.rows_of, declared.format.Kind.TheVariants.A, declared.format.Kind.TheVariants.B}
 use Rattle.irig_codes.specs.declared.format.Kind.TheVariants.{E, G}
 use Rattle.irig_safety.specs.Bearing.{clock_of, is_far, is_later, leads, periods, shows_clock, slack, stray}
+use Rattle.irig_safety.specs.Mended.{HasControlOfBoth, with_control}
 use Rattle.irig_safety.specs.{Controls.function_element, Witnesses.is_borne, declared.shown.Shown.Shown}
 
 abbrev b4 : FormatView
@@ -124,6 +126,29 @@ century = refl
 
 no_last_day : is_later b4 (at 5000000 (time 23 365 23 59 59)) (at 6000000 (time 25 1 0 0 0)) ≡ false
 no_last_day = refl
+
+-- a frame with a control function between two without one may lose it
+abbrev ordered : Shown
+ordered = with_control (Some 4) (at 6000000 (time 24 138 12 34 56))
+
+abbrev plain : Shown → Shown
+plain x = with_control (Some 0) x
+
+as_both : HasControlOfBoth (Some (plain before)) ordered (Some (plain after)) (plain ordered)
+as_both = (refl, refl, refl)
+
+-- not if only one of them has none, or at another rise, or with another time
+as_one : HasControlOfBoth (Some (plain before)) ordered (Some (with_control (Some 4) after)) (plain ordered) → ⊥
+as_one h = let four : 4 ≡ 0 = ap (λ c. unwrap_or c 0) h.2 in omega (arith, four)
+
+at_one_end : HasControlOfBoth (Some (plain before)) ordered None (plain ordered) → ⊥
+at_one_end h = h
+
+at_another_rise : HasControlOfBoth (Some (plain before)) ordered (Some (plain after)) (plain (at 6000600 (time 24 138 12 34 56))) → ⊥
+at_another_rise h = let bad : 6000000 ≡ 6000600 = ap (λ (x : Shown). x.rise) h.0 in omega (arith, bad)
+
+with_another_time : HasControlOfBoth (Some (plain before)) ordered (Some (plain after)) (plain (at 6000000 (time 24 138 12 34 57))) → ⊥
+with_another_time h = let bad : 56 ≡ 57 = ap (λ (x : Shown). x.fields.seconds) h.0 in omega (arith, bad)
 
 -- the elements of the control functions, and that their weights double, by the layout of a frame
 abbrev elements_of : FormatView → List ℕ

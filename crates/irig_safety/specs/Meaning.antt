@@ -3,8 +3,8 @@ use Rattle.std.specs.Prelude.{◌≡◌, ◌<◌, ◌++◌, ◌⊎◌, ◌-◌, 
 use Rattle.std.specs.Prelude.{slice_get}
 use Rattle.std.specs.List.{AllByRecursion}
 use Rattle.irig_codes.specs.Format.{FormatView}
-use Rattle.irig_safety.specs.Safety.{IsSafeFrom, behind, is_mended}
-use Rattle.irig_safety.specs.{Witnesses.is_borne, declared.shown.Shown.Shown}
+use Rattle.irig_safety.specs.Safety.{IsSafeFrom, behind}
+use Rattle.irig_safety.specs.{Mended.Mends, Witnesses.is_borne, declared.shown.Shown.Shown}
 
 -- it is one of the frames
 pub record IsOneOf (x : Shown) (frames : List Shown) : Type 0 where
@@ -29,14 +29,14 @@ pub record IsBorneOut (f : FormatView) (old : List Shown) (y : Shown) : Type 0 w
       (slice_get after 0) (slice_get after 1) y ≡ true
 
 -- a former frame is another one at the same time: both next to it contradict it, and bear out the
--- other
+-- other; or both have the control functions of the other, which has nothing else of its own
 pub record IsMended (f : FormatView) (old : List Shown) (o n : Shown) : Type 0 where
   pub before : List Shown
   pub after : List Shown
   pub whole : old ≡ before ++ o ∷ after
   pub rise : o.rise ≡ n.rise
-  pub mended : is_mended f (behind (length before - 1) before) (behind (length before) before) o
-      (slice_get after 0) (slice_get after 1) n ≡ true
+  pub mended : Mends f (behind (length before - 1) before) (behind (length before) before) o
+      (slice_get after 0) (slice_get after 1) n
 
 -- a former frame is kept, or one of the frames mends it
 abbrev pub IsKept : FormatView → List Shown → List Shown → Shown → Type 0
@@ -50,6 +50,5 @@ IsTold f old y =
 -- if frames are safe by former ones, each of the former is kept or mended, and each other one is
 -- borne out by the former
 abbrev pub SafeMeans : Type 0
-SafeMeans = (f : FormatView) (old new : List Shown) → AreRising old → AreRising new
-    → IsSafeFrom f None None old new
+SafeMeans = (f : FormatView) (old new : List Shown) → AreRising new → IsSafeFrom f None None old new
     → AllByRecursion (IsKept f old new) old × AllByRecursion (IsTold f old) new

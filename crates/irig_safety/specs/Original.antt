@@ -1,15 +1,20 @@
 -- What is known of a recording as it was opened. This project's own.
-use Rattle.std.specs.Prelude.{◌≡◌, ◌≤◌, ◌*◌, ◌-◌, ℕ, List, Option, Some, drop, slice_get}
+use Rattle.std.specs.Prelude.{◌≡◌, ◌≤◌, ◌*◌, ◌-◌, ℕ, Bool, List, Option, Some, drop, slice_get}
 use Rattle.irig_codes.specs.Format.{FormatView, interval_of}
 use Rattle.irig_codes.specs.Width.{class_of}
 use Rattle.irig_recording.specs.declared.pulse.Pulse.{Pulse}
 use Rattle.irig_safety.specs.{Bearing.apart, Safety.behind, declared.shown.Shown.Shown}
 use Rattle.irig_safety.specs.declared.witnesses.Witnesses.{Witnesses}
 
--- the frames that read well, and all pulses
+-- the frames that read well, all pulses, and whether frames may move
 pub record OriginalView : Type 0 where
   pub frames : List Shown
   pub pulses : List Pulse
+  pub moved : Bool
+
+-- the same with its frames at other places
+abbrev pub with_frames : List Shown → OriginalView → OriginalView
+with_frames frames o = record o { frames = frames }
 
 -- the frames next to those before and those after it
 abbrev pub near_by : Option Shown → Option Shown → List Shown → Witnesses

@@ -1,27 +1,20 @@
 -- When what frames show after an edit is safe, by what they showed when the recording was opened.
 -- This project's own.
-use Rattle.std.specs.Prelude.{◌≡◌, ◌≤◌, ◌<◌, ◌⊎◌, ◌&&◌, ℕ, zero, suc, Bool, true, false, not}
-use Rattle.std.specs.Prelude.{List, [], ◌∷◌, Option, Some, None, length, slice_get}
+use Rattle.std.specs.Prelude.{◌≡◌, ◌≤◌, ◌<◌, ◌⊎◌, ℕ, zero, suc, true, List, [], ◌∷◌, Option, Some}
+use Rattle.std.specs.Prelude.{None, length, slice_get}
 use Rattle.irig_codes.specs.Format.{FormatView}
-use Rattle.irig_safety.specs.Bearing.{allows, leads}
-use Rattle.irig_safety.specs.{Witnesses.is_borne, declared.shown.Shown.Shown}
+use Rattle.irig_safety.specs.{Bearing.leads, Mended.Mends, Witnesses.is_borne}
+use Rattle.irig_safety.specs.declared.shown.Shown.{Shown}
 
 -- the frame before a place, if there is one
 abbrev pub behind : ℕ → List Shown → Option Shown
 behind zero frames = None
 behind (suc n) frames = slice_get frames n
 
--- The frame between two others was wrong: both contradict it, and they bear out what it is now.
-abbrev pub is_mended : FormatView → Option Shown → Option Shown → Shown → Option Shown
-    → Option Shown → Shown → Bool
-is_mended f a2 (Some a) o (Some b) b2 n =
-    not (allows f a o) && not (allows f o b) && is_borne f a2 (Some a) (Some b) b2 n
-is_mended f a2 a o b b2 n = false
-
 -- a frame that was there is as it was, or was wrong and is mended
 abbrev pub Stays : FormatView → Option Shown → Option Shown → Shown → List Shown → Shown → Type 0
 Stays f a2 a o old n =
-    (o ≡ n) ⊎ (is_mended f a2 a o (slice_get old 0) (slice_get old 1) n ≡ true)
+    (o ≡ n) ⊎ Mends f a2 a o (slice_get old 0) (slice_get old 1) n
 
 -- a frame that was not there is borne out by those before it and after it
 abbrev pub Comes : FormatView → Option Shown → Option Shown → List Shown → Shown → Type 0

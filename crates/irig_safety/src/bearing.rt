@@ -11,7 +11,7 @@ use crate::shown::Shown;
 use irig_codes::{Fields, Format};
 
 /// The hundredths of a second from the beginning of the year.
-fn clock(fields: &Fields) -> u128
+pub fn clock(fields: &Fields) -> u128
     ensures value { result ≡ clock_of fields.now }
     ensures small { result < 2 ^ 60 }
 {

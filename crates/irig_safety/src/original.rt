@@ -14,11 +14,12 @@ use irig_recording::Pulse;
 use std::marker::Model;
 
 /// What is known of a recording as it was opened: the frames that read well, and all pulses, which
-/// rise.
+/// rise; and whether its frames may move.
 #[derive(Drop)]
 pub struct Original {
     frames: Vec<Shown>,
     pulses: Vec<Pulse>,
+    moved: bool,
 }
 
 impl Model for Original {
@@ -27,19 +28,35 @@ impl Model for Original {
 
     ghost Value = { OriginalView };
 
-    ghost view = { λ o. record { frames = o.frames.items; pulses = o.pulses.items } };
+    ghost view = { λ o. record {
+      frames = o.frames.items;
+      pulses = o.pulses.items;
+      moved = o.moved;
+    } };
 
     ghost invariant = { λ o. IsNonDecreasingBy (λ p. p.rise) o.pulses.items };
 }
 
 impl Original {
-    /// The two put together.
-    pub fn new(frames: Vec<Shown>, pulses: Vec<Pulse>) -> Original
+    /// The two put together, and whether frames may move.
+    pub fn new(frames: Vec<Shown>, pulses: Vec<Pulse>, moved: bool) -> Original
         requires { IsNonDecreasingBy (λ (p : SomePulse). p.rise) pulses.items }
         ensures frames { result.frames ≡ frames.items }
         ensures pulses { result.pulses ≡ pulses.items }
+        ensures moved { result.moved ≡ moved }
     {
-        Original { frames, pulses }
+        Original {
+            frames,
+            pulses,
+            moved,
+        }
+    }
+
+    /// Whether frames may move.
+    pub fn is_moved(&self) -> bool
+        ensures { result ≡ self.now.moved }
+    {
+        self.moved
     }
 
     /// The frames that read well.
@@ -49,26 +66,25 @@ impl Original {
         self.frames.as_slice()
     }
 
-    /// The frames next to a place: the two before it, and the two from the next place on.
-    pub fn near(&self, place: usize, next: usize) -> Witnesses
-        requires { (place ≤ length self.now.frames) × (next ≤ length self.now.frames) }
-        ensures { result ≡ near_in self.now.frames place next }
-    {
-        let frames = self.frames.as_slice();
-        Witnesses {
-            before2: frame_behind(frames, place.saturating_sub(1)),
-            before: frame_behind(frames, place),
-            after: frame_at(frames, next),
-            after2: frame_at(frames, next + 1),
-        }
-    }
-
     /// Whether a pulse is as recorded: one of the same class rises within a tenth of the interval of
     /// it.
     pub fn has(&self, format: Format, pulse: Pulse) -> bool
         ensures { IsTrue result ↔ IsRecorded format self.now.pulses pulse }
     {
         has_like(format, self.pulses.as_slice(), pulse)
+    }
+}
+
+/// The frames next to a place: the two before it, and the two from the next place on.
+pub fn near_in(frames: &[Shown], place: usize, next: usize) -> Witnesses
+    requires { (place ≤ length frames.now) × (next ≤ length frames.now) }
+    ensures { result ≡ near_in frames.now place next }
+{
+    Witnesses {
+        before2: frame_behind(frames, place.saturating_sub(1)),
+        before: frame_behind(frames, place),
+        after: frame_at(frames, next),
+        after2: frame_at(frames, next + 1),
     }
 }
 

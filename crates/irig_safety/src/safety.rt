@@ -5,12 +5,13 @@ ghost use Rattle.std.specs.Prelude.{Err, IfErr, IfOk, Ok, OnErr, OnOk, drop, ifâ
 ghost use Rattle.std.specs.Prelude.{slice_get};
 ghost use Rattle.irig_safety.specs.Faults.{FaultFrom, Finds, IsFault, IsSpoiledBy, JudgedAt};
 ghost use Rattle.irig_safety.specs.Safety.{AreOfThemselves, IsSafe, IsSafeFrom, LeadOn};
-ghost use Rattle.irig_safety.specs.Safety.{NoneIsSpoiled, Stays, behind, is_mended};
+ghost use Rattle.irig_safety.specs.Safety.{NoneIsSpoiled, Stays, behind};
 ghost use Rattle.irig_safety.specs.declared.fault.Fault.{Fault as SomeFault};
 ghost use Rattle.irig_safety.specs.{Witnesses.is_borne, declared.shown.Shown.Shown as ShownFrame};
 
-use crate::bearing::{allows, leads};
+use crate::bearing::leads;
 use crate::fault::Fault;
+use crate::mended::mends;
 use crate::shown::{Shown, is_same};
 use crate::witnesses::{Witnesses, is_borne};
 use irig_codes::Format;
@@ -125,22 +126,7 @@ fn stays(format: Format, old: &[Shown], place: usize, former: &Shown, frame: &Sh
         after: frame_at(old, place + 1),
         after2: frame_at(old, place + 2),
     };
-    is_mended(format, &near, former, frame)
-}
-
-/// Whether a frame was wrong and is mended: both next to it contradict it, and bear out what it is.
-fn is_mended(format: Format, near: &Witnesses, former: &Shown, frame: &Shown) -> bool
-    ensures { result â‰¡ is_mended format near.now.before2 near.now.before former.now
-        near.now.after near.now.after2 frame.now }
-{
-    match (near.before, near.after) {
-        (Some(before), Some(after)) => {
-            !allows(format, &before, former)
-                && !allows(format, former, &after)
-                && is_borne(format, near, frame)
-        }
-        _ => false,
-    }
+    mends(format, &near, former, frame)
 }
 
 /// The frames next to a place between former ones.

@@ -11,4 +11,4 @@ invariant-loop-at l = Stands l.fn.session l.out.items l.session
     × (l.session.state.format ≡ l.fn.session.state.format)
     × (l.session.floor ≡ None)
     × (l.at ≤ length l.lines)
-    × IsTriedBefore l.fn.session (texts (take l.at l.lines)) (texts (drop l.at l.lines)) l.out.items l.status l.session
+    × IsTriedBefore l.opened.moved l.fn.session (texts (take l.at l.lines)) (texts (drop l.at l.lines)) l.out.items l.status l.session

@@ -12,7 +12,7 @@ returns-in_default-put_all-clause-ends g c = (
     last = c.guard.new.session;
     guarded = c.in-Ok-guard.ensures.guarded;
     status = c.in-Ok-guard.status;
-    tried = subst (λ (l : List ℕ). IsTried c.args.session.now l c.in-Ok-guard.printed.items c.in-Ok-guard.status c.guard.new.session) c.as_slice.ensures.value c.in-Ok-guard.ensures.tried;
+    tried = subst (λ (l : List ℕ). IsTried c.args.moved c.args.session.now l c.in-Ok-guard.printed.items c.in-Ok-guard.status c.guard.new.session) c.as_slice.ensures.value c.in-Ok-guard.ensures.tried;
   },
   search rules,
   refl,
@@ -27,7 +27,7 @@ returns-in-Ok-write_product-clause-ends g c = (
     last = c.guard.new.session;
     guarded = c.in-Ok-guard.ensures.guarded;
     status = c.in-Ok-guard.status;
-    tried = subst (λ (l : List ℕ). IsTried c.args.session.now l c.in-Ok-guard.printed.items c.in-Ok-guard.status c.guard.new.session) c.as_slice.ensures.value c.in-Ok-guard.ensures.tried;
+    tried = subst (λ (l : List ℕ). IsTried c.args.moved c.args.session.now l c.in-Ok-guard.printed.items c.in-Ok-guard.status c.guard.new.session) c.as_slice.ensures.value c.in-Ok-guard.ensures.tried;
   },
   refl,
   search rules,
@@ -43,7 +43,7 @@ returns-clause-ends g c = (
     last = c.guard.new.session;
     guarded = c.in-Ok-guard.ensures.guarded;
     status = c.in-Ok-guard.status;
-    tried = subst (λ (l : List ℕ). IsTried c.args.session.now l c.in-Ok-guard.printed.items c.in-Ok-guard.status c.guard.new.session) c.as_slice.ensures.value c.in-Ok-guard.ensures.tried;
+    tried = subst (λ (l : List ℕ). IsTried c.args.moved c.args.session.now l c.in-Ok-guard.printed.items c.in-Ok-guard.status c.guard.new.session) c.as_slice.ensures.value c.in-Ok-guard.ensures.tried;
   },
   search rules,
   search rules,

@@ -1,0 +1,60 @@
+//! Where the frames of a recording are after an edit that moves them.
+
+ghost use Rattle.std.specs.Prelude.{◌≡◌, ◌≤◌, IfOk, drop, length};
+ghost use Rattle.irig_safety.specs.Moved.{from_time, moved_in, moved_to, rest_of};
+
+use crate::bearing::clock;
+use crate::safety::frame_at;
+use crate::shown::Shown;
+use std::alloc::{AllocError, Global};
+
+/// The former frames where they are now: each where the next frame is that has its time. One
+/// without such a frame is where it was.
+pub fn moved_in(alloc: Global, old: &[Shown], new: &[Shown]) -> Result<Vec<Shown>, AllocError>
+    ensures { IfOk result (λ moved. moved.items ≡ moved_in old.now new.now) }
+{
+    let mut moved = Vec::new(alloc);
+    let mut passed = 0;
+    for frame in old {
+        let place = place_of(frame, new, passed);
+        moved.push(moved_to(frame, frame_at(new, place)))?;
+        passed = rest_of(new, place, passed);
+    }
+    Ok(moved)
+}
+
+/// The place of the first frame from a place on that has the time of a frame; the end, if none has.
+fn place_of(frame: &Shown, new: &[Shown], from: usize) -> usize
+    requires { from ≤ length new.now }
+    ensures within { result ≤ length new.now }
+    ensures first { drop result new.now ≡ from_time frame.now (drop from new.now) }
+{
+    for place in from..new.len() {
+        if clock(&frame.fields) == clock(&new[place].fields) {
+            return place;
+        }
+    }
+    new.len()
+}
+
+/// A frame where another one is, if there is one.
+fn moved_to(frame: &Shown, at: Option<Shown>) -> Shown
+    ensures { result ≡ moved_to frame.now at }
+{
+    match at {
+        Some(at) => Shown {
+            rise: at.rise,
+            fields: frame.fields,
+        },
+        None => *frame,
+    }
+}
+
+/// The place after the one that was found, or the one before the search if none was.
+fn rest_of(new: &[Shown], place: usize, passed: usize) -> usize
+    requires { (place ≤ length new.now) × (passed ≤ length new.now) }
+    ensures within { result ≤ length new.now }
+    ensures rest { drop result new.now ≡ rest_of (drop place new.now) (drop passed new.now) }
+{
+    if place < new.len() { place + 1 } else { passed }
+}
