@@ -59,12 +59,23 @@ fn pass(
         ControlsAt (with_frames old.now opened.now) session.now.state passed (frame.now ∷ rest)
         (Some why)) }
 {
-    let next = near_in(old, passed, passed);
     let Some(former) = frame_at(old, passed) else {
-        return judge(session, opened, &next, frame, passed);
+        return judge(
+            session,
+            opened,
+            &near_in(old, passed, passed),
+            frame,
+            passed,
+        );
     };
     if frame.shown.rise < former.rise {
-        return judge(session, opened, &next, frame, passed);
+        return judge(
+            session,
+            opened,
+            &near_in(old, passed, passed),
+            frame,
+            passed,
+        );
     }
     if former.rise < frame.shown.rise {
         return Err(Fault::Lost(former));

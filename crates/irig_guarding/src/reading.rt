@@ -14,7 +14,7 @@ use std::alloc::{AllocError, Global};
 pub fn fine_frames(alloc: Global, session: &Session) -> Result<Vec<Shown>, AllocError>
     ensures { IfOk result (λ shown. shown.items ≡ fine_frames session.now.state) }
 {
-    let mut shown = Vec::new(alloc);
+    let mut shown = Vec::with_capacity(alloc, session.frames())?;
     for index in 0..session.frames() {
         put_frame(&mut shown, session, index + 1)?;
     }

@@ -21,7 +21,7 @@ pub struct Seen {
 pub fn seen_frames(alloc: Global, session: &Session) -> Result<Vec<Seen>, AllocError>
     ensures { IfOk result (λ seen. seen.items ≡ seen_frames session.now.state) }
 {
-    let mut seen = Vec::new(alloc);
+    let mut seen = Vec::with_capacity(alloc, session.frames())?;
     for index in 0..session.frames() {
         put_frame(&mut seen, session, index + 1)?;
     }

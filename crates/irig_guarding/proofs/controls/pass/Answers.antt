@@ -8,27 +8,27 @@ pub returns-in_default-clause-borne : goal.returns-in_default-clause-borne
 returns-in_default-clause-borne c = λ rest found.
     let none : slice_get c.args.old.now c.args.passed ≡ None = sym c.frame_at.ensures ∙ c.in_default.is in
     passes_ok (with_frames c.args.old.now c.args.opened.now) c.args.session.now.state c.args.passed c.args.frame.now c.judge.result rest found
-    (judged_before (with_frames c.args.old.now c.args.opened.now) c.args.session.now.state c.args.passed _ c.args.frame.now c.judge.result rest (after_all (with_frames c.args.old.now c.args.opened.now) c.args.passed c.args.frame.now none) c.near_in-next.ensures c.judge.ensures)
+    (judged_before (with_frames c.args.old.now c.args.opened.now) c.args.session.now.state c.args.passed _ c.args.frame.now c.judge.result rest (after_all (with_frames c.args.old.now c.args.opened.now) c.args.passed c.args.frame.now none) c.near_in.ensures c.judge.ensures)
 
 pub returns-in_default-clause-fault : goal.returns-in_default-clause-fault
 returns-in_default-clause-fault c = λ rest.
     let none : slice_get c.args.old.now c.args.passed ≡ None = sym c.frame_at.ensures ∙ c.in_default.is in
     passes_err (with_frames c.args.old.now c.args.opened.now) c.args.session.now.state c.args.passed c.args.frame.now c.judge.result rest
-    (judged_before (with_frames c.args.old.now c.args.opened.now) c.args.session.now.state c.args.passed _ c.args.frame.now c.judge.result rest (after_all (with_frames c.args.old.now c.args.opened.now) c.args.passed c.args.frame.now none) c.near_in-next.ensures c.judge.ensures)
+    (judged_before (with_frames c.args.old.now c.args.opened.now) c.args.session.now.state c.args.passed _ c.args.frame.now c.judge.result rest (after_all (with_frames c.args.old.now c.args.opened.now) c.args.passed c.args.frame.now none) c.near_in.ensures c.judge.ensures)
 
 pub returns-then-frame-former-clause-borne : goal.returns-then-frame-former-clause-borne
 returns-then-frame-former-clause-borne c = λ rest found.
     let here : slice_get c.args.old.now c.args.passed ≡ Some c.in-Some.former = sym c.frame_at.ensures ∙ c.in-Some.is in
     passes_ok (with_frames c.args.old.now c.args.opened.now) c.args.session.now.state c.args.passed c.args.frame.now c.judge-then-frame-former.result rest found
     (judged_before (with_frames c.args.old.now c.args.opened.now) c.args.session.now.state c.args.passed _ c.args.frame.now c.judge-then-frame-former.result rest
-    (before_next (with_frames c.args.old.now c.args.opened.now) c.args.passed c.in-Some.former c.args.frame.now here (omega (arith, c.if-frame-former.true))) c.near_in-next.ensures c.judge-then-frame-former.ensures)
+    (before_next (with_frames c.args.old.now c.args.opened.now) c.args.passed c.in-Some.former c.args.frame.now here (omega (arith, c.if-frame-former.true))) c.near_in-then-frame-former.ensures c.judge-then-frame-former.ensures)
 
 pub returns-then-frame-former-clause-fault : goal.returns-then-frame-former-clause-fault
 returns-then-frame-former-clause-fault c = λ rest.
     let here : slice_get c.args.old.now c.args.passed ≡ Some c.in-Some.former = sym c.frame_at.ensures ∙ c.in-Some.is in
     passes_err (with_frames c.args.old.now c.args.opened.now) c.args.session.now.state c.args.passed c.args.frame.now c.judge-then-frame-former.result rest
     (judged_before (with_frames c.args.old.now c.args.opened.now) c.args.session.now.state c.args.passed _ c.args.frame.now c.judge-then-frame-former.result rest
-    (before_next (with_frames c.args.old.now c.args.opened.now) c.args.passed c.in-Some.former c.args.frame.now here (omega (arith, c.if-frame-former.true))) c.near_in-next.ensures c.judge-then-frame-former.ensures)
+    (before_next (with_frames c.args.old.now c.args.opened.now) c.args.passed c.in-Some.former c.args.frame.now here (omega (arith, c.if-frame-former.true))) c.near_in-then-frame-former.ensures c.judge-then-frame-former.ensures)
 
 pub returns-then-former-frame-clause-fault : goal.returns-then-former-frame-clause-fault
 returns-then-former-frame-clause-fault c = λ rest.
