@@ -68,6 +68,12 @@ def slow_with_a_glitch(pulses):
     glitch(pulses)
 
 
+def hardly_slow(pulses):
+    """A clock that is off by 50 in a million, and two holes: the rest is on its clock."""
+    pulses[:] = [[rise * 20001 // 20000, fall * 20001 // 20000] for rise, fall in pulses]
+    del pulses[615:635], pulses[155:355]
+
+
 def glitch(pulses):
     rise, fall = pulses[301]
     pulses[301:302] = [[rise, rise + 900], [rise + 940, fall]]
@@ -154,6 +160,15 @@ ROWS = (
         slow_with_a_glitch,
         8040000,
         [SLOW, "3025050 %s3, element 1, pulses 302 to 303: %s" % (FRAME, GLITCH)],
+    ),
+    (
+        "holes, and a clock that is hardly slow",
+        hardly_slow,
+        8002000,
+        [
+            "1550077 %s1, element 55 to %s3, element 54: 200 elements without a pulse" % (FRAME, FRAME),
+            "6150307 %s6, element 15 to 34: 20 elements without a pulse" % FRAME,
+        ],
     ),
     (
         "upside down",

@@ -88,7 +88,8 @@ def of_clock():
     tools.slow(slow)
     yield same("a slow clock", Clock(listing_of(slow), 10000).interval, 10050)
     hardly = [[rise + rise // 20000, fall + rise // 20000] for rise, fall in tools.recording()]
-    yield same("a clock that is hardly slow", Clock(listing_of(hardly), 10000).interval, 10000)
+    clock = Clock(listing_of(hardly), 10000)
+    yield same("a clock that is hardly slow", (round(clock.interval, 1), clock.exact), (10000.5, False))
     noisy = tools.recording()
     for at, pulse in enumerate(noisy):  # distances are off by 10, 40, -20, 50 and -80: by 0, 30, 30, 40 and 90 from 10010
         pulse[0] += (0, 10, 50, 30, 80)[at % 5]
@@ -96,6 +97,12 @@ def of_clock():
     yield same("noise", (clock.noise, clock.exact, round(clock.interval)), (30, False, 10000))
     sampled = [[rise // 7 * 7, fall // 7 * 7] for rise, fall in tools.recording()]
     yield same("a grid of samples", Clock(listing_of(sampled), 10000).grid, 7)
+    for name, size in (("48,000 samples in a second", 1e6 / 48000), ("16,000 samples in a second", 62.5)):
+        rate = tools.recording()  # a clock that is off by 50 in a million, and pulses that were repaired
+        rate[:] = [[int(-(-time * 1.00005 // size) * size) for time in pulse] for pulse in rate]
+        rate[300:400] = [[rise + 7, rise + 2007] for rise, _ in rate[300:400]]
+        clock = Clock(listing_of(rate), 10000)
+        yield same(name, (abs(clock.grid - size) < 1, clock.least_step < 2 * size, len(clock.runs)), (True, True, 1))
     stepped = Clock(listing_of(late(tools.recording(), 450, 3)), 10000)
     yield same("a step of 3", [(run.first, run.last) for run in stepped.runs], [(0, 449), (450, 799)])
     near = Clock(listing_of(late(tools.recording(), 450, 1)), 10000)
