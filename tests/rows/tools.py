@@ -83,6 +83,12 @@ def turned(pulses):
     pulses[:] = [[a[1], b[0]] for a, b in zip(pulses, pulses[1:])]
 
 
+def upside_down_in(pulses, begin, end):
+    """The level turns over from a time up to another."""
+    edges = sorted({edge for pulse in pulses for edge in pulse} ^ {begin, end})
+    pulses[:] = map(list, zip(edges[::2], edges[1::2]))
+
+
 SLOW = (
     "0 the whole recording: the clock is 0.50 % slow: pulses come every 10050.0 microseconds, not every 10000"
 )
@@ -372,6 +378,11 @@ def larger_rows():
     del changing[674]
     seen = "# %s6, element 74, at 6740000: no pulse; undecided whether zero or one: nothing says it" % FRAME
     yield starts("a control function that changes", mended(changing, 12000000)[0].splitlines()[:1], [seen])
+    turns = "the falls come at one distance, the rises do not: the wire is upside down from "
+    over = recording()
+    upside_down_in(over, 2503000, 8000000)
+    yield starts("upside down from some time on", lines_of(over, 8000000), ["2510000 " + turns + "2510000 to 8000000"])
+    yield same("upside down from some time on, mended", mended(over, 8000000)[1], recording())
     late = [[rise + 3000000000, fall + 3000000000] for rise, fall in recording()]
     del late[243]
     yield same(

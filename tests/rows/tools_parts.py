@@ -8,7 +8,7 @@ import re
 
 from built import TOP
 from cases import case
-from irig_tools import analysis, edit, limits, mend, phases, slots, spans, steadiness, threshold, zones
+from irig_tools import analysis, edit, limits, mend, phases, polarity, slots, spans, steadiness, threshold, zones
 from irig_tools.copies import take_out
 from irig_tools.editor import Listing
 from irig_tools.frames import Times
@@ -110,6 +110,24 @@ def of_clock():
     hole = Clock(listing_of(without(230, 415)), 10000)
     yield same("runs at a hole", [(run.first, run.last, run.begin) for run in hole.runs], [(0, 229, 0), (230, 614, 4150000)])
     yield same("on one clock", hole.on_one_clock(*hole.runs), True)
+
+
+# polarity
+
+
+def of_polarity():
+    """Which stretches of a wire are upside down."""
+    for name, stretches in (("from some time on", [(2503000, 8000000)]), ("up to some time", [(0, 4321000)]),
+                            ("but for a stretch", [(0, 2403000), (5104000, 8000000)])):
+        pulses = tools.recording()
+        for each in stretches:
+            tools.upside_down_in(pulses, *each)
+        found = polarity.upside_down(listing_of(pulses, 8000000), 10000)
+        near = [abs(got - true) for both in zip(found, stretches) for got, true in zip(*both)]
+        yield same("upside down " + name, (len(found), all(each <= 100000 for each in near)), (len(stretches), True))
+    pulses = tools.recording()
+    tools.turned(pulses)
+    yield same("upside down", polarity.upside_down(listing_of(pulses, 8000000), 10000), [(0, 8000000)])
 
 
 # slots
@@ -454,7 +472,8 @@ def of_limits():
 def cases():
     """Each part by its name."""
     return [case("mend: part: " + name, holds) for name, holds in (
-        ("phases", of_phases), ("clock", of_clock), ("slots", of_slots), ("sure runs", of_parts), ("places", of_places),
-        ("votes", of_votes), ("spans", of_spans), ("pieces", of_pieces), ("leap seconds", of_leap), ("moments", of_moments),
+        ("phases", of_phases), ("clock", of_clock), ("polarity", of_polarity), ("slots", of_slots), ("sure runs", of_parts),
+        ("places", of_places), ("votes", of_votes), ("spans", of_spans), ("pieces", of_pieces), ("leap seconds", of_leap),
+        ("moments", of_moments),
         ("times", of_times), ("steadiness", of_steadiness), ("copies", of_copies), ("cuts", of_cuts), ("edits", of_edits),
         ("checks", of_checks), ("threshold", of_threshold), ("limits", of_limits))]

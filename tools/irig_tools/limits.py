@@ -74,6 +74,7 @@ OVERLAP = 0.02  # intervals: a pulse that reaches so far beyond the next rise co
 
 # the whole recording (analysis, threshold): pulses are 20, 50 or 80 hundredths wide, and classes end at 5, 35, 65 and 95
 UPSIDE_DOWN, MORE_THAN_UPRIGHT = 0.8, 0.1  # the share of falls in step, as of upright zeros; by how much more than rises
+TURNED_OVER = 20  # rises or falls out of step: what it costs that a wire is turned over; a frame that is upside down has more
 FIT = 0.5  # the share of rises in step without which it is no such recording: damage of half of them is not mended [0, 1]
 THRESHOLD_SHIFTS = range(-17, 28)  # hundredths of an interval by which all can be longer: a zero is left, a one no position [2, 0]
 WIDEST_PEAK = 98  # hundredths of an interval: no pulse gets as long as the interval
