@@ -103,6 +103,9 @@ def of_clock():
         rate[300:400] = [[rise + 7, rise + 2007] for rise, _ in rate[300:400]]
         clock = Clock(listing_of(rate), 10000)
         yield same(name, (abs(clock.grid - size) < 1, clock.least_step < 2 * size, len(clock.runs)), (True, True, 1))
+    rough = [[-(-time // 600) * 600 for time in pulse] for pulse in tools.recording()]  # distances of 10,200 and 9,600
+    clock = Clock(listing_of(rough), 10000)
+    yield same("a sample is 6 % of the interval", (round(clock.grid), len(clock.runs), round(clock.interval, -1)), (600, 1, 10000))
     stepped = Clock(listing_of(late(tools.recording(), 450, 3)), 10000)
     yield same("a step of 3", [(run.first, run.last) for run in stepped.runs], [(0, 449), (450, 799)])
     near = Clock(listing_of(late(tools.recording(), 450, 1)), 10000)

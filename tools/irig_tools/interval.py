@@ -114,10 +114,10 @@ class Clock:
         between = _in_step(apart, nominal)
         self.interval: float = statistics.median_low(between) if between else nominal
         self.noise: float = statistics.median([abs(each - self.interval) for each in between]) if between else 0
+        self.grid = _grid(listing, between, self.interval, self.noise)
         # what counts as in step, and how far one pulse may be off
         self.margin = self._within(limits.LEAST_MARGIN, limits.MARGIN_BY_NOISE, limits.MOST_MARGIN)
         self.stray = self._within(limits.LEAST_STRAY, limits.STRAY_BY_NOISE, limits.MOST_STRAY)
-        self.grid = _grid(listing, between, self.interval, self.noise)
         self.least_step = self._find_least_step(between)
         ends = breaks(apart, self.interval, self.margin)
         found = [run_of(first, beyond) for first, beyond in zip([PulseIndex(0), *ends], ends)]
@@ -131,8 +131,8 @@ class Clock:
         self.doubt = self._find_doubt()
 
     def _within(self, least: float, by_noise: float, most: float) -> float:
-        """That many times the noise, between two shares of the interval, in microseconds."""
-        return min(most * self.nominal, max(least * self.nominal, by_noise * self.noise))
+        """That many times the noise, or what is less than two samples, between two shares of the interval, in microseconds."""
+        return min(most * self.nominal, max(least * self.nominal, by_noise * self.noise, limits.BY_GRID * self.grid))
 
     def _measure(self, lengths: Sequence[float]) -> None:
         """The interval by the lengths of the runs, in microseconds. It is the nominal one if nothing shows another."""
