@@ -68,6 +68,12 @@ def slow_with_a_glitch(pulses):
     glitch(pulses)
 
 
+def hardly_slow(pulses):
+    """A clock that is off by 50 in a million, and two holes: the rest is on its clock."""
+    pulses[:] = [[rise * 20001 // 20000, fall * 20001 // 20000] for rise, fall in pulses]
+    del pulses[615:635], pulses[155:355]
+
+
 def glitch(pulses):
     rise, fall = pulses[301]
     pulses[301:302] = [[rise, rise + 900], [rise + 940, fall]]
@@ -75,6 +81,12 @@ def glitch(pulses):
 
 def turned(pulses):
     pulses[:] = [[a[1], b[0]] for a, b in zip(pulses, pulses[1:])]
+
+
+def upside_down_in(pulses, begin, end):
+    """The level turns over from a time up to another."""
+    edges = sorted({edge for pulse in pulses for edge in pulse} ^ {begin, end})
+    pulses[:] = map(list, zip(edges[::2], edges[1::2]))
 
 
 SLOW = (
@@ -154,6 +166,15 @@ ROWS = (
         slow_with_a_glitch,
         8040000,
         [SLOW, "3025050 %s3, element 1, pulses 302 to 303: %s" % (FRAME, GLITCH)],
+    ),
+    (
+        "holes, and a clock that is hardly slow",
+        hardly_slow,
+        8002000,
+        [
+            "1550077 %s1, element 55 to %s3, element 54: 200 elements without a pulse" % (FRAME, FRAME),
+            "6150307 %s6, element 15 to 34: 20 elements without a pulse" % FRAME,
+        ],
     ),
     (
         "upside down",
@@ -357,6 +378,11 @@ def larger_rows():
     del changing[674]
     seen = "# %s6, element 74, at 6740000: no pulse; undecided whether zero or one: nothing says it" % FRAME
     yield starts("a control function that changes", mended(changing, 12000000)[0].splitlines()[:1], [seen])
+    turns = "the falls come at one distance, the rises do not: the wire is upside down from "
+    over = recording()
+    upside_down_in(over, 2503000, 8000000)
+    yield starts("upside down from some time on", lines_of(over, 8000000), ["2510000 " + turns + "2510000 to 8000000"])
+    yield same("upside down from some time on, mended", mended(over, 8000000)[1], recording())
     late = [[rise + 3000000000, fall + 3000000000] for rise, fall in recording()]
     del late[243]
     yield same(

@@ -8,7 +8,7 @@ import re
 
 from built import TOP
 from cases import case
-from irig_tools import analysis, edit, limits, mend, phases, slots, spans, steadiness, threshold, zones
+from irig_tools import analysis, edit, limits, mend, phases, polarity, slots, spans, steadiness, threshold, zones
 from irig_tools.copies import take_out
 from irig_tools.editor import Listing
 from irig_tools.frames import Times
@@ -88,7 +88,8 @@ def of_clock():
     tools.slow(slow)
     yield same("a slow clock", Clock(listing_of(slow), 10000).interval, 10050)
     hardly = [[rise + rise // 20000, fall + rise // 20000] for rise, fall in tools.recording()]
-    yield same("a clock that is hardly slow", Clock(listing_of(hardly), 10000).interval, 10000)
+    clock = Clock(listing_of(hardly), 10000)
+    yield same("a clock that is hardly slow", (round(clock.interval, 1), clock.exact), (10000.5, False))
     noisy = tools.recording()
     for at, pulse in enumerate(noisy):  # distances are off by 10, 40, -20, 50 and -80: by 0, 30, 30, 40 and 90 from 10010
         pulse[0] += (0, 10, 50, 30, 80)[at % 5]
@@ -96,6 +97,15 @@ def of_clock():
     yield same("noise", (clock.noise, clock.exact, round(clock.interval)), (30, False, 10000))
     sampled = [[rise // 7 * 7, fall // 7 * 7] for rise, fall in tools.recording()]
     yield same("a grid of samples", Clock(listing_of(sampled), 10000).grid, 7)
+    for name, size in (("48,000 samples in a second", 1e6 / 48000), ("16,000 samples in a second", 62.5)):
+        rate = tools.recording()  # a clock that is off by 50 in a million, and pulses that were repaired
+        rate[:] = [[int(-(-time * 1.00005 // size) * size) for time in pulse] for pulse in rate]
+        rate[300:400] = [[rise + 7, rise + 2007] for rise, _ in rate[300:400]]
+        clock = Clock(listing_of(rate), 10000)
+        yield same(name, (abs(clock.grid - size) < 1, clock.least_step < 2 * size, len(clock.runs)), (True, True, 1))
+    rough = [[-(-time // 600) * 600 for time in pulse] for pulse in tools.recording()]  # distances of 10,200 and 9,600
+    clock = Clock(listing_of(rough), 10000)
+    yield same("a sample is 6 % of the interval", (round(clock.grid), len(clock.runs), round(clock.interval, -1)), (600, 1, 10000))
     stepped = Clock(listing_of(late(tools.recording(), 450, 3)), 10000)
     yield same("a step of 3", [(run.first, run.last) for run in stepped.runs], [(0, 449), (450, 799)])
     near = Clock(listing_of(late(tools.recording(), 450, 1)), 10000)
@@ -103,6 +113,24 @@ def of_clock():
     hole = Clock(listing_of(without(230, 415)), 10000)
     yield same("runs at a hole", [(run.first, run.last, run.begin) for run in hole.runs], [(0, 229, 0), (230, 614, 4150000)])
     yield same("on one clock", hole.on_one_clock(*hole.runs), True)
+
+
+# polarity
+
+
+def of_polarity():
+    """Which stretches of a wire are upside down."""
+    for name, stretches in (("from some time on", [(2503000, 8000000)]), ("up to some time", [(0, 4321000)]),
+                            ("but for a stretch", [(0, 2403000), (5104000, 8000000)])):
+        pulses = tools.recording()
+        for each in stretches:
+            tools.upside_down_in(pulses, *each)
+        found = polarity.upside_down(listing_of(pulses, 8000000), 10000)
+        near = [abs(got - true) for both in zip(found, stretches) for got, true in zip(*both)]
+        yield same("upside down " + name, (len(found), all(each <= 100000 for each in near)), (len(stretches), True))
+    pulses = tools.recording()
+    tools.turned(pulses)
+    yield same("upside down", polarity.upside_down(listing_of(pulses, 8000000), 10000), [(0, 8000000)])
 
 
 # slots
@@ -447,7 +475,8 @@ def of_limits():
 def cases():
     """Each part by its name."""
     return [case("mend: part: " + name, holds) for name, holds in (
-        ("phases", of_phases), ("clock", of_clock), ("slots", of_slots), ("sure runs", of_parts), ("places", of_places),
-        ("votes", of_votes), ("spans", of_spans), ("pieces", of_pieces), ("leap seconds", of_leap), ("moments", of_moments),
+        ("phases", of_phases), ("clock", of_clock), ("polarity", of_polarity), ("slots", of_slots), ("sure runs", of_parts),
+        ("places", of_places), ("votes", of_votes), ("spans", of_spans), ("pieces", of_pieces), ("leap seconds", of_leap),
+        ("moments", of_moments),
         ("times", of_times), ("steadiness", of_steadiness), ("copies", of_copies), ("cuts", of_cuts), ("edits", of_edits),
         ("checks", of_checks), ("threshold", of_threshold), ("limits", of_limits))]

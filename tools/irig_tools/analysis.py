@@ -12,6 +12,7 @@ from .faults import Faults, Remark
 from .frames import Times
 from .interval import Clock, Run, share_in_step
 from .layout import Layout
+from .polarity import upside_down
 from .remarks import remarks
 from .script import Repair
 from .slots import link, parts, sure_parts
@@ -74,7 +75,11 @@ def examine(listing: Listing, steady: bool = False, move: bool = False) -> Findi
         findings.remark(START, "%d pulses are too few to make a frame" % many, OTHER_WIRE)
     elif turned_share > max(limits.UPSIDE_DOWN, upright + limits.MORE_THAN_UPRIGHT):
         why = "the falls come at one distance, the rises do not: the wire is upside down"
-        findings.turned, findings.whole = True, [repair_of(START, [why], [Edit("invert", (0, listing.length))])]
+        stretches = upside_down(listing, interval)
+        if stretches != [(START, listing.length)]:
+            why += " from " + " and from ".join("%d to %d" % stretch for stretch in stretches)
+        edits = [Edit("invert", stretch) for stretch in stretches]
+        findings.turned, findings.whole = True, [repair_of(stretches[0][0], [why], edits)]
     elif upright < limits.FIT:
         findings.remark(START, "most pulses do not follow each other by %d" % interval, OTHER_FORMAT)
     else:

@@ -11,7 +11,8 @@ on that many scripts. Those without it changed none: tests/rows/tools_parts.py h
 # the clock (interval)
 IN_STEP = 0.1  # intervals: neighbours whose distance is so near the nominal one follow each other [12, 3]
 MOST_SAMPLED = 50000  # distances that are looked at for the interval
-SAME_CLOCK = 0.0001  # a clock that is less off, as a share, is nominal [0, 1]
+SAME_CLOCK = 0.0001  # a clock that is less off, as a share, is nominal, if no more than OTHER_CLOCK say otherwise [0, 1]
+OTHER_CLOCK = 0.5  # the share of elements that are in runs which are too long or too short for a nominal clock: damage is in fewer
 LEAST_MARGIN, MOST_MARGIN = 0.04, 0.09  # intervals: how far a distance within a run may be off
 LEAST_STRAY, MOST_STRAY = 0.04, 0.07  # intervals: how far one rise between runs may be off
 MARGIN_BY_NOISE, STRAY_BY_NOISE = 6, 4  # how many times the half spread of the distances
@@ -28,6 +29,9 @@ SPREADS = 5  # a step is seen if it is that many times as large as the spread of
 LEAST_STEP = 2  # microseconds: times are whole numbers, so less is no step
 BY_GRID = 1.5  # samples of a recorder: a smaller step is one of its own
 OFF_BY_SAMPLE = 3  # distances that are off by one sample show its size
+ROUNDED = 1  # microseconds: both ends of a distance are rounded down, so it is off by less
+LEAST_SAMPLE = 5  # microseconds: of shorter ones four of ten lengths and more are a whole number by chance, as rounded
+ON_GRID = 0.5  # the share of lengths that are more often a whole number of samples: what is repaired is not
 SIDE = 5  # pulses on each side of a step [0, 1]
 LONG_RUN = 40  # pulses of a run that can have two phases, or whose position identifiers say its phase
 
@@ -70,6 +74,7 @@ OVERLAP = 0.02  # intervals: a pulse that reaches so far beyond the next rise co
 
 # the whole recording (analysis, threshold): pulses are 20, 50 or 80 hundredths wide, and classes end at 5, 35, 65 and 95
 UPSIDE_DOWN, MORE_THAN_UPRIGHT = 0.8, 0.1  # the share of falls in step, as of upright zeros; by how much more than rises
+TURNED_OVER = 20  # rises or falls out of step: what it costs that a wire is turned over; a frame that is upside down has more
 FIT = 0.5  # the share of rises in step without which it is no such recording: damage of half of them is not mended [0, 1]
 THRESHOLD_SHIFTS = range(-17, 28)  # hundredths of an interval by which all can be longer: a zero is left, a one no position [2, 0]
 WIDEST_PEAK = 98  # hundredths of an interval: no pulse gets as long as the interval
