@@ -119,7 +119,7 @@ def names(top):
         path = os.path.join(os.fsencode(folder), b"n\xff.vcd")
         with open(path, "wb") as file:
             file.write(dump(*B).encode())
-        status, printed, said = shell(top, folder, "irig_what n\udcff.vcd", PYTHONIOENCODING="utf-8:strict")
+        status, printed, said = shell(top, folder, 'python3 "$(command -v irig_what)" n\udcff.vcd', PYTHONIOENCODING="utf-8:strict")
         last = printed.splitlines()[-1:]
         good = (status, said) == (0, "") and last == [
             "irig_wire 'n\udcff.vcd' > one.vcd && irig_ed --format B --expression 2 --out new.vcd one.vcd"]

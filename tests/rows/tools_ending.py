@@ -39,9 +39,10 @@ def unwritten(top):
             full = shell(top, folder, "%s %s > /dev/full 2> said; s=$?; tail -n 1 said; exit $s" % (tool, name))
             deaf = shell(top, folder, "%s none.vcd 2> /dev/full" % tool)
             broken = shell(top, folder, "%s %s 2>/dev/null | true; echo ${PIPESTATUS[0]}" % (tool, name))
-            good = full == (2, "%s: No space left on device\n" % tool, "") and deaf == (2, "", "")
+            mute = shell(top, folder, "%s %s >&- 2> /dev/full" % (tool, name))
+            good = full == (2, "%s: No space left on device\n" % tool, "") and deaf == mute == (2, "", "")
             good = good and broken[1:] == ("141\n", "")
-            good or print("FAILED %s: %s %s %s" % (tool, full, deaf, broken))
+            good or print("FAILED %s: %s %s %s %s" % (tool, full, deaf, broken, mute))
             yield good
 
 
@@ -102,6 +103,26 @@ def without_memory(top):
                 yield good
 
 
+VARIABLES = {"PYTHONIOENCODING": "none", "PYTHONHOME": "/none", "PYTHONUTF8": "5", "PYTHONHASHSEED": "none", "PYTHONMALLOC": "none",
+             "PYTHONINSPECT": "1", "PYTHONPATH": "own"}
+
+
+def variables(top):
+    """What is wrong in the variables of Python, or in a module that the user has, is nothing to a tool."""
+    with tempfile.TemporaryDirectory() as folder:
+        filled(folder)
+        os.mkdir(os.path.join(folder, "own"))
+        with open(os.path.join(folder, "own", "sitecustomize.py"), "w", encoding="ascii") as file:
+            file.write("raise SystemExit(1)\n")
+        for tool in TOOLS:
+            wanted = shell(top, folder, tool + " --version")
+            for name, value in VARIABLES.items():
+                ended = shell(top, folder, tool + " --version", **{name: value})
+                good = ended == wanted and not wanted[0]
+                good or print("FAILED %s with %s=%s: %s" % (tool, name, value, ended))
+                yield good
+
+
 def raised(error, text, status, **more):
     """A work that raises an error: its status and the one line; where it was is shown only if that is asked for."""
 
@@ -137,4 +158,5 @@ def cases(top):
     """Each part by its name."""
     return [case("ending: closed streams", closed, top), case("ending: full devices and readers", unwritten, top),
             case("ending: signals", stopped, top), case("ending: no room", without_room, top),
-            case("ending: too little memory", without_memory, top), case("ending: errors", raising)]
+            case("ending: too little memory", without_memory, top), case("ending: errors", raising),
+            case("ending: variables of Python", variables, top)]
