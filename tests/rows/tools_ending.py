@@ -1,5 +1,6 @@
 """How the tools end: closed streams, full devices, readers that go away, too little memory, and defects."""
 import os
+import shutil
 import tempfile
 from unittest import mock
 
@@ -63,6 +64,22 @@ def stopped(top):
             good or print("FAILED irig_mend and a signal %s: %s %s" % (name, done, left))
             yield good
             os.unlink(os.path.join(folder, "pipe"))
+
+
+def early_and_late(top):
+    """A signal while a tool is loaded, or once its work is done, is no result and leaves no trace of Python."""
+    for line, status in (("os.kill(os.getpid(), signal.SIGINT)", 130), ("atexit.register(os.kill, os.getpid(), signal.SIGTERM)", -15),
+                         ("atexit.register(os.kill, os.getpid(), signal.SIGINT)", -2)):
+        with tempfile.TemporaryDirectory() as folder:
+            shutil.copytree(os.path.join(top, "tools"), os.path.join(folder, "tools"), ignore=shutil.ignore_patterns("__pycache__"))
+            path = os.path.join(folder, "tools", "irig_tools", "what_program.py")
+            os.chmod(path, 0o644)
+            with open(path, "a", encoding="utf-8") as file:
+                file.write("\nimport atexit, os, signal\n%s\n" % line)
+            done = shell(top, folder, "exec env --default-signal=INT,TERM tools/irig_what --version")
+            good = (done[0], done[2]) == (status, "")
+            good or print("FAILED irig_what with %s: %s" % (line, done))
+            yield good
 
 
 def without_room(top):
@@ -158,5 +175,6 @@ def cases(top):
     """Each part by its name."""
     return [case("ending: closed streams", closed, top), case("ending: full devices and readers", unwritten, top),
             case("ending: signals", stopped, top), case("ending: no room", without_room, top),
+            case("ending: early and late signals", early_and_late, top),
             case("ending: too little memory", without_memory, top), case("ending: errors", raising),
             case("ending: variables of Python", variables, top)]

@@ -11,7 +11,7 @@ from contextlib import contextmanager
 from typing import Callable, Iterator, Tuple, Union
 
 from .editor import Problem
-from .ending import DEFECT, ended, heed_signals
+from .ending import DEFECT, INTERRUPTED, SIGNALLED, Stopped, ended, heed_signals, unheed_signals
 from .options import HELP, VERSION, Command, Given
 from .temporary import named_if_no_room, temporary_track
 from .version import version
@@ -61,7 +61,13 @@ def run(command: Command, work: Callable[[Given], int]) -> int:
     if isinstance(sys.stdout, io.TextIOWrapper):
         sys.stdout.reconfigure(errors="irig_tools")
     try:
-        return ended(command.name, lambda: help_or(command, work))
+        status = ended(command.name, lambda: help_or(command, work))
+        unheed_signals()
+        return status
+    except Stopped as stopped:  # when the work was done
+        return SIGNALLED + stopped.number
+    except KeyboardInterrupt:
+        return INTERRUPTED
     except BaseException:  # there is not even memory to say so
         os._exit(DEFECT)
 

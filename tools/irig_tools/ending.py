@@ -37,6 +37,13 @@ def heed_signals() -> None:
             signal.signal(number, _stop)
 
 
+def unheed_signals() -> None:
+    """Nothing is left to be removed: a signal ends the program at once."""
+    for number in (signal.SIGHUP, signal.SIGINT, signal.SIGTERM):
+        if signal.getsignal(number) in (_stop, signal.default_int_handler):
+            signal.signal(number, signal.SIG_DFL)
+
+
 def _stop(number: int, _: Optional[FrameType]) -> None:
     raise Stopped(number)
 
