@@ -130,6 +130,9 @@ def into():
         run("irig_wire", ["rec.vcd", "rx.irig", "--out", "one.vcd"])
         status = run("irig_mend", ["--apply", "two.vcd", "--into", "rec.vcd", "--wire=rx.irig", "--expression=4", "one.vcd"])[0]
         yield same("a track of one wire", (status, text_of("two.vcd") == new), (0, True))
+        words = ["--apply", "three.vcd", "--into", "rec.vcd", "--wire=rx.irig", "--expression=4", "-"]
+        status = run("irig_mend", words, text_of("one.vcd").encode())[0]
+        yield same("the same through a pipe", (status, text_of("three.vcd") == new), (0, True))
 
     return in_folder(lambda: list(holds()), rec=nanoseconds(recorded(glitch)))
 

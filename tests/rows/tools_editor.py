@@ -4,6 +4,7 @@ import os
 import shutil
 import tempfile
 
+from built import GUARD
 from cases import case
 from rows import tools
 from rows.tools_outputs import contents, filled, shell
@@ -44,6 +45,26 @@ def killed(top):
             ended = shell(top, folder, command, IRIG_ED=path, KILLED=word)
             good = ended == (2, "", "%s: irig_ed ended before its answer did\n" % command.split()[0]) and contents(folder) == before
             good or print("FAILED %s and an editor that is killed: %s" % (command, ended))
+            yield good
+
+
+def broken_off(top):
+    """An editor that breaks off, or a guard that is killed once it has written its file, leads to no result."""
+    with tempfile.TemporaryDirectory() as folder:
+        filled(folder)
+        programs = {"broken": 'script=$(cat)\nprintf "%s\\n" "$script" | bin/irig_ed "$@" | sed -n 1,3p\n'
+                              'case $script in *frames*) exit 4;; esac\nprintf "%s\\n" "$script" | bin/irig_ed "$@" | sed 1,3d\n',
+                    "irig_guard": '"%s" "$@" | sed -n 1p\n[ -z "$KILLED" ] || kill -9 $$\n' % GUARD}
+        for name, text in programs.items():
+            with open(os.path.join(folder, name), "w", encoding="ascii") as file:
+                file.write("#!/bin/sh\n" + text)
+            os.chmod(os.path.join(folder, name), 0o755)
+        apply, cut = "irig_mend --format B --apply new rec.vcd", "irig_ed ended before its answer did"
+        for command, killed_one, text in (("irig_what rec.vcd", "", cut), (apply, "", cut), (apply, "1", "ended with status -9")):
+            before = contents(folder)
+            status, printed, said = shell(top, folder, command, IRIG_ED=os.path.join(folder, "broken"), KILLED=killed_one)
+            good = (status, printed, said.count("\n"), text in said) == (2, "", 1, True) and contents(folder) == before
+            good or print("FAILED %s and a program that breaks off: %d %s" % (command, status, said))
             yield good
 
 
@@ -98,7 +119,7 @@ def names(top):
         path = os.path.join(os.fsencode(folder), b"n\xff.vcd")
         with open(path, "wb") as file:
             file.write(dump(*B).encode())
-        status, printed, said = shell(top, folder, "irig_what n\udcff.vcd", PYTHONIOENCODING="utf-8:strict")
+        status, printed, said = shell(top, folder, 'python3 "$(command -v irig_what)" n\udcff.vcd', PYTHONIOENCODING="utf-8:strict")
         last = printed.splitlines()[-1:]
         good = (status, said) == (0, "") and last == [
             "irig_wire 'n\udcff.vcd' > one.vcd && irig_ed --format B --expression 2 --out new.vcd one.vcd"]
@@ -140,4 +161,4 @@ def silent(top):
 def cases(top):
     """Each part by its name."""
     return [case("editor: " + part.__name__, part, top)
-            for part in (other_release, killed, which, complaints, names, steady, silent)]
+            for part in (other_release, killed, broken_off, which, complaints, names, steady, silent)]

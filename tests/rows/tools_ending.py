@@ -1,5 +1,6 @@
 """How the tools end: closed streams, full devices, readers that go away, too little memory, and defects."""
 import os
+import shutil
 import tempfile
 from unittest import mock
 
@@ -39,9 +40,10 @@ def unwritten(top):
             full = shell(top, folder, "%s %s > /dev/full 2> said; s=$?; tail -n 1 said; exit $s" % (tool, name))
             deaf = shell(top, folder, "%s none.vcd 2> /dev/full" % tool)
             broken = shell(top, folder, "%s %s 2>/dev/null | true; echo ${PIPESTATUS[0]}" % (tool, name))
-            good = full == (2, "%s: No space left on device\n" % tool, "") and deaf == (2, "", "")
+            mute = shell(top, folder, "%s %s >&- 2> /dev/full" % (tool, name))
+            good = full == (2, "%s: No space left on device\n" % tool, "") and deaf == mute == (2, "", "")
             good = good and broken[1:] == ("141\n", "")
-            good or print("FAILED %s: %s %s %s" % (tool, full, deaf, broken))
+            good or print("FAILED %s: %s %s %s %s" % (tool, full, deaf, broken, mute))
             yield good
 
 
@@ -62,6 +64,22 @@ def stopped(top):
             good or print("FAILED irig_mend and a signal %s: %s %s" % (name, done, left))
             yield good
             os.unlink(os.path.join(folder, "pipe"))
+
+
+def early_and_late(top):
+    """A signal while a tool is loaded, or once its work is done, is no result and leaves no trace of Python."""
+    for line, status in (("os.kill(os.getpid(), signal.SIGINT)", 130), ("atexit.register(os.kill, os.getpid(), signal.SIGTERM)", -15),
+                         ("atexit.register(os.kill, os.getpid(), signal.SIGINT)", -2)):
+        with tempfile.TemporaryDirectory() as folder:
+            shutil.copytree(os.path.join(top, "tools"), os.path.join(folder, "tools"), ignore=shutil.ignore_patterns("__pycache__"))
+            path = os.path.join(folder, "tools", "irig_tools", "what_program.py")
+            os.chmod(path, 0o644)
+            with open(path, "a", encoding="utf-8") as file:
+                file.write("\nimport atexit, os, signal\n%s\n" % line)
+            done = shell(top, folder, "exec env --default-signal=INT,TERM tools/irig_what --version")
+            good = (done[0], done[2]) == (status, "")
+            good or print("FAILED irig_what with %s: %s" % (line, done))
+            yield good
 
 
 def without_room(top):
@@ -102,6 +120,26 @@ def without_memory(top):
                 yield good
 
 
+VARIABLES = {"PYTHONIOENCODING": "none", "PYTHONHOME": "/none", "PYTHONUTF8": "5", "PYTHONHASHSEED": "none", "PYTHONMALLOC": "none",
+             "PYTHONINSPECT": "1", "PYTHONPATH": "own"}
+
+
+def variables(top):
+    """What is wrong in the variables of Python, or in a module that the user has, is nothing to a tool."""
+    with tempfile.TemporaryDirectory() as folder:
+        filled(folder)
+        os.mkdir(os.path.join(folder, "own"))
+        with open(os.path.join(folder, "own", "sitecustomize.py"), "w", encoding="ascii") as file:
+            file.write("raise SystemExit(1)\n")
+        for tool in TOOLS:
+            wanted = shell(top, folder, tool + " --version")
+            for name, value in VARIABLES.items():
+                ended = shell(top, folder, tool + " --version", **{name: value})
+                good = ended == wanted and not wanted[0]
+                good or print("FAILED %s with %s=%s: %s" % (tool, name, value, ended))
+                yield good
+
+
 def raised(error, text, status, **more):
     """A work that raises an error: its status and the one line; where it was is shown only if that is asked for."""
 
@@ -137,4 +175,6 @@ def cases(top):
     """Each part by its name."""
     return [case("ending: closed streams", closed, top), case("ending: full devices and readers", unwritten, top),
             case("ending: signals", stopped, top), case("ending: no room", without_room, top),
-            case("ending: too little memory", without_memory, top), case("ending: errors", raising)]
+            case("ending: early and late signals", early_and_late, top),
+            case("ending: too little memory", without_memory, top), case("ending: errors", raising),
+            case("ending: variables of Python", variables, top)]

@@ -188,11 +188,29 @@ def replaced():
         yield (said, contents(folder)) == (path + ": Permission denied", {"page": b"second"})
 
 
+def interrupted():
+    """A signal that comes just when a file gets its name is the end that is seen, and the file is whole."""
+    def named(path, name, rename=os.replace):
+        rename(path, name)
+        raise KeyboardInterrupt
+
+    with tempfile.TemporaryDirectory() as folder, mock.patch("os.replace", named):
+        try:
+            output.write(os.path.join(folder, "page"), "text")
+            found = "none"
+        except (KeyboardInterrupt, OSError) as error:
+            found = type(error).__name__
+        good = (found, contents(folder)) == ("KeyboardInterrupt", {"page": b"text"})
+        good or print("FAILED a signal when a file gets its name: %s" % found)
+        return good
+
+
 def cases(top):
     """Each part by its name."""
     return [case("outputs: refused", refused, top), case("outputs: proposed commands", proposed, top),
             case("outputs: proposed repairs", mended, top),
             case("outputs: whole files", whole, top), case("outputs: a file that is replaced", replaced),
+            case("outputs: a signal at the end", interrupted),
             *(case("outputs: a new file of %d letters" % len(name), called, name, begin) for name, begin in (
                 ("page", ".page.irig_ed-new-"), ("p" * 200, "." + "p" * 200 + ".irig_ed-new-"), ("p" * 201, ".irig_ed-new-"),
                 ("\u00e4" * 120, ".irig_ed-new-")))]

@@ -136,7 +136,7 @@ def _run(command: List[str], path: str, lines: Sequence[str], out: str) -> List[
     except OSError as error:
         raise Problem("%s cannot be run: %s" % (command[0], error.strerror)) from error
     said = done.stderr.decode(errors="replace").strip()
-    if done.returncode > 1 or not os.path.exists(out):
+    if done.returncode not in (0, 1) or not os.path.exists(out):
         raise Problem("%s (it writes %s)" % (said or "%s ended with status %d" % (command[0], done.returncode), out))
     return done.stdout.decode(errors="replace").splitlines()
 
@@ -153,7 +153,7 @@ def sound_frames(options: Sequence[str], path: str) -> int:
     with given("frames\n") as script:
         done = subprocess.run([find_editor(), *options, path], stdin=script, stdout=subprocess.PIPE,
                               stderr=subprocess.DEVNULL, check=False)
-    if done.returncode < 0:
+    if done.returncode:
         raise Problem(CUT_OFF)
     return sum(line.endswith(b" fine") for line in done.stdout.splitlines())
 

@@ -11,7 +11,7 @@ from contextlib import contextmanager
 from typing import Callable, Iterator, Tuple, Union
 
 from .editor import Problem
-from .ending import DEFECT, NOT_READ, complain, ended, heed_signals
+from .ending import DEFECT, INTERRUPTED, SIGNALLED, Stopped, ended, heed_signals, unheed_signals
 from .options import HELP, VERSION, Command, Given
 from .temporary import named_if_no_room, temporary_track
 from .version import version
@@ -57,21 +57,26 @@ codecs.register_error("irig_tools", as_given)
 
 def run(command: Command, work: Callable[[Given], int]) -> int:
     """Runs a program: its help, its complaints, and its end, also if nobody reads what it prints."""
-    closed = [name for name in ("stdin", "stdout", "stderr") if getattr(sys, name) is None]
-    if closed:
-        complain("%s is closed" % closed[0], command.name)
-        return NOT_READ
     heed_signals()
     if isinstance(sys.stdout, io.TextIOWrapper):
         sys.stdout.reconfigure(errors="irig_tools")
     try:
-        return ended(command.name, lambda: help_or(command, work))
+        status = ended(command.name, lambda: help_or(command, work))
+        unheed_signals()
+        return status
+    except Stopped as stopped:  # when the work was done
+        return SIGNALLED + stopped.number
+    except KeyboardInterrupt:
+        return INTERRUPTED
     except BaseException:  # there is not even memory to say so
         os._exit(DEFECT)
 
 
 def help_or(command: Command, work: Callable[[Given], int]) -> int:
     """Prints the help or the version if a word asks for it, and else works on what is given."""
+    closed = [name for name in ("stdin", "stdout", "stderr") if getattr(sys, name) is None]
+    if closed:
+        raise Problem("%s is closed" % closed[0])
     given = command.parse(sys.argv[1:])
     if given.has(HELP):
         sys.stdout.write(command.help())

@@ -7,7 +7,7 @@ import signal
 import sys
 import traceback
 from types import FrameType
-from typing import Callable, Optional
+from typing import IO, Callable, Optional
 
 from . import progress
 from .editor import Problem
@@ -37,6 +37,13 @@ def heed_signals() -> None:
             signal.signal(number, _stop)
 
 
+def unheed_signals() -> None:
+    """Nothing is left to be removed: a signal ends the program at once."""
+    for number in (signal.SIGHUP, signal.SIGINT, signal.SIGTERM):
+        if signal.getsignal(number) in (_stop, signal.default_int_handler):
+            signal.signal(number, signal.SIG_DFL)
+
+
 def _stop(number: int, _: Optional[FrameType]) -> None:
     raise Stopped(number)
 
@@ -50,6 +57,13 @@ def complain(text: str, program: str) -> None:
 
 def ended(program: str, work: Callable[[], int]) -> int:
     """The status of some work. Whatever it raises has one line and a status of its own."""
+    status = _status_of(program, work)
+    for stream in filter(None, (sys.stdout, sys.stderr)):  # a closed one is None
+        _drop_unwritten(stream)
+    return status
+
+
+def _status_of(program: str, work: Callable[[], int]) -> int:
     try:
         status = work()
         sys.stdout.flush()
@@ -59,7 +73,6 @@ def ended(program: str, work: Callable[[], int]) -> int:
     except Stopped as stopped:
         return SIGNALLED + stopped.number
     except BrokenPipeError:
-        _drop_output()
         return UNREAD
     except (Usage, Problem, OSError, MemoryError) as error:
         return _known(error, program)
@@ -99,10 +112,10 @@ def _last_words(text: str, program: str) -> None:
         pass
 
 
-def _drop_output() -> None:
-    """What is left in the buffer of the standard output goes nowhere: Python would try it again at the end."""
+def _drop_unwritten(stream: IO[str]) -> None:
+    """What a stream cannot write goes nowhere: Python would try it again at the end, and end with a status of its own."""
     try:
-        with open(os.devnull, "wb") as nothing:
-            os.dup2(nothing.fileno(), sys.stdout.fileno())
+        stream.flush()
     except OSError:
-        pass
+        with open(os.devnull, "wb") as nothing:
+            os.dup2(nothing.fileno(), stream.fileno())

@@ -71,7 +71,7 @@ def work(given: Given) -> int:
     check(given)
     find_programs(given)
     progress = progress_to(sys.stderr)
-    with kept(name) as path, opened(path, name, given, wire_of(given)) as track:
+    with kept(name) as path, opened(path, name, given, wire_of(given, path)) as track:
         say_notes(track, COMMAND.name)
         editor = Editor(track.words)
         if given.has(EXPLAIN):
@@ -117,11 +117,9 @@ def check(given: Given) -> None:
         check_apart(source, outputs)
 
 
-def wire_of(given: Given) -> Optional[str]:
-    """The wire of the track; with --into another file has several, and the track can be of one."""
-    into = given.text(INTO)
-    alone = into is not None and given.names[0] != "-" and is_of_one_wire(given.names[0])
-    return None if alone else given.text(WIRE)
+def wire_of(given: Given, path: str) -> Optional[str]:
+    """The wire of the track at this path; with --into another file has several, and the track can be of one."""
+    return None if given.text(INTO) is not None and is_of_one_wire(path) else given.text(WIRE)
 
 
 def draw_proposal(given: Given, editor: Editor, script: List[Repair], progress: Progress) -> None:

@@ -6,7 +6,7 @@ import os
 import stat
 import sys
 import tempfile
-from contextlib import contextmanager
+from contextlib import contextmanager, suppress
 from typing import IO, Iterator, Optional, Sequence, Tuple, Union
 
 from .editor import Problem
@@ -73,7 +73,8 @@ def new_file(path: str) -> Iterator[IO[bytes]]:
         os.chmod(beside, mode)
         os.replace(beside, path)
     except BaseException:
-        os.unlink(beside)
+        with suppress(FileNotFoundError):  # it has its name already
+            os.unlink(beside)
         raise
 
 

@@ -77,7 +77,7 @@ def read(track: str, kind: str) -> Readings:
             elif len(words) > 4 and words[0].isdigit():
                 row.line(words)
         found.refused = run.stderr.read().decode(errors="replace").strip().rpartition(": ")[2]
-    if run.returncode < 0:  # by a signal
+    if run.returncode < 0 or found.rows and run.returncode:  # by a signal, or after a part of the answer
         raise Problem(CUT_OFF)
     return found
 
