@@ -106,6 +106,10 @@ def of_clock():
     rough = [[-(-time // 600) * 600 for time in pulse] for pulse in tools.recording()]  # distances of 10,200 and 9,600
     clock = Clock(listing_of(rough), 10000)
     yield same("a sample is 6 % of the interval", (round(clock.grid), len(clock.runs), round(clock.interval, -1)), (600, 1, 10000))
+    both = tools.recording()
+    for at in (150, 420):  # which is no sample of 500
+        both[at][:] = [time + 500 for time in both[at]]
+    yield same("two pulses that are late by the same", len(Clock(listing_of(both), 10000).runs), 5)
     stepped = Clock(listing_of(late(tools.recording(), 450, 3)), 10000)
     yield same("a step of 3", [(run.first, run.last) for run in stepped.runs], [(0, 449), (450, 799)])
     near = Clock(listing_of(late(tools.recording(), 450, 1)), 10000)

@@ -2,15 +2,15 @@
 from __future__ import annotations
 
 import statistics
-from collections import Counter
 from dataclasses import dataclass, replace
-from itertools import chain, compress, count, islice
+from itertools import compress, count, islice
 from operator import sub
-from typing import Dict, List, Optional, Sequence, Tuple
+from typing import List, Optional, Sequence, Tuple
 
 from . import limits
 from .editor import Listing
 from .phases import turns
+from .sampling import are_often_off, spacing_of_samples
 from .units import Microseconds, PlaceNumber, PulseIndex, plus
 
 
@@ -76,34 +76,6 @@ def _in_step(apart: Sequence[int], interval: int) -> List[int]:
     return [each for each in _sampled(apart) if least <= each <= most]
 
 
-def _grid(listing: Listing, between: Sequence[int], interval: float, noise: float) -> float:
-    """How far apart the samples of the recorder were, in microseconds, if distances are off by one now and then; else 0."""
-    off = Counter(int(abs(each - interval)) for each in between if abs(each - interval) >= limits.LEAST_STEP)
-    size = min((size for size, many in off.items() if many >= limits.OFF_BY_SAMPLE), default=0)
-    first = listing.rises[0]
-    if size and not any((time - first) % size for times in (listing.rises, listing.falls) for time in times):
-        return size
-    # samples that are no whole number of microseconds, or not all edges are at one: a repair and a cut know no samples
-    size = min(off, key=lambda each: (-off[each] - off[each + 1], each), default=0)
-    if noise > limits.ROUNDED or off[size] + off[size + 1] < limits.OFF_BY_SAMPLE or size < limits.LEAST_SAMPLE:
-        return 0
-    lengths = Counter(chain(between, map(sub, listing.falls, listing.rises)))
-    most = range(int(interval / (size + 3)) + 1, int(interval / (size - 2)) + 1)  # samples in an interval
-    found = [(_whole(lengths, each), each) for each in (_sample(between, interval, many) for many in most)]
-    whole, sample = max(found, default=(0, 0))
-    return sample if whole > limits.ON_GRID * sum(lengths.values()) else 0
-
-
-def _sample(between: Sequence[int], interval: float, many: int) -> float:
-    """How far apart samples are if an interval has that many: over all distances, as each is rounded."""
-    return sum(between) / sum(many + round((each - interval) * many / interval) for each in between)
-
-
-def _whole(lengths: Dict[int, int], sample: float) -> int:
-    """How many of the lengths are a whole number of samples, up to the rounding of both ends."""
-    return sum(many for each, many in lengths.items() if abs(each - round(each / sample) * sample) < limits.ROUNDED)
-
-
 class Clock:
     """The interval as it was recorded, how far rises stray from it, and the runs."""
 
@@ -114,10 +86,11 @@ class Clock:
         between = _in_step(apart, nominal)
         self.interval: float = statistics.median_low(between) if between else nominal
         self.noise: float = statistics.median([abs(each - self.interval) for each in between]) if between else 0
-        self.grid = _grid(listing, between, self.interval, self.noise)
+        self.grid = spacing_of_samples(listing, between, self.interval, self.noise)
+        rough = self.grid if are_often_off(between, self.interval, self.grid) else 0
         # what counts as in step, and how far one pulse may be off
-        self.margin = self._within(limits.LEAST_MARGIN, limits.MARGIN_BY_NOISE, limits.MOST_MARGIN)
-        self.stray = self._within(limits.LEAST_STRAY, limits.STRAY_BY_NOISE, limits.MOST_STRAY)
+        self.margin = self._within(limits.LEAST_MARGIN, limits.MARGIN_BY_NOISE, limits.MOST_MARGIN, rough)
+        self.stray = self._within(limits.LEAST_STRAY, limits.STRAY_BY_NOISE, limits.MOST_STRAY, rough)
         self.least_step = self._find_least_step(between)
         ends = breaks(apart, self.interval, self.margin)
         found = [run_of(first, beyond) for first, beyond in zip([PulseIndex(0), *ends], ends)]
@@ -130,9 +103,9 @@ class Clock:
         self.runs = list(map(self.fit, self.runs))
         self.doubt = self._find_doubt()
 
-    def _within(self, least: float, by_noise: float, most: float) -> float:
+    def _within(self, least: float, by_noise: float, most: float, grid: float) -> float:
         """That many times the noise, or what is less than two samples, between two shares of the interval, in microseconds."""
-        return min(most * self.nominal, max(least * self.nominal, by_noise * self.noise, limits.BY_GRID * self.grid))
+        return min(most * self.nominal, max(least * self.nominal, by_noise * self.noise, limits.BY_GRID * grid))
 
     def _measure(self, lengths: Sequence[float]) -> None:
         """The interval by the lengths of the runs, in microseconds. It is the nominal one if nothing shows another."""

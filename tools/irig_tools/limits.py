@@ -28,10 +28,12 @@ NEAR_RUNS = 300  # elements: runs that are no farther apart can be on one clock
 SPREADS = 5  # a step is seen if it is that many times as large as the spread of the distances [36, 36]
 LEAST_STEP = 2  # microseconds: times are whole numbers, so less is no step
 BY_GRID = 1.5  # samples of a recorder: a smaller step is one of its own
-OFF_BY_SAMPLE = 3  # distances that are off by one sample show its size
+OFF_BY_SAMPLE = 3  # distances that are off by one sample show its size, if all edges are a whole number of samples apart
+MANY_OFF = 6  # distances that show it if not all are: two pulses that are late by the same make four
+OFTEN_OFF = 0.05  # the share of distances that are off by a sample, beyond which pulses are in step that are off by one
 ROUNDED = 1  # microseconds: both ends of a distance are rounded down, so it is off by less
 LEAST_SAMPLE = 5  # microseconds: of shorter ones four of ten lengths and more are a whole number by chance, as rounded
-ON_GRID = 0.5  # the share of lengths that are more often a whole number of samples: what is repaired is not
+ON_GRID = 0.5  # the share of lengths, and of what distances are off, that has to be whole samples: what is repaired is not
 SIDE = 5  # pulses on each side of a step [0, 1]
 LONG_RUN = 40  # pulses of a run that can have two phases, or whose position identifiers say its phase
 

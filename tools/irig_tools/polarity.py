@@ -19,15 +19,15 @@ def _is_down(listing: Listing, interval: int) -> List[bool]:
     """Whether each pulse is upside down, by the cheapest way from the first to the last: a rise out of step costs one where the
     wire is upright, a fall where it is upside down, and to turn over costs, too."""
     costs = [0, 0]  # up to a pulse that is upright, or upside down
-    ways: List[List[bool]] = []
+    ways = bytearray()  # of each pulse a bit for each of both: whether the wire was turned over before it
     for out in zip(_out_of_step(listing.rises, interval), _out_of_step(listing.falls, interval)):
         turns = [costs[1 - way] + limits.TURNED_OVER < costs[way] for way in (0, 1)]
         costs = [min(costs[way], costs[1 - way] + limits.TURNED_OVER) + out[way] for way in (0, 1)]
-        ways.append(turns)
+        ways.append(turns[0] + 2 * turns[1])
     way = int(costs[1] <= costs[0])
     found = [bool(way)]
-    for turns in reversed(ways):
-        way ^= turns[way]
+    for turned in reversed(ways):
+        way ^= turned >> way & 1
         found.append(bool(way))
     return found[::-1]
 
