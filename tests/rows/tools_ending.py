@@ -113,10 +113,10 @@ def without_memory(top):
             good or print("FAILED %s with little memory: %s" % (tool, ends))
             yield good
         for tool, name in TOOLS.items():
-            for kilobytes in (9000, 11600, 23000):
-                ended = shell(top, folder, "ulimit -v %d; %s %s" % (kilobytes, tool, name))
+            for limit in ("-v 9000", "-v 11600", "-v 23000", "-d 3000", "-d 6500"):
+                ended = shell(top, folder, "ulimit %s; %s %s" % (limit, tool, name))
                 good = ended == (70, "", "%s: memory ran out\n" % tool)
-                good or print("FAILED %s in %d kB: %s" % (tool, kilobytes, ended))
+                good or print("FAILED %s with ulimit %s: %s" % (tool, limit, ended))
                 yield good
 
 
