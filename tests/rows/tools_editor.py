@@ -90,6 +90,27 @@ def which(top):
         yield good
 
 
+def started(top):
+    """What the editor of a clone says while it is proved again is seen; without it the tool ends."""
+    with tempfile.TemporaryDirectory() as folder:
+        filled(folder)
+        shutil.copytree(top + "/tools", folder + "/clone/tools")
+        os.makedirs(folder + "/clone/crates/irig_ed/out")
+        os.unlink(folder + "/bin/irig_ed")
+        shutil.copy(os.environ["IRIG_ED"], folder + "/clone/crates/irig_ed/out/irig_ed")
+        proved = "it is proved and built now\n"
+        line = "unset IRIG_ED; python3 clone/tools/irig_damage --format B rec.vcd"
+        for text, wanted in (('exec "${0%/*}/crates/irig_ed/out/irig_ed" "$@"', (1, proved)),
+                             ("exit 125", (2, proved + "irig_damage: irig_ed is not built\n"))):
+            with open(folder + "/clone/irig_ed", "w", encoding="ascii") as file:
+                file.write("#!/bin/sh\n[ \"$1\" != --help ] || echo it is proved and built now >&2\n%s\n" % text)
+            os.chmod(folder + "/clone/irig_ed", 0o755)
+            status, _, said = shell(top, folder, line)
+            good = (status, said) == wanted
+            good or print("FAILED the editor of a clone: %s %r" % (status, said))
+            yield good
+
+
 def complaints(top):
     """What the editor complains of is one line, with the name that the user knows."""
     with tempfile.TemporaryDirectory() as folder:
@@ -161,4 +182,4 @@ def silent(top):
 def cases(top):
     """Each part by its name."""
     return [case("editor: " + part.__name__, part, top)
-            for part in (other_release, killed, broken_off, which, complaints, names, steady, silent)]
+            for part in (other_release, killed, broken_off, which, started, complaints, names, steady, silent)]

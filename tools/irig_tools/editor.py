@@ -6,6 +6,7 @@ import shutil
 import subprocess
 import tempfile
 from dataclasses import dataclass, field
+from functools import lru_cache
 from typing import IO, Callable, List, Optional, Sequence, Set
 
 from .units import Microseconds
@@ -48,10 +49,18 @@ def find_editor() -> str:
     starter, built = os.path.join(tools, "../irig_ed"), os.path.join(tools, "../crates/irig_ed/out/irig_ed")
     found = shutil.which(installed) or shutil.which("irig_ed")
     if not found and os.path.isfile(built):
-        found = shutil.which(os.path.normpath(starter))
+        found = _started(shutil.which(os.path.normpath(starter)))
     if not found:
         raise Problem("irig_ed is not found: it is not on the path, and IRIG_ED does not name it")
     return found
+
+
+@lru_cache(None)
+def _started(starter: Optional[str]) -> Optional[str]:
+    """The start of the repository's editor, once it needs no proof: one takes minutes, and what it says of that has to be seen."""
+    if starter and subprocess.run([starter, "--help"], stdin=subprocess.DEVNULL, stdout=subprocess.DEVNULL, check=False).returncode:
+        raise Problem("irig_ed is not built")
+    return starter
 
 
 def find_beside(name: str, need: str) -> str:
