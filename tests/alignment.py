@@ -114,6 +114,13 @@ def slow(rng):
     return Case(rng, recording, [slip], (begin, end), 1 + rng.choice((-1, 1)) * rng.choice((0.0002, 0.002, 0.01)))
 
 
+def hardly_slow(rng):
+    """The same on a clock that is off as those of recorders are."""
+    recording = damages.Recording(rng, rng.randint(9, 30))
+    begin, end, slip = recorders.hole(rng, recording)
+    return Case(rng, recording, [slip], (begin, end), 1 + damages.millionths(rng))
+
+
 def changing(rng):
     """Control functions change from frame to frame, and some are lost."""
     recording = recorders.Changing(rng, rng.randint(9, 40))

@@ -272,6 +272,11 @@ def cut_out(rng, pulses, interval):
     return many
 
 
+def millionths(rng):
+    """By how much a clock of quartz is off, as a share."""
+    return rng.choice((-1, 1)) * rng.uniform(0.000003, 0.0001)
+
+
 def drift(pulses, length, rate):
     """The clock is slow by this share. Returns the new length."""
     for pulse in pulses:

@@ -115,7 +115,7 @@ class Clock:
             self.interval = sum(length for _, length in long) / many
             ends = max(limits.LEAST_STEP, limits.SPREADS * self.noise, self.grid)  # how far both may be off, together
             shown = sum(steps for steps, length in long if abs(length - steps * self.nominal) > ends)
-            if abs(self.interval - self.nominal) < limits.SAME_CLOCK * self.nominal and shown <= limits.OTHER_CLOCK * many:
+            if self._is_near(self.interval) and shown <= limits.OTHER_CLOCK * many:
                 self.interval = self.nominal
         self.exact = self.interval == self.nominal and self.noise == 0
 
@@ -123,17 +123,23 @@ class Clock:
         """By how much the interval within a hole may differ from the one next to it."""
         if self.exact:
             return 0
-        many = sum(run.count // limits.FAR for run in self.runs)
-        long = limits.FAR if many >= limits.STRETCHES else limits.LOCAL
-        local = [
-            (self.rises[at + long] - self.rises[at]) / long
-            for run in self.runs
-            for at in range(run.first, run.last - long + 1, long)
-        ]
+        local = self._local_intervals(limits.FAR)
         if len(local) < limits.STRETCHES:
-            return limits.UNKNOWN_DOUBT * self.nominal
+            local = self._local_intervals(limits.LOCAL)
+        if len(local) < limits.STRETCHES:
+            is_quartz = self.noise <= limits.ROUNDED and self._is_near(self.interval)
+            return (limits.QUARTZ_DOUBT if is_quartz else limits.UNKNOWN_DOUBT) * self.nominal
         low, _, high = statistics.quantiles(local, n=4)
         return max(limits.LEAST_STEP / limits.FAR, limits.EIGHT_OF_TEN * (high - low))
+
+    def _local_intervals(self, long: int) -> List[float]:
+        """The interval of each stretch of that many pulses within a run."""
+        return [(self.rises[at + long] - self.rises[at]) / long
+                for run in self.runs for at in range(run.first, run.last - long + 1, long)]
+
+    def _is_near(self, interval: float) -> bool:
+        """Whether an interval is the nominal one up to what clocks of quartz are off."""
+        return abs(interval - self.nominal) < limits.SAME_CLOCK * self.nominal
 
     def _find_least_step(self, between: Sequence[int]) -> float:
         """A step within a run shows from this many microseconds on, as the distances of the recording are spread."""
@@ -195,8 +201,7 @@ class Clock:
         """The interval near these two runs."""
         known = [each for each in (left and left.end_interval, right and right.begin_interval) if each]
         found = sum(known) / len(known) if known else self.interval
-        same = self.interval == self.nominal and abs(found - self.nominal) < limits.SAME_CLOCK * self.nominal
-        return self.nominal if same else found
+        return self.nominal if self.interval == self.nominal and self._is_near(found) else found
 
     def slack(self, steps: float) -> float:
         """How far two runs on one clock may be off after that many steps."""

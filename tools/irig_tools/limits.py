@@ -21,6 +21,7 @@ FAR = 300  # pulses at the end of a run that say the interval there [1, 1]
 LOCAL = 100  # pulses: a longer run has an interval of its own
 STRETCHES = 4  # stretches of FAR that show how much the interval changes
 UNKNOWN_DOUBT = 0.0003  # of the interval: how much it may change if no stretch shows it
+QUARTZ_DOUBT = 0.00002  # the same if it is nearly nominal (SAME_CLOCK): as much as a clock of quartz changes from 0 to 50 degrees
 EIGHT_OF_TEN = 1.9  # of what is spread as by chance, eight of ten are within that many times what half are within
 NINE_OF_TEN = 2.44  # and nine of ten within that many times [36, 2]
 MOST_SLACK = 0.4  # intervals: how far runs on one clock may be off at most
