@@ -90,7 +90,7 @@ def of_clock():
     hardly = [[rise + rise // 20000, fall + rise // 20000] for rise, fall in tools.recording()]
     clock = Clock(listing_of(hardly), 10000)
     yield same("a clock that is hardly slow", (round(clock.interval, 1), clock.exact), (10000.5, False))
-    yield same("how much it may change", [Clock(listing_of(each[:300]), 10000).doubt for each in (hardly, slow)], [0.2, 3])
+    yield same("how much it may change", [round(Clock(listing_of(each[:300]), 10000).doubt, 3) for each in (hardly, slow)], [0.2, 3])
     noisy = tools.recording()
     for at, pulse in enumerate(noisy):  # distances are off by 10, 40, -20, 50 and -80: by 0, 30, 30, 40 and 90 from 10010
         pulse[0] += (0, 10, 50, 30, 80)[at % 5]
