@@ -282,6 +282,22 @@ def others_are_left(top):
     return results
 
 
+def doubts():
+    """A track that has little in common with the wire is written, and doubted; a repair that doubles what is high is not."""
+    results = []
+    with tempfile.TemporaryDirectory() as folder:
+        path = os.path.join(folder, "original.vcd")
+        with open(path, "w", encoding="ascii") as file:
+            file.write(NANO + OWN)
+        for wire, track, status in (
+                ("irig", "#5 1! #7 0! #9 1! #12 0! #20", 0), ("irig", "#5 1! #15 0! #20", 0),
+                ("clk", "#5 1! #7 0! #9 1! #12 0! #20", 1), ("irig", "#13 1! #15 0! #20", 1), ("irig", "#20", 1)):
+            ended, _, said = run("irig_wire", ["--into", path, "--wire", wire, "-"], (TRACK % "" + track).encode())
+            results.append(ended == status and ("little in common" in said) == bool(status))
+            results[-1] or print("FAILED irig_wire --into, a doubt about %s, %s: %d %s" % (wire, track, ended, said))
+    return results
+
+
 def offsets():
     """What is subtracted is in the dump that is written, and on standard error; of a part of a part both are."""
     results = []
@@ -305,4 +321,4 @@ def offsets():
 def cases(top):
     """Each part by its name."""
     return [*(case("into: " + row[0], row_holds, *row[1:]) for row in ROWS), case("into: bytes", others_are_left, top),
-            case("into: offsets", offsets), case("into: random dumps", random_rows)]
+            case("into: offsets", offsets), case("into: doubts", doubts), case("into: random dumps", random_rows)]

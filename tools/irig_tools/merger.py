@@ -22,6 +22,11 @@ class Level(NamedTuple):
     edges: Sequence[int]
     length: int
 
+    @property
+    def high(self) -> int:
+        """For how long it is high."""
+        return sum(self.edges[1::2]) - sum(self.edges[::2]) + self.length * (len(self.edges) % 2)
+
 
 class Origin(NamedTuple):
     """Where the track is in a dump: its 0, in the dump's unit, and whether the dump has more before or after it."""

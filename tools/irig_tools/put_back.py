@@ -21,6 +21,8 @@ from .merger import OTHER_LENGTH, Level, Merger, Origin
 from .wire import Report, Wish, first_of, unit_in
 from .wire_words import words_of
 
+ANOTHER = 0.9  # of the time for which a track is high: a wire that differs for longer is another one
+
 
 class TrackEdges:
     """One wire of a dump by the microsecond, as the editor reads it, and what was subtracted from its times."""
@@ -138,11 +140,11 @@ class PutBack:
                 raise Problem(OTHER_LENGTH % (self.track.level.length, "%d in that part" % has))
 
     def _say(self) -> None:
-        merger, length = self.merger, self.track.level.length
+        merger = self.merger
         text = "%s of the wire %s replaced by the track, %d microseconds in all; the rest is as it was"
         many = ("1 stretch", "was") if merger.stretches == 1 else ("%d stretches" % merger.stretches, "were")
         self.report.done.append(text % (*many, merger.differ))
         if merger.place and merger.place.start:
             self.report.done.append("the track begins at %d of the dump's unit" % merger.place.start)
-        if 2 * merger.differ > length:
-            self.report.doubtful.append("that is more than half of the track: is it a track of this wire?")
+        if merger.differ > ANOTHER * merger.level.high:
+            self.report.doubtful.append("the track and the wire have little in common: is it a track of this wire?")
