@@ -69,6 +69,7 @@ TABLES = (
     ("by the number", ["--rate=20000", "--column=2"], lambda: "logic,logic\n" + samples("1,%d\n")),
     ("samples with times", [], lambda: "Time [us];D0\r\n" + "".join(
         "%d;%d\r\n" % (50 * number, level) for number, level in enumerate(levels()))),
+    ("the unit after a line", [], lambda: "time_us,D0\n" + "".join("%d,%d\n" % each for each in [(0, 0), *EDGES, (LENGTH, 0)])),
     ("upside down", ["--swap"], lambda: SIGROK + "D0\n" + samples("%d\n", -1)),
     ("a scope", ["--level"], lambda: "t,V\n" + volts("%.5f,%.3f\n")),
     ("a scope, upside down", ["--level", "--swap"], lambda: "t,V\n" + volts("%.5f,%.3f\n", sign=-1)),
@@ -94,6 +95,23 @@ def table(name, words, make):
     good = good and all(abs(one - other - shift) <= 100 for one, other in zip(found, RISES))
     good or print("FAILED irig_demodulate --table, %s: status %d, %d rises: %s" % (name, status, len(found), said))
     return good
+
+
+def begun():
+    """The dump has the times of the table. Before 0 and after 2^40 microseconds it begins at 0, and how much that is is said."""
+    results, comment = [], b"$comment irig_wire: offset 1709296495250000 us $end"
+    for first, moved, said in (
+            (3.5, 3500000, ""), (-0.5, 0, "begin 500000 microseconds before 0"), (1099511.627776, 1099511627776, ""),
+            (1709296495.25, 0, "1709296495250000 microseconds were subtracted")):
+        rows = "".join("%.6f,%d\n" % (time / 1e6 + first, level) for time, level in [(0, 0), *EDGES, (LENGTH, 0)])
+        tables = [([], "Time [s],D0\n" + rows)] + [(["--level"], "t,V\n" + volts("%.6f,%.3f\n", start=first))] * (first == 3.5)
+        for words, text in tables:
+            status, dump, shown = run("irig_demodulate", ["--table", *words, "-"], text.encode())
+            good = status == 0 and said in shown and (comment in dump) == (first > 2e6)
+            good = good and all(abs(one - other - moved) <= 100 for one, other in zip(rises_of(dump), RISES))
+            results.append(good and len(rises_of(dump)) == len(RISES))
+            results[-1] or print("FAILED irig_demodulate --table, from %.6f on: %d %s" % (first, status, shown))
+    return results
 
 
 def carrier():
@@ -210,6 +228,6 @@ def by_sigrok(top):
 
 
 def cases(top):
-    return [*(case("table: " + row[0], table, *row) for row in TABLES), case("table: a carrier", carrier),
-            case("table: what is refused", refused), case("sigrok: channels", sigrok), case("sigrok: other folders", no_sigrok),
-            case("sigrok: its own program", by_sigrok, top)]
+    return [*(case("table: " + row[0], table, *row) for row in TABLES), case("table: when it begins", begun),
+            case("table: a carrier", carrier), case("table: what is refused", refused), case("sigrok: channels", sigrok),
+            case("sigrok: other folders", no_sigrok), case("sigrok: its own program", by_sigrok, top)]

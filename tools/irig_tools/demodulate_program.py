@@ -7,13 +7,15 @@ from typing import IO, Callable, Union
 
 from .carrier import CARRIERS, Carrier
 from .command import run
+from .dump_offset import Offset
 from .ending import ALL_RIGHT, FOUND, Usage, complain
 from .layout import INTERVAL
 from .levels import Levels
 from .options import OUTPUT, Command, Given, Option, whole
 from .output import check_apart, output
 from .samples import RAW, Samples
-from .table import Steps, Table
+from .table import MICROSECONDS, Steps, Table
+from .wire import LONGEST_TIME
 
 
 def a_distance(word: str) -> float:
@@ -53,7 +55,8 @@ standard input.
 The status is 0 if pulses were found, 1 if there are none, 2 if the samples were
 not read, and 70 if memory ran out or the tool has a defect.
 """)
-DUMP_HEAD = "$timescale 1 us $end\n$scope module irig $end\n$var wire 1 ! irig $end\n$upscope $end\n"
+DUMP_HEAD = "$timescale 1 us $end\n%s$scope module irig $end\n$var wire 1 ! irig $end\n$upscope $end\n$enddefinitions $end\n" \
+            "#0\n$dumpvars\n0!\n$end\n"
 MOST_GAPS = 20  # that are named
 Demodulator = Union[Levels, Carrier, Steps]
 ENOUGH = 0.9  # of the pulses that a format has in that time
@@ -139,14 +142,26 @@ def say(text: str) -> None:
 
 
 def write_dump(reader: Demodulator, out: IO[bytes]) -> int:
-    """Writes the edges as a dump: the number of pulses."""
-    out.write((DUMP_HEAD + "$enddefinitions $end\n#0\n$dumpvars\n0!\n$end\n").encode())
+    """Writes the edges as a dump: the number of pulses. It has the times of the table, if they begin as a dump can."""
+    first, scale = reader.samples.start * MICROSECONDS, MICROSECONDS / reader.samples.rate
+    is_kept = 0 <= first <= LONGEST_TIME
+    begun = first if is_kept else 0.0
+    out.write((DUMP_HEAD % ("" if is_kept else subtracted(round(first)))).encode())
     pulses = 0
     for place, level in reader.edges():
         pulses += level
-        out.write(b"#%d\n%d!\n" % (round(place * 1000000 / reader.samples.rate), level))
-    out.write(b"#%d\n" % round(reader.length * 1000000 / reader.samples.rate))
+        out.write(b"#%d\n%d!\n" % (round(begun + place * scale), level))
+    out.write(b"#%d\n" % round(begun + reader.length * scale))
     return pulses
+
+
+def subtracted(first: int) -> str:
+    """Says that the first time of a table is the 0 of the dump; the comment that says it there, if it is one after 0."""
+    if first < 0:
+        say("the times begin %d microseconds before 0, and the dump at 0: add that to the times of data that goes with it" % -first)
+        return ""
+    say("%d microseconds were subtracted from all times; a comment in the new dump has it" % first)
+    return Offset(first, "us").comment() + "\n"
 
 
 def work(given: Given) -> int:

@@ -9,7 +9,7 @@ from .editor import Problem
 SECONDS_IN = {"s": 1.0, "sec": 1.0, "second": 1.0, "seconds": 1.0, "ms": 1e-3, "us": 1e-6, "\u00b5s": 1e-6, "\u03bcs": 1e-6,
               "ns": 1e-9, "ps": 1e-12}
 NO_TIMES = ("v", "mv", "volt", "volts", "sequence")
-TIME = re.compile(r"(?i)\W*(time|t|timestamp|zeit|temps|x|x-axis|seconds?|sec)(\W.*)?")
+TIME = re.compile(r"(?i)\W*(time|t|timestamp|zeit|temps|x|x-axis|seconds?|sec)(\W.*|_(%s))?" % "|".join(SECONDS_IN))
 RATE_LINE = re.compile(r"(?i)\W*(?:meta )?samplerate\W*([0-9.]+) *([kmg]?)(?:hz)?")
 CHANNELS = re.compile(r"; *Channels \([0-9/]+\): *(.*)")  # of sigrok, which can call each column `logic`
 PREFIXES = {"": 1, "k": 1000, "m": 1000000, "g": 1000000000}
@@ -113,6 +113,6 @@ def _distinct(names: List[str], heads: Sequence[str]) -> List[str]:
 
 
 def _in_name(name: str) -> str:
-    """The unit that a name has in brackets."""
-    found = re.search(r"[(\[]\s*([^)\]]*?)\s*[)\]]\s*$", name)
-    return found[1].lower() if found else ""
+    """The last unit that a name has after its first word, as in `Time [s]`, `time_us` and `Time in ms`."""
+    words: List[str] = re.findall(r"[^\W_]+", name.lower())
+    return next((word for word in reversed(words[1:]) if word in SECONDS_IN), "")

@@ -43,6 +43,8 @@ def stream_of(path: str) -> IO[bytes]:
 class Samples:
     """One channel, and its rate in hertz; plus and minus are swapped if it is `negative`."""
 
+    start = 0.0  # when the first sample is, in seconds
+
     def __init__(self, path: str, channel: int, raw: str, rate: int, negative: bool = False) -> None:
         self.path, self.channel, self.kind, self.rate, self.negative = path, channel, raw, rate, negative
         self.channels = 1

@@ -57,8 +57,8 @@ class Table(Samples):
         raise Problem("%s: is no table: no row of numbers is found; the columns are parted by , ; or a tab" % self.path)
 
     def _rows(self, first: str) -> Iterator[Row]:
-        """The rows; the first is at time 0."""
-        begun, last, form = 0.0, 0.0, self.form
+        """The rows, by the time since the first."""
+        last, form = 0.0, self.form
         numbered = enumerate(line for line in chain([first], self.lines) if line and not line.startswith(";"))
         for number, line in numbered:
             fields = fields_of(line, form.parted)
@@ -67,10 +67,10 @@ class Table(Samples):
                 yield number / self.rate, value
                 continue
             time = self._value(fields, form.time) * form.unit
-            begun = begun if number else time
-            if time - begun < last:
+            self.start = self.start if number else time
+            if time - self.start < last:
                 raise Problem("%s: line %d has a time before that of the last row" % (self.path, self.number))
-            last = time - begun
+            last = time - self.start
             yield last, value
 
     def _value(self, fields: Sequence[str], place: int) -> float:
