@@ -137,6 +137,22 @@ def into():
     return in_folder(lambda: list(holds()), rec=nanoseconds(recorded(glitch)))
 
 
+def options_of_a_script():
+    """What irig_ed needs for a script and the user did not give is its first line; an empty script has none."""
+    def holds():
+        for words, head in (
+                ("rec.vcd", "# for irig_ed --format=B --expression=7"), ("--expression=4 rec.vcd", "# frame"),
+                ("two.vcd", "# for irig_ed --format=B --expression=7 and the dump of irig_wire top.rx.irig"),
+                ("--expression=4 --timescale=1us --dump=1 rec.vcd",
+                 "# for irig_ed --expression=4 and the dump of irig_wire --timescale=1us --dump=1"),
+                ("sound.vcd", "")):
+            lines = run("irig_mend", words.split())[1].decode().split("\n")
+            yield same("the first line of a script, " + words, lines[0].partition(" 2024")[0], head)
+
+    return in_folder(lambda: list(holds()), two=nanoseconds(recorded(glitch)),
+                     rec=damages.dump(recorded(glitch), END), sound=damages.dump(recorded(), END))
+
+
 def late_times():
     """Times from 1970: what is subtracted stays in the file, and the track goes back to its place."""
     def holds():
@@ -289,4 +305,4 @@ def cases(top):
     """Each part by its name."""
     return [*(case("apply: " + row[0], applied, *row) for row in APPLIED),
             *(case("apply: " + part.__name__, part)
-              for part in (into, late_times, saved, upside_down, steady, guarded, refused, objects, kinds))]
+              for part in (into, options_of_a_script, late_times, saved, upside_down, steady, guarded, refused, objects, kinds))]

@@ -8,7 +8,7 @@ from contextlib import ExitStack
 from typing import List, Optional, Sequence, Tuple
 
 from .again import Names, again
-from .analysis import examine
+from .analysis import START, examine
 from .changes import changes_of, find_differ
 from .command import kept, run
 from .apply import Summary, Target, as_object, find_guard, run_script, sound_frames, summary
@@ -83,11 +83,16 @@ def work(given: Given) -> int:
             draw_proposal(given, editor, script, progress)
     if given.has(OUTPUT) or not given.has(APPLY):
         with output(given.text(OUTPUT)) as out:
-            out.write((repairs_as_json(script, track.offset) if given.has(JSON) else script_text(script)).encode("utf-8"))
+            out.write((repairs_as_json(script, track.offset) if given.has(JSON) else script_of(script, track)).encode("utf-8"))
     if given.has(APPLY):
         report(given, script, done, reasons)
         return ALL_RIGHT if done.is_whole else FOUND
     return FOUND if script else ALL_RIGHT
+
+
+def script_of(script: List[Repair], track: Opened) -> str:
+    """The script. Its first line says how the editor has to be run for it, if that was found."""
+    return script_text([Repair(START, track.comments)] * bool(script) + script)
 
 
 def explain(editor: Editor, given: Given) -> int:

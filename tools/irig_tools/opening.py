@@ -31,6 +31,8 @@ class Opened:
 
     is_as_it_is: bool = False  # the file of the user, and not a dump of its wire
     unit: Optional[str] = None  # that was chosen, if not the one of the file
+    dump: Optional[int] = None  # its number in the file, if it was given
+    is_as_given: bool = False  # as it is, and with the options of the user
 
     @property
     def options(self) -> List[str]:
@@ -46,6 +48,17 @@ class Opened:
     def words(self) -> List[str]:
         """The words for the editor."""
         return [*self.options, self.path]
+
+    @property
+    def comments(self) -> List[str]:
+        """How the editor has to be run for a script, if that was found."""
+        if self.is_as_given:
+            return []
+        made = ["--timescale=" + self.unit.replace(" ", "")] if self.unit else []
+        made += [] if self.dump is None else ["--dump=%d" % self.dump]
+        made += [] if self.wire is None else [self.wire]
+        made = [] if self.is_as_it_is else ["and the dump of irig_wire", *made]
+        return [" ".join(["for irig_ed", *self.options, *made])]
 
 
 @dataclass
@@ -80,7 +93,7 @@ def opened(path: str, name: str, given: Given, wire: Optional[str]) -> Iterator[
     named = given.has(FORMAT) or given.has(EXPRESSION)
     as_is = not given.has(TIMESCALE) and not given.has(DUMP)
     if named and as_is and is_opened(path, _wire_words(wire)):
-        yield Opened(path, _code_words(given), wire, _offset(path), [], True)
+        yield Opened(path, _code_words(given), wire, _offset(path), [], True, is_as_given=True)
         return
     taken = None if named and (wire is not None or is_of_one_wire(path)) else _take(path, name, given, wire)
     wire = taken.wire if taken and wire is None else wire
@@ -96,7 +109,7 @@ def opened(path: str, name: str, given: Given, wire: Optional[str]) -> Iterator[
             notes += Extract(path, wish, track).run().doubtful
             track.flush()
         found = taken.found.unit if taken and not taken.found.header.unit else None
-        yield Opened(track.name, code, wire, _offset(track.name), notes, unit=unit or found)
+        yield Opened(track.name, code, wire, _offset(track.name), notes, unit=unit or found, dump=given.number(DUMP))
 
 
 def _wire_words(name: Optional[str]) -> List[str]:
