@@ -287,6 +287,11 @@ def objects():
         each = json.loads(run("irig_what", ["--json", "rec.vcd"])[1])
         got = each["wire"], each["format"], each["fine"], each["inverted"], each["pulses"], each["command"].split()[0]
         yield same("irig_what --json", got, ("code", "B", 5, False, 801, "irig_mend"))
+        for words, text in (
+                ("--format=G", "most pulses do not follow each other by 100; is it another format, or another wire?"),
+                ("--expression=2", "many frames have ones that expression 2 does not use; is it another expression?")):
+            found = [json.loads(line) for line in run("irig_damage", [words, "--json", "rec.vcd"])[1].splitlines()]
+            yield same("what fits " + words, {each["seen"] for each in found if each["kind"] == "format"}, {text})
         yield same("--count", run("irig_damage", ["--expression=4", "--count", "rec.vcd"]), (1, b"2\n", ""))
         yield same("--quiet", run("irig_damage", ["--quiet", "rec.vcd"]), (1, b"", ""))
 

@@ -7,7 +7,7 @@ from typing import List, Sequence, Tuple
 from . import limits
 from .analysis import START, Findings, Part, looks
 from .editor import Editor, Listing, Progress
-from .faults import Faults, pulses_text
+from .faults import Faults, Remark, pulses_text
 from .grouping import grouped
 from .interval import Clock
 from .script import Repair
@@ -63,7 +63,7 @@ def look(editor: Editor, progress: Progress, steady: bool = False) -> Seen:
 def _rest(listing: Listing, findings: Findings) -> List[Damage]:
     """What is found if every pulse has its own class."""
     said = findings.remarks + [remark for part in findings.parts for remark in part.remarks + part.faults.remarks]
-    found = [Damage(remark.at, remark.at, remark.name, remark.seen) for remark in said]
+    found = [Damage(remark.at, remark.at, remark.name, _asked(remark)) for remark in said]
     if findings.clock:
         found += _of_clock(findings.clock)
     for part in findings.parts:
@@ -72,6 +72,11 @@ def _rest(listing: Listing, findings: Findings) -> List[Damage]:
         found += _of_ends(listing, findings.parts[-1], findings.parts[0])
         found += _of_silence(listing, findings.parts[0].faults.clock.interval)
     return found
+
+
+def _asked(remark: Remark) -> str:
+    """What is seen, and whether the recording is another one than was said."""
+    return remark.seen + ("; " + remark.choice if remark.choice.startswith("is it another") else "")
 
 
 def _of_clock(clock: Clock) -> List[Damage]:

@@ -21,7 +21,7 @@ DAMAGE_KINDS: Tuple[Tuple[str, str], ...] = (
     ("are there twice", "twice"),
     ("from this frame on the times are", "times"),
     ("^no pulse (before|from there)", "silence"),
-    ("^no pulse|elements without a pulse", "missing"),
+    (r"^no pulse\b|elements without a pulse", "missing"),
     ("damaged elements|elements .* are lost or damaged|pulses are missing", "stretch"),
     ("wide, which is no class", "width"),
     ("wide, an? .*, and [0-9]+ (late|early)", "late"),
