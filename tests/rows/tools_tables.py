@@ -114,6 +114,18 @@ def begun():
     return results
 
 
+def times_of_rows():
+    """Rises are where the times of the rows have them, also after rows that are lost, and at a rate of no three digits."""
+    slow, rows = 1.00009, volts("%.7f,%.3f\n", 1 / 1.00009).splitlines(True)
+    text = "t,V\n" + "".join(rows[:13000] + rows[15000:])
+    status, dump, said = run("irig_demodulate", ["--table", "--level", "-"], text.encode())
+    wanted, found = [rise * slow for rise in RISES if not 640000 < rise < 760000], rises_of(dump)
+    good = status == 0 and "no rows from 0.650008 to 0.75006" in said
+    good = good and all(min(abs(one - other) for one in found) <= 50 for other in wanted)
+    good or print("FAILED irig_demodulate --table, lost rows: %d %s" % (status, said))
+    return good
+
+
 def carrier():
     """Volts of a carrier in a table."""
     values, rises = signal("B", random.Random(3), 8000, 1000, 3.3, 0.02, 0.01, 0, 2)
@@ -229,5 +241,6 @@ def by_sigrok(top):
 
 def cases(top):
     return [*(case("table: " + row[0], table, *row) for row in TABLES), case("table: when it begins", begun),
+            case("table: times of rows", times_of_rows),
             case("table: a carrier", carrier), case("table: what is refused", refused), case("sigrok: channels", sigrok),
             case("sigrok: other folders", no_sigrok), case("sigrok: its own program", by_sigrok, top)]

@@ -13,9 +13,8 @@ from .layout import INTERVAL
 from .levels import Levels
 from .options import OUTPUT, Command, Given, Option, whole
 from .output import check_apart, output
-from .samples import RAW, Samples
-from .table import MICROSECONDS, Steps, Table
-from .wire import LONGEST_TIME
+from .samples import MICROSECONDS, RAW, Samples
+from .table import Steps, Table
 
 
 def a_distance(word: str) -> float:
@@ -111,9 +110,10 @@ def reader_of_samples(given: Given, samples: Callable[[bool], Samples]) -> Demod
 
 def say_gaps(reader: Demodulator) -> None:
     """Names the stretches without a signal."""
-    what, rate = "carrier" if isinstance(reader, Carrier) else "signal", reader.samples.rate
-    for start, end in reader.gaps[:MOST_GAPS]:
-        say("no %s from %.3f to %.3f seconds: no pulse is there" % (what, start / rate, end / rate))
+    what = "carrier" if isinstance(reader, Carrier) else "signal"
+    for gap in reader.gaps[:MOST_GAPS]:
+        start, end = (reader.samples.at(place) / MICROSECONDS for place in gap)
+        say("no %s from %.3f to %.3f seconds: no pulse is there" % (what, start, end))
     if len(reader.gaps) > MOST_GAPS:
         say("and %d such stretches more" % (len(reader.gaps) - MOST_GAPS))
 
@@ -143,15 +143,13 @@ def say(text: str) -> None:
 
 def write_dump(reader: Demodulator, out: IO[bytes]) -> int:
     """Writes the edges as a dump: the number of pulses. It has the times of the table, if they begin as a dump can."""
-    first, scale = reader.samples.start * MICROSECONDS, MICROSECONDS / reader.samples.rate
-    is_kept = 0 <= first <= LONGEST_TIME
-    begun = first if is_kept else 0.0
-    out.write((DUMP_HEAD % ("" if is_kept else subtracted(round(first)))).encode())
+    samples = reader.samples
+    out.write((DUMP_HEAD % ("" if samples.begun == samples.start else subtracted(round(samples.start)))).encode())
     pulses = 0
     for place, level in reader.edges():
         pulses += level
-        out.write(b"#%d\n%d!\n" % (round(begun + place * scale), level))
-    out.write(b"#%d\n" % round(begun + reader.length * scale))
+        out.write(b"#%d\n%d!\n" % (round(samples.at(place)), level))
+    out.write(b"#%d\n" % round(samples.at(reader.length)))
     return pulses
 
 
@@ -174,7 +172,7 @@ def work(given: Given) -> int:
     say_gaps(reader)
     for note in reader.samples.notes:
         say(note)
-    seconds = reader.length / reader.samples.rate
+    seconds = (reader.samples.at(reader.length) - reader.samples.begun) / MICROSECONDS
     say("%d pulses in %.3f seconds" % (pulses, seconds))
     if isinstance(reader, Carrier):
         say_few(given.text(CARRIER_FORMAT) or "B", pulses, seconds)

@@ -12,6 +12,7 @@ from .ending import Usage
 from .progress import metered
 from .sound import SoundReader
 
+MICROSECONDS = 1000000
 LONGEST_NUMBER = 1000  # bytes of a line with a number
 LARGEST = 1e30  # of a number
 LITTLE = {"u8": ("B", 1), "s8": ("b", 1), "s16": ("h", 2), "s24": ("i", 3), "s32": ("i", 4), "f32": ("f", 4),
@@ -43,7 +44,7 @@ def stream_of(path: str) -> IO[bytes]:
 class Samples:
     """One channel, and its rate in hertz; plus and minus are swapped if it is `negative`."""
 
-    start = 0.0  # when the first sample is, in seconds
+    start = begun = 0.0  # when the first sample is, and when it is in the dump, in microseconds
 
     def __init__(self, path: str, channel: int, raw: str, rate: int, negative: bool = False) -> None:
         self.path, self.channel, self.kind, self.rate, self.negative = path, channel, raw, rate, negative
@@ -64,6 +65,10 @@ class Samples:
             raise Problem(text % (self.path, self.channels, "s" * (self.channels > 1), self.channel))
         if self.channels > 1:
             self.notes.append("channel %d of %d was read (--channel N reads another)" % (self.channel, self.channels))
+
+    def at(self, place: float) -> float:
+        """When a sample is in the dump, or what is between two, in microseconds."""
+        return self.begun + place * MICROSECONDS / self.rate
 
     def chunks(self, length: int) -> Iterator[Sequence[float]]:
         """Stretches of this many samples; the last may be shorter."""

@@ -2,20 +2,24 @@
 from __future__ import annotations
 
 import math
+from array import array
+from bisect import bisect_right
 from itertools import chain, islice
 from typing import IO, Iterator, List, Optional, Sequence, Tuple
 
 from .cycles import Edge
 from .editor import Problem
 from .heads import NUMBER, Heads, fields_of, is_row, rate_of
-from .samples import LARGEST, Samples, stream_of
+from .samples import LARGEST, MICROSECONDS, Samples, stream_of
+from .wire import LONGEST_TIME
 
 LONGEST_LINE = 10000  # bytes of a line
 MOST_HEADS = 1000  # lines before the first row
 LOOKED_AT = 10000  # rows that show the rate, and whether the values are levels
 EVEN = 0.5  # of the distance of two samples: it is off by less
 ROUND = 1e-4  # a rate that is as near to one of three digits is that one
-MICROSECONDS = 1000000
+NEXT_ROW = 1.75  # distances of two samples: if rows are farther apart, others between them are lost
+MOST_NAMED = 20  # stretches of lost rows
 
 Row = Tuple[float, float]  # a time in seconds, and a value
 
@@ -25,6 +29,8 @@ class Table(Samples):
 
     def __init__(self, path: str, time: Optional[str], value: Optional[str], rate: int, negative: bool = False) -> None:
         self.path, self.kind, self.notes, self.number, self.negative = path, "text", [], 0, negative
+        self.places: List[int] = []  # of rows whose times are kept
+        self.times: List[float] = []
         self.lines = self._lines(stream_of(path))
         heads, first = self._heads([int(name) - 1 for name in (time, value) if name and name.isdigit() and int(name)])
         self.rate = rate or rate_of(heads)
@@ -58,7 +64,7 @@ class Table(Samples):
 
     def _rows(self, first: str) -> Iterator[Row]:
         """The rows, by the time since the first."""
-        last, form = 0.0, self.form
+        begun, last, form = 0.0, 0.0, self.form
         numbered = enumerate(line for line in chain([first], self.lines) if line and not line.startswith(";"))
         for number, line in numbered:
             fields = fields_of(line, form.parted)
@@ -67,10 +73,12 @@ class Table(Samples):
                 yield number / self.rate, value
                 continue
             time = self._value(fields, form.time) * form.unit
-            self.start = self.start if number else time
-            if time - self.start < last:
+            if not number:
+                begun, self.start = time, time * MICROSECONDS
+                self.begun = self.start if 0 <= self.start <= LONGEST_TIME else 0.0
+            if time - begun < last:
                 raise Problem("%s: line %d has a time before that of the last row" % (self.path, self.number))
-            last = time - self.start
+            last = time - begun
             yield last, value
 
     def _value(self, fields: Sequence[str], place: int) -> float:
@@ -93,7 +101,41 @@ class Table(Samples):
         return max(1, round(rate if abs(rate * wide - 1) < ROUND else 1 / wide))
 
     def _stretches(self, length: int) -> Iterator[Sequence[float]]:
-        return iter(lambda: [value for _, value in islice(self.rows, length)], [])
+        while True:
+            times, values = array("d"), array("d")
+            for time, value in islice(self.rows, length):
+                times.append(time)
+                values.append(value)
+            if not values:
+                return
+            if self.form.time is not None:
+                self._know(times)
+            yield values
+
+    def _know(self, times: Sequence[float]) -> None:
+        """Keeps the times of the first and the last row of a stretch, and of those next to lost ones."""
+        begun, kept = self.places[-1] + 1 if self.places else 0, {0, len(times) - 1}
+        for place, (one, other) in enumerate(zip(times, times[1:])):
+            if other - one > NEXT_ROW / self.rate:
+                kept |= {place, place + 1}
+                if len(self.notes) < MOST_NAMED:
+                    self.notes.append("no rows from %.6f to %.6f seconds" % (self._seconds(one), self._seconds(other)))
+        for place in sorted(kept):
+            self.places.append(begun + place)
+            self.times.append(times[place])
+
+    def _seconds(self, since: float) -> float:
+        return since + self.begun / MICROSECONDS
+
+    def at(self, place: float) -> float:
+        """By the rows around it whose times are kept."""
+        if not self.places:
+            return super().at(place)
+        after = max(1, bisect_right(self.places, place))
+        if after == len(self.places):
+            return MICROSECONDS * self._seconds(self.times[-1] + (place - self.places[-1]) / self.rate)
+        (one, other), (begin, end) = self.places[after - 1:after + 1], self.times[after - 1:after + 1]
+        return MICROSECONDS * self._seconds(begin + (end - begin) * (place - one) / (other - one))
 
 
 class Steps:
