@@ -247,6 +247,7 @@ REFUSED = (
     ("--apply none/new.vcd rec.vcd", "No such file or directory"),
     ("--apply new.vcd --into two.vcd rec.vcd", "several wires are named 'irig'"),
     ("--apply new.vcd two.vcd", "several wires carry time code, and --wire names one: top.rx.irig (code !), top.irig (code %)"),
+    ("--format E --expression 4 rec.vcd", "--format E has no expression 4; it has 1, 2, 5, 6"),
     ("--apply new.vcd junk.vcd", "no frame can be read in any format and expression; 'irig_what junk.vcd' says more"),
     ("--apply new.vcd --wire top.clk two.vcd", "no frame can be read"),
     ("--apply new.vcd --into short.vcd --wire irig rec.vcd", "8000000 microseconds long, and the dump is shorter"),

@@ -10,8 +10,9 @@ from .dump_header import Header, Reader, shown
 from .dump_offset import Offset
 from .dump_source import Source
 from .editor import Problem, find_editor
+from .ending import Usage
 from .options import DUMP, EXPRESSION, FORMAT, TIMESCALE, WIRE, Given
-from .readings import best, is_opened, is_read, read
+from .readings import EXPRESSIONS, best, is_opened, is_read, read
 from .search import Found, Probe, search
 from .temporary import named_if_no_room, temporary_track
 from .wire import Extract, Wish
@@ -90,6 +91,7 @@ class Taken:
 def opened(path: str, name: str, given: Given, wire: Optional[str]) -> Iterator[Opened]:
     """The track, as it is or as a dump of its wire; `name` is what the user calls the file."""
     find_editor()
+    check_code(given)
     named = given.has(FORMAT) or given.has(EXPRESSION)
     as_is = not given.has(TIMESCALE) and not given.has(DUMP)
     if named and as_is and is_opened(path, _wire_words(wire)):
@@ -110,6 +112,14 @@ def opened(path: str, name: str, given: Given, wire: Optional[str]) -> Iterator[
             track.flush()
         found = taken.found.unit if taken and not taken.found.header.unit else None
         yield Opened(track.name, code, wire, _offset(track.name), notes, unit=unit or found, dump=given.number(DUMP))
+
+
+def check_code(given: Given) -> None:
+    """Refuses an expression that a format does not have."""
+    kind, expression = given.text(FORMAT), given.text(EXPRESSION)
+    if kind and expression and int(expression) not in EXPRESSIONS[kind]:
+        has = ", ".join(map(str, EXPRESSIONS[kind]))
+        raise Usage("%s %s has no expression %s; it has %s" % (FORMAT.name, kind, expression, has))
 
 
 def _wire_words(name: Optional[str]) -> List[str]:
