@@ -6,6 +6,7 @@ from dataclasses import dataclass, field
 from functools import partial
 from typing import Any, Callable, Dict, List, Optional, Sequence, Tuple
 
+from .digits import FRACTION, WHOLE
 from .ending import Usage
 
 
@@ -35,11 +36,18 @@ def whole(least: int) -> Callable[[str], int]:
     """Reads a whole number."""
 
     def read(word: str) -> int:
-        if not (word.isascii() and word.isdigit() and len(word) < 40 and int(word) >= least):
+        if not WHOLE.fullmatch(word) or int(word) < least:
             raise argparse.ArgumentTypeError("needs a whole number, at least %d, not '%s'" % (least, word))
         return int(word)
 
     return read
+
+
+def a_number(word: str) -> float:
+    """Reads a number, perhaps with a point."""
+    if not FRACTION.fullmatch(word):
+        raise argparse.ArgumentTypeError("needs a number, at least 0, not '%s'" % word)
+    return float(word)
 
 
 def a_file(word: str) -> str:
