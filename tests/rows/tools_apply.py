@@ -133,6 +133,11 @@ def into():
         words = ["--apply", "three.vcd", "--into", "rec.vcd", "--wire=rx.irig", "--expression=4", "-"]
         status = run("irig_mend", words, text_of("one.vcd").encode())[0]
         yield same("the same through a pipe", (status, text_of("three.vcd") == new), (0, True))
+        words = ["--apply", "-", "--into", "-", "--wire=rx.irig", "--expression=4", "one.vcd"]
+        status, printed, _ = run("irig_mend", words, text.encode())
+        yield same("the recording through a pipe", (status, printed.decode() == new), (0, True))
+        status, printed, said = run("irig_mend", ["--apply", "-", "--into", "-", "-"], text.encode())
+        yield same("all through a pipe", (status, printed.decode() == new, "-: 1 place found" in said), (0, True, True))
 
     return in_folder(lambda: list(holds()), rec=nanoseconds(recorded(glitch)))
 
@@ -163,6 +168,16 @@ def saved():
         status = run("irig_mend", ["--expression=4", "--apply", "new.vcd", "--save", "rec.vcd"])[0]
         text = text_of("new.vcd")
         return same("--save", (status, "irig-journal-1" in text, "past 1" in text), (0, True, True))
+
+    return in_folder(holds, rec=damages.dump(recorded(glitch), END))
+
+
+def page_alone():
+    """If the page goes to standard output, what became of the recording goes to standard error."""
+    def holds():
+        status, printed, said = run("irig_mend", ["--expression=4", "--apply", "new.vcd", "--page", "-", "rec.vcd"])
+        text = printed.decode()
+        return same("--page -", (status, text[:5], text[-8:], "1 place found" in said), (0, "<!DOC", "</html>\n", True))
 
     return in_folder(holds, rec=damages.dump(recorded(glitch), END))
 
@@ -226,8 +241,9 @@ REFUSED = (
     ("--save rec.vcd", "--save is only for --apply"),
     ("--into two.vcd rec.vcd", "--into is only for --apply"),
     ("--apply new.vcd --save --into two.vcd rec.vcd", "--save and --into exclude each other"),
-    ("--apply - --out - rec.vcd", "cannot both be standard output"),
-    ("--apply new.vcd --into - rec.vcd", "--into needs a file"),
+    ("--apply - --out - rec.vcd", "--out - and --apply - are one file"),
+    ("--apply new.vcd --into - rec.vcd", "standard input: is no dump"),
+    ("--apply new.vcd --into none.vcd rec.vcd", "none.vcd: No such file"),
     ("--apply none/new.vcd rec.vcd", "No such file or directory"),
     ("--apply new.vcd --into two.vcd rec.vcd", "several wires are named 'irig'"),
     ("--apply new.vcd two.vcd", "several wires carry time code, and --wire names one: top.rx.irig (code !), top.irig (code %)"),
@@ -289,4 +305,4 @@ def cases(top):
     """Each part by its name."""
     return [*(case("apply: " + row[0], applied, *row) for row in APPLIED),
             *(case("apply: " + part.__name__, part)
-              for part in (into, late_times, saved, upside_down, steady, guarded, refused, objects, kinds))]
+              for part in (into, late_times, saved, page_alone, upside_down, steady, guarded, refused, objects, kinds))]

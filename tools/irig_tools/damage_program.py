@@ -41,7 +41,7 @@ read, and 70 if memory ran out or the tool has a defect.
 
 def work(given: Given) -> int:
     name = given.names[0]
-    check_apart(name, [(option.name, given.text(option)) for option in (PAGE, PICTURE)])
+    check_apart(name, [(option.name, given.text(option)) for option in (PAGE, PICTURE)], not given.has(QUIET))
     with kept(name) as path, opened(path, name, given, given.text(WIRE)) as track:
         if not given.has(QUIET):
             say_notes(track, COMMAND.name)

@@ -4,8 +4,8 @@ from __future__ import annotations
 import gc
 import os
 import sys
-from contextlib import ExitStack
-from typing import List, Optional, Sequence, Tuple
+from contextlib import ExitStack, contextmanager
+from typing import Iterator, List, Optional, Sequence, Tuple
 
 from .again import Names, again
 from .analysis import examine
@@ -21,7 +21,7 @@ from .facts import UNDECIDED, json_lines, repairs_as_json
 from .mend import called_for, propose, script_text
 from .opening import Opened, is_of_one_wire, opened
 from .options import DUMP, EDITOR, JSON, OUTPUT, TIMESCALE, WIRE, Command, Given, Option, a_file
-from .output import check_apart, new_file, output, write
+from .output import check_apart, is_standard_output, output, write
 from .overview import sheet_of
 from .page import page
 from .script import Repair
@@ -71,14 +71,14 @@ def work(given: Given) -> int:
     check(given)
     find_programs(given)
     progress = progress_to(sys.stderr)
-    with kept(name) as path, opened(path, name, given, wire_of(given, path)) as track:
+    with kept(name) as path, original_of(given, path) as original, opened(path, name, given, wire_of(given, path)) as track:
         say_notes(track, COMMAND.name)
         editor = Editor(track.words)
         if given.has(EXPLAIN):
             return explain(editor, given)
         script = propose(editor, progress, given.has(STEADY), given.has(MOVE))
         if given.has(APPLY):
-            done, reasons = apply(given, track, script, progress)
+            done, reasons = apply(given, track, script, progress, original)
         else:
             draw_proposal(given, editor, script, progress)
     if given.has(OUTPUT) or not given.has(APPLY):
@@ -108,18 +108,25 @@ def check(given: Given) -> None:
         raise Usage("--explain and --apply exclude each other")
     if given.has(SAVE) and given.has(INTO):
         raise Usage("--save and --into exclude each other: the steps are those of a track alone")
-    if given.text(APPLY) == "-" and given.text(OUTPUT) == "-":
-        raise Usage("--apply and --out cannot both be standard output")
-    if given.text(INTO) == "-":
-        raise Usage("--into needs a file, and not standard input")
     outputs = [(option.name, given.text(option)) for option in (PAGE_OF_REPAIRS, OUTPUT, APPLY)]
     for source in filter(None, (given.names[0], given.text(INTO))):
-        check_apart(source, outputs)
+        check_apart(source, outputs, not given.has(APPLY) and not given.has(OUTPUT))
 
 
 def wire_of(given: Given, path: str) -> Optional[str]:
     """The wire of the track at this path; with --into another file has several, and the track can be of one."""
     return None if given.text(INTO) is not None and is_of_one_wire(path) else given.text(WIRE)
+
+
+@contextmanager
+def original_of(given: Given, path: str) -> Iterator[Optional[str]]:
+    """The path of the file that the track goes back into, if it does: it is read twice. The track has this path."""
+    into = given.text(INTO)
+    if into is None or into == given.names[0]:
+        yield into and path
+        return
+    with kept(into) as original:
+        yield original
 
 
 def draw_proposal(given: Given, editor: Editor, script: List[Repair], progress: Progress) -> None:
@@ -131,10 +138,10 @@ def draw_proposal(given: Given, editor: Editor, script: List[Repair], progress: 
         write(path, page(sheet_of(os.path.basename(given.names[0]), seen, script, after)))
 
 
-def apply(given: Given, track: Opened, script: List[Repair], progress: Progress) -> Tuple[Summary, Sequence[str]]:
+def apply(given: Given, track: Opened, script: List[Repair], progress: Progress,
+          original: Optional[str]) -> Tuple[Summary, Sequence[str]]:
     """Runs the script, writes what it gives, and counts what it did; why repairs are not kept."""
-    target = Target(given.text(APPLY) or "", given.text(INTO), given.text(WIRE) or track.wire, given.text(TIMESCALE),
-                    given.number(DUMP))
+    target = Target(given.text(APPLY) or "", original, given.text(WIRE) or track.wire, given.text(TIMESCALE), given.number(DUMP))
     with temporary_folder() as folder:
         repaired = os.path.join(folder, "repaired.vcd")
         before = look(Editor(track.words), progress, given.has(STEADY))
@@ -144,7 +151,7 @@ def apply(given: Given, track: Opened, script: List[Repair], progress: Progress)
         with ExitStack() as stack:
             if given.has(PAGE_OF_REPAIRS):
                 drawn = drawing(given, track, script, before, after, repaired)
-                stack.enter_context(new_file(given.text(PAGE_OF_REPAIRS) or "")).write(drawn.encode("utf-8"))
+                stack.enter_context(output(given.text(PAGE_OF_REPAIRS))).write(drawn.encode("utf-8"))
             for note in target.write(repaired, track):
                 complain(note, COMMAND.name)
     return summary(before.damages, after.damages, script, frames, refused.lines), refused.reasons
@@ -161,7 +168,8 @@ def drawing(given: Given, track: Opened, script: List[Repair], before: Seen, aft
 
 def report(given: Given, script: List[Repair], done: Summary, reasons: Sequence[str]) -> None:
     """Prints what became of the recording, why repairs are not kept, and what nothing decides."""
-    stream = sys.stderr if given.text(APPLY) == "-" else sys.stdout
+    written = filter(None, map(given.text, (APPLY, PAGE_OF_REPAIRS)))
+    stream = sys.stderr if any(map(is_standard_output, written)) else sys.stdout
     if given.has(JSON):
         stream.write(json_lines([as_object(done)]))
         return
