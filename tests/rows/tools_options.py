@@ -80,6 +80,10 @@ LINES = (
     (wire_program, "a --dump", "--dump needs a value", None),
     (wire_program, "a --out", "--out needs a file", None),
     (wire_program, "a --out=", "--out needs a file", None),
+    (wire_program, "a --into=", "--into needs a file", None),
+    (wire_program, "a --timescale=", "--timescale needs a value", None),
+    (damage_program, "a --wire=", "--wire needs a value", None),
+    (demodulate_program, "a --table --column=", "--column needs a value", None),
     (wire_program, "a --invert=1", "--invert has no value", None),
     (wire_program, "a --dump 0", "--dump needs a whole number, at least 1, not '0'", None),
     (wire_program, "a --from -5", "--from needs a whole number, at least 0, not '-5'", None),
@@ -124,9 +128,22 @@ def plain_digits(program):
             yield good
 
 
+def empty():
+    """An operand that is empty is none; a wire can be called by nothing, and then none is found."""
+    for program, names, said in ((wire_program, [""], "no DUMP is given"), (damage_program, [""], "no TRACK is given"),
+                                 (wire_program, ["a", ""], "")):
+        try:
+            found = program.COMMAND.parse(names).names
+        except Usage as error:
+            found = str(error)
+        found == (said or names) or print("FAILED %s %s: %s" % (program.COMMAND.name, names, found))
+        yield found == (said or names)
+
+
 def cases(top):
     """Each row by its name."""
     return [*(case("options: pages of " + program.COMMAND.name, described, top, program.COMMAND) for program in PROGRAMS),
+            case("options: an empty operand", empty),
             *(case("options: numbers of " + program.COMMAND.name, plain_digits, program)
               for program in (wire_program, demodulate_program, damage_program)),
             *(case("options: %s %s" % (line[0].COMMAND.name, line[1]), parted, *line) for line in LINES)]

@@ -20,7 +20,7 @@ from .explain import explained
 from .facts import UNDECIDED, json_lines, repairs_as_json
 from .mend import called_for, propose, script_text
 from .opening import Opened, is_of_one_wire, opened
-from .options import DUMP, EDITOR, JSON, OUTPUT, TIMESCALE, WIRE, Command, Given, Option, a_file
+from .options import DUMP, EDITOR, JSON, OUTPUT, TIMESCALE, WIRE, Command, Given, Option
 from .output import check_apart, is_standard_output, output, write
 from .overview import sheet_of
 from .page import page
@@ -28,16 +28,16 @@ from .script import Repair
 from .temporary import temporary_folder
 
 PAGE_OF_REPAIRS = Option("--page", "FILE", "also writes a page (HTML) to look at: the whole recording, each place before and "
-                         "after its repair, and the script; with --apply what was changed, as irig_diff prints it", a_file)
+                         "after its repair, and the script; with --apply what was changed, as irig_diff prints it")
 STEADY = Option("--steady", about="the control functions never change: what one frame alone has is damage")
 MOVE = Option("--move", about="moves the rest if it comes late, and takes out what is there twice: only if the time "
               "code has a clock of its own, and no other wire slipped with it")
 EXPLAIN = Option("--explain", about="prints instead how the script follows: the clock, the runs and their costs, the "
                  "frames and their votes, and the places")
 APPLY = Option("--apply", "FILE", "runs the script, writes the repaired recording as this file, whole or not at all, and "
-               "prints what became of it", a_file)
+               "prints what became of it")
 SAVE = Option("--save", about="with --apply: the file keeps the steps, so that each can be undone")
-INTO = Option("--into", "ORIGINAL", "with --apply: writes this file with the repaired track instead of its wire", a_file)
+INTO = Option("--into", "ORIGINAL", "with --apply: writes this file with the repaired track instead of its wire")
 COMMAND = Command("irig_mend", ("TRACK",), """\
 Proposes a script that repairs a recording of IRIG 200-04 time code, or runs it.
 Before each repair a comment says what was seen and why this repair follows. What
@@ -104,8 +104,9 @@ def check(given: Given) -> None:
     for option in (SAVE, INTO):
         if given.has(option) and not given.has(APPLY):
             raise Usage("%s is only for --apply" % option.name)
-    if given.has(EXPLAIN) and given.has(APPLY):
-        raise Usage("--explain and --apply exclude each other")
+    for option in (APPLY, PAGE_OF_REPAIRS, JSON):
+        if given.has(EXPLAIN) and given.has(option):
+            raise Usage("--explain and %s exclude each other" % option.name)
     if given.has(SAVE) and given.has(INTO):
         raise Usage("--save and --into exclude each other: the steps are those of a track alone")
     outputs = [(option.name, given.text(option)) for option in (PAGE_OF_REPAIRS, OUTPUT, APPLY)]

@@ -9,6 +9,9 @@ from typing import Any, Callable, Dict, List, Optional, Sequence, Tuple
 from .digits import FRACTION, WHOLE
 from .ending import Usage
 
+FILE_VALUES = "FILE", "ORIGINAL"  # how the value of an option is called that is a file
+NO_VALUE = "expected"  # how a complaint of argparse begins if a value is not there
+
 
 @dataclass(frozen=True)
 class Option:
@@ -22,7 +25,16 @@ class Option:
 
     def reader(self) -> Callable[[str], object]:
         """What makes a value of a word, or refuses it."""
-        return self.read or (lambda word: _one_of(self.choices, word) if self.choices else word)
+        if self.choices:
+            return partial(_one_of, self.choices)
+        return self.read or a_word
+
+
+def a_word(word: str) -> str:
+    """Reads a word; an empty one is as bad as none."""
+    if not word:
+        raise argparse.ArgumentTypeError(NO_VALUE)
+    return word
 
 
 def _one_of(choices: Sequence[str], word: str) -> str:
@@ -50,13 +62,6 @@ def a_number(word: str) -> float:
     return float(word)
 
 
-def a_file(word: str) -> str:
-    """Reads the name of a file."""
-    if not word:
-        raise argparse.ArgumentTypeError("needs a file")
-    return word
-
-
 HELP = Option("--help", about="prints this text")
 VERSION = Option("--version", about="prints the version")
 WIRE = Option("--wire", "NAME", "the wire of the dump, as irig_ed has it")
@@ -68,7 +73,7 @@ EDITOR = (WIRE, FORMAT, EXPRESSION)  # those of irig_ed
 TIMESCALE = Option("--timescale", "UNIT", "the unit of time, as 1ns, instead of the one in the dump")
 JSON = Option("--json", about="prints an object in JSON for each, one a line")
 QUIET = Option("--quiet", about="prints nothing; the status says it")
-OUTPUT = Option("--out", "FILE", "the file to write, whole or not at all, instead of standard output", a_file)
+OUTPUT = Option("--out", "FILE", "the file to write, whole or not at all, instead of standard output")
 DUMP = Option("--dump", "N", "of several dumps in the file, the one with this number", whole(1))
 
 
@@ -146,8 +151,9 @@ class Command:
     def _check(self, names: Sequence[str]) -> None:
         """Checks the number of operands."""
         needed = [operand for operand in self.operands if not operand.startswith("[")]
-        if len(names) < len(needed):
-            raise Usage("no %s is given" % needed[len(names)])
+        for place, operand in enumerate(needed):
+            if not any(names[place:place + 1]):
+                raise Usage("no %s is given" % operand)
         if len(names) > len(self.operands):
             raise Usage("'%s' is one too many; the operands are %s" % (
                 names[len(self.operands)], " ".join(self.operands)))
@@ -158,6 +164,6 @@ class Command:
         option = next(option for option in self.all_options() if option.name == name)
         if not option.value:
             return "%s has no value" % name
-        if error.message.startswith("expected"):
-            return "%s needs a %s" % (name, "file" if option.value == "FILE" else "value")
+        if error.message.startswith(NO_VALUE):
+            return "%s needs a %s" % (name, "file" if option.value in FILE_VALUES else "value")
         return "%s %s" % (name, error.message)
