@@ -182,6 +182,30 @@ def page_alone():
     return in_folder(holds, rec=damages.dump(recorded(glitch), END))
 
 
+GROWING = """#!/bin/sh
+echo '#%d' >> rec.vcd
+exec '%s' "$@"
+"""
+
+
+def growing():
+    """A recording that changes while it is read is not repaired, and nothing is written."""
+    def holds():
+        with open("irig_ed", "w", encoding="ascii") as file:
+            file.write(GROWING % (END, os.environ["IRIG_ED"]))
+        os.chmod("irig_ed", 0o755)
+        before = sorted(os.listdir("."))
+        for words in ("rec.vcd", "--page page rec.vcd", "--apply new.vcd --page page rec.vcd",
+                      "--apply new.vcd --into rec.vcd two.vcd"):
+            with mock.patch.dict(os.environ, IRIG_ED=os.path.abspath("irig_ed")):
+                ended = run("irig_mend", ["--expression=4", *words.split()])
+            wanted = 2, b"", "irig_mend: rec.vcd: changed while it was read\n"
+            yield same("a recording that grows, %s" % words, (*ended[:2], ended[2].splitlines(True)[-1]), wanted)
+            yield same("what is written then", sorted(os.listdir(".")), before)
+
+    return in_folder(lambda: list(holds()), **{name: damages.dump(recorded(glitch), END) for name in ("rec", "two")})
+
+
 def upside_down():
     """A wire that is upside down is turned over before irig_guard goes by its frames, also if its clock is off."""
     def turned(pulses):
@@ -308,4 +332,4 @@ def cases(top):
     """Each part by its name."""
     return [*(case("apply: " + row[0], applied, *row) for row in APPLIED),
             *(case("apply: " + part.__name__, part)
-              for part in (into, late_times, saved, page_alone, upside_down, steady, guarded, refused, objects, kinds))]
+              for part in (into, late_times, saved, page_alone, growing, upside_down, steady, guarded, refused, objects, kinds))]

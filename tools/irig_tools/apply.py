@@ -4,6 +4,7 @@ from __future__ import annotations
 import os
 import shutil
 import subprocess
+from contextlib import ExitStack
 from dataclasses import dataclass
 from typing import Dict, List, Optional, Sequence
 
@@ -160,8 +161,9 @@ def sound_frames(options: Sequence[str], path: str) -> int:
 
 @dataclass
 class Target:
-    """Where the repaired recording goes."""
+    """Where the repaired recording goes, with all outputs: each gets its name in the end, if all went well."""
 
+    outputs: ExitStack
     out: str
     into: Optional[str] = None  # the file whose wire is replaced
     wire: Optional[str] = None  # its name there
@@ -169,17 +171,17 @@ class Target:
     dump: Optional[int] = None
 
     def write(self, repaired: str, track: Opened) -> List[str]:
-        """Writes the repaired track, whole or not at all; what is said of it."""
-        with output(self.out) as out:
-            if self.into is None:
-                with open(repaired, "rb") as source:
-                    out.write(_with_offset(source.read(len(HEAD)), track))
-                    shutil.copyfileobj(source, out)
-                return []
-            level = TrackEdges(repaired, None)
-            level.offset = track.offset
-            wish = Wish(self._wire(track), self.unit, self.dump)
-            report = PutBack(self.into, wish, level, out).run()
+        """Writes the repaired track; what is said of it."""
+        out = self.outputs.enter_context(output(self.out))
+        if self.into is None:
+            with open(repaired, "rb") as source:
+                out.write(_with_offset(source.read(len(HEAD)), track))
+                shutil.copyfileobj(source, out)
+            return []
+        level = TrackEdges(repaired, None)
+        level.offset = track.offset
+        wish = Wish(self._wire(track), self.unit, self.dump)
+        report = PutBack(self.into, wish, level, out).run()
         return report.done + report.doubtful
 
     def _wire(self, track: Opened) -> Optional[str]:

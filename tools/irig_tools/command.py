@@ -43,6 +43,20 @@ def kept(path: str) -> Iterator[str]:
             raise Problem(str(error).replace(copy.name, name)) from error
 
 
+@contextmanager
+def unchanged(path: str) -> Iterator[None]:
+    """A file that is read more than once has to stay as it is: a repair would be made of two recordings."""
+    before = _state(path)
+    yield
+    if _state(path) != before:
+        raise Problem("%s: changed while it was read" % path)
+
+
+def _state(path: str) -> Tuple[int, ...]:
+    found = os.stat(path)
+    return found.st_dev, found.st_ino, found.st_size, found.st_mtime_ns
+
+
 def as_given(error: UnicodeError) -> Tuple[Union[str, bytes], int]:
     """What is printed for a letter that the terminal's code does not have: the byte that a file name has there, so
     that the name can be used again, or else the number of the letter."""

@@ -10,7 +10,7 @@ from typing import Iterator, List, Optional, Sequence, Tuple
 from .again import Names, again
 from .analysis import examine
 from .changes import changes_of, find_differ
-from .command import kept, run
+from .command import kept, run, unchanged
 from .apply import Summary, Target, as_object, find_guard, run_script, sound_frames, summary
 from .damage import Seen, look
 from .damage_program import say_notes
@@ -21,7 +21,7 @@ from .facts import UNDECIDED, json_lines, repairs_as_json
 from .mend import called_for, propose, script_text
 from .opening import Opened, is_of_one_wire, opened
 from .options import DUMP, EDITOR, JSON, OUTPUT, TIMESCALE, WIRE, Command, Given, Option
-from .output import check_apart, is_standard_output, output, write
+from .output import check_apart, is_standard_output, output
 from .overview import sheet_of
 from .page import page
 from .script import Repair
@@ -67,20 +67,21 @@ def find_programs(given: Given) -> None:
 
 
 def work(given: Given) -> int:
-    name = given.names[0]
     check(given)
     find_programs(given)
     progress = progress_to(sys.stderr)
-    with kept(name) as path, original_of(given, path) as original, opened(path, name, given, wire_of(given, path)) as track:
+    with ExitStack() as outputs, taken(given) as (track, original):
         say_notes(track, COMMAND.name)
         editor = Editor(track.words)
         if given.has(EXPLAIN):
             return explain(editor, given)
         script = propose(editor, progress, given.has(STEADY), given.has(MOVE))
         if given.has(APPLY):
-            done, reasons = apply(given, track, script, progress, original)
+            target = Target(outputs, given.text(APPLY) or "", original, given.text(WIRE) or track.wire,
+                            given.text(TIMESCALE), given.number(DUMP))
+            done, reasons = apply(given, track, script, progress, target)
         else:
-            draw_proposal(given, editor, script, progress)
+            draw_proposal(given, editor, script, progress, outputs)
     if given.has(OUTPUT) or not given.has(APPLY):
         with output(given.text(OUTPUT)) as out:
             out.write((repairs_as_json(script, track.offset) if given.has(JSON) else script_text(script)).encode("utf-8"))
@@ -120,41 +121,48 @@ def wire_of(given: Given, path: str) -> Optional[str]:
 
 
 @contextmanager
+def taken(given: Given) -> Iterator[Tuple[Opened, Optional[str]]]:
+    """The track, and the path of the file that it goes back into, if it does."""
+    name = given.names[0]
+    with kept(name) as path, unchanged(path), original_of(given, path) as original:
+        with opened(path, name, given, wire_of(given, path)) as track:
+            yield track, original
+
+
+@contextmanager
 def original_of(given: Given, path: str) -> Iterator[Optional[str]]:
     """The path of the file that the track goes back into, if it does: it is read twice. The track has this path."""
     into = given.text(INTO)
     if into is None or into == given.names[0]:
         yield into and path
         return
-    with kept(into) as original:
+    with kept(into) as original, unchanged(original):
         yield original
 
 
-def draw_proposal(given: Given, editor: Editor, script: List[Repair], progress: Progress) -> None:
+def draw_proposal(given: Given, editor: Editor, script: List[Repair], progress: Progress, outputs: ExitStack) -> None:
     """Writes the page of what is proposed, if it is asked for."""
     path = given.text(PAGE_OF_REPAIRS)
     if path is not None:
         after = editor.ask([repair.lines() for repair in script])
         seen = look(editor, progress, given.has(STEADY))
-        write(path, page(sheet_of(os.path.basename(given.names[0]), seen, script, after)))
+        drawn = page(sheet_of(os.path.basename(given.names[0]), seen, script, after))
+        outputs.enter_context(output(path)).write(drawn.encode("utf-8"))
 
 
-def apply(given: Given, track: Opened, script: List[Repair], progress: Progress,
-          original: Optional[str]) -> Tuple[Summary, Sequence[str]]:
+def apply(given: Given, track: Opened, script: List[Repair], progress: Progress, target: Target) -> Tuple[Summary, Sequence[str]]:
     """Runs the script, writes what it gives, and counts what it did; why repairs are not kept."""
-    target = Target(given.text(APPLY) or "", original, given.text(WIRE) or track.wire, given.text(TIMESCALE), given.number(DUMP))
     with temporary_folder() as folder:
         repaired = os.path.join(folder, "repaired.vcd")
         before = look(Editor(track.words), progress, given.has(STEADY))
         refused = run_script(track, script, given.has(SAVE), repaired, given.has(MOVE), before.listing.kind)
         after = look(Editor([*track.code, repaired]), progress, given.has(STEADY))
         frames = sound_frames(track.options, track.path), sound_frames(track.code, repaired)
-        with ExitStack() as stack:
-            if given.has(PAGE_OF_REPAIRS):
-                drawn = drawing(given, track, script, before, after, repaired)
-                stack.enter_context(output(given.text(PAGE_OF_REPAIRS))).write(drawn.encode("utf-8"))
-            for note in target.write(repaired, track):
-                complain(note, COMMAND.name)
+        if given.has(PAGE_OF_REPAIRS):
+            drawn = drawing(given, track, script, before, after, repaired)
+            target.outputs.enter_context(output(given.text(PAGE_OF_REPAIRS))).write(drawn.encode("utf-8"))
+        for note in target.write(repaired, track):
+            complain(note, COMMAND.name)
     return summary(before.damages, after.damages, script, frames, refused.lines), refused.reasons
 
 
