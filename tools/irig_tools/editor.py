@@ -9,6 +9,7 @@ from dataclasses import dataclass, field
 from functools import lru_cache
 from typing import IO, Callable, List, Optional, Sequence, Set
 
+from .temporary import temporary_script
 from .units import Microseconds
 
 CLASSES = {b"zero": "0", b"one": "1", b"position": "P", b"bad": "b"}
@@ -111,11 +112,8 @@ class Editor:
 
     def ask(self, blocks: Sequence[Sequence[str]]) -> Listing:
         """The listing of the track after these blocks of lines."""
-        with tempfile.TemporaryFile() as script:
-            for lines in blocks:
-                script.write("\n".join([*lines, "info", ""]).encode())
-            script.write(b"info\n,list\n")
-            script.seek(0)
+        lines = [line for block in blocks for line in (*block, "info")]
+        with temporary_script("\n".join([*lines, "info", ",list", ""])) as script:
             return self._run(script, len(blocks))
 
     def _run(self, script: IO[bytes], blocks: int) -> Listing:
