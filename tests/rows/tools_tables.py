@@ -124,6 +124,7 @@ def refused():
             ([], head + "0,0\n1_0,1\n", "line 3 has no number in column 1"),
             ([], head + "0,0\n\u0661,1\n", "line 3 has no number in column 1"),
             (["--column=\u00b2"], head + "0,0\n1,1\n", "has no column '\u00b2'"),
+            (["--rate=5", "--time-column=1"], head + "0,0\n", "--rate and --time-column exclude each other"),
             ([], "5" * 20000, "is too long"), (["--raw=text"], head, "--table has no --raw")):
         status, _, shown = run("irig_demodulate", ["--table", *words, "-"], text.encode())
         results.append(status == 2 and said in shown)

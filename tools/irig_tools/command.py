@@ -10,7 +10,7 @@ import sys
 from contextlib import contextmanager
 from typing import Callable, Iterator, Tuple, Union
 
-from .editor import Problem
+from .editor import Problem, called
 from .ending import DEFECT, INTERRUPTED, SIGNALLED, Stopped, ended, heed_signals, unheed_signals
 from .options import HELP, VERSION, Command, Given
 from .temporary import named_if_no_room, temporary_track
@@ -36,11 +36,8 @@ def kept(path: str) -> Iterator[str]:
         with sys.stdin.buffer if path == "-" else open(path, "rb") as source, named_if_no_room():
             shutil.copyfileobj(source, copy)
             copy.flush()
-        try:
+        with called(copy.name, "standard input" if path == "-" else path):
             yield copy.name
-        except Problem as error:  # nobody knows the name of the copy
-            name = "standard input" if path == "-" else path
-            raise Problem(str(error).replace(copy.name, name)) from error
 
 
 @contextmanager

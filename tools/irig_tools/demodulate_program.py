@@ -52,7 +52,7 @@ ADVICE = {Carrier: "if the code is not on a carrier but a level, use --level",
 
 def check_options(given: Given) -> None:
     """Refuses options that exclude each other, and those that another one needs: none is left out in silence."""
-    for one, other in ((SWAP, NO_SWAP), (LEVEL, CARRIER)):
+    for one, other in ((SWAP, NO_SWAP), (LEVEL, CARRIER), (RATE, TIME_COLUMN)):
         if given.has(one) and given.has(other):
             raise Usage("%s and %s exclude each other" % (one.name, other.name))
     if given.has(TABLE) and (given.has(KIND) or given.has(CHANNEL)):

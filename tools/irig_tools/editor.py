@@ -5,9 +5,10 @@ import os
 import shutil
 import subprocess
 import tempfile
+from contextlib import contextmanager
 from dataclasses import dataclass, field
 from functools import lru_cache
-from typing import IO, Callable, List, Optional, Sequence, Set
+from typing import IO, Callable, Iterator, List, Optional, Sequence, Set
 
 from .temporary import temporary_script
 from .units import Microseconds
@@ -21,6 +22,15 @@ Progress = Callable[[str], None]
 
 class Problem(Exception):
     """A track that is not read, or an editor that is not found; the text says which."""
+
+
+@contextmanager
+def called(hidden: str, name: str) -> Iterator[None]:
+    """A complaint has the name of a file that the user knows, and not that of its copy."""
+    try:
+        yield
+    except Problem as error:
+        raise Problem(str(error).replace(hidden, name)) from error
 
 
 @dataclass
