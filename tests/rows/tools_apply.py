@@ -173,13 +173,15 @@ def saved():
 
 
 def page_alone():
-    """If the page goes to standard output, what became of the recording goes to standard error."""
+    """If the page or the script goes to standard output, what became of the recording goes to standard error."""
     def holds():
+        status, printed, said = run("irig_mend", ["--expression=4", "--apply", "new.vcd", "--out", "-", "rec.vcd"])
+        yield same("--out -", (status, printed.decode().splitlines()[1:], "1 place found" in said), (0, ["302,303 join"], True))
         status, printed, said = run("irig_mend", ["--expression=4", "--apply", "new.vcd", "--page", "-", "rec.vcd"])
         text = printed.decode()
-        return same("--page -", (status, text[:5], text[-8:], "1 place found" in said), (0, "<!DOC", "</html>\n", True))
+        yield same("--page -", (status, text[:5], text[-8:], "1 place found" in said), (0, "<!DOC", "</html>\n", True))
 
-    return in_folder(holds, rec=damages.dump(recorded(glitch), END))
+    return in_folder(lambda: list(holds()), rec=damages.dump(recorded(glitch), END))
 
 
 GROWING = """#!/bin/sh

@@ -81,6 +81,7 @@ LINES = (
     (wire_program, "a --out", "--out needs a file", None),
     (wire_program, "a --out=", "--out needs a file", None),
     (wire_program, "a --into=", "--into needs a file", None),
+    (wire_program, "a --out=--", "--out needs a value", None),
     (wire_program, "a --timescale=", "--timescale needs a value", None),
     (damage_program, "a --wire=", "--wire needs a value", None),
     (demodulate_program, "a --table --column=", "--column needs a value", None),

@@ -177,7 +177,7 @@ def drawing(given: Given, track: Opened, script: List[Repair], before: Seen, aft
 
 def report(given: Given, script: List[Repair], done: Summary, reasons: Sequence[str]) -> None:
     """Prints what became of the recording, why repairs are not kept, and what nothing decides."""
-    written = filter(None, map(given.text, (APPLY, PAGE_OF_REPAIRS)))
+    written = filter(None, map(given.text, (APPLY, OUTPUT, PAGE_OF_REPAIRS)))
     stream = sys.stderr if any(map(is_standard_output, written)) else sys.stdout
     if given.has(JSON):
         stream.write(json_lines([as_object(done)]))

@@ -136,6 +136,9 @@ class Command:
     def parse(self, words: Sequence[str]) -> Given:
         """Parts the words of a command line. After a word `--` all are operands; `-` is one, too."""
         end = list(words).index("--") if "--" in words else len(words)
+        for option in self.options:
+            if option.name + "=--" in words[:end]:  # which argparse takes for no value, in some versions of Python
+                raise Usage("%s needs a value" % option.name)
         try:
             values, names = self.parser().parse_known_args(list(words[:end]))
         except argparse.ArgumentError as error:
