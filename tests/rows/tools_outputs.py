@@ -210,16 +210,28 @@ def mode_of(folder, name):
     return os.stat(os.path.join(folder, name)).st_mode & 0o777
 
 
-def called(name, begin, longest=255):
-    """Until it is whole, a new file is called as the editor calls its own, so that what a killed run leaves can be found.
-    There can be file systems whose names have fewer bytes."""
-    with tempfile.TemporaryDirectory() as folder, mock.patch("os.pathconf", lambda *_: longest):
+def called(name, begin):
+    """Until it is whole, a new file is called as the editor calls its own, so that what a killed run leaves can be found."""
+    with tempfile.TemporaryDirectory() as folder:
         with output.new_file(os.path.join(folder, name)) as new:
             new.write(b"text")
             seen = os.listdir(folder)
         good = len(seen) == 1 and seen[0].startswith(begin) and contents(folder) == {name: b"text"}
         good or print("FAILED the new file of %s: %s" % (name, seen))
         return good
+
+
+def long_path():
+    """A path of 4,095 bytes, the longest there is, has a file, although the path of the new one would be longer."""
+    with tempfile.TemporaryDirectory() as folder:
+        path = os.path.realpath(folder)
+        while len(path) < 4095 - 300:
+            path = os.path.join(path, "d" * 200)
+        path = os.path.join(path, "d" * (4095 - len(path) - 102))
+        os.makedirs(path)
+        path = os.path.join(path, "p" * 100)
+        output.write(path, "text")
+        return len(path) == 4095 and os.stat(path).st_size == 4
 
 
 def replaced():
@@ -267,8 +279,8 @@ def cases(top):
             case("outputs: proposed repairs", mended, top),
             case("outputs: whole files", whole, top), case("outputs: no regular files", direct, top),
             case("outputs: two in one", apart, top),
-            case("outputs: a short name of files", called, "p" * 100, ".irig_ed-new-", 143),
+            case("outputs: a long path", long_path),
             case("outputs: a file that is replaced", replaced), case("outputs: a signal at the end", interrupted),
             *(case("outputs: a new file of %d letters" % len(name), called, name, begin) for name, begin in (
-                ("page", ".page.irig_ed-new-"), ("p" * 200, "." + "p" * 200 + ".irig_ed-new-"), ("p" * 201, ".irig_ed-new-"),
+                ("page", ".page.irig_ed-new-"), ("p" * 233, "." + "p" * 233 + ".irig_ed-new-"), ("p" * 234, ".irig_ed-new-"),
                 ("\u00e4" * 120, ".irig_ed-new-")))]

@@ -16,8 +16,6 @@ from .temporary import named_if_full
 PathOrNumber = Union[str, int]  # a path, or the number of an open file
 STANDARD_INPUT, STANDARD_OUTPUT = 0, 1
 NEW = ".irig_ed-new-"  # in the name of a file until it is whole, as irig_ed calls its own; letters follow
-LONG_NAME = 200  # bytes; a longer name is left out there,
-ROOM = 55  # and one that leaves fewer bytes of the longest name that the file system takes
 
 
 def check_apart(source: str, outputs: Sequence[Tuple[str, Optional[str]]] = (), prints: bool = False) -> None:
@@ -89,12 +87,15 @@ def new_file(path: str) -> Iterator[IO[bytes]]:
 
 
 def _unfinished(target: str, path: str) -> Tuple[int, str]:
-    """A new file next to the target of a path."""
+    """A new file next to the target of a path. The name is left out of its own if the file system takes no such long one."""
     folder, name = os.path.split(target)
     with _named(path):
-        longest = min(LONG_NAME, os.pathconf(folder, "PC_NAME_MAX") - ROOM)
-        prefix = NEW if len(os.fsencode(name)) > longest else "." + name + NEW
-        return tempfile.mkstemp(prefix=prefix, dir=folder)
+        try:
+            return tempfile.mkstemp(prefix="." + name + NEW, dir=folder)
+        except OSError as error:
+            if error.errno != errno.ENAMETOOLONG:
+                raise
+            return tempfile.mkstemp(prefix=NEW, dir=folder)
 
 
 @contextmanager
