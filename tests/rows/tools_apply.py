@@ -133,6 +133,11 @@ def into():
         words = ["--apply", "three.vcd", "--into", "rec.vcd", "--wire=rx.irig", "--expression=4", "-"]
         status = run("irig_mend", words, text_of("one.vcd").encode())[0]
         yield same("the same through a pipe", (status, text_of("three.vcd") == new), (0, True))
+        words = ["--apply", "-", "--into", "-", "--wire=rx.irig", "--expression=4", "one.vcd"]
+        status, printed, _ = run("irig_mend", words, text.encode())
+        yield same("the recording through a pipe", (status, printed.decode() == new), (0, True))
+        status, printed, said = run("irig_mend", ["--apply", "-", "--into", "-", "-"], text.encode())
+        yield same("all through a pipe", (status, printed.decode() == new, "-: 1 place found" in said), (0, True, True))
 
     return in_folder(lambda: list(holds()), rec=nanoseconds(recorded(glitch)))
 
@@ -181,6 +186,42 @@ def saved():
         return same("--save", (status, "irig-journal-1" in text, "past 1" in text), (0, True, True))
 
     return in_folder(holds, rec=damages.dump(recorded(glitch), END))
+
+
+def page_alone():
+    """If the page or the script goes to standard output, what became of the recording goes to standard error."""
+    def holds():
+        status, printed, said = run("irig_mend", ["--expression=4", "--apply", "new.vcd", "--out", "-", "rec.vcd"])
+        yield same("--out -", (status, printed.decode().splitlines()[1:], "1 place found" in said), (0, ["302,303 join"], True))
+        status, printed, said = run("irig_mend", ["--expression=4", "--apply", "new.vcd", "--page", "-", "rec.vcd"])
+        text = printed.decode()
+        yield same("--page -", (status, text[:5], text[-8:], "1 place found" in said), (0, "<!DOC", "</html>\n", True))
+
+    return in_folder(lambda: list(holds()), rec=damages.dump(recorded(glitch), END))
+
+
+GROWING = """#!/bin/sh
+echo '#%d' >> rec.vcd
+exec '%s' "$@"
+"""
+
+
+def growing():
+    """A recording that changes while it is read is not repaired, and nothing is written."""
+    def holds():
+        with open("irig_ed", "w", encoding="ascii") as file:
+            file.write(GROWING % (END, os.environ["IRIG_ED"]))
+        os.chmod("irig_ed", 0o755)
+        before = sorted(os.listdir("."))
+        for words in ("rec.vcd", "--page page rec.vcd", "--apply new.vcd --page page rec.vcd",
+                      "--apply new.vcd --into rec.vcd two.vcd"):
+            with mock.patch.dict(os.environ, IRIG_ED=os.path.abspath("irig_ed")):
+                ended = run("irig_mend", ["--expression=4", *words.split()])
+            wanted = 2, b"", "irig_mend: rec.vcd: changed while it was read\n"
+            yield same("a recording that grows, %s" % words, (*ended[:2], ended[2].splitlines(True)[-1]), wanted)
+            yield same("what is written then", sorted(os.listdir(".")), before)
+
+    return in_folder(lambda: list(holds()), **{name: damages.dump(recorded(glitch), END) for name in ("rec", "two")})
 
 
 def upside_down():
@@ -241,9 +282,13 @@ REFUSED = (
     ("--apply two.vcd --into two.vcd rec.vcd", "--apply two.vcd would write over the file that is read"),
     ("--save rec.vcd", "--save is only for --apply"),
     ("--into two.vcd rec.vcd", "--into is only for --apply"),
+    ("--explain --apply new.vcd rec.vcd", "--explain and --apply exclude each other"),
+    ("--explain --page new rec.vcd", "--explain and --page exclude each other"),
+    ("--explain --json rec.vcd", "--explain and --json exclude each other"),
     ("--apply new.vcd --save --into two.vcd rec.vcd", "--save and --into exclude each other"),
-    ("--apply - --out - rec.vcd", "cannot both be standard output"),
-    ("--apply new.vcd --into - rec.vcd", "--into needs a file"),
+    ("--apply - --out - rec.vcd", "--out - and --apply - are one file"),
+    ("--apply new.vcd --into - rec.vcd", "standard input: is no dump"),
+    ("--apply new.vcd --into none.vcd rec.vcd", "none.vcd: No such file"),
     ("--apply none/new.vcd rec.vcd", "No such file or directory"),
     ("--apply new.vcd --into two.vcd rec.vcd", "several wires are named 'irig'"),
     ("--apply new.vcd two.vcd", "several wires carry time code, and --wire names one: top.rx.irig (code !), top.irig (code %)"),
@@ -311,4 +356,5 @@ def cases(top):
     """Each part by its name."""
     return [*(case("apply: " + row[0], applied, *row) for row in APPLIED),
             *(case("apply: " + part.__name__, part)
-              for part in (into, options_of_a_script, late_times, saved, upside_down, steady, guarded, refused, objects, kinds))]
+              for part in (into, options_of_a_script, late_times, saved, page_alone, growing, upside_down, steady, guarded, refused, objects,
+                           kinds))]

@@ -131,6 +131,10 @@ def complaints(top):
             good = (status, printed) == (2, "") and said.startswith("irig_what: %s: is no dump" % name)
             good or print("FAILED irig_what %s: %s" % (words, said))
             yield good
+        said = shell(top, folder, "irig_damage --timescale %ds --format B rec.vcd" % 10**20)[2]
+        good = said.splitlines()[-1].startswith("irig_damage: irig_ed: rec.vcd: V11 TimeTooLarge at ")
+        good or print("FAILED irig_damage of a dump that is too long: %s" % said)
+        yield good
 
 
 def names(top):

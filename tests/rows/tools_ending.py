@@ -5,9 +5,10 @@ import tempfile
 from unittest import mock
 
 from cases import case
-from irig_tools import command, ending, options
+from irig_tools import command, ending, options, temporary
 from rows import in_process
 from rows.tools_outputs import contents, filled, shell
+from rows.tools_tables import packed
 from rows.tools_what import dump
 
 TOOLS = {"irig_damage": "rec.vcd", "irig_mend": "rec.vcd", "irig_what": "rec.vcd", "irig_wire": "rec.vcd",
@@ -88,14 +89,41 @@ def without_room(top):
         filled(folder)
         os.mkdir(os.path.join(folder, "files"))
         before = contents(folder)
+        with open(os.path.join(folder, "rec.sr"), "wb") as file:
+            file.write(packed())
+        before = contents(folder)
         for line, name in (("irig_wire rec.vcd --out new", "new"), ("irig_what rec.vcd", "files"), ("irig_damage rec.vcd", "files"),
-                           ("irig_mend --format B - < rec.vcd", "files"), ("irig_damage --dump 1 --format B rec.vcd", "files")):
+                           ("irig_mend --format B - < rec.vcd", "files"), ("irig_damage --dump 1 --format B rec.vcd", "files"),
+                           ("irig_wire rec.sr code", "files")):
             done = shell(top, folder, "ulimit -f 1; %s | cat; exit ${PIPESTATUS[0]}" % line, TMPDIR=os.path.join(folder, "files"))
             path = os.path.join(folder, name) if name == "files" else name
             good = done == (2, "", "%s: %s: File too large\n" % (line.split()[0], path))
             good = good and contents(folder) == before and not os.listdir(os.path.join(folder, "files"))
             good or print("FAILED %s without room: %s" % (line, done))
             yield good
+
+
+def without_any_room(top):
+    """If nothing can be written at all, it is not the editor that is complained of, but the folder for temporary files."""
+    with tempfile.TemporaryDirectory() as folder:
+        filled(folder)
+        done = shell(top, folder, "ulimit -f 0; irig_damage --format B rec.vcd")
+        yield done[:2] == (2, "") and done[2].startswith("irig_damage: No usable temporary directory found in ")
+    for work in (lambda: temporary.temporary_script("info\n"), temporary.temporary_track):
+        full = mock.patch.multiple("tempfile", TemporaryFile=full_device, NamedTemporaryFile=full_device, gettempdir=lambda: "there")
+        try:
+            with full, work() as file, temporary.named_if_no_room():
+                file.write(b"1")
+                file.flush()
+            said = ""
+        except OSError as error:
+            said = "%s: %s" % (error.filename, error.strerror)
+        said == "there: No space left on device" or print("FAILED a temporary file without room: %s" % said)
+        yield said == "there: No space left on device"
+
+
+def full_device(**_):
+    return open("/dev/full", "w+b")  # pylint: disable=consider-using-with
 
 
 def without_memory(top):
@@ -175,6 +203,7 @@ def cases(top):
     """Each part by its name."""
     return [case("ending: closed streams", closed, top), case("ending: full devices and readers", unwritten, top),
             case("ending: signals", stopped, top), case("ending: no room", without_room, top),
+            case("ending: no room at all", without_any_room, top),
             case("ending: early and late signals", early_and_late, top),
             case("ending: too little memory", without_memory, top), case("ending: errors", raising),
             case("ending: variables of Python", variables, top)]

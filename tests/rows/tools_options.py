@@ -80,10 +80,18 @@ LINES = (
     (wire_program, "a --dump", "--dump needs a value", None),
     (wire_program, "a --out", "--out needs a file", None),
     (wire_program, "a --out=", "--out needs a file", None),
+    (wire_program, "a --into=", "--into needs a file", None),
+    (wire_program, "a --out=--", "--out needs a value", None),
+    (wire_program, "a --timescale=", "--timescale needs a value", None),
+    (damage_program, "a --wire=", "--wire needs a value", None),
+    (demodulate_program, "a --table --column=", "--column needs a value", None),
     (wire_program, "a --invert=1", "--invert has no value", None),
     (wire_program, "a --dump 0", "--dump needs a whole number, at least 1, not '0'", None),
     (wire_program, "a --from -5", "--from needs a whole number, at least 0, not '-5'", None),
     (wire_program, "a --from \u0663", "--from needs a whole number, at least 0, not '\u0663'", None),
+    (demodulate_program, "a --level --threshold 0.5", ["a"], {"--level": True, "--threshold": 0.5}),
+    (demodulate_program, "a --level --threshold=.5", ["a"], {"--level": True, "--threshold": 0.5}),
+    (demodulate_program, "a --threshold 1_0", "--threshold needs a number, at least 0, not '1_0'", None),
     (damage_program, "a --format C", "--format is A, B, E or G, not 'C'", None),
     (mend_program, "a --expression 8", "--expression is 0, 1, 2, 3, 4, 5, 6 or 7, not '8'", None),
     (demodulate_program, "a --raw s17", "--raw is u8, s8, s16, s24, s32, f32, f64, s16be, s24be, s32be, f32be, f64be or text, "
@@ -103,7 +111,40 @@ def parted(program, line, wanted, values):
     return found == (wanted, values)
 
 
+# what Python takes as a number, and what is near to one
+NO_NUMBERS = ("1_0", " 10", "10 ", "+1", "-1", "1e3", "\u0663", "\u00b2", "0x10", "inf", "nan", "1,5", ".", "", "1" * 99)
+
+
+def plain_digits(program):
+    """Each option with a number takes digits, and no other form."""
+    for option in program.COMMAND.options:
+        for word in NO_NUMBERS if option.value in ("N", "TIME", "HERTZ") else ():
+            try:
+                found = program.COMMAND.parse(["a", "%s=%s" % (option.name, word)]).values
+            except Usage as error:
+                found = str(error)
+            good = found in ("%s needs a %snumber, at least %d, not '%s'" % (option.name, kind, least, word)
+                             for kind in ("", "whole ") for least in (0, 1))
+            good or print("FAILED %s %s=%s: %s" % (program.COMMAND.name, option.name, word, found))
+            yield good
+
+
+def empty():
+    """An operand that is empty is none; a wire can be called by nothing, and then none is found."""
+    for program, names, said in ((wire_program, [""], "no DUMP is given"), (damage_program, [""], "no TRACK is given"),
+                                 (wire_program, ["a", ""], "")):
+        try:
+            found = program.COMMAND.parse(names).names
+        except Usage as error:
+            found = str(error)
+        found == (said or names) or print("FAILED %s %s: %s" % (program.COMMAND.name, names, found))
+        yield found == (said or names)
+
+
 def cases(top):
     """Each row by its name."""
     return [*(case("options: pages of " + program.COMMAND.name, described, top, program.COMMAND) for program in PROGRAMS),
+            case("options: an empty operand", empty),
+            *(case("options: numbers of " + program.COMMAND.name, plain_digits, program)
+              for program in (wire_program, demodulate_program, damage_program)),
             *(case("options: %s %s" % (line[0].COMMAND.name, line[1]), parted, *line) for line in LINES)]

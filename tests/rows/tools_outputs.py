@@ -57,6 +57,7 @@ REFUSED = (
     ("irig_mend rec.vcd >> hard.vcd", "the standard output"),
     ("irig_what rec.vcd >> rec.vcd", "the standard output"),
     ("irig_wire rec.vcd >> rec.vcd", "the standard output"),
+    ("irig_wire --out /dev/stdout rec.vcd >> rec.vcd", "--out /dev/stdout"),
     ("irig_wire - < rec.vcd >> rec.vcd", "the standard output"),
     ("irig_wire --invert link.vcd 1<> rec.vcd", "the standard output"),
     ("irig_demodulate rec.wav 1<> rec.wav", "the standard output"),
@@ -75,6 +76,28 @@ def refused(top):
             good = good and said.startswith("%s: %s would write over the file" % (command.split()[0], what))
         good or print("FAILED %s: status %d, %s" % (command, status, said))
         yield good
+
+
+# command lines with two outputs in one file, and both
+ONE_FILE = (
+    ("irig_damage --page list rec.vcd > list", "--page list and the standard output"),
+    ("irig_damage --picture /dev/stdout rec.vcd", "--picture /dev/stdout and the standard output"),
+    ("irig_damage --quiet --page - --picture /dev/stdout rec.vcd", "--page - and --picture /dev/stdout"),
+    ("irig_damage --page list --picture ./list rec.vcd", "--page list and --picture ./list"),
+    ("irig_mend --page list rec.vcd >> list", "--page list and the standard output"),
+    ("irig_mend --apply list --out /dev/stdout rec.vcd > list", "--out /dev/stdout and --apply list"),
+)
+
+
+def apart(top):
+    """Two outputs in one file: nothing is read, and one line says so."""
+    for command, both in ONE_FILE:
+        with tempfile.TemporaryDirectory() as folder:
+            filled(folder)
+            ended = shell(top, folder, command)
+            good = ended == (2, "", "%s: %s are one file\n" % (command.split()[0], both))
+            good or print("FAILED %s: %s" % (command, ended))
+            yield good
 
 
 # name of the file, its text, how the last line begins
@@ -140,8 +163,11 @@ def whole(top):
         filled(folder)
         os.mkdir(os.path.join(folder, "dir"))
         before = contents(folder)
-        for command, text in (("irig_damage --page dir rec.vcd", "irig_damage: %s/dir: Is a directory\n" % folder),
+        os.symlink("circle", os.path.join(folder, "circle"))
+        for command, text in (("irig_damage --page dir rec.vcd", "irig_damage: dir: Is a directory\n"),
                               ("irig_damage --page none/a rec.vcd", "irig_damage: none/a: No such file or directory\n"),
+                              ("irig_damage --page circle rec.vcd", "irig_damage: circle: Too many levels of symbolic links\n"),
+                              ("irig_damage --page %s rec.vcd" % ("p" * 256), "irig_damage: %s: File name too long\n" % ("p" * 256)),
                               ("irig_damage --page /dev/full rec.vcd", "irig_damage: /dev/full: No space left on device\n")):
             status, printed, said = shell(top, folder, command)
             good = (status, printed) == (2, "") and said.endswith(text) and contents(folder) == before
@@ -155,6 +181,29 @@ def whole(top):
         good = good and os.path.islink(os.path.join(folder, "to_page"))
         good or print("FAILED a page, and a picture through a link: %d %s" % (status, heads))
         yield good
+
+
+# a command line whose standard output has all of a track, and nothing else
+DIRECT = (
+    "irig_wire rec.vcd --out /dev/stdout | cat", "irig_wire rec.vcd --out /dev/fd/1 | cat",
+    "irig_wire rec.vcd --out /dev/stderr 2>&1 > fresh | grep -v ^irig_wire:", "irig_wire rec.vcd --out /dev/fd/3 3>&1 > fresh | cat",
+    "mkfifo pipe; irig_wire rec.vcd --out pipe & cat pipe", "echo old > log; irig_wire rec.vcd --out /dev/stdout >> log; sed 1d log",
+    "echo old > log; irig_wire rec.vcd --out log >> log; sed 1d log",
+    "exec 3<> log; rm log; irig_wire rec.vcd --out /dev/fd/3; cat /dev/fd/3; ls log* 2>&-",
+    "ln -s log link; echo old > log; irig_wire rec.vcd --out link; cat log; [ -L link ]",
+    "irig_wire rec.vcd --out " + "p" * 255 + "; cat p*")
+
+
+def direct(top):
+    """A pipe, a device, the standard output, and a file without a name are written directly, all others as a whole."""
+    for command in DIRECT:
+        with tempfile.TemporaryDirectory() as folder:
+            filled(folder)
+            status, printed, _ = shell(top, folder, command)
+            edges = [int(word[1:]) for word in printed.split() if word[0] == "#"]
+            good = printed.startswith("$timescale 1 us $end\n") and edges == [0, *(time for time, _ in DAMAGED[0]), DAMAGED[1]]
+            good or print("FAILED %s: %d %s" % (command, status, printed[:200]))
+            yield good
 
 
 def mode_of(folder, name):
@@ -172,6 +221,19 @@ def called(name, begin):
         return good
 
 
+def long_path():
+    """A path of 4,095 bytes, the longest there is, has a file, although the path of the new one would be longer."""
+    with tempfile.TemporaryDirectory() as folder:
+        path = os.path.realpath(folder)
+        while len(path) < 4095 - 300:
+            path = os.path.join(path, "d" * 200)
+        path = os.path.join(path, "d" * (4095 - len(path) - 102))
+        os.makedirs(path)
+        path = os.path.join(path, "p" * 100)
+        output.write(path, "text")
+        return len(path) == 4095 and os.stat(path).st_size == 4
+
+
 def replaced():
     """A file that is replaced keeps its mode, and one that may not be written stays."""
     with tempfile.TemporaryDirectory() as folder:
@@ -186,6 +248,12 @@ def replaced():
             except OSError as error:
                 said = "%s: %s" % (error.filename, error.strerror)
         yield (said, contents(folder)) == (path + ": Permission denied", {"page": b"second"})
+        with mock.patch("os.replace", lambda name, _: os.rmdir(name)):
+            try:
+                output.write(path, "fourth")
+            except OSError as error:
+                said = "%s: %s" % (error.filename, error.strerror)
+        yield (said, contents(folder)) == (path + ": Not a directory", {"page": b"second"})
 
 
 def interrupted():
@@ -209,8 +277,10 @@ def cases(top):
     """Each part by its name."""
     return [case("outputs: refused", refused, top), case("outputs: proposed commands", proposed, top),
             case("outputs: proposed repairs", mended, top),
-            case("outputs: whole files", whole, top), case("outputs: a file that is replaced", replaced),
-            case("outputs: a signal at the end", interrupted),
+            case("outputs: whole files", whole, top), case("outputs: no regular files", direct, top),
+            case("outputs: two in one", apart, top),
+            case("outputs: a long path", long_path),
+            case("outputs: a file that is replaced", replaced), case("outputs: a signal at the end", interrupted),
             *(case("outputs: a new file of %d letters" % len(name), called, name, begin) for name, begin in (
-                ("page", ".page.irig_ed-new-"), ("p" * 200, "." + "p" * 200 + ".irig_ed-new-"), ("p" * 201, ".irig_ed-new-"),
+                ("page", ".page.irig_ed-new-"), ("p" * 233, "." + "p" * 233 + ".irig_ed-new-"), ("p" * 234, ".irig_ed-new-"),
                 ("\u00e4" * 120, ".irig_ed-new-")))]

@@ -151,10 +151,18 @@ def refused():
             ([], head + "0,0\n" * 20000 + "1,2\n", "line 20002 has no level of 0 or 1"),
             ([], head + "0,0.5\n1,1\n5,2\n6,2\n", "its samples do not come at even times, first in row 3; with --rate"),
             ([], head + "0,5\n", "all the same, so they show no rate"), ([], head + "0,nan\n", "no row of numbers"),
+            ([], head + "0,0\n1_0,1\n", "line 3 has no number in column 1"),
+            ([], head + "0,0\n\u0661,1\n", "line 3 has no number in column 1"),
+            (["--column=\u00b2"], head + "0,0\n1,1\n", "has no column '\u00b2'"),
+            (["--rate=5", "--time-column=1"], head + "0,0\n", "--rate and --time-column exclude each other"),
             ([], "5" * 20000, "is too long"), (["--raw=text"], head, "--table has no --raw")):
         status, _, shown = run("irig_demodulate", ["--table", *words, "-"], text.encode())
         results.append(status == 2 and said in shown)
         results[-1] or print("FAILED irig_demodulate --table of %r: %d %s" % (text[:30], status, shown))
+    for rate in ("1.5.3 MHz", ".", "1_000 Hz", "1,000,000 Hz", "1e6 Hz", "0.3 Hz", "1.5 Hz", "9" * 400):
+        status, _, shown = run("irig_demodulate", ["--table", "-"], ("; Samplerate: %s\nA\n0\n1\n" % rate).encode())
+        results.append(status == 2 and "has no column of times; name it by --time-column, or give --rate" in shown)
+        results[-1] or print("FAILED irig_demodulate --table at %.20s: %d %s" % (rate, status, shown))
     status, _, shown = run("irig_demodulate", ["--column=A", "-"], b"")
     return [*results, status == 2 and "need --table" in shown]
 
@@ -210,6 +218,7 @@ def no_sigrok():
     results = []
     for data, text in (
             (other.getvalue(), "sigrok did not write"), (packed()[:-30], "cannot be read"), (packed(rate="0 Hz"), "lacks a rate"),
+            (packed(rate="0.3 Hz"), "lacks a rate"), (packed(rate="1.5.3 MHz"), "lacks a rate"),
             (packed(size=9), "lacks a rate, a size"), (analog.getvalue(), "has no logic channels"), (b"PK\3\4abc", "cannot be read")):
         status, _, said = run("irig_wire", ["-", "code"], data)
         results.append(status == 2 and text in said)

@@ -48,6 +48,7 @@ ROWS = [
     ("a unit with a point", (HEAD + UP).replace("1 us", "0.5 us"), [], [(2500, 1), (3500, 0), (4500, None)], 0, ""),
     ("a unit with a Greek letter", (HEAD + UP).replace("1 us", "1 \u00b5s"), [], EDGES, 0, "written as 1 us"),
     ("no unit", (HEAD + UP).replace("$timescale 1 us $end", ""), [], None, 2, "give one, as --timescale 1ns"),
+    ("a unit in other digits", HEAD + UP, ["--timescale", "\u0661us"], None, 2, "is no unit of time"),
     ("no unit, but an option", (HEAD + UP).replace("$timescale 1 us $end", ""), ["--timescale", "1us"], EDGES, 0, ""),
     ("a unit that is none", (HEAD + UP).replace("1 us", "1 fortnight"), [], None, 2, "is no unit of time"),
     ("sigrok's first line", "META samplerate: 1 MHz\n" + HEAD + UP, [], EDGES, 0, "before the header"),

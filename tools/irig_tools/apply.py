@@ -4,6 +4,7 @@ from __future__ import annotations
 import os
 import shutil
 import subprocess
+from contextlib import ExitStack
 from dataclasses import dataclass
 from typing import Dict, List, Optional, Sequence
 
@@ -17,8 +18,8 @@ from .joining import frames_at_fault, joined
 from .opening import Opened
 from .output import output
 from .put_back import PutBack, TrackEdges
-from .readings import given
 from .script import Repair
+from .temporary import temporary_script
 from .wire import Wish
 
 HEAD = b"$timescale 1 us $end\n"  # how a dump of the editor begins
@@ -130,11 +131,11 @@ def lines_of_all(script: Sequence[Repair]) -> List[str]:
 
 def _run(command: List[str], path: str, lines: Sequence[str], out: str) -> List[str]:
     """The lines that a program prints that runs a script on a track and writes a file."""
-    try:
-        with given("".join(line + "\n" for line in lines)) as script:
+    with temporary_script("".join(line + "\n" for line in lines)) as script:
+        try:
             done = subprocess.run([*command, "--out", out, path], stdin=script, capture_output=True, check=False)
-    except OSError as error:
-        raise Problem("%s cannot be run: %s" % (command[0], error.strerror)) from error
+        except OSError as error:
+            raise Problem("%s cannot be run: %s" % (command[0], error.strerror)) from error
     said = done.stderr.decode(errors="replace").strip()
     if done.returncode not in (0, 1) or not os.path.exists(out):
         raise Problem("%s (it writes %s)" % (said or "%s ended with status %d" % (command[0], done.returncode), out))
@@ -150,7 +151,7 @@ def _refused_by_guard(lines: Sequence[str], kept: Sequence[str]) -> int:
 
 def sound_frames(options: Sequence[str], path: str) -> int:
     """How many frames of a track are fine."""
-    with given("frames\n") as script:
+    with temporary_script("frames\n") as script:
         done = subprocess.run([find_editor(), *options, path], stdin=script, stdout=subprocess.PIPE,
                               stderr=subprocess.DEVNULL, check=False)
     if done.returncode:
@@ -160,8 +161,9 @@ def sound_frames(options: Sequence[str], path: str) -> int:
 
 @dataclass
 class Target:
-    """Where the repaired recording goes."""
+    """Where the repaired recording goes, with all outputs: each gets its name in the end, if all went well."""
 
+    outputs: ExitStack
     out: str
     into: Optional[str] = None  # the file whose wire is replaced
     wire: Optional[str] = None  # its name there
@@ -169,17 +171,17 @@ class Target:
     dump: Optional[int] = None
 
     def write(self, repaired: str, track: Opened) -> List[str]:
-        """Writes the repaired track, whole or not at all; what is said of it."""
-        with output(self.out) as out:
-            if self.into is None:
-                with open(repaired, "rb") as source:
-                    out.write(_with_offset(source.read(len(HEAD)), track))
-                    shutil.copyfileobj(source, out)
-                return []
-            level = TrackEdges(repaired, None)
-            level.offset = track.offset
-            wish = Wish(self._wire(track), self.unit, self.dump)
-            report = PutBack(self.into, wish, level, out).run()
+        """Writes the repaired track; what is said of it."""
+        out = self.outputs.enter_context(output(self.out))
+        if self.into is None:
+            with open(repaired, "rb") as source:
+                out.write(_with_offset(source.read(len(HEAD)), track))
+                shutil.copyfileobj(source, out)
+            return []
+        level = TrackEdges(repaired, None)
+        level.offset = track.offset
+        wish = Wish(self._wire(track), self.unit, self.dump)
+        report = PutBack(self.into, wish, level, out).run()
         return report.done + report.doubtful
 
     def _wire(self, track: Opened) -> Optional[str]:

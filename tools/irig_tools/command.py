@@ -10,7 +10,7 @@ import sys
 from contextlib import contextmanager
 from typing import Callable, Iterator, Tuple, Union
 
-from .editor import Problem
+from .editor import Problem, called
 from .ending import DEFECT, INTERRUPTED, SIGNALLED, Stopped, ended, heed_signals, unheed_signals
 from .options import HELP, VERSION, Command, Given
 from .temporary import named_if_no_room, temporary_track
@@ -36,11 +36,22 @@ def kept(path: str) -> Iterator[str]:
         with sys.stdin.buffer if path == "-" else open(path, "rb") as source, named_if_no_room():
             shutil.copyfileobj(source, copy)
             copy.flush()
-        try:
+        with called(copy.name, "standard input" if path == "-" else path):
             yield copy.name
-        except Problem as error:  # nobody knows the name of the copy
-            name = "standard input" if path == "-" else path
-            raise Problem(str(error).replace(copy.name, name)) from error
+
+
+@contextmanager
+def unchanged(path: str) -> Iterator[None]:
+    """A file that is read more than once has to stay as it is: a repair would be made of two recordings."""
+    before = _state(path)
+    yield
+    if _state(path) != before:
+        raise Problem("%s: changed while it was read" % path)
+
+
+def _state(path: str) -> Tuple[int, ...]:
+    found = os.stat(path)
+    return found.st_dev, found.st_ino, found.st_size, found.st_mtime_ns
 
 
 def as_given(error: UnicodeError) -> Tuple[Union[str, bytes], int]:

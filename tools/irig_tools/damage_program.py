@@ -12,7 +12,7 @@ from .editor import Editor, progress_to
 from .ending import ALL_RIGHT, FOUND, complain
 from .facts import damages_as_json
 from .opening import Opened, opened
-from .options import DUMP, EDITOR, JSON, QUIET, TIMESCALE, WIRE, Command, Given, Option, a_file
+from .options import DUMP, EDITOR, JSON, QUIET, TIMESCALE, WIRE, Command, Given, Option
 from .output import check_apart, write
 from .overview import sheet_of
 from .page import page
@@ -20,8 +20,8 @@ from .picture import picture
 from .sheet import Sheet
 
 PAGE = Option("--page", "FILE", "also writes a page (HTML) to look at: the whole recording, and each place as a "
-              "waveform", a_file)
-PICTURE = Option("--picture", "FILE", "also writes a picture (SVG) of the recording", a_file)
+              "waveform")
+PICTURE = Option("--picture", "FILE", "also writes a picture (SVG) of the recording")
 COUNT = Option("--count", about="prints only how many places are damaged")
 COMMAND = Command("irig_damage", ("TRACK",), """\
 Lists where a recording of IRIG 200-04 time code is damaged, in the order of
@@ -41,7 +41,7 @@ read, and 70 if memory ran out or the tool has a defect.
 
 def work(given: Given) -> int:
     name = given.names[0]
-    check_apart(name, [(option.name, given.text(option)) for option in (PAGE, PICTURE)])
+    check_apart(name, [(option.name, given.text(option)) for option in (PAGE, PICTURE)], not given.has(QUIET))
     with kept(name) as path, opened(path, name, given, given.text(WIRE)) as track:
         if not given.has(QUIET):
             say_notes(track, COMMAND.name)

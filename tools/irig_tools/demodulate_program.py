@@ -1,8 +1,6 @@
 """The program irig_demodulate."""
 from __future__ import annotations
 
-import argparse
-import math
 from typing import IO, Callable, Union
 
 from .carrier import CARRIERS, Carrier
@@ -11,21 +9,10 @@ from .dump_offset import Offset
 from .ending import ALL_RIGHT, FOUND, Usage, complain
 from .layout import INTERVAL
 from .levels import Levels
-from .options import OUTPUT, Command, Given, Option, whole
+from .options import OUTPUT, Command, Given, Option, a_number, whole
 from .output import check_apart, output
 from .samples import MICROSECONDS, RAW, Samples
 from .table import Steps, Table
-
-
-def a_distance(word: str) -> float:
-    """Reads a distance of two levels."""
-    try:
-        value = float(word)
-    except ValueError:
-        value = math.nan
-    if not 0 <= value < math.inf:
-        raise argparse.ArgumentTypeError("needs a number, at least 0, not '%s'" % word)
-    return value
 
 
 CARRIER_FORMAT = Option("--format", "A|B|E", "the format of code on a carrier (10 kHz, 1 kHz, 100 Hz); B if it is not given",
@@ -33,7 +20,7 @@ CARRIER_FORMAT = Option("--format", "A|B|E", "the format of code on a carrier (1
 CARRIER = Option("--carrier", "HERTZ", "another carrier: 1000 for format E", whole(1))
 LEVEL = Option("--level", about="the code is not on a carrier: the samples are its level")
 THRESHOLD = Option("--threshold", "N", "with --level: low and high that are no further apart are noise; if it is not "
-                   "given, a thousandth of the whole range of integers of 16 bits or more, and else 0", a_distance)
+                   "given, a thousandth of the whole range of integers of 16 bits or more, and else 0", a_number)
 CHANNEL = Option("--channel", "N", "the channel of the WAV file, from 1", whole(1))
 SWAP = Option("--swap", about="the recorder swapped plus and minus; code on a carrier shows it if neither this nor "
               "--no-swap is given")
@@ -67,7 +54,7 @@ ADVICE = {Carrier: "if the code is not on a carrier but a level, use --level",
 
 def check_options(given: Given) -> None:
     """Refuses options that exclude each other, and those that another one needs: none is left out in silence."""
-    for one, other in ((SWAP, NO_SWAP), (LEVEL, CARRIER)):
+    for one, other in ((SWAP, NO_SWAP), (LEVEL, CARRIER), (RATE, TIME_COLUMN)):
         if given.has(one) and given.has(other):
             raise Usage("%s and %s exclude each other" % (one.name, other.name))
     if given.has(TABLE) and (given.has(KIND) or given.has(CHANNEL)):

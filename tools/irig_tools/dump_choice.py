@@ -7,7 +7,7 @@ from typing import Dict, List, NamedTuple, Optional, Tuple
 from .dump_header import Header, Wire, shown
 from .editor import Problem
 
-BIT = re.compile(r"(.+)\[(-?\d{1,9})\]", re.S)
+BIT = re.compile(r"(.+)\[(-?[0-9]{1,9})\]", re.S)
 MOST_SHOWN = 20
 
 

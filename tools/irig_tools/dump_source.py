@@ -6,9 +6,7 @@ import codecs
 import gzip
 import io
 import lzma
-import shutil
 import sys
-import tempfile
 import zlib
 from itertools import chain
 from typing import IO, Callable, Iterator, List, Tuple, cast
@@ -16,6 +14,7 @@ from typing import IO, Callable, Iterator, List, Tuple, cast
 from . import sigrok
 from .editor import Problem
 from .progress import metered
+from .temporary import temporary_copy
 
 DUMP_BLOCK = 1 << 17  # bytes that are read at once
 ZIP = b"PK\x03\x04"  # how a file of sigrok begins
@@ -114,8 +113,7 @@ class Source:
     def _of_sigrok(self, stream: IO[bytes]) -> Iterator[bytes]:
         """A file of sigrok, of which a copy is made: its list of files is at its end."""
         self.notes.append("the channels of a file of sigrok were made wires")
-        with tempfile.TemporaryFile() as copy:
-            shutil.copyfileobj(stream, copy)
+        with temporary_copy(stream) as copy:
             yield from sigrok.dump_of(copy, self.path)
 
     def _plain(self, stream: IO[bytes]) -> Iterator[bytes]:

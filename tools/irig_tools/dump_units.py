@@ -10,7 +10,7 @@ from .editor import Problem
 UNIT_NAMES = ("s", "ms", "us", "ns", "ps", "fs")
 FEMTOSECONDS = {name: int(10 ** (15 - 3 * place)) for place, name in enumerate(UNIT_NAMES)}
 MICROSECOND = FEMTOSECONDS["us"]
-UNIT_FORM = re.compile(r"(\d{1,30}(?:\.\d{1,30})?)?\s*([munpf\u00b5\u03bc]?)s(?:ec)?")
+UNIT_FORM = re.compile(r"([0-9]{1,30}(?:\.[0-9]{1,30})?)?\s*([munpf\u00b5\u03bc]?)s(?:ec)?")
 
 
 @dataclass

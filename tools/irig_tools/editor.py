@@ -5,10 +5,12 @@ import os
 import shutil
 import subprocess
 import tempfile
+from contextlib import contextmanager
 from dataclasses import dataclass, field
 from functools import lru_cache
-from typing import IO, Callable, List, Optional, Sequence, Set
+from typing import IO, Callable, Iterator, List, Optional, Sequence, Set
 
+from .temporary import temporary_script
 from .units import Microseconds
 
 CLASSES = {b"zero": "0", b"one": "1", b"position": "P", b"bad": "b"}
@@ -20,6 +22,15 @@ Progress = Callable[[str], None]
 
 class Problem(Exception):
     """A track that is not read, or an editor that is not found; the text says which."""
+
+
+@contextmanager
+def called(hidden: str, name: str) -> Iterator[None]:
+    """A complaint has the name of a file that the user knows, and not that of its copy."""
+    try:
+        yield
+    except Problem as error:
+        raise Problem(str(error).replace(hidden, name)) from error
 
 
 @dataclass
@@ -111,11 +122,8 @@ class Editor:
 
     def ask(self, blocks: Sequence[Sequence[str]]) -> Listing:
         """The listing of the track after these blocks of lines."""
-        with tempfile.TemporaryFile() as script:
-            for lines in blocks:
-                script.write("\n".join([*lines, "info", ""]).encode())
-            script.write(b"info\n,list\n")
-            script.seek(0)
+        lines = [line for block in blocks for line in (*block, "info")]
+        with temporary_script("\n".join([*lines, "info", ",list", ""])) as script:
             return self._run(script, len(blocks))
 
     def _run(self, script: IO[bytes], blocks: int) -> Listing:

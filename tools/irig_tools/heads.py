@@ -2,18 +2,19 @@
 from __future__ import annotations
 
 import re
+from fractions import Fraction
 from typing import List, NamedTuple, Optional, Sequence
 
+from .digits import FRACTION, NUMBER, WHOLE
 from .editor import Problem
 
 SECONDS_IN = {"s": 1.0, "sec": 1.0, "second": 1.0, "seconds": 1.0, "ms": 1e-3, "us": 1e-6, "\u00b5s": 1e-6, "\u03bcs": 1e-6,
               "ns": 1e-9, "ps": 1e-12}
 NO_TIMES = ("v", "mv", "volt", "volts", "sequence")
 TIME = re.compile(r"(?i)\W*(time|t|timestamp|zeit|temps|x|x-axis|seconds?|sec)(\W.*|_(%s))?" % "|".join(SECONDS_IN))
-RATE_LINE = re.compile(r"(?i)\W*(?:meta )?samplerate\W*([0-9.]+) *([kmg]?)(?:hz)?")
+RATE_LINE = re.compile(r"(?i)\W*(?:meta )?samplerate\W*([0-9.]+) *([kmg]?)(?:hz)?\W*")
 CHANNELS = re.compile(r"; *Channels \([0-9/]+\): *(.*)")  # of sigrok, which can call each column `logic`
 PREFIXES = {"": 1, "k": 1000, "m": 1000000, "g": 1000000000}
-NUMBER = re.compile(r"[+-]?(\d+\.?\d*|\.\d+)([eE][+-]?\d+)?")
 
 
 class Columns(NamedTuple):
@@ -48,10 +49,16 @@ def is_row(line: str, places: Sequence[int]) -> bool:
 def rate_of(heads: Sequence[str]) -> int:
     """The samples in a second that the heads of sigrok name; 0 if they do not."""
     for head in heads:
-        found = RATE_LINE.match(head)
+        found = RATE_LINE.fullmatch(head)
         if found:
-            return round(float(found[1]) * PREFIXES[found[2].lower()])
+            return hertz(found[1], found[2])
     return 0
+
+
+def hertz(number: str, prefix: str) -> int:
+    """A rate that a file names, with a prefix as k; 0 if it is no whole number."""
+    rate = Fraction(number if FRACTION.fullmatch(number) else 0) * PREFIXES[prefix.lower()]
+    return int(rate) if rate.denominator == 1 else 0
 
 
 class Heads:
@@ -100,7 +107,7 @@ class Heads:
             raise Problem("%s: has several columns '%s'; give the number of one, from 1" % (self.path, name))
         if name in self.names:
             return self.names.index(name)
-        if name.isdigit() and 1 <= int(name) <= self.count:
+        if WHOLE.fullmatch(name) and 1 <= int(name) <= self.count:
             return int(name) - 1
         listed = ", ".join(filter(None, self.names)) or "the numbers 1 to %d" % self.count
         raise Problem("%s: has no column '%s'; there are: %s" % (self.path, name, listed))

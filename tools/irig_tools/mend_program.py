@@ -4,13 +4,13 @@ from __future__ import annotations
 import gc
 import os
 import sys
-from contextlib import ExitStack
-from typing import List, Optional, Sequence, Tuple
+from contextlib import ExitStack, contextmanager
+from typing import Iterator, List, Optional, Sequence, Tuple
 
 from .again import Names, again
 from .analysis import START, examine
 from .changes import changes_of, find_differ
-from .command import kept, run
+from .command import kept, run, unchanged
 from .apply import Summary, Target, as_object, find_guard, run_script, sound_frames, summary
 from .damage import Seen, look
 from .damage_program import say_notes
@@ -20,24 +20,24 @@ from .explain import explained
 from .facts import UNDECIDED, json_lines, repairs_as_json
 from .mend import called_for, propose, script_text
 from .opening import Opened, is_of_one_wire, opened
-from .options import DUMP, EDITOR, JSON, OUTPUT, TIMESCALE, WIRE, Command, Given, Option, a_file
-from .output import check_apart, new_file, output, write
+from .options import DUMP, EDITOR, JSON, OUTPUT, TIMESCALE, WIRE, Command, Given, Option
+from .output import check_apart, is_standard_output, output
 from .overview import sheet_of
 from .page import page
 from .script import Repair
 from .temporary import temporary_folder
 
 PAGE_OF_REPAIRS = Option("--page", "FILE", "also writes a page (HTML) to look at: the whole recording, each place before and "
-                         "after its repair, and the script; with --apply what was changed, as irig_diff prints it", a_file)
+                         "after its repair, and the script; with --apply what was changed, as irig_diff prints it")
 STEADY = Option("--steady", about="the control functions never change: what one frame alone has is damage")
 MOVE = Option("--move", about="moves the rest if it comes late, and takes out what is there twice: only if the time "
               "code has a clock of its own, and no other wire slipped with it")
 EXPLAIN = Option("--explain", about="prints instead how the script follows: the clock, the runs and their costs, the "
                  "frames and their votes, and the places")
 APPLY = Option("--apply", "FILE", "runs the script, writes the repaired recording as this file, whole or not at all, and "
-               "prints what became of it", a_file)
+               "prints what became of it")
 SAVE = Option("--save", about="with --apply: the file keeps the steps, so that each can be undone")
-INTO = Option("--into", "ORIGINAL", "with --apply: writes this file with the repaired track instead of its wire", a_file)
+INTO = Option("--into", "ORIGINAL", "with --apply: writes this file with the repaired track instead of its wire")
 COMMAND = Command("irig_mend", ("TRACK",), """\
 Proposes a script that repairs a recording of IRIG 200-04 time code, or runs it.
 Before each repair a comment says what was seen and why this repair follows. What
@@ -67,20 +67,21 @@ def find_programs(given: Given) -> None:
 
 
 def work(given: Given) -> int:
-    name = given.names[0]
     check(given)
     find_programs(given)
     progress = progress_to(sys.stderr)
-    with kept(name) as path, opened(path, name, given, wire_of(given, path)) as track:
+    with ExitStack() as outputs, taken(given) as (track, original):
         say_notes(track, COMMAND.name)
         editor = Editor(track.words)
         if given.has(EXPLAIN):
             return explain(editor, given)
         script = propose(editor, progress, given.has(STEADY), given.has(MOVE))
         if given.has(APPLY):
-            done, reasons = apply(given, track, script, progress)
+            target = Target(outputs, given.text(APPLY) or "", original, given.text(WIRE) or track.wire,
+                            given.text(TIMESCALE), given.number(DUMP))
+            done, reasons = apply(given, track, script, progress, target)
         else:
-            draw_proposal(given, editor, script, progress)
+            draw_proposal(given, editor, script, progress, outputs)
     if given.has(OUTPUT) or not given.has(APPLY):
         with output(given.text(OUTPUT)) as out:
             out.write((repairs_as_json(script, track.offset) if given.has(JSON) else script_of(script, track)).encode("utf-8"))
@@ -109,17 +110,14 @@ def check(given: Given) -> None:
     for option in (SAVE, INTO):
         if given.has(option) and not given.has(APPLY):
             raise Usage("%s is only for --apply" % option.name)
-    if given.has(EXPLAIN) and given.has(APPLY):
-        raise Usage("--explain and --apply exclude each other")
+    for option in (APPLY, PAGE_OF_REPAIRS, JSON):
+        if given.has(EXPLAIN) and given.has(option):
+            raise Usage("--explain and %s exclude each other" % option.name)
     if given.has(SAVE) and given.has(INTO):
         raise Usage("--save and --into exclude each other: the steps are those of a track alone")
-    if given.text(APPLY) == "-" and given.text(OUTPUT) == "-":
-        raise Usage("--apply and --out cannot both be standard output")
-    if given.text(INTO) == "-":
-        raise Usage("--into needs a file, and not standard input")
     outputs = [(option.name, given.text(option)) for option in (PAGE_OF_REPAIRS, OUTPUT, APPLY)]
     for source in filter(None, (given.names[0], given.text(INTO))):
-        check_apart(source, outputs)
+        check_apart(source, outputs, not given.has(APPLY) and not given.has(OUTPUT))
 
 
 def wire_of(given: Given, path: str) -> Optional[str]:
@@ -127,31 +125,49 @@ def wire_of(given: Given, path: str) -> Optional[str]:
     return None if given.text(INTO) is not None and is_of_one_wire(path) else given.text(WIRE)
 
 
-def draw_proposal(given: Given, editor: Editor, script: List[Repair], progress: Progress) -> None:
+@contextmanager
+def taken(given: Given) -> Iterator[Tuple[Opened, Optional[str]]]:
+    """The track, and the path of the file that it goes back into, if it does."""
+    name = given.names[0]
+    with kept(name) as path, unchanged(path), original_of(given, path) as original:
+        with opened(path, name, given, wire_of(given, path)) as track:
+            yield track, original
+
+
+@contextmanager
+def original_of(given: Given, path: str) -> Iterator[Optional[str]]:
+    """The path of the file that the track goes back into, if it does: it is read twice. The track has this path."""
+    into = given.text(INTO)
+    if into is None or into == given.names[0]:
+        yield into and path
+        return
+    with kept(into) as original, unchanged(original):
+        yield original
+
+
+def draw_proposal(given: Given, editor: Editor, script: List[Repair], progress: Progress, outputs: ExitStack) -> None:
     """Writes the page of what is proposed, if it is asked for."""
     path = given.text(PAGE_OF_REPAIRS)
     if path is not None:
         after = editor.ask([repair.lines() for repair in script])
         seen = look(editor, progress, given.has(STEADY))
-        write(path, page(sheet_of(os.path.basename(given.names[0]), seen, script, after)))
+        drawn = page(sheet_of(os.path.basename(given.names[0]), seen, script, after))
+        outputs.enter_context(output(path)).write(drawn.encode("utf-8"))
 
 
-def apply(given: Given, track: Opened, script: List[Repair], progress: Progress) -> Tuple[Summary, Sequence[str]]:
+def apply(given: Given, track: Opened, script: List[Repair], progress: Progress, target: Target) -> Tuple[Summary, Sequence[str]]:
     """Runs the script, writes what it gives, and counts what it did; why repairs are not kept."""
-    target = Target(given.text(APPLY) or "", given.text(INTO), given.text(WIRE) or track.wire, given.text(TIMESCALE),
-                    given.number(DUMP))
     with temporary_folder() as folder:
         repaired = os.path.join(folder, "repaired.vcd")
         before = look(Editor(track.words), progress, given.has(STEADY))
         refused = run_script(track, script, given.has(SAVE), repaired, given.has(MOVE), before.listing.kind)
         after = look(Editor([*track.code, repaired]), progress, given.has(STEADY))
         frames = sound_frames(track.options, track.path), sound_frames(track.code, repaired)
-        with ExitStack() as stack:
-            if given.has(PAGE_OF_REPAIRS):
-                drawn = drawing(given, track, script, before, after, repaired)
-                stack.enter_context(new_file(given.text(PAGE_OF_REPAIRS) or "")).write(drawn.encode("utf-8"))
-            for note in target.write(repaired, track):
-                complain(note, COMMAND.name)
+        if given.has(PAGE_OF_REPAIRS):
+            drawn = drawing(given, track, script, before, after, repaired)
+            target.outputs.enter_context(output(given.text(PAGE_OF_REPAIRS))).write(drawn.encode("utf-8"))
+        for note in target.write(repaired, track):
+            complain(note, COMMAND.name)
     return summary(before.damages, after.damages, script, frames, refused.lines), refused.reasons
 
 
@@ -166,7 +182,8 @@ def drawing(given: Given, track: Opened, script: List[Repair], before: Seen, aft
 
 def report(given: Given, script: List[Repair], done: Summary, reasons: Sequence[str]) -> None:
     """Prints what became of the recording, why repairs are not kept, and what nothing decides."""
-    stream = sys.stderr if given.text(APPLY) == "-" else sys.stdout
+    written = filter(None, map(given.text, (APPLY, OUTPUT, PAGE_OF_REPAIRS)))
+    stream = sys.stderr if any(map(is_standard_output, written)) else sys.stdout
     if given.has(JSON):
         stream.write(json_lines([as_object(done)]))
         return

@@ -9,7 +9,7 @@ from .dump_choice import Signal, choose, singles
 from .dump_header import Header, Reader, shown
 from .dump_offset import Offset
 from .dump_source import Source
-from .editor import Problem, find_editor
+from .editor import Problem, called, find_editor
 from .ending import Usage
 from .options import DUMP, EXPRESSION, FORMAT, TIMESCALE, WIRE, Given
 from .readings import EXPRESSIONS, best, is_opened, is_read, read
@@ -111,7 +111,8 @@ def opened(path: str, name: str, given: Given, wire: Optional[str]) -> Iterator[
             notes += Extract(path, wish, track).run().doubtful
             track.flush()
         found = taken.found.unit if taken and not taken.found.header.unit else None
-        yield Opened(track.name, code, wire, _offset(track.name), notes, unit=unit or found, dump=given.number(DUMP))
+        with called(track.name, path):
+            yield Opened(track.name, code, wire, _offset(track.name), notes, unit=unit or found, dump=given.number(DUMP))
 
 
 def check_code(given: Given) -> None:

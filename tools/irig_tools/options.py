@@ -6,7 +6,11 @@ from dataclasses import dataclass, field
 from functools import partial
 from typing import Any, Callable, Dict, List, Optional, Sequence, Tuple
 
+from .digits import FRACTION, WHOLE
 from .ending import Usage
+
+FILE_VALUES = "FILE", "ORIGINAL"  # how the value of an option is called that is a file
+NO_VALUE = "expected"  # how a complaint of argparse begins if a value is not there
 
 
 @dataclass(frozen=True)
@@ -21,7 +25,16 @@ class Option:
 
     def reader(self) -> Callable[[str], object]:
         """What makes a value of a word, or refuses it."""
-        return self.read or (lambda word: _one_of(self.choices, word) if self.choices else word)
+        if self.choices:
+            return partial(_one_of, self.choices)
+        return self.read or a_word
+
+
+def a_word(word: str) -> str:
+    """Reads a word; an empty one is as bad as none."""
+    if not word:
+        raise argparse.ArgumentTypeError(NO_VALUE)
+    return word
 
 
 def _one_of(choices: Sequence[str], word: str) -> str:
@@ -35,18 +48,18 @@ def whole(least: int) -> Callable[[str], int]:
     """Reads a whole number."""
 
     def read(word: str) -> int:
-        if not (word.isascii() and word.isdigit() and len(word) < 40 and int(word) >= least):
+        if not WHOLE.fullmatch(word) or int(word) < least:
             raise argparse.ArgumentTypeError("needs a whole number, at least %d, not '%s'" % (least, word))
         return int(word)
 
     return read
 
 
-def a_file(word: str) -> str:
-    """Reads the name of a file."""
-    if not word:
-        raise argparse.ArgumentTypeError("needs a file")
-    return word
+def a_number(word: str) -> float:
+    """Reads a number, perhaps with a point."""
+    if not FRACTION.fullmatch(word):
+        raise argparse.ArgumentTypeError("needs a number, at least 0, not '%s'" % word)
+    return float(word)
 
 
 HELP = Option("--help", about="prints this text")
@@ -60,7 +73,7 @@ EDITOR = (WIRE, FORMAT, EXPRESSION)  # those of irig_ed
 TIMESCALE = Option("--timescale", "UNIT", "the unit of time, as 1ns, instead of the one in the dump")
 JSON = Option("--json", about="prints an object in JSON for each, one a line")
 QUIET = Option("--quiet", about="prints nothing; the status says it")
-OUTPUT = Option("--out", "FILE", "the file to write, whole or not at all, instead of standard output", a_file)
+OUTPUT = Option("--out", "FILE", "the file to write, whole or not at all, instead of standard output")
 DUMP = Option("--dump", "N", "of several dumps in the file, the one with this number", whole(1))
 
 
@@ -123,6 +136,9 @@ class Command:
     def parse(self, words: Sequence[str]) -> Given:
         """Parts the words of a command line. After a word `--` all are operands; `-` is one, too."""
         end = list(words).index("--") if "--" in words else len(words)
+        for option in self.options:
+            if option.name + "=--" in words[:end]:  # which argparse takes for no value, in some versions of Python
+                raise Usage("%s needs a value" % option.name)
         try:
             values, names = self.parser().parse_known_args(list(words[:end]))
         except argparse.ArgumentError as error:
@@ -138,8 +154,9 @@ class Command:
     def _check(self, names: Sequence[str]) -> None:
         """Checks the number of operands."""
         needed = [operand for operand in self.operands if not operand.startswith("[")]
-        if len(names) < len(needed):
-            raise Usage("no %s is given" % needed[len(names)])
+        for place, operand in enumerate(needed):
+            if not any(names[place:place + 1]):
+                raise Usage("no %s is given" % operand)
         if len(names) > len(self.operands):
             raise Usage("'%s' is one too many; the operands are %s" % (
                 names[len(self.operands)], " ".join(self.operands)))
@@ -150,6 +167,6 @@ class Command:
         option = next(option for option in self.all_options() if option.name == name)
         if not option.value:
             return "%s has no value" % name
-        if error.message.startswith("expected"):
-            return "%s needs a %s" % (name, "file" if option.value == "FILE" else "value")
+        if error.message.startswith(NO_VALUE):
+            return "%s needs a %s" % (name, "file" if option.value in FILE_VALUES else "value")
         return "%s %s" % (name, error.message)

@@ -2,13 +2,12 @@
 from __future__ import annotations
 
 import subprocess
-import tempfile
-from contextlib import contextmanager
 from dataclasses import dataclass, field
-from typing import IO, Dict, Iterator, List, Optional, Sequence, Set
+from typing import Dict, List, Optional, Sequence, Set
 
 from .editor import CUT_OFF, Problem, find_editor, info_of
 from .layout import WITH_BINARY, WITH_CONTROL, WITH_YEAR
+from .temporary import temporary_script
 
 EXPRESSIONS = {"A": range(8), "B": range(8), "E": (1, 2, 5, 6), "G": (1, 2, 5, 6)}
 
@@ -65,7 +64,7 @@ def read(track: str, kind: str) -> Readings:
     found, row = Readings(), Reading(kind, 0)
     command = [find_editor(), "--out", "/dev/null", track]
     pipe = subprocess.PIPE
-    with given(script) as lines, subprocess.Popen(command, stdin=lines, stdout=pipe, stderr=pipe) as run:
+    with temporary_script(script) as lines, subprocess.Popen(command, stdin=lines, stdout=pipe, stderr=pipe) as run:
         assert run.stdout is not None and run.stderr is not None
         for line in run.stdout:
             words = line.decode(errors="replace").split()
@@ -82,15 +81,6 @@ def read(track: str, kind: str) -> Readings:
     return found
 
 
-@contextmanager
-def given(script: str) -> Iterator[IO[bytes]]:
-    """A script as a file: a pipe would break if the editor refuses the track."""
-    with tempfile.TemporaryFile() as lines:
-        lines.write(script.encode())
-        lines.seek(0)
-        yield lines
-
-
 def is_read(track: str, wire: Optional[str], pulses: int) -> bool:
     """Whether the editor reads the wire of this dump as it is."""
     said = _info(track, [] if wire is None else ["--wire=" + wire])
@@ -104,11 +94,11 @@ def is_opened(track: str, options: Sequence[str]) -> bool:
 
 def _info(track: str, options: Sequence[str]) -> Optional[bytes]:
     command = [find_editor(), *options, "--out", "/dev/null", track]
-    try:
-        with given("info\n") as lines:
+    with temporary_script("info\n") as lines:
+        try:
             run = subprocess.run(command, stdin=lines, capture_output=True, check=False)
-    except OSError as error:
-        raise Problem("irig_ed cannot be run: %s" % error.strerror) from error
+        except OSError as error:
+            raise Problem("irig_ed cannot be run: %s" % error.strerror) from error
     return None if run.returncode else run.stdout
 
 

@@ -7,6 +7,7 @@ from array import array
 from typing import IO, Iterator, List, Optional, Sequence, Tuple, cast
 
 from . import texts
+from .digits import NUMBER
 from .editor import Problem
 from .ending import Usage
 from .progress import metered
@@ -119,10 +120,8 @@ class Samples:
             yield values
 
     def _number(self, line: bytes, number: int) -> float:
-        try:
-            value = float(line) if len(line) < LONGEST_NUMBER else math.nan
-        except ValueError as error:
-            raise Problem("%s: line %d is no number" % (self.path, number)) from error
+        word = line.strip().decode("latin-1")
+        value = float(word) if NUMBER.fullmatch(word) and len(line) < LONGEST_NUMBER else math.nan
         if not -LARGEST <= value <= LARGEST:  # nor is it nan
             raise Problem("%s: line %d is no number from -1e30 to 1e30" % (self.path, number))
         return value

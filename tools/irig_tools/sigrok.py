@@ -7,8 +7,9 @@ import zipfile
 import zlib
 from typing import IO, Dict, Iterator, List, NamedTuple
 
+from .digits import WHOLE
 from .editor import Problem
-from .heads import PREFIXES
+from .heads import hertz
 
 SAMPLE_BLOCK = 1 << 20  # bytes that are read at once
 LONGEST_METADATA = 1 << 16  # bytes of what describes the samples
@@ -49,14 +50,15 @@ def _capture(folder: zipfile.ZipFile, path: str) -> Capture:
     if not devices:
         raise Problem("%s: has no logic channels; sigrok-cli writes analog ones as CSV, for irig_demodulate --table" % path)
     device = devices[0]
-    rate, size = SAMPLERATE.fullmatch(device.get("samplerate", "").strip()), device.get("unitsize", "1")
+    found, size = SAMPLERATE.fullmatch(device.get("samplerate", "").strip()), device.get("unitsize", "1")
+    rate = hertz(*found.groups()) if found else 0
     bits = {int(key[5:]) - 1: value for key, value in device.items() if re.fullmatch("probe[1-9][0-9]?", key)}
     files = [name for name in names if re.fullmatch(re.escape(device["capturefile"]) + r"(-\d+)?", name)]
-    if not rate or not float(rate[1]) or not size.isdigit() or not 1 <= int(size) <= WIDEST_SAMPLE or not bits or not files:
+    if not rate or not WHOLE.fullmatch(size) or not 1 <= int(size) <= WIDEST_SAMPLE or not bits or not files:
         raise Problem("%s: sigrok's description of the samples lacks a rate, a size or channels" % path)
     files.sort(key=lambda name: int("0" + name[len(device["capturefile"]) + 1:]))
     bits = {bit: name for bit, name in bits.items() if bit < 8 * int(size)}
-    return Capture(files, int(size), round(float(rate[1]) * PREFIXES[rate[2].lower()]), bits)
+    return Capture(files, int(size), rate, bits)
 
 
 def _head(capture: Capture, unit: str) -> bytes:

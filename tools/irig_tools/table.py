@@ -8,8 +8,9 @@ from itertools import chain, islice
 from typing import IO, Iterator, List, Optional, Sequence, Tuple
 
 from .cycles import Edge
+from .digits import NUMBER, WHOLE
 from .editor import Problem
-from .heads import NUMBER, Heads, fields_of, is_row, rate_of
+from .heads import Heads, fields_of, is_row, rate_of
 from .samples import LARGEST, MICROSECONDS, Samples, stream_of
 from .wire import LONGEST_TIME
 
@@ -32,7 +33,7 @@ class Table(Samples):
         self.places: List[int] = []  # of rows whose times are kept
         self.times: List[float] = []
         self.lines = self._lines(stream_of(path))
-        heads, first = self._heads([int(name) - 1 for name in (time, value) if name and name.isdigit() and int(name)])
+        heads, first = self._heads([int(name) - 1 for name in (time, value) if name and WHOLE.fullmatch(name) and int(name)])
         self.rate = rate or rate_of(heads)
         self.form = Heads(heads, first, path).form(time, value, bool(rate))
         if self.form.time is None and not self.rate:

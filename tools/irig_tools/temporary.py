@@ -2,10 +2,13 @@
 from __future__ import annotations
 
 import errno
+import io
+import shutil
 import tempfile
-from contextlib import contextmanager
-from typing import ContextManager, Iterator
+from contextlib import contextmanager, suppress
+from typing import IO, ContextManager, Iterator, TypeVar
 
+Open = TypeVar("Open", bound=IO[bytes])
 NAME = "irig_ed-"  # how they begin
 FULL = (errno.ENOSPC, errno.EDQUOT, errno.EFBIG)
 
@@ -26,9 +29,34 @@ def named_if_no_room() -> ContextManager[None]:
     return named_if_full(tempfile.gettempdir())
 
 
-def temporary_track() -> "tempfile._TemporaryFileWrapper[bytes]":
+@contextmanager
+def _closed(file: Open) -> Iterator[Open]:
+    """A file that is closed in the end: what it could not write was complained of before that."""
+    try:
+        yield file
+    finally:
+        with suppress(OSError):
+            file.close()
+
+
+def temporary_track() -> ContextManager["tempfile._TemporaryFileWrapper[bytes]"]:
     """A dump that the editor can read."""
-    return tempfile.NamedTemporaryFile(prefix=NAME, suffix=".vcd")
+    return _closed(tempfile.NamedTemporaryFile(prefix=NAME, suffix=".vcd"))
+
+
+@contextmanager
+def temporary_copy(stream: IO[bytes]) -> Iterator[IO[bytes]]:
+    """What is read, as a file that can be read at any place."""
+    with _closed(tempfile.TemporaryFile()) as copy:
+        with named_if_no_room():
+            shutil.copyfileobj(stream, copy)
+            copy.seek(0)
+        yield copy
+
+
+def temporary_script(text: str) -> ContextManager[IO[bytes]]:
+    """Lines for the editor: a pipe would break if it refuses the track."""
+    return temporary_copy(io.BytesIO(text.encode()))
 
 
 def temporary_folder() -> "tempfile.TemporaryDirectory[str]":

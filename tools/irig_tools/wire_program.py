@@ -3,7 +3,7 @@ from __future__ import annotations
 
 from .command import run
 from .ending import ALL_RIGHT, FOUND, Usage, complain
-from .options import DUMP, OUTPUT, TIMESCALE, Command, Given, Option, a_file, whole
+from .options import DUMP, OUTPUT, TIMESCALE, Command, Given, Option, whole
 from .output import check_apart, output
 from .put_back import PutBack, TrackEdges
 from .wire import Extract, Wish
@@ -12,7 +12,7 @@ FROM = Option("--from", "TIME", "this time, in the dump's unit, is the new 0", w
 TO = Option("--to", "TIME", "the end, in the dump's unit", whole(0))
 INVERT = Option("--invert", about="high and low are swapped")
 PUT_INTO = Option("--into", "ORIGINAL", "DUMP is a track that was made of this file and repaired: writes this file with the "
-                  "track instead of the wire, all else byte for byte", a_file)
+                  "track instead of the wire, all else byte for byte")
 INTO_WIRE = Option("--wire", "NAME", "with --into: the wire of ORIGINAL, named as WIRE is")
 COMMAND = Command("irig_wire", ("DUMP", "[WIRE]"), """\
 Makes of any value change dump the dump of one wire, which irig_ed reads. It says
