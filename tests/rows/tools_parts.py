@@ -444,7 +444,7 @@ def of_edits():
     del both[120]
     yield same("the last comes first", script_of(both)[0], ["insert 4300000 4305000", "insert 1200000 1202000"])
     rest, found = script_of(late(tools.recording(), 450, 3300), move=True)
-    yield same("a rest that is late", (rest, found[0].moves), (["451,$ shift -3300"], [-3300]))
+    yield same("a rest that is late", (rest, found[0].moves), (["451,$ shift -3300"], [(4503300, -3300, 0)]))
     early = late(without(230, 415), 230, -600)
     early[-1][1] = 8099900
     said = "".join(repair.comments[0] for repair in script_of(early, move=True)[1])
