@@ -308,6 +308,18 @@ def together():
     yield starts("what is said", script.splitlines()[:1], [seen])
 
 
+def sampled():
+    """A recorder with 5,000 samples in a second, and a clock that is off by 100 in a million: repaired pulses know no samples."""
+    pulses = [[int(-(-time * 1.0001 // 200) * 200) for time in pulse] for pulse in recording(12)]
+    lost = pulses[570:630]
+    del pulses[570:630]
+    for move in (False, True):
+        script, after = mended(pulses, 12002000, move=move)
+        yield same("samples are no steps", ("shift" in script, len(after)), (False, 1200))
+        off = max(abs(found[0] - true[0]) for found, true in zip(after[570:630], lost))
+        yield same("what is filled in", (off <= 200, after[630:]), (True, pulses[570:]))
+
+
 def judged(pulses, length, edits):
     """What a script makes worse."""
     layout = Layout("B", 4)
@@ -533,6 +545,6 @@ def cases(top):
     found = [case("mend: row: " + each[0], row, *each) for each in ROWS]
     found += [case("mend: repaired: " + name, gives_back, name, change, length) for name, change, length, _ in ROWS[:9]]
     groups = (("larger rows", larger_rows), ("steps", steps), ("steps that belong together", together),
-              ("harms", harms), ("explained", explained))
+              ("samples of a recorder", sampled), ("harms", harms), ("explained", explained))
     found += [case("mend: " + name, rows) for name, rows in groups]
     return found + [case("mend: processes", processes, top), case("mend: hostile tracks", no_line_refused, top)]

@@ -104,6 +104,12 @@ def of_clock():
         rate[300:400] = [[rise + 7, rise + 2007] for rise, _ in rate[300:400]]
         clock = Clock(listing_of(rate), 10000)
         yield same(name, (abs(clock.grid - size) < 1, clock.least_step < 2 * size, len(clock.runs)), (True, True, 1))
+    for name, rate, millionths in (("three are off by a sample of a third of a millisecond", 3000, 130),
+                                   ("samples of 4.2 microseconds", 240000, 6)):
+        coarse = [[int(-(-time * (1 + millionths / 1e6) * rate // 1000000) * 1000000 / rate) for time in pulse]
+                  for pulse in tools.recording()]
+        clock = Clock(listing_of(coarse), 10000)
+        yield same(name, (abs(clock.grid - 1e6 / rate) < 1, len(clock.runs)), (True, 1))
     rough = [[-(-time // 600) * 600 for time in pulse] for pulse in tools.recording()]  # distances of 10,200 and 9,600
     clock = Clock(listing_of(rough), 10000)
     yield same("a sample is 6 % of the interval", (round(clock.grid), len(clock.runs), round(clock.interval, -1)), (600, 1, 10000))

@@ -48,26 +48,34 @@ class Findings:
     parts: List[Part] = field(default_factory=list)  # from the last to the first
     remarks: List[Remark] = field(default_factory=list)
 
+    @property
+    def grid(self) -> float:
+        """How far apart samples are; 0 if nothing shows it."""
+        return self.clock.grid if self.clock else 0
+
     def remark(self, at: Microseconds, seen: str, choice: str) -> None:
         self.remarks.append(Remark(at, seen, choice))
 
 
 def looks(obeyed: Callable[[], Listing], progress: Progress, script: Sequence[Repair], steady: bool = False,
-          move: bool = False) -> Iterator[Tuple[Listing, Findings]]:
-    """The track as it is after a script, and what is found in it; again as long as the script has grown since."""
+          move: bool = False, grid: float = 0) -> Iterator[Tuple[Listing, Findings]]:
+    """The track as it is after a script, and what is found in it; again as long as the script has grown since. How far apart
+    samples are stays as it was first seen: what is repaired knows none."""
     for _ in range(limits.ROUNDS + 1):
         repairs = len(script)
         progress("reading the track" + (" as it is after %d repairs" % repairs if repairs else ""))
         listing = obeyed()
         progress("looking at %d pulses" % len(listing.rises))
-        yield listing, examine(listing, steady, move)
+        findings = examine(listing, steady, move, grid)
+        grid = findings.grid
+        yield listing, findings
         if len(script) == repairs:
             return
 
 
-def examine(listing: Listing, steady: bool = False, move: bool = False) -> Findings:
+def examine(listing: Listing, steady: bool = False, move: bool = False, grid: float = 0) -> Findings:
     """What is found; if `move`, a rest that comes late is to be moved, and else both sides of a step are parts of their
-    own."""
+    own. `grid` is how far apart samples are, if it is known."""
     findings = Findings(Layout(listing.kind, listing.expression, steady))
     interval, many = findings.layout.interval, len(listing.rises)
     upright, turned_share = (share_in_step(times, interval) for times in (listing.rises, listing.falls))
@@ -85,7 +93,7 @@ def examine(listing: Listing, steady: bool = False, move: bool = False) -> Findi
     else:
         findings.whole = level(listing, findings.layout)
         if not findings.whole:
-            _examine_parts(Clock(listing, interval), findings, move)
+            _examine_parts(Clock(listing, interval, grid), findings, move)
     return findings
 
 

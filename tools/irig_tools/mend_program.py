@@ -144,7 +144,7 @@ def apply(given: Given, track: Opened, script: List[Repair], progress: Progress)
             script[:] = propose(Editor(track.words), progress, given.has(STEADY))
             again_refused = run_script(track, script, given.has(SAVE), repaired, False, before.listing.kind)
             refused = replace(again_refused, reasons=[*refused.reasons, *again_refused.reasons])
-        after = look(Editor([*track.code, repaired]), progress, given.has(STEADY))
+        after = look(Editor([*track.code, repaired]), progress, given.has(STEADY), before.findings.grid)
         frames = sound_frames(track.options, track.path), sound_frames(track.code, repaired)
         with ExitStack() as stack:
             if given.has(PAGE_OF_REPAIRS):
