@@ -18,11 +18,11 @@ NOON = 12 * 360000
 FRAME = "frame 2024-061T12:00:0"
 
 
-def recording(frames=8, leap=False):
+def recording(frames=8, leap=False, begin=(DAY, NOON)):
     """Frames of format B, expression 4, from 12:00:00 on; or those around a leap second."""
     pulses = []
     for k in range(frames):
-        start = (DAY, NOON + 100 * k)
+        start = (begin[0], begin[1] + 100 * k)
         if leap:  # 31 December 2016, from 23:59:56 on, second 60 is the fifth
             start = (
                 736329 + (k > 4),
@@ -415,8 +415,19 @@ def larger_rows():
     turns = "the falls come at one distance, the rises do not: the wire is upside down from "
     over = recording()
     upside_down_in(over, 2503000, 8000000)
-    yield starts("upside down from some time on", lines_of(over, 8000000), ["2510000 " + turns + "2510000 to 8000000"])
+    swapped = "2500000 %s2, element 50 to 51" % FRAME  # when the wires were
+    yield starts("upside down from some time on", lines_of(over, 8000000), [swapped, "2510000 " + turns + "2510000 to 8000000"])
     yield same("upside down from some time on, mended", mended(over, 8000000)[1], recording())
+    over = recording()
+    upside_down_in(over, 2503000, 5503000)
+    back = ["%s %s5, element %d" % (at, FRAME, element) for at, element in ((5500000, 50), (5510000, 51))]
+    yield starts("upside down for a while", lines_of(over, 8000000), [swapped, "2510000 " + turns + "2510000 to 5", *back])
+    yield same("upside down for a while, mended", mended(over, 8000000)[1], recording())
+    few = recording(12, begin=(730120, 0))  # 1 January 2000, with few ones: the wire is upright for one frame alone
+    for stretch in ((2003000, 5943000), (7023000, 11003000)):
+        upside_down_in(few, *stretch)
+    script, after = mended(few, 12000000)
+    yield same("a frame that is fine is not turned over", ("a frame that is fine would change" in script, after), (True, few))
     late = [[rise + 3000000000, fall + 3000000000] for rise, fall in recording()]
     del late[243]
     yield same(

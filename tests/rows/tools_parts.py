@@ -132,7 +132,8 @@ def of_clock():
 def of_polarity():
     """Which stretches of a wire are upside down."""
     for name, stretches in (("from some time on", [(2503000, 8000000)]), ("up to some time", [(0, 4321000)]),
-                            ("but for a stretch", [(0, 2403000), (5104000, 8000000)])):
+                            ("but for a stretch", [(0, 2403000), (5104000, 8000000)]),
+                            ("for a while", [(2403000, 5104000)]), ("nowhere", [])):
         pulses = tools.recording()
         for each in stretches:
             tools.upside_down_in(pulses, *each)

@@ -44,6 +44,7 @@ class Findings:
     layout: Layout
     clock: Optional[Clock] = None
     turned: bool = False  # the wire is upside down
+    partly: bool = False  # and not in the whole recording: some frames can be fine as they are
     whole: List[Repair] = field(default_factory=list)
     parts: List[Part] = field(default_factory=list)  # from the last to the first
     remarks: List[Remark] = field(default_factory=list)
@@ -82,19 +83,29 @@ def examine(listing: Listing, steady: bool = False, move: bool = False, grid: fl
     if many < limits.SURE_RUN:
         findings.remark(START, "%d pulses are too few to make a frame" % many, OTHER_WIRE)
     elif turned_share > max(limits.UPSIDE_DOWN, upright + limits.MORE_THAN_UPRIGHT):
-        why = "the falls come at one distance, the rises do not: the wire is upside down"
-        stretches = upside_down(listing, interval)
-        if stretches != [(START, listing.length)]:
-            why += " from " + " and from ".join("%d to %d" % stretch for stretch in stretches)
-        edits = [Edit("invert", stretch) for stretch in stretches]
-        findings.turned, findings.whole = True, [repair_of(stretches[0][0], [why], edits)]
+        _turn_over(findings, upside_down(listing, interval) or [(START, listing.length)], listing)
     elif upright < limits.FIT:
         findings.remark(START, "most pulses do not follow each other by %d" % interval, OTHER_FORMAT)
     else:
-        findings.whole = level(listing, findings.layout)
+        down = upside_down(listing, interval) if (1 - upright) * many > limits.TURNED_OVER else []
+        if down not in ([], [(START, listing.length)]):  # all of it only if most falls are in step
+            _turn_over(findings, down, listing)
+        else:
+            findings.whole = level(listing, findings.layout)
         if not findings.whole:
             _examine_parts(Clock(listing, interval, grid), findings, move)
     return findings
+
+
+def _turn_over(findings: Findings, stretches: Sequence[Tuple[Microseconds, Microseconds]], listing: Listing) -> None:
+    """The wire is upside down in these stretches."""
+    why = "the falls come at one distance, the rises do not: the wire is upside down"
+    findings.turned, findings.partly = True, stretches != [(START, listing.length)]
+    if findings.partly:
+        why += " from " + " and from ".join("%d to %d" % stretch for stretch in stretches)
+        why += "; pulses have the numbers that they have when it is turned over"
+    edits = [Edit("invert", stretch) for stretch in stretches]
+    findings.whole = [repair_of(stretches[0][0], [why], edits, stretches[-1][1])]
 
 
 def _examine_parts(clock: Clock, findings: Findings, move: bool) -> None:

@@ -55,7 +55,7 @@ def look(editor: Editor, progress: Progress, steady: bool = False, grid: float =
             found += _rest(listing, findings)
         else:
             found.append(Damage(findings.whole[0].at, findings.whole[0].at, "", findings.whole[0].comments[0]))
-            script += [] if findings.turned else findings.whole
+            script += [] if findings.turned and not findings.partly else findings.whole
     progress("")
     found = sorted(set(found), key=lambda each: (each.at, each.until, each.name, each.seen))
     return Seen(seen[0][0], seen[-1][1], found)

@@ -73,13 +73,14 @@ class _Mending:
         self.script += [each for each in found if each.edits and each.text() not in self.refused]
 
     def harms(self) -> List[Harm]:
-        """What the script makes worse, if the pulses had their classes before it."""
+        """What the script makes worse, if the pulses had their classes before it, or some of them."""
         last = self.looks[-1][2]
-        done, before, first = next((look for look in self.looks if not look[2].whole), self.looks[-1])
-        if first.clock is None or last.clock is None or not self.script[done:]:
+        done, before, first = next((look for look in self.looks if not look[2].whole or look[2].partly), self.looks[-1])
+        clock = first.clock or last.clock
+        if clock is None or last.clock is None or not self.script[done:]:
             return []
         moved = Moved(self.script[done:])
-        return list(Check(first.layout, first.clock.interval, step_times(last), (before, self.after), moved).harms())
+        return list(Check(first.layout, clock.interval, step_times(last), (before, self.after), moved).harms())
 
 
 def step_times(findings: Findings) -> List[Microseconds]:
