@@ -428,6 +428,13 @@ def larger_rows():
         upside_down_in(few, *stretch)
     script, after = mended(few, 12000000)
     yield same("a frame that is fine is not turned over", ("a frame that is fine would change" in script, after), (True, few))
+    alone = recording()
+    other = timecode.encode("B", 4, timecode.generated("B", (DAY, NOON + 10000), 0, 0))
+    for pulse, name in zip(alone[400:500], other):
+        pulse[1] = pulse[0] + timecode.nominal(10000, name)
+    seen = "4000000 a frame alone shows 2024-061T12:01:40, to which no other frame leads"
+    yield same("a frame of another time", lines_of(alone, 8000000), [seen])
+    yield same("a frame of another time, mended", mended(alone, 8000000)[1], alone)
     late = [[rise + 3000000000, fall + 3000000000] for rise, fall in recording()]
     del late[243]
     yield same(
