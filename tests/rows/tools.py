@@ -18,11 +18,11 @@ NOON = 12 * 360000
 FRAME = "frame 2024-061T12:00:0"
 
 
-def recording(frames=8, leap=False):
+def recording(frames=8, leap=False, begin=(DAY, NOON)):
     """Frames of format B, expression 4, from 12:00:00 on; or those around a leap second."""
     pulses = []
     for k in range(frames):
-        start = (DAY, NOON + 100 * k)
+        start = (begin[0], begin[1] + 100 * k)
         if leap:  # 31 December 2016, from 23:59:56 on, second 60 is the fifth
             start = (
                 736329 + (k > 4),
@@ -286,12 +286,46 @@ def steps():
     yield from two_sided("a copy", lambda pulses: again(pulses, 430, 130), 13300000, copied)
 
 
+def late_for_a_while(pulses, by=3300, back=3300):
+    """From 4.5 to 8.45 seconds all is late, and then early by as much, or by more."""
+    moved(pulses, 450, by)
+    moved(pulses, 845, -back)
+
+
+def together():
+    """Steps that belong together: what comes after both can be right as it is, so all of them are moved, or none."""
+    pulses = recording(12)
+    late_for_a_while(pulses)
+    script, after = mended(pulses, 12010000, move=True)
+    lines = [line for line in script.splitlines() if line[0] != "#"]
+    yield same("late for a while", after, recording(12))
+    yield same("as one", lines, ["begin", "846,$ shift 3300", "451,$ shift -3300", "end"])
+    pulses = recording(12)
+    late_for_a_while(pulses, 1000, 5000)
+    script, after = mended(pulses, 11994100, move=True)  # which has no room for 4000 more
+    seen = "# undecided: at 4501000: from here on not every step can be moved"
+    yield same("one that cannot be moved", after, pulses)
+    yield starts("what is said", script.splitlines()[:1], [seen])
+
+
+def sampled():
+    """A recorder with 5,000 samples in a second, and a clock that is off by 100 in a million: repaired pulses know no samples."""
+    pulses = [[int(-(-time * 1.0001 // 200) * 200) for time in pulse] for pulse in recording(12)]
+    lost = pulses[570:630]
+    del pulses[570:630]
+    for move in (False, True):
+        script, after = mended(pulses, 12002000, move=move)
+        yield same("samples are no steps", ("shift" in script, len(after)), (False, 1200))
+        off = max(abs(found[0] - true[0]) for found, true in zip(after[570:630], lost))
+        yield same("what is filled in", (off <= 200, after[630:]), (True, pulses[570:]))
+
+
 def judged(pulses, length, edits):
     """What a script makes worse."""
     layout = Layout("B", 4)
     with tempfile.TemporaryDirectory() as folder:
         opened = editor.Editor(["--expression", "4", written(folder, pulses, length)])
-        repairs = [Repair(at, [], [edit], moves=list(moves)) for at, edit, *moves in edits]
+        repairs = [Repair(at, [], [edit], moves=[(at, by, 0) for by in moves]) for at, edit, *moves in edits]
         listings = opened.ask([]), opened.ask([repair.lines() for repair in repairs])
     harms = check_of.Check(layout, 10000, [], listings, check_of.Moved(repairs)).harms()
     return [(harm.at, harm.seen) for harm in harms]
@@ -381,8 +415,26 @@ def larger_rows():
     turns = "the falls come at one distance, the rises do not: the wire is upside down from "
     over = recording()
     upside_down_in(over, 2503000, 8000000)
-    yield starts("upside down from some time on", lines_of(over, 8000000), ["2510000 " + turns + "2510000 to 8000000"])
+    swapped = "2500000 %s2, element 50 to 51" % FRAME  # when the wires were
+    yield starts("upside down from some time on", lines_of(over, 8000000), [swapped, "2510000 " + turns + "2510000 to 8000000"])
     yield same("upside down from some time on, mended", mended(over, 8000000)[1], recording())
+    over = recording()
+    upside_down_in(over, 2503000, 5503000)
+    back = ["%s %s5, element %d" % (at, FRAME, element) for at, element in ((5500000, 50), (5510000, 51))]
+    yield starts("upside down for a while", lines_of(over, 8000000), [swapped, "2510000 " + turns + "2510000 to 5", *back])
+    yield same("upside down for a while, mended", mended(over, 8000000)[1], recording())
+    few = recording(12, begin=(730120, 0))  # 1 January 2000, with few ones: the wire is upright for one frame alone
+    for stretch in ((2003000, 5943000), (7023000, 11003000)):
+        upside_down_in(few, *stretch)
+    script, after = mended(few, 12000000)
+    yield same("a frame that is fine is not turned over", ("a frame that is fine would change" in script, after), (True, few))
+    alone = recording()
+    other = timecode.encode("B", 4, timecode.generated("B", (DAY, NOON + 10000), 0, 0))
+    for pulse, name in zip(alone[400:500], other):
+        pulse[1] = pulse[0] + timecode.nominal(10000, name)
+    seen = "4000000 a frame alone shows 2024-061T12:01:40, to which no other frame leads"
+    yield same("a frame of another time", lines_of(alone, 8000000), [seen])
+    yield same("a frame of another time, mended", mended(alone, 8000000)[1], alone)
     late = [[rise + 3000000000, fall + 3000000000] for rise, fall in recording()]
     del late[243]
     yield same(
@@ -510,6 +562,7 @@ def cases(top):
     """Each row, and each group of rows, by its name."""
     found = [case("mend: row: " + each[0], row, *each) for each in ROWS]
     found += [case("mend: repaired: " + name, gives_back, name, change, length) for name, change, length, _ in ROWS[:9]]
-    groups = (("larger rows", larger_rows), ("steps", steps), ("harms", harms), ("explained", explained))
+    groups = (("larger rows", larger_rows), ("steps", steps), ("steps that belong together", together),
+              ("samples of a recorder", sampled), ("harms", harms), ("explained", explained))
     found += [case("mend: " + name, rows) for name, rows in groups]
     return found + [case("mend: processes", processes, top), case("mend: hostile tracks", no_line_refused, top)]

@@ -31,6 +31,28 @@ def both(pulses):
     glitch(pulses)
 
 
+def late_for_a_while(pulses):
+    """The frame in which all is in time again has a control function of its own: the guard alone keeps no frame with that."""
+    tools.moved(pulses, 250, 3300)
+    tools.moved(pulses, 645, -3300)
+    own_function(pulses)
+
+
+def own_function(pulses):
+    pulses[664][1] = 6645000
+
+
+def late_and_own_functions(pulses):
+    """That of the frame in which all gets late moves with it, so nothing says that it was recorded there."""
+    pulses[264][1] += 3000
+    late_for_a_while(pulses)
+
+
+def late_with_a_glitch(pulses):
+    late_and_own_functions(pulses)
+    glitch(pulses)
+
+
 def two_in_a_frame(pulses):
     """Once the position identifier is whole, the frame reads day 063."""
     for number, width in ((331, 5000), (359, 2000)):
@@ -98,6 +120,12 @@ APPLIED = (
      "2 places found, 1 repaired, 0 undecided, 0 left, 1 step that stays; 5 frames sound before, 6 after", lambda: recorded(late)),
     ("the same, with --move", both, "--move", 0,
      "2 places found, 2 repaired, 0 undecided, 0 left, 0 steps that stay; 5 frames sound before, 7 after", recorded),
+    ("two steps that belong together, with --move", late_for_a_while, "--move", 1,
+     "2 places found, 1 repaired, 1 undecided, 0 left, 0 steps that stay; 5 frames sound before, 7 after",
+     lambda: recorded(own_function)),
+    ("two steps, which irig_guard drops, and a glitch, with --move", late_with_a_glitch, "--move", 1,
+     "3 places found, 1 repaired, 0 undecided, 0 left, 2 steps that stay; 4 frames sound before, 5 after",
+     lambda: recorded(late_and_own_functions)),
 )
 
 

@@ -104,6 +104,12 @@ def of_clock():
         rate[300:400] = [[rise + 7, rise + 2007] for rise, _ in rate[300:400]]
         clock = Clock(listing_of(rate), 10000)
         yield same(name, (abs(clock.grid - size) < 1, clock.least_step < 2 * size, len(clock.runs)), (True, True, 1))
+    for name, rate, millionths in (("three are off by a sample of a third of a millisecond", 3000, 130),
+                                   ("samples of 4.2 microseconds", 240000, 6)):
+        coarse = [[int(-(-time * (1 + millionths / 1e6) * rate // 1000000) * 1000000 / rate) for time in pulse]
+                  for pulse in tools.recording()]
+        clock = Clock(listing_of(coarse), 10000)
+        yield same(name, (abs(clock.grid - 1e6 / rate) < 1, len(clock.runs)), (True, 1))
     rough = [[-(-time // 600) * 600 for time in pulse] for pulse in tools.recording()]  # distances of 10,200 and 9,600
     clock = Clock(listing_of(rough), 10000)
     yield same("a sample is 6 % of the interval", (round(clock.grid), len(clock.runs), round(clock.interval, -1)), (600, 1, 10000))
@@ -126,7 +132,8 @@ def of_clock():
 def of_polarity():
     """Which stretches of a wire are upside down."""
     for name, stretches in (("from some time on", [(2503000, 8000000)]), ("up to some time", [(0, 4321000)]),
-                            ("but for a stretch", [(0, 2403000), (5104000, 8000000)])):
+                            ("but for a stretch", [(0, 2403000), (5104000, 8000000)]),
+                            ("for a while", [(2403000, 5104000)]), ("nowhere", [])):
         pulses = tools.recording()
         for each in stretches:
             tools.upside_down_in(pulses, *each)
@@ -444,7 +451,7 @@ def of_edits():
     del both[120]
     yield same("the last comes first", script_of(both)[0], ["insert 4300000 4305000", "insert 1200000 1202000"])
     rest, found = script_of(late(tools.recording(), 450, 3300), move=True)
-    yield same("a rest that is late", (rest, found[0].moves), (["451,$ shift -3300"], [-3300]))
+    yield same("a rest that is late", (rest, found[0].moves), (["451,$ shift -3300"], [(4503300, -3300, 0)]))
     early = late(without(230, 415), 230, -600)
     early[-1][1] = 8099900
     said = "".join(repair.comments[0] for repair in script_of(early, move=True)[1])

@@ -44,49 +44,68 @@ class Findings:
     layout: Layout
     clock: Optional[Clock] = None
     turned: bool = False  # the wire is upside down
+    partly: bool = False  # and not in the whole recording: some frames can be fine as they are
     whole: List[Repair] = field(default_factory=list)
     parts: List[Part] = field(default_factory=list)  # from the last to the first
     remarks: List[Remark] = field(default_factory=list)
+
+    @property
+    def grid(self) -> float:
+        """How far apart samples are; 0 if nothing shows it."""
+        return self.clock.grid if self.clock else 0
 
     def remark(self, at: Microseconds, seen: str, choice: str) -> None:
         self.remarks.append(Remark(at, seen, choice))
 
 
 def looks(obeyed: Callable[[], Listing], progress: Progress, script: Sequence[Repair], steady: bool = False,
-          move: bool = False) -> Iterator[Tuple[Listing, Findings]]:
-    """The track as it is after a script, and what is found in it; again as long as the script has grown since."""
+          move: bool = False, grid: float = 0) -> Iterator[Tuple[Listing, Findings]]:
+    """The track as it is after a script, and what is found in it; again as long as the script has grown since. How far apart
+    samples are stays as it was first seen: what is repaired knows none."""
     for _ in range(limits.ROUNDS + 1):
         repairs = len(script)
         progress("reading the track" + (" as it is after %d repairs" % repairs if repairs else ""))
         listing = obeyed()
         progress("looking at %d pulses" % len(listing.rises))
-        yield listing, examine(listing, steady, move)
+        findings = examine(listing, steady, move, grid)
+        grid = findings.grid
+        yield listing, findings
         if len(script) == repairs:
             return
 
 
-def examine(listing: Listing, steady: bool = False, move: bool = False) -> Findings:
+def examine(listing: Listing, steady: bool = False, move: bool = False, grid: float = 0) -> Findings:
     """What is found; if `move`, a rest that comes late is to be moved, and else both sides of a step are parts of their
-    own."""
+    own. `grid` is how far apart samples are, if it is known."""
     findings = Findings(Layout(listing.kind, listing.expression, steady))
     interval, many = findings.layout.interval, len(listing.rises)
     upright, turned_share = (share_in_step(times, interval) for times in (listing.rises, listing.falls))
     if many < limits.SURE_RUN:
         findings.remark(START, "%d pulses are too few to make a frame" % many, OTHER_WIRE)
     elif turned_share > max(limits.UPSIDE_DOWN, upright + limits.MORE_THAN_UPRIGHT):
-        why = "the falls come at one distance, the rises do not: the wire is upside down"
-        stretches = upside_down(listing, interval)
-        if stretches != [(START, listing.length)]:
-            why += " from " + " and from ".join("%d to %d" % stretch for stretch in stretches)
-        edits = [Edit("invert", stretch) for stretch in stretches]
-        findings.turned, findings.whole = True, [repair_of(stretches[0][0], [why], edits)]
+        _turn_over(findings, upside_down(listing, interval) or [(START, listing.length)], listing)
     elif upright < limits.FIT:
         findings.remark(START, "most pulses do not follow each other by %d" % interval, OTHER_FORMAT)
     else:
-        findings.whole = level(listing, findings.layout)
+        down = upside_down(listing, interval) if (1 - upright) * many > limits.TURNED_OVER else []
+        if down not in ([], [(START, listing.length)]):  # all of it only if most falls are in step
+            _turn_over(findings, down, listing)
+        else:
+            findings.whole = level(listing, findings.layout)
         if not findings.whole:
-            _examine_parts(Clock(listing, interval), findings, move)
+            _examine_parts(Clock(listing, interval, grid), findings, move)
     return findings
+
+
+def _turn_over(findings: Findings, stretches: Sequence[Tuple[Microseconds, Microseconds]], listing: Listing) -> None:
+    """The wire is upside down in these stretches."""
+    why = "the falls come at one distance, the rises do not: the wire is upside down"
+    findings.turned, findings.partly = True, stretches != [(START, listing.length)]
+    if findings.partly:
+        why += " from " + " and from ".join("%d to %d" % stretch for stretch in stretches)
+        why += "; pulses have the numbers that they have when it is turned over"
+    edits = [Edit("invert", stretch) for stretch in stretches]
+    findings.whole = [repair_of(stretches[0][0], [why], edits, stretches[-1][1])]
 
 
 def _examine_parts(clock: Clock, findings: Findings, move: bool) -> None:

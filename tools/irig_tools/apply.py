@@ -78,6 +78,11 @@ class Refused:
     reasons: Sequence[str] = ()
     printed: Sequence[str] = ()
 
+    def drops_moves(self, script: Sequence[Repair]) -> bool:
+        """Whether a repair that moves what follows was refused."""
+        dropped = {line[2:] for line in self.printed if line.startswith("# ")}
+        return any(dropped.issuperset(repair.edits) for repair in script if repair.moves)
+
 
 def run_script(track: Opened, script: Sequence[Repair], save: bool, out: str, moved: bool, kind: str) -> Refused:
     """Runs a script on the track, of this format, through irig_guard and writes a file, with its history if `save`; what was

@@ -36,9 +36,7 @@ class Moved:
     """Where a script moves what is at a time."""
 
     def __init__(self, script: Sequence[Repair] = ()) -> None:
-        self.steps: List[Tuple[Microseconds, int, int]] = []  # from when on, by how much, and how long a part goes
-        for repair in script:
-            self.steps += [(repair.at, by, repair.removed) for by in repair.moves]
+        self.steps = [move for repair in script for move in repair.moves]
 
     def time(self, at: Microseconds) -> Optional[Microseconds]:
         """None if the script takes it out."""

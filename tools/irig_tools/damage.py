@@ -43,18 +43,19 @@ class Seen:
     damages: List[Damage]
 
 
-def look(editor: Editor, progress: Progress, steady: bool = False) -> Seen:
-    """All damage. A threshold is first undone, so that the rest is seen; no time is moved."""
+def look(editor: Editor, progress: Progress, steady: bool = False, grid: float = 0) -> Seen:
+    """All damage. A threshold is first undone, so that the rest is seen; no time is moved. `grid` is how far apart samples
+    are, if it is known."""
     found: List[Damage] = []
     script: List[Repair] = []
     seen: List[Tuple[Listing, Findings]] = []
-    for listing, findings in looks(lambda: editor.ask([each.lines() for each in script]), progress, script, steady):
+    for listing, findings in looks(lambda: editor.ask([each.lines() for each in script]), progress, script, steady, grid=grid):
         seen.append((listing, findings))
         if not findings.whole or listing.refused:
             found += _rest(listing, findings)
         else:
             found.append(Damage(findings.whole[0].at, findings.whole[0].at, "", findings.whole[0].comments[0]))
-            script += [] if findings.turned else findings.whole
+            script += [] if findings.turned and not findings.partly else findings.whole
     progress("")
     found = sorted(set(found), key=lambda each: (each.at, each.until, each.name, each.seen))
     return Seen(seen[0][0], seen[-1][1], found)

@@ -65,6 +65,6 @@ def script_lines(edits: Sequence[Edit]) -> List[str]:
 
 def repair_of(at: Microseconds, comments: Sequence[str], edits: Sequence[Edit], until: Microseconds = Microseconds(0),
               removed: int = 0, instead: Sequence[Edit] = ()) -> Repair:
-    """The edits that belong together, with what they move."""
-    moves = [edit.move for edit in edits if edit.move]
-    return Repair(at, list(comments), script_lines(edits), removed, script_lines(instead), until, moves)
+    """The edits that belong together, with what they move; `removed` microseconds are taken out."""
+    moves = [(at, edit.move, removed) for edit in edits if edit.move]
+    return Repair(at, list(comments), script_lines(edits), script_lines(instead), until, moves)

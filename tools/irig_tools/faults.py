@@ -12,6 +12,8 @@ from .texts import counted
 from .track import Track
 from .units import FrameNumber, Microseconds, PlaceNumber, PulseIndex, frame_of, number_of, place_in, plus, through
 
+LEFT_FRAME = "the frame is left as it is; regen gives it the time to which the others lead"
+
 
 @dataclass
 class Remark:
@@ -60,6 +62,7 @@ class Faults:
             return
         if self.times.moment(number) is None and READABLE.fullmatch(text) and number not in self.times.own:
             self._remark(place_in(number), "a frame whose fields contradict each other", "nothing says which is right")
+        self._doubt_time(number)
         unknown = []
         for element, (told, follows) in enumerate(zip(text, expected)):
             if told == "~" or told == follows or (follows == "." and told in "01"):
@@ -76,6 +79,13 @@ class Faults:
             seen = "%s, element %s: neither its shape nor another frame says whether it is a zero or a one" % elements
             self._remark(place_in(number, unknown[0]), seen, "force or insert the right one")
 
+    def _doubt_time(self, number: FrameNumber) -> None:
+        """A frame alone that shows another time than the others, too clearly to be damage."""
+        own = self.times.own.get(number)
+        if own is not None and self.times.bases[number] is None and self.times.spans and number not in self.left:
+            shown = self.times.calendar.name(self.times.calendar.moment(number, own))
+            self._remark(place_in(number), "a frame alone shows %s, to which no other frame leads" % shown, LEFT_FRAME)
+
     def _remark(self, place: PlaceNumber, seen: str, choice: str) -> None:
         self.remarks.append(Remark(self.track.rise_at(place), seen, choice))
 
@@ -90,7 +100,7 @@ class Faults:
         seen = "%s: %s contradict%s the time that the frames next to it lead to" % (
             self.times.name(number), counted(len(against), "element"), "" if against[1:] else "s")
         first = max(self.track.first, place_in(number))
-        self._remark(first, seen, "the frame is left as it is; regen gives it the time to which the others lead")
+        self._remark(first, seen, LEFT_FRAME)
         return True
 
     def _decide(self, place: PlaceNumber, control: bool) -> Optional[str]:

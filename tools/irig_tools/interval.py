@@ -79,14 +79,15 @@ def _in_step(apart: Sequence[int], interval: int) -> List[int]:
 class Clock:
     """The interval as it was recorded, how far rises stray from it, and the runs."""
 
-    def __init__(self, listing: Listing, nominal: int) -> None:
+    def __init__(self, listing: Listing, nominal: int, grid: float = 0) -> None:
+        """`grid` is how far apart samples are, if it is known."""
         self.listing, self.nominal = listing, nominal
         self.rises, self.classes = listing.rises, listing.classes
         apart = distances(listing.rises)
         between = _in_step(apart, nominal)
         self.interval: float = statistics.median_low(between) if between else nominal
         self.noise: float = statistics.median([abs(each - self.interval) for each in between]) if between else 0
-        self.grid = spacing_of_samples(listing, between, self.interval, self.noise)
+        self.grid = grid or spacing_of_samples(listing, between, nominal, self.interval, self.noise)
         rough = self.grid if are_often_off(between, self.interval, self.grid) else 0
         # what counts as in step, and how far one pulse may be off
         self.margin = self._within(limits.LEAST_MARGIN, limits.MARGIN_BY_NOISE, limits.MOST_MARGIN, rough)

@@ -35,4 +35,7 @@ def one_of(repairs: Sequence[Repair]) -> Repair:
     if len(repairs) == 1:
         return repairs[0]
     comments = [comment for each in repairs for comment in each.comments]
-    return Repair(repairs[-1].at, comments, [edit for each in repairs for edit in each.edits], until=repairs[0].until)
+    edits = [edit for each in repairs for edit in each.edits]
+    moves = [move for each in repairs for move in each.moves]
+    begin, end = min(each.at for each in repairs), max(max(each.at, each.until) for each in repairs)
+    return Repair(begin, comments, edits, until=end, moves=moves)

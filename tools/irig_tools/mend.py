@@ -10,6 +10,7 @@ from .analysis import Findings, looks
 from .check import Check, Harm, Moved
 from .editor import Editor, Listing, Progress
 from .faults import Remark
+from .joining import one_of
 from .repairs import repairs
 from .script import BY_LINE, Repair
 from .units import Microseconds
@@ -72,13 +73,14 @@ class _Mending:
         self.script += [each for each in found if each.edits and each.text() not in self.refused]
 
     def harms(self) -> List[Harm]:
-        """What the script makes worse, if the pulses had their classes before it."""
+        """What the script makes worse, if the pulses had their classes before it, or some of them."""
         last = self.looks[-1][2]
-        done, before, first = next((look for look in self.looks if not look[2].whole), self.looks[-1])
-        if first.clock is None or last.clock is None or not self.script[done:]:
+        done, before, first = next((look for look in self.looks if not look[2].whole or look[2].partly), self.looks[-1])
+        clock = first.clock or last.clock
+        if clock is None or last.clock is None or not self.script[done:]:
             return []
         moved = Moved(self.script[done:])
-        return list(Check(first.layout, first.clock.interval, step_times(last), (before, self.after), moved).harms())
+        return list(Check(first.layout, clock.interval, step_times(last), (before, self.after), moved).harms())
 
 
 def step_times(findings: Findings) -> List[Microseconds]:
@@ -88,9 +90,41 @@ def step_times(findings: Findings) -> List[Microseconds]:
     return [track.rises[run.first] for track, run in [(track, track.runs[0]) for track in tracks] + late]
 
 
+def _go_both_ways(moves: Sequence[float]) -> bool:
+    """Whether some go later and some earlier: what comes after both can be right as it is."""
+    return min(moves, default=0) < 0 < max(moves, default=0)
+
+
+def _distances(script: Sequence[Repair]) -> List[float]:
+    """By how many microseconds rests are moved."""
+    return [by for repair in script for _, by, _ in repair.moves]
+
+
+def _half_moved(script: Sequence[Repair], last: Findings) -> List[Repair]:
+    """A remark if some rests are moved, and one that can belong to them is not: they alone would move what is right."""
+    left = [zone for part in last.parts for zone in part.track.zones if round(zone.late)]
+    moves, cut = _distances(script), any(zone.glued for zone in left)
+    if not moves or not left or not (cut or _go_both_ways(moves + [-zone.late for zone in left])):
+        return []
+    at = min(begin for repair in script for begin, _, _ in repair.moves)
+    seen = "undecided: at %d: from here on not every step can be moved, and the others alone would give a wrong time to " \
+           "what is right; so none is moved" % at
+    return [Repair(at, [seen])]
+
+
+def _together(script: Sequence[Repair]) -> List[Repair]:
+    """The script; if rests are moved both ways, all from the first to the last of these repairs are one."""
+    if not _go_both_ways(_distances(script)):
+        return list(script)
+    moving = [at for at, repair in enumerate(script) if repair.moves]
+    first, beyond = moving[0], moving[-1] + 1
+    return [*script[:first], one_of(script[first:beyond]), *script[beyond:]]
+
+
 def propose(editor: Editor, progress: Progress, steady: bool = False, move: bool = False) -> List[Repair]:
     """The script that repairs what the editor's track has; no line of it is refused, and none makes a frame worse.
-    If control functions are `steady`, no frame has others than most. If not `move`, no pulse in step is moved.
+    If control functions are `steady`, no frame has others than most. If not `move`, no pulse in step is moved, and neither
+    if only some of those could be that belong together.
 
     First are remarks: what is undecided when all repairs are made."""
     refused: Set[str] = set()
@@ -107,7 +141,10 @@ def propose(editor: Editor, progress: Progress, steady: bool = False, move: bool
     else:
         mending.script = []
     progress("")
-    return mending.remarks + [taken[at] for at in sorted(taken, reverse=True)] + mending.script
+    half = _half_moved(mending.script, mending.looks[-1][2])
+    if half:
+        return half + propose(editor, progress, steady)
+    return mending.remarks + [taken[at] for at in sorted(taken, reverse=True)] + _together(mending.script)
 
 
 def _blamed(script: Sequence[Repair], harms: Sequence[Harm], all_of_them: bool) -> List[Tuple[Repair, Harm]]:

@@ -5,6 +5,7 @@ import gc
 import os
 import sys
 from contextlib import ExitStack, contextmanager
+from dataclasses import replace
 from typing import Iterator, List, Optional, Sequence, Tuple
 
 from .again import Names, again
@@ -161,7 +162,11 @@ def apply(given: Given, track: Opened, script: List[Repair], progress: Progress,
         repaired = os.path.join(folder, "repaired.vcd")
         before = look(Editor(track.words), progress, given.has(STEADY))
         refused = run_script(track, script, given.has(SAVE), repaired, given.has(MOVE), before.listing.kind)
-        after = look(Editor([*track.code, repaired]), progress, given.has(STEADY))
+        if refused.drops_moves(script):  # what comes after them in the script counts on them
+            script[:] = propose(Editor(track.words), progress, given.has(STEADY))
+            again_refused = run_script(track, script, given.has(SAVE), repaired, False, before.listing.kind)
+            refused = replace(again_refused, reasons=[*refused.reasons, *again_refused.reasons])
+        after = look(Editor([*track.code, repaired]), progress, given.has(STEADY), before.findings.grid)
         frames = sound_frames(track.options, track.path), sound_frames(track.code, repaired)
         if given.has(PAGE_OF_REPAIRS):
             drawn = drawing(given, track, script, before, after, repaired)

@@ -40,7 +40,7 @@ def _place_of_damage(seen: Seen, damage: Damage, script: Sequence[Repair], after
     start, end = max(0, damage.at - around), min(seen.listing.length, until + around)
     repairs = [each for each in script if each.touches(damage.at, damage.at)]
     lines = tuple(line for repair in repairs[:1] for line in repair.lines())
-    moved = sum(sum(repair.moves) for repair in script if repair.at < damage.at)  # rests that begin before it
+    moved = sum(by for repair in script for begin, by, _ in repair.moves if begin < damage.at)  # rests that begin before it
     wave: Optional[Wave] = None
     if after and repairs and repairs[0].edits:
         cut_out = cut(after.rises, after.falls, after.classes, start + moved, end + moved)

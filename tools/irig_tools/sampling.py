@@ -3,17 +3,18 @@ from __future__ import annotations
 
 from collections import Counter
 from operator import sub
-from typing import Dict, Sequence
+from typing import Dict, List, Mapping, Sequence
 
 from . import limits
 from .editor import Listing
 
 
-def spacing_of_samples(listing: Listing, between: Sequence[int], interval: float, noise: float) -> float:
+def spacing_of_samples(listing: Listing, between: Sequence[int], nominal: int, interval: float, noise: float) -> float:
     """In microseconds; 0 if nothing shows it."""
     off = Counter(int(abs(each - interval)) for each in between if abs(each - interval) >= limits.LEAST_STEP)
-    size = min((size for size, many in off.items() if many >= limits.OFF_BY_SAMPLE), default=0)
-    return size if size and _all_on(listing, size) else _spacing_of_most(listing, between, interval, noise, off)
+    size = min((size for size in off if off[size] + off[size + 1] >= limits.OFF_BY_SAMPLE), default=0)
+    found = (sample for sample in _like(size, nominal) if _all_on(listing, sample))
+    return next(found, 0) or (0 if noise > limits.ROUNDED else _spacing_of_most(listing, between, interval, off))
 
 
 def are_often_off(between: Sequence[int], interval: float, sample: float) -> bool:
@@ -21,19 +22,36 @@ def are_often_off(between: Sequence[int], interval: float, sample: float) -> boo
     return sum(abs(abs(each - interval) - sample) < limits.LEAST_STEP for each in between) > limits.OFTEN_OFF * len(between)
 
 
-def _all_on(listing: Listing, size: int) -> bool:
-    """Whether all edges are a whole number of samples after the first."""
+def _like(size: int, nominal: int) -> List[float]:
+    """The spacings by which distances can be off by a size or one more: whole microseconds, or parts of an interval."""
+    if size < limits.LEAST_SAMPLE:
+        return [size, size + 1] if size else []
+    return [size, size + 1, *(nominal / many for many in range(nominal // (size + 2) + 1, nominal // (size - 1) + 1))]
+
+
+def _all_on(listing: Listing, sample: float) -> bool:
+    """Whether all edges are a whole number of samples after the first, up to the rounding of both."""
     first = listing.rises[0]
-    return not any((time - first) % size for times in (listing.rises, listing.falls) for time in times)
+    return not any(
+        abs(time - first - round((time - first) / sample) * sample) >= limits.ROUNDED
+        for times in (listing.rises, listing.falls) for time in times)
 
 
-def _spacing_of_most(listing: Listing, between: Sequence[int], interval: float, noise: float, off: Counter[int]) -> float:
-    """The same if samples are no whole number of microseconds, or not all edges are at one: a repair and a cut know no samples."""
-    size = min(off, key=lambda each: (-off[each] - off[each + 1], each), default=0)
-    if noise > limits.ROUNDED or size < limits.LEAST_SAMPLE or off[size] + off[size + 1] < limits.MANY_OFF:
-        return 0
+def _spacing_of_most(listing: Listing, between: Sequence[int], interval: float, off: Counter[int]) -> float:
+    """The same if not all edges are at samples: a repair and a cut know none. If they are near each other only distances show
+    them: nearly any time is at one, up to its rounding."""
+    often = sorted((-off[size] - off[size + 1], size) for size in off if off[size] + off[size + 1] >= limits.MANY_OFF)
+    far = [size for _, size in often if size >= limits.LEAST_SAMPLE]
+    near = [size + 1 for _, size in often if size < limits.LEAST_SAMPLE]
+    sample = _fitting(listing, between, interval, far[0]) if far else 0
+    return sample or (near[0] if near else 0)
+
+
+def _fitting(listing: Listing, between: Sequence[int], interval: float, size: int) -> float:
+    """The spacing, about as large, that fits most lengths; 0 if it fits few."""
     apart = Counter(between)
     lengths = apart + Counter(map(sub, listing.falls, listing.rises))
+    off = Counter(abs(each - interval) for each in between if abs(each - interval) >= limits.LEAST_SAMPLE)
     most = range(int(interval / (size + 3)) + 1, int(interval / (size - 2)) + 1)  # samples in an interval
     found = [(_whole(lengths, each), each) for each in (_sample(apart, interval, many) for many in most)]
     sample = max(found, default=(0, 0))[1]
@@ -47,6 +65,6 @@ def _sample(apart: Dict[int, int], interval: float, many: int) -> float:
     return sum(each * number for each, number in apart.items()) / samples
 
 
-def _whole(lengths: Dict[int, int], sample: float) -> int:
+def _whole(lengths: Mapping[float, int], sample: float) -> int:
     """How many of the lengths are a whole number of samples, up to the rounding of both ends."""
     return sum(many for each, many in lengths.items() if abs(each - round(each / sample) * sample) < limits.ROUNDED)

@@ -2,12 +2,14 @@
 from __future__ import annotations
 
 from dataclasses import dataclass, field
-from typing import List
+from typing import List, Tuple
 
 from .units import Microseconds
 
 LONGEST_COMMENT = 395  # letters of a comment; the editor refuses lines that are far longer
 BY_LINE = 200
+
+Move = Tuple[Microseconds, int, int]  # from when on all is moved, by how many microseconds, and how many are taken out there
 
 
 @dataclass
@@ -17,10 +19,9 @@ class Repair:
     at: Microseconds
     comments: List[str]
     edits: List[str] = field(default_factory=list)
-    removed: int = 0  # microseconds of a stretch that it takes out
     instead: List[str] = field(default_factory=list)  # what also does it, if an edit is refused
     until: Microseconds = Microseconds(0)  # where it ends
-    moves: List[int] = field(default_factory=list)  # by how many microseconds it moves all that follow, edit by edit
+    moves: List[Move] = field(default_factory=list)  # edit by edit
 
     def text(self) -> str:
         """Its edits, by which it is known."""
