@@ -384,5 +384,5 @@ def cases(top):
     """Each part by its name."""
     return [*(case("apply: " + row[0], applied, *row) for row in APPLIED),
             *(case("apply: " + part.__name__, part)
-              for part in (into, options_of_a_script, late_times, saved, page_alone, growing, upside_down, steady, guarded, refused, objects,
-                           kinds))]
+              for part in (into, options_of_a_script, late_times, saved, page_alone, growing, upside_down, steady, guarded, refused,
+                           objects, kinds))]
