@@ -203,6 +203,36 @@ def packed():
     return results
 
 
+def packed_by_parts():
+    """Several packed streams are one dump; what follows a stream has to be a stream, too, up to its end, or padding."""
+    first, rest = (HEAD + UP[:8]).encode(), UP[8:].encode()
+    for pack, padding, no_padding in ((gzip.compress, b"\0" * 3, b"\0more"), (bz2.compress, b"", b"\0"),
+                                      (lzma.compress, b"\0" * 4, b"\0more")):
+        one, two = pack(first), pack(rest)
+        for data in (one + two + padding, one + pack(b"") + two, pack(first + rest) + padding * 5000):
+            yield unpacked(pack, data, True)
+        for after in (b"more", no_padding, two[3:], two[:2], two[:-9], two[:20] + b"more" + two[24:]):
+            yield unpacked(pack, one + after, False)
+    yield unpacked(lzma.compress, lzma.compress(first) + b"\0" * 4 + lzma.compress(rest), True)
+
+
+def unpacked(pack, data, is_whole):
+    """Whether a file, and standard input, are read as the whole dump, or refused in one line."""
+    results = []
+    with tempfile.NamedTemporaryFile() as file:
+        file.write(data)
+        file.flush()
+        for name, given in ((file.name, b""), ("-", data)):
+            status, printed, said = run("irig_wire", [name], given)
+            good = status == 0 and edges_of(printed) == EDGES
+            if not is_whole:
+                start = "irig_wire: %s: cannot be unpacked: " % name.replace("-", "standard input")
+                good = status == 2 and said.startswith(start) and said.count("\n") == 1
+            good or print("FAILED irig_wire, %s of %s and %r: %d %s" % (name, pack.__module__, data[-20:], status, said))
+            results.append(good)
+    return all(results)
+
+
 def long_file(top):
     """A file of 300 million bytes through a pipe with little memory."""
     maker = "import sys\nw=sys.stdout.write\nw(%r)\nfor i in range(%d):w('#%%d 1!\\n' %% (2*i))\nw('#9999999 0!\\n')"
@@ -279,6 +309,6 @@ def cases(top):
     return [
         *(case("wire: " + row[0], row_holds, *row) for row in ROWS), case("wire: dumps of other tools", real, top),
         case("wire: what is written", written),
-        case("wire: limits", limits), case("wire: packed files", packed), case("wire: a long file", long_file, top),
-        case("wire: hostile", hostile),
+        case("wire: limits", limits), case("wire: packed files", packed), case("wire: files of several packed streams", packed_by_parts),
+        case("wire: a long file", long_file, top), case("wire: hostile", hostile),
         case("wire: random dumps", random_rows), case("wire: ends", ends, top)]

@@ -1,17 +1,15 @@
 """The words of a dump, from a file or a pipe of any size, packed or not."""
 from __future__ import annotations
 
-import bz2
 import codecs
 import gzip
 import io
-import lzma
 import sys
 import zlib
 from itertools import chain
 from typing import IO, Callable, Iterator, List, Tuple, cast
 
-from . import sigrok
+from . import dump_packed, sigrok
 from .editor import Problem
 from .progress import metered
 from .temporary import temporary_copy
@@ -33,8 +31,8 @@ NO_DUMPS = (
 )
 PACKED: Tuple[Tuple[bytes, str, Callable[[IO[bytes]], object]], ...] = (
     (b"\x1f\x8b", "gzip", lambda stream: gzip.GzipFile(fileobj=stream)),
-    (b"BZh", "bzip2", bz2.BZ2File),
-    (b"\xfd7zXZ", "xz", lzma.LZMAFile),
+    (b"BZh", "bzip2", dump_packed.of_bzip2),
+    (b"\xfd7zXZ", "xz", dump_packed.of_xz),
 )
 
 
@@ -53,6 +51,10 @@ class _Joined(io.RawIOBase):
         part, self.head = data[:len(view)], data[len(view):]
         view[:len(part)] = part
         return len(part)
+
+
+def _buffered(head: bytes, stream: IO[bytes]) -> IO[bytes]:
+    return cast(IO[bytes], io.BufferedReader(_Joined(head, stream), DUMP_BLOCK))
 
 
 class Source:
@@ -92,7 +94,7 @@ class Source:
         """The bytes of the dump, block by block."""
         try:
             yield from self._blocks()
-        except (EOFError, zlib.error, lzma.LZMAError, gzip.BadGzipFile) as error:
+        except (EOFError, zlib.error, dump_packed.NoStream, gzip.BadGzipFile) as error:
             raise Problem("%s: cannot be unpacked: %s" % (self.path, error)) from error
 
     def _blocks(self) -> Iterator[bytes]:
@@ -100,14 +102,14 @@ class Source:
         with opened as plain:
             stream = metered(plain, self.path)
             head = stream.read(HEAD_BYTES)
-            joined = cast(IO[bytes], io.BufferedReader(_Joined(head, stream), DUMP_BLOCK))
+            joined = _buffered(head, stream)
             for magic, what in NO_DUMPS:
                 if head.startswith(magic):
                     raise Problem("%s: is no dump but %s" % (self.path, what))
             for magic, name, unpack in PACKED:
                 if head.startswith(magic):
                     self.notes.append("the file is packed by %s and was unpacked" % name)
-                    joined = cast(IO[bytes], unpack(joined))
+                    joined = _buffered(b"", cast(IO[bytes], unpack(joined)))
             yield from self._of_sigrok(joined) if head.startswith(ZIP) else self._plain(joined)
 
     def _of_sigrok(self, stream: IO[bytes]) -> Iterator[bytes]:
