@@ -195,6 +195,7 @@ def raising():
     yield raised(OSError(12, "Cannot allocate memory"), "memory ran out", 70)
     yield raised(OSError(28, "No space left on device"), "No space left on device", 2)
     yield raised(OSError(2, "No such file", "a"), "a: No such file", 2)
+    yield raised(OSError(2, "No such file", "a\nb\x1b[1m\x7f"), r"a\nb\x1b[1m\x7f: No such file", 2)
     yield raised(ending.Usage("wrong"), "wrong (irig_x --help says more)", 2)
     yield raised(ending.Problem("bad"), "bad", 2)
 

@@ -16,6 +16,7 @@ ALL_RIGHT, FOUND, NOT_READ = 0, 1, 2  # statuses
 DEFECT = 70  # a defect, or memory ran out: EX_SOFTWARE of sysexits.h
 INTERRUPTED, UNREAD = 130, 141  # as a shell shows the signals INT and PIPE
 SIGNALLED = 128  # and any other: with its number more
+ESCAPED = {code: repr(chr(code))[1:-1] for code in (*range(32), 127)}  # letters of a name that would end or change the line
 
 
 class Usage(Exception):
@@ -49,10 +50,10 @@ def _stop(number: int, _: Optional[FrameType]) -> None:
 
 
 def complain(text: str, program: str) -> None:
-    """Says something on standard error, if that is open."""
+    """Says something in one line on standard error, if that is open."""
     if sys.stderr is not None:
         progress.clear()
-        print("%s: %s" % (program, text), file=sys.stderr)
+        print("%s: %s" % (program, text.translate(ESCAPED)), file=sys.stderr)
 
 
 def ended(program: str, work: Callable[[], int]) -> int:
