@@ -66,6 +66,7 @@ ROWS = [
     ("a clock beside it", dump(*B, declared=SCOPES).replace("#0 0!", "#0 0! 0c"), [], 0, ["--wire=irig"], 4),
     ("letters on a clock", dump(*B, declared=SCOPES).replace("#0 0!", "#0 0! Uc"), [], 0, ["irig_wire"], 4),
     ("a bit of a vector", bus(B[0]), [], 0, ["tb.bus[2]", "irig_wire", "'bus[2]'"], 4),
+    ("a file that ends within a time", dump(*B) + "#1", [], 1, ["the file ends within a time, so it is cut"], 0),
     ("two dumps in a file", dump(*B) + dump(*B), [], 1, ["the file has 2 dumps", "--dump=1"], 4),
     ("two wires with time code", dump(*B, declared=SCOPES).replace("0!", "0! 0c").replace("1!", "1! 1c"), [], 1,
      ["tb.clock (code c)", "tb.irig (code !)"], 4),

@@ -60,6 +60,8 @@ ROWS = [
     ("a declaration that is not closed", (HEAD + UP).replace("a $end", "a"), [], EDGES, 0, "has no $end"),
     ("declarations that do not end", (HEAD + UP).replace("$enddefinitions $end", ""), [], EDGES, 0, "have no end"),
     ("two dumps", HEAD + UP + " " + HEAD + "#0 1! #1", [], EDGES, 1, "the file has 2 dumps"),
+    ("a file that ends within a time", HEAD + "#0 0! #5 1! #7 0! #9 #1", [], EDGES, 1, "the file ends within a time, so it is cut"),
+    ("a last time that goes back, whole", HEAD + UP + " #1\n", [], EDGES, 1, "the file has 2 dumps"),
     ("the second of two dumps", HEAD + UP + " " + HEAD + "#0 1! #1", ["--dump", "2"], [(0, 1), (1000, None)], 1, "never changes"),
     ("two recordings under one header", HEAD + UP + " #0 1! #1", ["--dump=2"], [(0, 1), (1000, None)], 1, ""),
     ("two dumps, and the first is named", HEAD + UP + " " + HEAD + "#0 1! #1", ["--dump=1"], EDGES, 0, "has 2 dumps"),

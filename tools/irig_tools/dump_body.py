@@ -54,7 +54,7 @@ class Body:
         self.source, self.wanted = source, wanted
         self.now = 0  # the last time
         self.begun = 0  # the first time that is not 0
-        self.more = ""  # "header" or "backward" if something follows
+        self.more = ""  # "header" or "backward" if something follows, "cut" if the file ends within a time
         self.counts: Counter[str] = Counter()
         self.strange: Optional[str] = None  # the first word that means no change, and the last time before it
         self.strange_at = 0
@@ -99,8 +99,9 @@ class Body:
             return
         time = int(digits)
         if time < self.now:
-            self.source.give_back(word)
-            self.more = "backward"
+            self.more = "cut" if self.source.ends_within_word else "backward"
+            if self.more == "backward":
+                self.source.give_back(word)
             return
         self.now = time
         self.begun = self.begun or time

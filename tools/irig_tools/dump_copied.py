@@ -47,6 +47,7 @@ class Copied(Source):
             if len(rest) > LONGEST_WORD:
                 raise Problem("%s: is no dump: a word has more than %d bytes" % (self.path, LONGEST_WORD))
             yield found
+        self.ends_within_word = not rest[-1:].isspace()
         yield [rest] if rest else []
 
     def _all_words(self) -> Iterator[bytes]:

@@ -63,6 +63,7 @@ class Source:
     def __init__(self, path: str) -> None:
         self.path = path
         self.notes: List[str] = []
+        self.ends_within_word = False  # the last word was read, and no white space follows it
         self._words: Iterator[bytes] = self._all_words()
 
     def __iter__(self) -> Iterator[bytes]:
@@ -88,6 +89,7 @@ class Source:
                 raise Problem("%s: is no dump: a word has more than %d bytes" % (self.path, LONGEST_WORD))
             yield from words
         if rest:
+            self.ends_within_word = True
             yield rest
 
     def unpacked(self) -> Iterator[bytes]:

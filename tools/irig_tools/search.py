@@ -91,6 +91,7 @@ class Found:
     probes: List[Probe]
     looked_at: int
     dumps: int = 1
+    is_cut: bool = False  # the file ends within a time
 
 
 def search(path: str, unit: str, number: int) -> Found:
@@ -140,4 +141,5 @@ def _look(source: Source, every: Every, units: Dict[str, Dict[str, float]], foun
         if probe.change(time, letter == "1"):
             wanted.drop(number, probe.signal.code)
     found.probes = [probes[number] for number in sorted(probes)]
+    found.is_cut = body.more == "cut"
     return body

@@ -131,8 +131,8 @@ class What:
         return "the unit of time is %s" % named if named else "no unit of time is named, and these were tried: " + ", ".join(TRIED)
 
     def sure(self) -> bool:
-        """Whether just one wire carries time code, and some frame is fine."""
-        return len(self.found.probes) == 1 and self.found.dumps == 1 and self.carriers[0].fine > 0
+        """Whether just one wire of a whole file carries time code, and some frame is fine."""
+        return len(self.found.probes) == 1 and self.found.dumps == 1 and not self.found.is_cut and self.carriers[0].fine > 0
 
     def proposal(self) -> Proposal:
         """How to continue, for the wire with the most fine frames."""

@@ -17,6 +17,7 @@ LONGEST_TIME = 1 << 40  # microseconds that the editor reads
 MOST_BYTES = 1 << 28
 MOST_EDGES = 1 << 23
 LINES = 1 << 14  # that are written at once
+ENDS_WITHIN_TIME = "the file ends within a time, so it is cut"
 SWAPPED = {"0": "1", "1": "0", "x": "x", "z": "z"}
 
 
@@ -190,6 +191,8 @@ class Extract:
         if counts["strange"]:
             text = "words that mean no change were left out, %d of them; the first is '%s', after time %d"
             doubt(text % (counts["strange"], body.strange, body.strange_at))
+        if body.more == "cut":
+            doubt(ENDS_WITHIN_TIME)
         if not writer.edges:
             doubt("the wire never changes; irig_what finds the wires with time code")
 
