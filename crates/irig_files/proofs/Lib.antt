@@ -5,3 +5,5 @@ pub mod Blocks
 pub mod Passed
 pub mod PutsAt
 pub mod Replacing
+-- The place that is written, and others.
+pub mod Apart

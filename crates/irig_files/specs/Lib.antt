@@ -5,3 +5,4 @@ pub mod Once
 pub mod Paths
 pub mod Ways
 pub mod Going
+pub mod Apart

@@ -1,10 +1,11 @@
 //! What the program asks of files.
 
 ghost use Rattle.std.specs.Prelude.{◌≡◌, ◌<◌, ◌≤◌, ◌^◌, Bool, ℕ, List, Option, IfOk, IfSome};
-ghost use Rattle.std.specs.Prelude.{IsErrOf, IsTrue, length};
+ghost use Rattle.std.specs.Prelude.{IsErrOf, IsTrue, false, length, true};
 ghost use Rattle.irig_vcd.specs.Answer.{name_of};
 ghost use Rattle.irig_disk.specs.{Disk.Disk, Disk.MayLeave, Held.Held};
 ghost use Rattle.irig_files.specs.{Once.PutsOnce, Puts.count_of, Reads.IsReadOf};
+ghost use Rattle.irig_files.specs.{Apart.AreApart, Apart.LeadToOneFile};
 
 use crate::dump_file::DumpFileFault;
 use crate::intake::Parts;
@@ -49,6 +50,13 @@ pub trait Disk {
         ensures put { IsTrue is_told → (mode : ℕ) × PutsOnce (disk self.old) (disk self.new)
             ((disk self.old).paths path.now)
             (record { bytes = T.rest text.old; mode = mode }) result };
+
+    /// Whether two paths lead to one regular file.
+    fn is_same(&self, one: &str, other: &str) -> Result<bool, ShelfFault>
+        ensures apart { IsTrue is_told → IfOk result (λ same. same ≡ false
+            → AreApart (disk self.now) one.now other.now) }
+        ensures same { IsTrue is_told → IfOk result (λ same. same ≡ true
+            → LeadToOneFile (disk self.now) one.now other.now) };
 
     /// This moment is one of those since an earlier one.
     ghost counts_now: { (files : Self) (t : ℕ) (place : List ℕ) (c : Option Held)

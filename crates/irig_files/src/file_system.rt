@@ -5,7 +5,7 @@ ghost use Rattle.std.specs.Prelude.{IsErrOf, IsTrue, MatchOption, OnOk, codes, f
 ghost use Rattle.std.specs.Prelude.{option_map, true, ⊤};
 ghost use Rattle.std.specs.Path.{path_buf_bytes};
 ghost use Rattle.irig_vcd.specs.Answer.{name_of};
-ghost use Rattle.irig_files.specs.{Paths.IsFolderOf, Paths.followed, Reads.IsReadOf};
+ghost use Rattle.irig_files.specs.{Apart.HasId, Paths.IsFolderOf, Paths.followed, Reads.IsReadOf};
 
 use crate::described::Described;
 use crate::dump_file::DumpFileFault;
@@ -19,6 +19,9 @@ use std::path::PathBuf;
 pub trait FileSystem: PlainCalls {
     /// The file that the program's answers go to, if it is one.
     ghost output_id: { Self → Option (ℕ × ℕ) };
+
+    /// The numbers that a file has, and no other one.
+    ghost id_of: { Self → ℕ → ℕ × ℕ };
 
     /// A path leads to what is no regular file, or to the one that the answers go to.
     ghost is_other: { Self → List ℕ → Type 0 };
@@ -51,7 +54,9 @@ pub trait FileSystem: PlainCalls {
             (λ d. d.is_file ≡ false → (Self.disk self.now).paths path.now ≡ None)) }
         ensures output { IsTrue Self.is_told → IfOk result (λ found. IfSome found
             (λ d. Some d.id ≡ output_id self.now
-            → (Self.disk self.now).paths path.now ≡ None)) };
+            → (Self.disk self.now).paths path.now ≡ None)) }
+        ensures id { IsTrue Self.is_told → IfOk result (λ found. HasId (Self.disk self.now)
+            (id_of self.now) path.now (option_map (λ d. d.id) found)) };
 
     /// What the program's answers go to; none if they go nowhere.
     fn output(&self) -> Result<Option<(u64, u64)>, Self::Fault>
@@ -72,4 +77,8 @@ pub trait FileSystem: PlainCalls {
         → link_at system path ≡ Some text
         → ((Self.disk system).paths (followed path text) ≡ (Self.disk system).paths path)
         × (is_other system (followed path text) → is_other system path) };
+
+    /// Two files have two ids.
+    ghost ids_differ: { (system : Self) (one : ℕ) (other : ℕ)
+        → id_of system one ≡ id_of system other → one ≡ other };
 }

@@ -8,6 +8,7 @@ use crate::file_system::FileSystem;
 use crate::intake::Parts;
 use crate::put_file::put_file;
 use crate::room::Room;
+use crate::same_file::is_same_file;
 use crate::written::Written;
 use irig_text::{ShelfFault, Text};
 use irig_vcd::VcdFault;
@@ -63,5 +64,9 @@ impl<C: FileSystem> Disk for Files<C> {
         room: &mut Room,
     ) -> Result<Written, ShelfFault> {
         put_file(&mut self.system, &mut self.dir, path, text, room)
+    }
+
+    fn is_same(&self, one: &str, other: &str) -> Result<bool, ShelfFault> {
+        is_same_file(&self.system, one, other)
     }
 }

@@ -14,6 +14,7 @@ mod opening;
 mod plain_calls;
 mod put_file;
 mod room;
+mod same_file;
 mod system;
 mod way;
 mod whole;

@@ -1,6 +1,7 @@
 //! The files of the system: each method is one call. Nothing is known of them.
 
 ghost use Rattle.std.specs.Prelude.{None};
+ghost use Rattle.std.proofs.Common.{ap};
 
 use crate::described::Described;
 use crate::dump_file::{DumpFileFault, read_dump};
@@ -58,6 +59,8 @@ impl<R: Files + Print + AllocGlobal> PlainCalls for SystemFolder<'_, R> {
 impl<R: Files + Print + AllocGlobal> FileSystem for SystemFolder<'_, R> {
     ghost output_id = { λ _. None };
 
+    ghost id_of = { λ _ file. (0, file) };
+
     ghost is_other = { λ _ _. ⊥ };
 
     ghost link_at = { λ _ _. None };
@@ -65,6 +68,8 @@ impl<R: Files + Print + AllocGlobal> FileSystem for SystemFolder<'_, R> {
     ghost held = { λ _ _. None };
 
     ghost follows = { λ _ _ text link. absurd (cc link) };
+
+    ghost ids_differ = { λ _ one other same. ap (λ id. id.1) same };
 
     fn read(
         &self,

@@ -1,6 +1,7 @@
 //! The files of one folder in memory, for tests. It is the folder `.`, and has no links.
 
 ghost use Rattle.std.specs.Prelude.{◌≡◌, None};
+ghost use Rattle.std.proofs.Common.{ap};
 ghost use Rattle.irig_folders.specs.Log.{own_place};
 ghost use Rattle.irig_folders.specs.InMemory.{holds_at, no_links};
 
@@ -57,6 +58,8 @@ impl PlainCalls for Memory {
 impl FileSystem for Memory {
     ghost output_id = { λ _. None };
 
+    ghost id_of = { λ _ file. (0, file) };
+
     ghost is_other = { λ _ path. own_place path ≡ None };
 
     ghost link_at = { λ _ _. None };
@@ -64,6 +67,8 @@ impl FileSystem for Memory {
     ghost held = { λ m path. holds_at m.calls.items path };
 
     ghost follows = { λ _ path text link. no_links path text link };
+
+    ghost ids_differ = { λ _ one other same. ap (λ id. id.1) same };
 
     fn read(
         &self,

@@ -1,6 +1,7 @@
 //! The single calls on paths of folders in memory, for tests.
 
 ghost use Rattle.std.specs.Prelude.{◌≡◌, IfOk, None, is_none, option_copied};
+ghost use Rattle.std.proofs.Common.{ap};
 ghost use Rattle.irig_folders.specs.Log.{leads_in};
 ghost use Rattle.irig_folders.specs.Tree.{IsOther, link_at, other_in, over};
 ghost use Rattle.irig_folders.specs.TreeLaws.{follows_link};
@@ -66,7 +67,8 @@ impl PlainCalls for Tree {
 
 /// What a file is.
 fn described(tree: &Tree, file: usize) -> Described
-    ensures { result.is_file ≡ is_none (other_in tree.now.layout.others.items file) }
+    ensures file { result.is_file ≡ is_none (other_in tree.now.layout.others.items file) }
+    ensures id { result.id ≡ (0, file) }
 {
     Described {
         is_file: is_regular(&tree.layout.others, file),
@@ -91,6 +93,8 @@ fn read_text<'t>(tree: &'t Tree, path: &str) -> Result<Option<&'t str>, MemoryFa
 impl FileSystem for Tree {
     ghost output_id = { λ _. None };
 
+    ghost id_of = { λ _ file. (0, file) };
+
     ghost is_other = { λ t. IsOther t.layout (over t.layout (leads_in t.memory.calls.items)) };
 
     ghost link_at = { λ t. link_at t.layout (over t.layout (leads_in t.memory.calls.items)) };
@@ -99,6 +103,8 @@ impl FileSystem for Tree {
 
     ghost follows = { λ t. follows_link t.layout
         (over t.layout (leads_in t.memory.calls.items)) };
+
+    ghost ids_differ = { λ _ one other same. ap (λ id. id.1) same };
 
     /// No dump is read here.
     fn read(

@@ -41,6 +41,7 @@ pub fn guard_on_parts<R: Read, W: Write, S: Shelf>(
         (desk (W.contents out.new) (S.known shelf.new)) result }
     ensures label { (S.known shelf.new).label ≡ (S.known shelf.old).label }
     ensures since { S.since shelf.old shelf.new }
+    ensures nothing { product ≡ Product.Nothing → shelf.new ≡ shelf.old }
 {
     match open_closed(alloc, recording, journal, format) {
         Ok(mut session) => guard_session(alloc, &mut session, moved, product, script, out, shelf),
@@ -91,6 +92,7 @@ pub fn guard_session<R: Read, W: Write, S: Shelf>(
         (desk (W.contents out.new) (S.known shelf.new)) result }
     ensures label { (S.known shelf.new).label ≡ (S.known shelf.old).label }
     ensures since { S.since shelf.old shelf.new }
+    ensures nothing { product ≡ Product.Nothing → shelf.new ≡ shelf.old }
 {
     let mut bytes = Vec::new(alloc);
     let Ok(_) = script.read_to_end(&mut bytes) else {
@@ -118,6 +120,7 @@ fn write_product<S: Shelf>(
         (product_texts product session.now) 0) }
     ensures err { OnErr result (Puts (S.known shelf.old) (S.known shelf.new) [] 1) }
     ensures since { S.since shelf.old shelf.new }
+    ensures nothing { product ≡ Product.Nothing → shelf.new ≡ shelf.old }
 {
     match product {
         Product::Nothing => Ok(()),
