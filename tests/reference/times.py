@@ -164,13 +164,18 @@ def table(options, pulses):
     return "".join(rows)
 
 
+def is_timed(options, pulses):
+    """Whether a frame has a time."""
+    return bool(Track(options, pulses).frames)
+
+
 def aligned(options, pulses, text):
-    """What is printed for the lines, and the status."""
+    """What is printed for the lines, and the status: 1 also if no frame has a time."""
     track = Track(options, pulses)
     lines = text.split(b"\n")
     if not lines[-1]:
         lines.pop()
-    printed, status = [], 0
+    printed, status = [], int(not track.frames)
     for place, line in enumerate(lines):
         if len(line) > LONGEST_LINE:
             return b"".join(printed), 4

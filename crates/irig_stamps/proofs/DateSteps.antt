@@ -22,7 +22,7 @@ pub from-place : (rs : List Record) (k : ℕ) (r : Record) → slice_get rs k �
 from-place rs k r is = drop-cons rs k r (slice_get_within rs k r is) ∙ ap (λ (x : Record). x ∷ drop (suc k) rs) (get_or_from_slice_get rs k r r is)
 
 pub first-is : (f : FormatView) (rs : List Record) (k : ℕ) (r : Record) (g : Fields) → slice_get rs k ≡ Some r → timed f r.verdict ≡ Some g
-    → first_day f (drop k rs) ≡ g.days
+    → first_day f (drop k rs) ≡ Some g.days
 first-is f rs k r g is t = ap (first_day f) (from-place rs k r is) ∙ ap (λ (o : Option Fields). day_or o (first_day f (drop (suc k) rs))) t
 
 pub first-later : (f : FormatView) (rs : List Record) (k : ℕ) (r : Record) → slice_get rs k ≡ Some r → timed f r.verdict ≡ None

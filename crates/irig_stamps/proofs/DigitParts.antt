@@ -1,5 +1,5 @@
 -- Numbers that have the same digits.
-use Rattle.std.proofs.Common.{◌≡◌, ℕ, ◌+◌, ◌-◌, ◌*◌, ◌/◌, ◌%◌, ◌<◌, ◌≤◌, ◌^◌, ◌++◌, List, [], ◌∷◌, length, take, drop, get_or, refl, sym, ap, ◌∙◌, arith, Some}
+use Rattle.std.proofs.Common.{◌≡◌, ℕ, ◌+◌, ◌*◌, ◌/◌, ◌%◌, ◌<◌, ◌^◌, ◌++◌, List, ◌∷◌, length, take, drop, get_or, sym, ap, ◌∙◌, arith, Some}
 use Rattle.std.specs.Prelude.{decimal}
 use Rattle.std.proofs.{Math.Nat.div-div-eq-div-mul, Math.Seq.drop-append_seam, Math.Seq.take-append_seam}
 use Rattle.std.proofs.lemmas.{Fmt.decimal_injective, List.length-append}

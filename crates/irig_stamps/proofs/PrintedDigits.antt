@@ -1,15 +1,15 @@
 -- Times of a track that are printed alike.
-use Rattle.std.proofs.Common.{◌≡◌, ◌≢◌, ℕ, zero, suc, ◌+◌, ◌-◌, ◌*◌, ◌/◌, ◌%◌, ◌<◌, ◌≤◌, ◌^◌, ◌==◌, ◌++◌, nat_le, nat_lt, Bool, true, false, cond, List, []}
-use Rattle.std.proofs.Common.{◌∷◌, length, Option, Some, None, get_or, refl, sym, ap, ◌∙◌, subst, arith, inl, inr, ◌⊎◌}
+use Rattle.std.proofs.Common.{◌≡◌, ◌≢◌, ℕ, zero, suc, ◌+◌, ◌-◌, ◌*◌, ◌%◌, ◌<◌, ◌≤◌, ◌^◌, ◌==◌, ◌++◌, nat_le, nat_lt, Bool, true, false, cond, []}
+use Rattle.std.proofs.Common.{◌∷◌, Option, Some, None, refl, sym, ap, ◌∙◌, subst, arith, inl, inr, ◌⊎◌}
 use Rattle.std.specs.Prelude.{IfSome, is_some, pos}
-use Rattle.std.proofs.lemmas.{Bool.cases_Bool, Bool.lt-leb, Bool.leb-true, Option.none-some, Option.same_Some}
+use Rattle.std.proofs.lemmas.{Bool.cases_Bool, Bool.leb-true, Option.none-some, Option.same_Some}
 use Rattle.jiff_core.specs.Calendar.{days_in_month}
 use Rattle.jiff_core.proofs.CalendarLemmas.{days_in_month_bounds}
 use Rattle.irig_codes.specs.Format.{FormatView}
 use Rattle.irig_times.specs.{declared.time.Time.Time, Laws.IsOfCalendar}
 use Rattle.irig_times.proofs.{Calendar.times_are_of_calendar, TimeLaws.in_its_minute}
 use Rattle.irig_stamps.specs.Printed.{AreTimes, CalendarTells, OrdinalTells, SecondsTell, day_micros}
-use Rattle.irig_stamps.specs.Texts.{calendar_text, clock_text, date_text, day_seconds, day_text, ordinal_text, year_text}
+use Rattle.irig_stamps.specs.Texts.{calendar_text, clock_text, date_text, day_seconds, ordinal_text, year_text}
 use Rattle.irig_stamps.specs.{Dates.counted_on, Dates.date_after, Dates.date_from, Dates.date_in, Dates.year_in, declared.settings.Settings.Settings}
 use Rattle.irig_stamps.proofs.DigitParts.{clock-parts, date-parts, day-parts, seconds-parts, year-parts}
 

@@ -1,5 +1,5 @@
 -- A table that grows by a row.
-use Rattle.std.proofs.Common.{◌≡◌, ◌++◌, ◌+◌, ◌∷◌, [], ℕ, suc, List, Option, Some, drop, slice_get, refl, sym, ap, ◌∙◌, subst, append_assoc, add-one}
+use Rattle.std.proofs.Common.{◌≡◌, ◌++◌, ◌+◌, ◌∷◌, ℕ, suc, List, Option, Some, drop, slice_get, refl, sym, ap, ◌∙◌, subst, append_assoc, add-one}
 use Rattle.irig_codes.specs.Format.{FormatView}
 use Rattle.irig_index.specs.declared.record.Record.{Record}
 use Rattle.irig_recording.specs.declared.pulse.Pulse.{Pulse}

@@ -1,5 +1,6 @@
 -- Lines that are aligned with a recording. This project's own.
-use Rattle.std.specs.Prelude.{◌≡◌, ◌⊎◌, ℕ, Bool, List, Option, Result, Err}
+use Rattle.std.specs.Prelude.{◌≡◌, ◌⊎◌, ℕ, Bool, List, Option, Result, Ok, Err, IfOk, is_some}
+use Rattle.std.specs.Prelude.{unwrap_or}
 use Rattle.irig_codes.specs.Format.{FormatView}
 use Rattle.irig_index.specs.Frames.{frames}
 use Rattle.irig_recording.specs.declared.pulse.Pulse.{Pulse}
@@ -7,21 +8,36 @@ use Rattle.irig_track.specs.Edges.{edges_of}
 use Rattle.irig_stamps.specs.declared.fault.RunFault.TheVariants.{OutOfMemory}
 use Rattle.irig_stamps.specs.declared.settings.Settings.{Settings}
 use Rattle.irig_stamps.specs.{Dates.first_day, Runs.Ends, declared.fault.RunFault.RunFault}
+use Rattle.irig_stamps.specs.declared.outcome.Outcome.{Outcome}
 
--- the settings with the day of the first frame of a track that has a time
+-- the settings with the day of the first frame of a track that has a time; 0 if none has
 abbrev pub with_first_day : FormatView → List Pulse → Settings → Settings
-with_first_day f ps s = record s { first_day = first_day f (frames f ps) }
+with_first_day f ps s = record s { first_day = unwrap_or (first_day f (frames f ps)) 0 }
+
+-- whether a frame of a track has a time
+abbrev pub is_timed : FormatView → List Pulse → Bool
+is_timed f ps = is_some (first_day f (frames f ps))
+
+-- the outcome of a run: whether each line has a number, and whether a frame has a time
+abbrev pub outcome : Bool → Bool → Outcome
+outcome numbered timed = record { numbered = numbered; timed = timed }
+
+-- whether the column of each line has a number, or why the run was broken off
+abbrev pub numbers_of : Result Outcome RunFault → Result Bool RunFault
+numbers_of (Ok outcome) = Ok outcome.numbered
+numbers_of (Err fault) = Err fault
 
 -- the run ended as it does with the pulses that have these edges
 pub record AlignsPulses (f : FormatView) (edges : List ℕ) (s : Settings)
-    (lines left from to : Option (List ℕ)) (result : Result Bool RunFault) : Type 0 where
+    (lines left from to : Option (List ℕ)) (result : Result Outcome RunFault) : Type 0 where
   pub pulses : List Pulse
   pub are : edges_of pulses ≡ edges
-  pub ends : Ends f pulses (with_first_day f pulses s) lines left from to result
+  pub ends : Ends f pulses (with_first_day f pulses s) lines left from to (numbers_of result)
+  pub timed : IfOk result (λ outcome. outcome.timed ≡ is_timed f pulses)
 
 -- the same; or memory ran out, and nothing was read or printed
 abbrev pub Aligns : FormatView → List ℕ → Settings → Option (List ℕ) → Option (List ℕ)
-    → Option (List ℕ) → Option (List ℕ) → Result Bool RunFault → Type 0
+    → Option (List ℕ) → Option (List ℕ) → Result Outcome RunFault → Type 0
 Aligns f edges s lines left from to result =
     AlignsPulses f edges s lines left from to result
     ⊎ ((result ≡ Err OutOfMemory) × ((left ≡ lines) × (to ≡ from)))

@@ -9,13 +9,13 @@ use Rattle.irig_times.specs.{declared.time.Time.Time, Times.timed}
 use Rattle.irig_stamps.specs.declared.settings.Settings.{Settings}
 
 -- the day of some fields, if there are any; else another
-abbrev pub day_or : Option Fields → ℕ → ℕ
-day_or (Some g) other = g.days
+abbrev pub day_or : Option Fields → Option ℕ → Option ℕ
+day_or (Some g) other = Some g.days
 day_or None other = other
 
--- the day in its year of the first frame that has a time; 0 if there is none
-abbrev pub first_day : FormatView → List Record → ℕ
-first_day f [] = 0
+-- the day in its year of the first frame that has a time, if one has
+abbrev pub first_day : FormatView → List Record → Option ℕ
+first_day f [] = None
 first_day f (r ∷ rs) = day_or (timed f r.verdict) (first_day f rs)
 
 -- the year of a day, if frames carry none: that of the first frame that has a time, or the year

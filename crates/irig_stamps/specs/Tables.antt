@@ -8,8 +8,9 @@ use Rattle.irig_recording.specs.declared.pulse.Pulse.{Pulse}
 use Rattle.irig_track.specs.Edges.{edges_of}
 use Rattle.irig_times.specs.{Starts.IsStartOf, declared.start.FrameStart.FrameStart}
 use Rattle.irig_stamps.specs.declared.fault.RunFault.TheVariants.{PrintFailed, OutOfMemory}
-use Rattle.irig_stamps.specs.{Aligned.with_first_day, Front.AppendsFront, Texts.word_of}
-use Rattle.irig_stamps.specs.{declared.fault.RunFault.RunFault, declared.settings.Settings.Settings}
+use Rattle.irig_stamps.specs.{Aligned.is_timed, Aligned.with_first_day, Front.AppendsFront}
+use Rattle.irig_stamps.specs.{Texts.word_of, declared.fault.RunFault.RunFault}
+use Rattle.irig_stamps.specs.declared.settings.Settings.{Settings}
 
 -- the answer to a question
 abbrev pub answer_of : Bool → List ℕ
@@ -34,11 +35,12 @@ IsTable f ps s (r ∷ rs) text =
     (start : Option FrameStart) × (rest : List ℕ) × IsStartOf f s.century ps r start
     × (IsTable f ps s rs rest × (text ≡ row_of s start ++ rest))
 
--- the table was printed; or only a front of it, if the output failed; or nothing, if memory ran out
+-- the table was printed, and it is known whether a frame has a time; or only a front of it, if the output failed; or nothing, if memory ran out
 abbrev pub Lists : FormatView → List Pulse → Settings → Option (List ℕ) → Option (List ℕ)
-    → Result (Unit {0}) RunFault → Type 0
-Lists f ps s from to (Ok done) =
-    (text : List ℕ) × IsTable f ps s (frames f ps) text × Appends from to text
+    → Result Bool RunFault → Type 0
+Lists f ps s from to (Ok timed) =
+    (timed ≡ is_timed f ps)
+    × (text : List ℕ) × IsTable f ps s (frames f ps) text × Appends from to text
 Lists f ps s from to (Err PrintFailed) =
     (text : List ℕ) × IsTable f ps s (frames f ps) text × AppendsFront from to text
 Lists f ps s from to (Err OutOfMemory) = to ≡ from
@@ -46,13 +48,13 @@ Lists f ps s from to (Err _) = ⊥
 
 -- the same with the pulses that have these edges
 pub record ListsEdges (f : FormatView) (edges : List ℕ) (s : Settings)
-    (from to : Option (List ℕ)) (result : Result (Unit {0}) RunFault) : Type 0 where
+    (from to : Option (List ℕ)) (result : Result Bool RunFault) : Type 0 where
   pub pulses : List Pulse
   pub are : edges_of pulses ≡ edges
   pub lists : Lists f pulses (with_first_day f pulses s) from to result
 
 -- or memory ran out before, and nothing was printed
 abbrev pub ListsRecording : FormatView → List ℕ → Settings → Option (List ℕ) → Option (List ℕ)
-    → Result (Unit {0}) RunFault → Type 0
+    → Result Bool RunFault → Type 0
 ListsRecording f edges s from to result =
     ListsEdges f edges s from to result ⊎ ((result ≡ Err OutOfMemory) × (to ≡ from))

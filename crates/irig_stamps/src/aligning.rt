@@ -1,12 +1,13 @@
 //! Lines that are aligned with a track.
 
-ghost use Rattle.std.specs.Prelude.{◌≡◌, ◌≤◌, ◌<◌, ◌^◌, IfSome};
+ghost use Rattle.std.specs.Prelude.{◌≡◌, ◌≤◌, ◌<◌, ◌^◌, IfOk, IfSome};
 ghost use Rattle.irig_index.specs.Frames.{frames};
-ghost use Rattle.irig_stamps.specs.Aligned.{Aligns, with_first_day};
+ghost use Rattle.irig_stamps.specs.Aligned.{Aligns, is_timed, numbers_of, with_first_day};
 ghost use Rattle.irig_stamps.specs.{Dates.first_day, Runs.Ends};
 
 use crate::fault::RunFault;
 use crate::first_day::first_day;
+use crate::outcome::Outcome;
 use crate::running::run;
 use crate::settings::Settings;
 use irig_codes::Format;
@@ -17,8 +18,7 @@ use irig_track::Track;
 use std::alloc::Global;
 use std::io::{Read, Write};
 
-/// Prints lines with the times that a recording gives them. Returns whether the column of each has
-/// a number, but for the header.
+/// Prints lines with the times that a recording gives them.
 pub fn align<R: Read, W: Write>(
     alloc: Global,
     recording: Recording,
@@ -26,7 +26,7 @@ pub fn align<R: Read, W: Write>(
     out: &mut W,
     format: Format,
     settings: &Settings,
-) -> Result<bool, RunFault>
+) -> Result<Outcome, RunFault>
     requires century { settings.now.century ≤ 99 }
     requires offset { settings.now.offset ≤ 2 ^ 119 }
     requires year { IfSome settings.now.year (λ y. y ≤ 9998) }
@@ -48,25 +48,27 @@ fn align_track<R: Read, W: Write>(
     out: &mut W,
     format: Format,
     settings: &Settings,
-) -> Result<bool, RunFault>
+) -> Result<Outcome, RunFault>
     requires century { settings.now.century ≤ 99 }
     requires offset { settings.now.offset ≤ 2 ^ 119 }
     requires year { IfSome settings.now.year (λ y. y ≤ 9998) }
     requires header { settings.now.header < 2 ^ 64 }
-    ensures { Ends format track.now.pulses (with_first_day format track.now.pulses settings.now)
-        (R.remaining lines.old) (R.remaining lines.new) (W.contents out.old) (W.contents out.new)
-        result }
+    ensures ends { Ends format track.now.pulses
+        (with_first_day format track.now.pulses settings.now) (R.remaining lines.old)
+        (R.remaining lines.new) (W.contents out.old) (W.contents out.new) (numbers_of result) }
+    ensures timed { IfOk result (λ outcome. outcome.timed ≡ is_timed format track.now.pulses) }
 {
     let mut lens = track.lens();
     let Ok(index) = Index::build(alloc, &mut lens, format) else {
         return Err(RunFault::OutOfMemory);
     };
     let mut records = FrameLens::new(&index);
+    let day = first_day(&mut records, format);
     let settings = Settings {
-        first_day: first_day(&mut records, format),
+        first_day: day.unwrap_or(0),
         ..*settings
     };
-    run(
+    match run(
         alloc,
         lines,
         out,
@@ -74,5 +76,11 @@ fn align_track<R: Read, W: Write>(
         &mut records,
         format,
         &settings,
-    )
+    ) {
+        Ok(numbered) => Ok(Outcome {
+            numbered,
+            timed: day.is_some(),
+        }),
+        Err(fault) => Err(fault),
+    }
 }

@@ -21,15 +21,15 @@ use irig_track::{Lens, Track};
 use std::alloc::{AllocError, Global};
 use std::io::Write;
 
-/// Prints the table of a recording: a row for each frame that has a time. It is made before it is
-/// printed, so nothing is printed if memory runs out.
+/// Prints the table of a recording: a row for each frame that has a time. Returns whether one has.
+/// The table is made before it is printed, so nothing is printed if memory runs out.
 pub fn list<W: Write>(
     alloc: Global,
     recording: Recording,
     out: &mut W,
     format: Format,
     settings: &Settings,
-) -> Result<(), RunFault>
+) -> Result<bool, RunFault>
     requires century { settings.now.century ≤ 99 }
     requires year { IfSome settings.now.year (λ y. y ≤ 9998) }
     ensures { ListsRecording format recording.edges settings.now (W.contents out.old)
@@ -48,7 +48,7 @@ fn list_track<W: Write>(
     out: &mut W,
     format: Format,
     settings: &Settings,
-) -> Result<(), RunFault>
+) -> Result<bool, RunFault>
     requires century { settings.now.century ≤ 99 }
     requires year { IfSome settings.now.year (λ y. y ≤ 9998) }
     ensures { Lists format track.now.pulses (with_first_day format track.now.pulses settings.now)
@@ -59,15 +59,16 @@ fn list_track<W: Write>(
         return Err(RunFault::OutOfMemory);
     };
     let mut records = FrameLens::new(&index);
+    let day = first_day(&mut records, format);
     let settings = Settings {
-        first_day: first_day(&mut records, format),
+        first_day: day.unwrap_or(0),
         ..*settings
     };
     let Ok(text) = table(alloc, &mut lens, &mut records, format, &settings) else {
         return Err(RunFault::OutOfMemory);
     };
     match put_all(out, &text) {
-        Ok(()) => Ok(()),
+        Ok(()) => Ok(day.is_some()),
         Err(_) => Err(RunFault::PrintFailed),
     }
 }

@@ -3,10 +3,10 @@
 use Rattle.std.specs.Prelude.{◌≡◌, ℕ, Bool, true, false, List, Option, Ok, Err}
 use Rattle.clap.specs.Words.{Text}
 use Rattle.irig_recording.specs.Recording.{RecordingView}
-use Rattle.irig_stamps.specs.{Aligned.Aligns, Tables.ListsRecording}
+use Rattle.irig_stamps.specs.{Aligned.Aligns, Aligned.outcome, Tables.ListsRecording}
 use Rattle.irig_time.specs.declared.command_line.UsageFault.TheVariants.{Words, Value as of_value}
 use Rattle.irig_time.specs.declared.ending.Ending.TheVariants.{Usage, Value, Unread, Aligned}
-use Rattle.irig_time.specs.declared.ending.Ending.TheVariants.{Listed, Broken}
+use Rattle.irig_time.specs.declared.ending.Ending.TheVariants.{Listed, Timeless, Broken}
 use Rattle.irig_time.specs.{Settings.Reads, Tracks.HasFault, Tracks.Says, Tracks.name_in}
 use Rattle.irig_time.specs.{declared.chosen.Chosen.Chosen, declared.ending.Ending.Ending}
 
@@ -14,19 +14,26 @@ use Rattle.irig_time.specs.{declared.chosen.Chosen.Chosen, declared.ending.Endin
 abbrev pub Held : Type 0
 Held = List ℕ → Option (List ℕ)
 
--- the lines were aligned with the pulses that have these edges, or the run was broken off
+-- the lines were aligned with the pulses that have these edges, of which a frame has a time or none
+-- has; or the run was broken off
 abbrev pub AlignsAs : Chosen → List ℕ → Option (List ℕ) → Option (List ℕ) → Option (List ℕ)
     → Option (List ℕ) → Ending → Type 0
 AlignsAs chosen edges lines left from to (Aligned all) =
-    Aligns chosen.format edges chosen.settings lines left from to (Ok all)
+    Aligns chosen.format edges chosen.settings lines left from to (Ok (outcome all true))
+AlignsAs chosen edges lines left from to (Timeless path) =
+    (path ≡ chosen.track) × (all : Bool)
+    × Aligns chosen.format edges chosen.settings lines left from to (Ok (outcome all false))
 AlignsAs chosen edges lines left from to (Broken fault) =
     Aligns chosen.format edges chosen.settings lines left from to (Err fault)
 AlignsAs chosen edges lines left from to _ = ⊥
 
--- the table of the pulses that have these edges was printed, or the run was broken off
+-- the table of the pulses that have these edges was printed, of which a frame has a time or none
+-- has; or the run was broken off
 abbrev pub ListsAs : Chosen → List ℕ → Option (List ℕ) → Option (List ℕ) → Ending → Type 0
 ListsAs chosen edges from to Listed =
-    ListsRecording chosen.format edges chosen.settings from to (Ok tt)
+    ListsRecording chosen.format edges chosen.settings from to (Ok true)
+ListsAs chosen edges from to (Timeless path) =
+    (path ≡ chosen.track) × ListsRecording chosen.format edges chosen.settings from to (Ok false)
 ListsAs chosen edges from to (Broken fault) =
     ListsRecording chosen.format edges chosen.settings from to (Err fault)
 ListsAs chosen edges from to _ = ⊥
@@ -54,12 +61,7 @@ Obeys held chosen lines left from to (Unread path fault) =
     × ((left ≡ lines) × (to ≡ from)))
 Obeys held chosen lines left from to (Usage error) = ⊥
 Obeys held chosen lines left from to (Value fault) = ⊥
-Obeys held chosen lines left from to (Aligned all) =
-    RunsFile held chosen lines left from to (Aligned all)
-Obeys held chosen lines left from to Listed =
-    RunsFile held chosen lines left from to Listed
-Obeys held chosen lines left from to (Broken fault) =
-    RunsFile held chosen lines left from to (Broken fault)
+Obeys held chosen lines left from to ending = RunsFile held chosen lines left from to ending
 
 -- what the words ask for was done; or they ask for nothing, and nothing was read or printed
 abbrev pub EndsBy : List Text → Held → Option (List ℕ) → Option (List ℕ) → Option (List ℕ)

@@ -27,6 +27,8 @@ pub enum Ending<'a> {
     Aligned(bool),
     /// The table was printed.
     Listed,
+    /// All lines were printed, or the table, but no frame of the track at this path has a time.
+    Timeless(&'a str),
     /// The run was broken off.
     Broken(RunFault),
 }

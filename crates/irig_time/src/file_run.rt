@@ -80,7 +80,8 @@ fn list_track<'a, W: Write>(
     ensures { ListsAs chosen.now recording.edges (W.contents out.old) (W.contents out.new) result }
 {
     match list(alloc, recording, out, chosen.format, &chosen.settings) {
-        Ok(()) => Ending::Listed,
+        Ok(true) => Ending::Listed,
+        Ok(false) => Ending::Timeless(chosen.track),
         Err(fault) => Ending::Broken(fault),
     }
 }
@@ -105,7 +106,8 @@ fn align_track<'a, R: Read, W: Write>(
         chosen.format,
         &chosen.settings,
     ) {
-        Ok(all) => Ending::Aligned(all),
+        Ok(outcome) if outcome.timed => Ending::Aligned(outcome.numbered),
+        Ok(_) => Ending::Timeless(chosen.track),
         Err(fault) => Ending::Broken(fault),
     }
 }

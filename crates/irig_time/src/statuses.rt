@@ -17,10 +17,16 @@ pub fn report<R: Print + Eprint>(rt: &R, ending: &Ending<'_>) -> ExitCode
     match ending {
         Ending::Usage(error) => explain(rt, error),
         Ending::Value(fault) => tell(rt, 2, fault),
-        Ending::Unread(path, TrackFault::File(fault)) => tell_of(rt, path, &unread_text(*fault)),
-        Ending::Unread(path, TrackFault::Dump(fault)) => tell_of(rt, path, fault),
+        Ending::Unread(path, TrackFault::File(fault)) => tell_of(rt, 3, path, &unread_text(*fault)),
+        Ending::Unread(path, TrackFault::Dump(fault)) => tell_of(rt, 3, path, fault),
         Ending::Aligned(true) | Ending::Listed => ExitCode::SUCCESS,
         Ending::Aligned(false) => ExitCode::from(1),
+        Ending::Timeless(path) => tell_of(
+            rt,
+            1,
+            path,
+            &"no frame has a time with this format and expression",
+        ),
         Ending::Broken(fault) => tell(rt, 4, fault),
     }
 }
@@ -33,12 +39,12 @@ pub fn tell<R: Eprint, T: Display>(rt: &R, status: u8, why: &T) -> ExitCode
     ExitCode::from(status)
 }
 
-/// Says why a track was not read.
-fn tell_of<R: Eprint, T: Display>(rt: &R, path: &str, why: &T) -> ExitCode
-    ensures { exit_status result ≡ 3 }
+/// Says of a track why the program ends with a status.
+fn tell_of<R: Eprint, T: Display>(rt: &R, status: u8, path: &str, why: &T) -> ExitCode
+    ensures { exit_status result ≡ status }
 {
     let _ = eprintln!(rt; "irig_time: {path}: {why}");
-    ExitCode::from(3)
+    ExitCode::from(status)
 }
 
 /// Prints what `clap` says: help on the standard output, a mistake on the standard error.

@@ -4,5 +4,5 @@ use Rattle.irig_stamps.specs.declared.fault.RunFault.TheVariants.{OutOfMemory}
 use Rattle.irig_stamps.proofs.RunSteps.{begun, stopped}
 use Rattle.irig_stamps.proofs.aligning.align_track.Goals as goal
 
-pub returns-in_default : goal.returns-in_default
-returns-in_default g c = stopped _ _ _ _ _ _ _ _ _ [] _ _ OutOfMemory (begun _ _ _ _ _) (Consumes-nil _) refl
+pub returns-in_default-clause-ends : goal.returns-in_default-clause-ends
+returns-in_default-clause-ends g c = stopped _ _ _ _ _ _ _ _ _ [] _ _ OutOfMemory (begun _ _ _ _ _) (Consumes-nil _) refl

@@ -1,4 +1,4 @@
-use Rattle.std.proofs.Common.{◌≡◌, ◌++◌, ◌<◌, ◌≤◌, ℕ, List, [], Some, drop, get_or, length, slice_get, refl, ap, sym, ◌∙◌, subst, arith}
+use Rattle.std.proofs.Common.{◌<◌, ◌≤◌, List, [], drop, get_or, length, slice_get, refl, ap, sym, ◌∙◌, subst, arith}
 use Rattle.std.proofs.lemmas.{List.append-nil, List.drop_all, Option.slice_get-get_or}
 use Rattle.irig_index.specs.{declared.record.Cause.TheVariants.Ended, declared.record.Record.Record, declared.record.Verdict.TheVariants.Broken}
 use Rattle.irig_times.specs.Starts.{IsStartOf}
