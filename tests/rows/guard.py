@@ -305,3 +305,51 @@ ROWS = (
     Row("what is dropped leaves nothing behind", "B4", WITHOUT_ZERO, ["343 delete", "mark a 2420000", "insert 'a 2422000"],
         [*unsafe("138 12:34:53", 3000000, LOST, "343 delete"), "mark a 2420000", "insert 'a 2422000"]),
 )
+
+
+class Paths(NamedTuple):
+    """`--out` and TRACK in a folder with track.vcd and other.vcd, hard.vcd that is track.vcd, too, and the folder `inside`. link.vcd
+    leads to track.vcd, chain.vcd to link.vcd, another.vcd to other.vcd, new.vcd to none yet, here to the folder, circle.vcd to itself."""
+
+    name: str
+    out: str
+    track: str = "track.vcd"
+
+
+LINKS = (("link.vcd", "track.vcd"), ("chain.vcd", "link.vcd"), ("another.vcd", "other.vcd"), ("new.vcd", "made.vcd"), ("here", "."),
+         ("circle.vcd", "circle.vcd"))
+
+# both lead to the track
+ONE_FILE = (
+    Paths("the same path", "track.vcd"),
+    Paths("a dot before it", "./track.vcd"),
+    Paths("a dot before the track", "track.vcd", "./track.vcd"),
+    Paths("a path through another folder", "inside/../track.vcd"),
+    Paths("two slashes", ".//track.vcd"),
+    Paths("a symbolic link", "link.vcd"),
+    Paths("the file of a symbolic link", "track.vcd", "link.vcd"),
+    Paths("a link to a link", "chain.vcd"),
+    Paths("two links", "chain.vcd", "link.vcd"),
+    Paths("a link to the folder", "here/track.vcd"),
+    Paths("the track through a link to the folder", "link.vcd", "here/here/track.vcd"),
+    Paths("a hard link", "hard.vcd"),
+    Paths("the file of a hard link", "track.vcd", "hard.vcd"),
+    Paths("a hard link and a symbolic link", "chain.vcd", "hard.vcd"),
+)
+
+# the first leads to another file, or to none yet
+TWO_FILES = (
+    Paths("no file yet", "out.vcd"),
+    Paths("another file", "other.vcd"),
+    Paths("the same name in another folder", "inside/track.vcd"),
+    Paths("a link to another file", "another.vcd"),
+    Paths("a link to no file yet", "new.vcd"),
+    Paths("another file, and a link to the track", "other.vcd", "link.vcd"),
+)
+
+# where the first leads is not found out
+NOT_FOUND_OUT = (
+    Paths("a link that leads to itself", "circle.vcd"),
+    Paths("a name in a file", "track.vcd/out.vcd"),
+    Paths("a name that is too long", 300 * "x"),
+)

@@ -1,13 +1,18 @@
 -- An edit on the shelf of a file, as one by the settings.
-use Rattle.std.proofs.Common.{◌≡◌, [], ℕ, List, Option, Result, Err, inl, refl, subst}
-use Rattle.std.specs.Prelude.{option_map}
+use Rattle.std.proofs.Common.{◌≡◌, [], ℕ, List, Option, Some, None, Result, Err, ap, inl, refl, subst, sym}
+use Rattle.std.specs.Prelude.{is_some, not, option_map, if◌then◌else◌}
+use denote.Ref.{Bor}
 use Rattle.irig_vcd.specs.{Parts.dump_parts, declared.fault.VcdFault.VcdFault}
 use Rattle.irig_vcd.proofs.WholeDump.{fails_now}
 use Rattle.irig_script.specs.{Obey.Desk.Desk, Obey.Desk.desk, declared.obey.status.Status.Status}
 use Rattle.irig_guarding.specs.{GuardedRun.GuardsOnDump, declared.product.GuardFault.GuardFault, declared.product.GuardFault.TheVariants.Dump}
 use Rattle.irig_text.specs.Shelved.{shelved}
-use Rattle.irig_guard.specs.{Ending.Ends, Ending.Files, Ending.RunsBy, Ending.ends, Ending.place_of, Ending.product_of, declared.chosen.Settings.Settings}
-use Rattle.irig_files.specs.{Puts.texts_at, Writes.Write}
+use Rattle.irig_guard.specs.Given.{Ends, Files, IsApart, ends, place_of, product_of}
+use Rattle.irig_guard.specs.{Ending.RunsBy, declared.chosen.Settings.Settings}
+use Rattle.irig_guarding.specs.declared.product.Product.TheVariants as product
+use Rattle.irig_disk.specs.{Disk.Disk, Disk.MayLeave, Held.Held}
+use Rattle.irig_files.specs.{Apart.StaysAt, Puts.texts_at, Writes.Goes, Writes.Write}
+use Rattle.irig_files.proofs.Apart.{stays_apart, stays_here}
 
 -- the wire of the settings
 abbrev wire_in : Settings → Option (List ℕ)
@@ -41,3 +46,16 @@ fails_by given chosen source at fault kept is = record {
   ran = (inl (fails_now fault (dump_parts (wire_in chosen) source) is), refl, refl);
   kept = kept;
 }
+
+-- what is written elsewhere, or not at all, leaves the dump as it was
+module _ (old new : Disk) (chosen : Settings) (apart : IsApart chosen old) (kept : Goes old new (old.paths (place_of chosen)))
+    (nothing : product_of chosen ≡ product.Nothing → new ≡ old) (now : (n : List ℕ) (c : Option Held) → old.left_since old.moment n c → MayLeave old n c) where
+  by_out : (out : Option (Bor (List ℕ))) → chosen.out ≡ out → StaysAt old new chosen.track.now
+  by_out None none =
+      let asked : product_of chosen ≡ product.Nothing =
+      ap (λ (o : Option (Bor (List ℕ))). if not (is_some o) then product.Nothing else (if chosen.save then product.Session else product.Track)) none in
+      subst (λ (d : Disk). StaysAt old d chosen.track.now) (sym (nothing asked)) (stays_here old chosen.track.now now)
+  by_out (Some out) some = stays_apart old new chosen.track.now (place_of chosen) kept (apart (ap is_some some))
+
+  pub dump_stays : StaysAt old new chosen.track.now
+  dump_stays = by_out chosen.out refl

@@ -1,5 +1,6 @@
 pub mod Chosen
 pub mod Ending
+pub mod Given
 pub mod Options
 pub mod Settings
 pub mod Statuses

@@ -5,7 +5,8 @@ use Rattle.irig_files.specs.declared.dump_file.DumpFileFault.{DumpFileFault}
 use Rattle.irig_files.specs.declared.dump_file.DumpFileFault.TheVariants.{CannotBeRead, TooLong}
 use Rattle.irig_files.specs.declared.dump_file.DumpFileFault.TheVariants.{OutOfMemory}
 use Rattle.irig_guard.specs.declared.ending.Ending.{Ending}
-use Rattle.irig_guard.specs.declared.ending.Ending.TheVariants.{Usage, Value, Unread, Ran}
+use Rattle.irig_guard.specs.declared.ending.Ending.TheVariants.{Usage, Value, Unread, Over, Unknown}
+use Rattle.irig_guard.specs.declared.ending.Ending.TheVariants.{Ran}
 use Rattle.irig_script.specs.declared.obey.status.Status.{Status}
 use Rattle.irig_script.specs.declared.obey.status.Status.TheVariants.{AllAccepted, SomeRefused}
 use Rattle.irig_guarding.specs.declared.product.GuardFault.{GuardFault}
@@ -32,4 +33,6 @@ HasStatus (Usage error) status =
     (IsMistake error → status ≡ 2) × (IsHelp error → (status ≡ 0) ⊎ (status ≡ 4))
 HasStatus (Value fault) status = status ≡ 2
 HasStatus (Unread path fault) status = status ≡ 3
+HasStatus Over status = status ≡ 2
+HasStatus Unknown status = status ≡ 4
 HasStatus (Ran path result) status = status ≡ status_number result

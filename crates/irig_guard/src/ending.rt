@@ -14,6 +14,10 @@ pub enum Ending<'a> {
     Value(OptionFault),
     /// The file at this path is no dump that can be read.
     Unread(&'a str, DumpFileFault),
+    /// The path to write leads to the dump.
+    Over,
+    /// It cannot be found out whether it does.
+    Unknown,
     /// The script ran under guard on the dump at this path, and so the run ended.
     Ran(&'a str, Result<Status, GuardFault>),
 }

@@ -1,10 +1,13 @@
 //! A script run under guard on the file of a dump, as the words of a command line ask.
 
-ghost use Rattle.std.specs.Prelude.{◌≡◌, ℕ, List, map, option_map, string_bytes};
+ghost use Rattle.std.specs.Prelude.{◌≡◌, ℕ, IfOk, IfSome, IsTrue, List, false, is_some, map};
+ghost use Rattle.std.specs.Prelude.{option_map, string_bytes, true};
 ghost use Rattle.irig_vcd.specs.{Answer.Gives, Answer.name_of, Parts.dump_parts};
-ghost use Rattle.irig_guard.specs.Ending.{EndsBy, Obeys, RunsBy, ends, files, place_of, product_of};
+ghost use Rattle.irig_guard.specs.Ending.{EndsBy, Obeys, RunsBy};
+ghost use Rattle.irig_guard.specs.Given.{IsApart, ends, files, place_of, product_of};
+ghost use Rattle.irig_files.specs.Apart.{LeadToOneFile, Spares};
 ghost use Rattle.irig_files.specs.Reads.{HasFewBytes, parts_of};
-ghost use Rattle.irig_files.specs.{Puts.writes_on, Writes.GoesTo};
+ghost use Rattle.irig_files.specs.Puts.{writes_on};
 
 use crate::chosen::Settings;
 use crate::command_line::{UsageFault, settings};
@@ -12,6 +15,7 @@ use crate::ending::Ending;
 use irig_files::{Disk, DumpFileFault, FileShelf, Parts, Room};
 use irig_guarding::{GuardFault, Product, guard_on_parts};
 use irig_script::Status;
+use irig_text::ShelfFault;
 use irig_vcd::VcdFault;
 use std::alloc::Global;
 use std::io::{Read, Write};
@@ -26,8 +30,7 @@ pub fn obey_words<'a, D: Disk, R: Read, W: Write>(
     out: &mut W,
 ) -> Ending<'a>
     ensures { EndsBy (map string_bytes words.entry.now)
-        (files (D.held disk.old) (D.disk disk.old).paths
-        (GoesTo D.is_told (D.disk disk.old) (D.disk disk.new)))
+        (files (D.held disk.old) D.is_told (D.disk disk.old) (D.disk disk.new))
         (ends (W.contents out.old) (writes_on D.is_told (D.disk disk.old)) (R.remaining script.old))
         (ends (W.contents out.new) (writes_on D.is_told (D.disk disk.new)) (R.remaining script.new)) result }
 {
@@ -47,11 +50,11 @@ fn run_on_track<'a, D: Disk, R: Read, W: Write>(
     script: &mut R,
     out: &mut W,
 ) -> Ending<'a>
-    ensures { Obeys (files (D.held disk.old) (D.disk disk.old).paths
-        (GoesTo D.is_told (D.disk disk.old) (D.disk disk.new)))
+    ensures obeyed { Obeys (files (D.held disk.old) D.is_told (D.disk disk.old) (D.disk disk.new))
         (ends (W.contents out.old) (writes_on D.is_told (D.disk disk.old)) (R.remaining script.old))
         (ends (W.contents out.new) (writes_on D.is_told (D.disk disk.new)) (R.remaining script.new))
         chosen.now result }
+    ensures spared { Spares D.is_told (D.disk disk.old) (D.disk disk.new) chosen.now.track.now }
 {
     let Ok(mut room) = Room::new(alloc) else {
         return Ending::Unread(chosen.track, DumpFileFault::OutOfMemory);
@@ -68,18 +71,60 @@ fn run_with_room<'a, D: Disk, R: Read, W: Write>(
     script: &mut R,
     out: &mut W,
 ) -> Ending<'a>
-    ensures { Obeys (files (D.held disk.old) (D.disk disk.old).paths
-        (GoesTo D.is_told (D.disk disk.old) (D.disk disk.new)))
+    ensures obeyed { Obeys (files (D.held disk.old) D.is_told (D.disk disk.old) (D.disk disk.new))
         (ends (W.contents out.old) (writes_on D.is_told (D.disk disk.old)) (R.remaining script.old))
         (ends (W.contents out.new) (writes_on D.is_told (D.disk disk.new)) (R.remaining script.new))
         chosen.now result }
+    ensures spared { Spares D.is_told (D.disk disk.old) (D.disk disk.new) chosen.now.track.now }
 {
     match disk.read(alloc, chosen.track, wire_of(chosen)) {
-        Ok(read) => {
+        Ok(read) => run_apart(alloc, chosen, read, room, disk, script, out),
+        Err(fault) => Ending::Unread(chosen.track, fault),
+    }
+}
+
+/// Runs a script under guard on what was read of a dump, if the path to write does not lead to it.
+/// Each write uses the room.
+fn run_apart<'a, D: Disk, R: Read, W: Write>(
+    alloc: Global,
+    chosen: &Settings<'a>,
+    read: Result<Parts, VcdFault>,
+    room: &mut Room,
+    disk: &mut D,
+    script: &mut R,
+    out: &mut W,
+) -> Ending<'a>
+    requires { HasFewBytes read }
+    ensures obeyed { (source : List ℕ)
+        → Gives parts_of read (dump_parts (option_map (λ w. w.now) chosen.now.wire) source)
+        → IfSome (D.held disk.old chosen.now.track.now) (λ all. source ≡ all)
+        → Obeys (files (D.held disk.old) D.is_told (D.disk disk.old) (D.disk disk.new))
+        (ends (W.contents out.old) (writes_on D.is_told (D.disk disk.old)) (R.remaining script.old))
+        (ends (W.contents out.new) (writes_on D.is_told (D.disk disk.new)) (R.remaining script.new))
+        chosen.now result }
+    ensures spared { Spares D.is_told (D.disk disk.old) (D.disk disk.new) chosen.now.track.now }
+{
+    match is_over(chosen, disk) {
+        Ok(false) => {
             let result = run_on_read(alloc, chosen, read, room, disk, script, out);
             Ending::Ran(chosen.track, result)
         }
-        Err(fault) => Ending::Unread(chosen.track, fault),
+        Ok(true) => Ending::Over,
+        Err(_) => Ending::Unknown,
+    }
+}
+
+/// Whether the path to write leads to the dump.
+fn is_over<D: Disk>(chosen: &Settings<'_>, disk: &D) -> Result<bool, ShelfFault>
+    ensures apart { IsTrue D.is_told → IfOk result (λ over. over ≡ false
+        → IsApart chosen.now (D.disk disk.now)) }
+    ensures given { IfOk result (λ over. over ≡ true → is_some chosen.now.out ≡ true) }
+    ensures over { IsTrue D.is_told → IfOk result (λ over. over ≡ true
+        → LeadToOneFile (D.disk disk.now) chosen.now.track.now (place_of chosen.now)) }
+{
+    match chosen.out {
+        Some(out) => disk.is_same(chosen.track, out),
+        None => Ok(false),
     }
 }
 
@@ -94,14 +139,15 @@ fn run_on_read<D: Disk, R: Read, W: Write>(
     script: &mut R,
     out: &mut W,
 ) -> Result<Status, GuardFault>
-    requires { HasFewBytes read }
-    ensures { (source : List ℕ)
+    requires few { HasFewBytes read }
+    requires apart { IsTrue D.is_told → IsApart chosen.now (D.disk disk.old) }
+    ensures ran { (source : List ℕ)
         → Gives parts_of read (dump_parts (option_map (λ w. w.now) chosen.now.wire) source)
-        → RunsBy (files (D.held disk.old) (D.disk disk.old).paths
-        (GoesTo D.is_told (D.disk disk.old) (D.disk disk.new)))
+        → RunsBy (files (D.held disk.old) D.is_told (D.disk disk.old) (D.disk disk.new))
         chosen.now source
         (ends (W.contents out.old) (writes_on D.is_told (D.disk disk.old)) (R.remaining script.old))
         (ends (W.contents out.new) (writes_on D.is_told (D.disk disk.new)) (R.remaining script.new)) result }
+    ensures spared { Spares D.is_told (D.disk disk.old) (D.disk disk.new) chosen.now.track.now }
 {
     let (recording, journal) = match read {
         Ok(parts) => parts,

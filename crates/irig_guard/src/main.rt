@@ -11,8 +11,9 @@ mod statuses;
 
 ghost use Rattle.std.specs.Prelude.{◌≡◌, map, string_bytes};
 ghost use Rattle.std.specs.Process.{exit_status};
-ghost use Rattle.irig_guard.specs.Ending.{Serves, ends, files};
-ghost use Rattle.irig_files.specs.{Puts.writes_on, Writes.GoesTo};
+ghost use Rattle.irig_guard.specs.Ending.{Serves};
+ghost use Rattle.irig_guard.specs.Given.{ends, files};
+ghost use Rattle.irig_files.specs.Puts.{writes_on};
 
 use command_line::not_text;
 use file_run::obey_words;
@@ -65,11 +66,11 @@ fn start<P: Print + Eprint + AllocGlobal, C: FileSystem, R: Read, W: Write>(
     script: &mut R,
     out: &mut W,
 ) -> ExitCode
-    // The words were obeyed. What was written is kept through a crash at any moment, for each
-    // system whose single calls do what their contracts say.
+    // The words were obeyed. What was written is kept through a crash at any moment, and so is the
+    // track, which is never written, for each system whose single calls do what their contracts say.
     ensures { Serves (map string_bytes words.now)
-        (files (C.held disk.old.system) (C.disk disk.old.system).paths
-        (GoesTo C.is_told (C.disk disk.old.system) (C.disk disk.new.system)))
+        (files (C.held disk.old.system) C.is_told (C.disk disk.old.system)
+        (C.disk disk.new.system))
         (ends (W.contents out.old) (writes_on C.is_told (C.disk disk.old.system))
         (R.remaining script.old))
         (ends (W.contents out.new) (writes_on C.is_told (C.disk disk.new.system))

@@ -5,6 +5,7 @@ ghost use Rattle.std.specs.Process.{exit_status};
 ghost use Rattle.irig_guard.specs.Statuses.{HasStatus, status_number, unread_text};
 ghost use Rattle.irig_words.specs.Errors.{IsHelp, IsMistake};
 
+use crate::chosen::OptionFault;
 use crate::ending::Ending;
 use irig_files::DumpFileFault;
 use irig_guarding::GuardFault;
@@ -20,6 +21,8 @@ pub fn report<R: Print + Eprint>(rt: &R, ending: &Ending<'_>) -> ExitCode
         Ending::Usage(error) => explain(rt, error),
         Ending::Value(fault) => tell(rt, 2, fault),
         Ending::Unread(path, fault) => tell_unread(rt, path, *fault),
+        Ending::Over => tell(rt, 2, &OptionFault::Out),
+        Ending::Unknown => tell(rt, 4, &"--out: cannot find out whether it is TRACK"),
         Ending::Ran(path, outcome) => tell_ended(rt, path, *outcome),
     }
 }

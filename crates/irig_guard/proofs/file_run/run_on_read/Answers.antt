@@ -1,15 +1,21 @@
 use Rattle.std.proofs.Common.{rules, ◌≡◌, ◌∷◌, ◌∙◌, ap, drop, List, ℕ}
+use Rattle.irig_files.proofs.Apart.{stays_here}
+use Rattle.irig_files.specs.Apart.{Spares}
 use Rattle.irig_files.proofs.PutsAt.{texts_where}
 use Rattle.irig_files.specs.{Going.goes_nowhere, Puts.texts_at, Puts.writes_on, Writes.GoesTo}
-use Rattle.irig_guard.specs.Ending.{files, place_of}
-use Rattle.irig_guard.proofs.RunsBy.{fails_by, runs_by}
+use Rattle.irig_guard.specs.Given.{files, place_of, product_of}
+use Rattle.irig_guard.proofs.RunsBy.{dump_stays, fails_by, runs_by}
+use Rattle.irig_guarding.specs.declared.product.Product.TheVariants as product
 use Rattle.irig_guard.proofs.file_run.run_on_read.Goals as goal
 
-pub returns-in-Err : goal.returns-in-Err
-returns-in-Err g c = λ source is. fails_by _ c.args.chosen.now source _ c.in-Err.fault (λ told. goes_nowhere _ _ (g.met.D.Disk.only_now _)) (rw c.in-Err.is at is)
+pub returns-in-Err-clause-ran : goal.returns-in-Err-clause-ran
+returns-in-Err-clause-ran g c = λ source is. fails_by _ c.args.chosen.now source _ c.in-Err.fault (λ told. goes_nowhere _ _ (g.met.D.Disk.only_now _)) (rw c.in-Err.is at is)
 
-pub returns : goal.returns
-returns g c = λ source is.
+pub returns-in-Err-clause-spared : goal.returns-in-Err-clause-spared
+returns-in-Err-clause-spared g c = λ told. stays_here (g.D.Disk.disk c.args.disk.now) c.args.chosen.now.track.now (g.met.D.Disk.only_now c.args.disk.now)
+
+pub returns-clause-ran : goal.returns-clause-ran
+returns-clause-ran g c = λ source is.
     let old = c.new-shelf.result in
     let new = c.guard_on_parts.new.shelf in
     let disk = g.D.Disk.disk in
@@ -20,7 +26,7 @@ returns g c = λ source is.
     let kept : GoesTo told (disk c.args.disk.now) (disk new.disk.now) (place_of chosen) =
     rw (c.new-shelf.ensures.disk, path) at c.guard_on_parts.ensures.since.1 in
     let ends = c.guard_on_parts.ensures.ends _ source (rw c.in-Ok.is at is) in
-    let done = runs_by (files (g.D.Disk.held c.args.disk.now) (disk c.args.disk.now).paths (GoesTo told (disk c.args.disk.now) (disk new.disk.now)))
+    let done = runs_by (files (g.D.Disk.held c.args.disk.now) told (disk c.args.disk.now) (disk new.disk.now))
     chosen source (g.W.Write.contents c.args.out.now) (g.W.Write.contents c.guard_on_parts.new.out)
     (g.R.Read.remaining c.args.script.now) (g.R.Read.remaining c.guard_on_parts.new.script)
     (texts_at ((disk old.disk.now).paths old.path.now) (writes_on told (disk old.disk.now)))
@@ -32,4 +38,23 @@ returns g c = λ source is.
     (texts_where told (disk c.args.disk.now) (disk new.disk.now) (place_of chosen) new.path.now same_path (λ is_told. (kept is_told).paths))
     c.new-shelf.ensures.none_failed kept
     (rw c.product_of.ensures at ends) in
+    search (rules, done)
+
+pub returns-clause-spared : goal.returns-clause-spared
+returns-clause-spared g c =
+    let old = c.new-shelf.result in
+    let new = c.guard_on_parts.new.shelf in
+    let disk = g.D.Disk.disk in
+    let told = g.D.Disk.is_told in
+    let chosen = c.args.chosen.now in
+    let path : old.path.now ≡ place_of chosen = c.new-shelf.ensures.path ∙ c.place_of.ensures in
+    let kept : GoesTo told (disk c.args.disk.now) (disk new.disk.now) (place_of chosen) =
+    rw (c.new-shelf.ensures.disk, path) at c.guard_on_parts.ensures.since.1 in
+    let here : product_of chosen ≡ product.Nothing → disk new.disk.now ≡ disk old.disk.now =
+    λ asked. λ j. disk (c.guard_on_parts.ensures.nothing (c.product_of.ensures ∙ asked) j).disk.now in
+    let nothing : product_of chosen ≡ product.Nothing → disk new.disk.now ≡ disk c.args.disk.now =
+    λ asked. here asked ∙ ap disk c.new-shelf.ensures.disk in
+    let done : Spares told (disk c.args.disk.now) (disk new.disk.now) chosen.track.now =
+    λ is_told. dump_stays (disk c.args.disk.now) (disk new.disk.now) chosen (c.requires.apart is_told) (kept is_told) nothing
+    (g.met.D.Disk.only_now c.args.disk.now) in
     search (rules, done)

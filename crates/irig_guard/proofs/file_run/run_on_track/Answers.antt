@@ -1,6 +1,10 @@
 use Rattle.std.proofs.Common.{refl}
 use Rattle.irig_files.specs.Going.{goes_nowhere}
+use Rattle.irig_files.proofs.Apart.{stays_here}
 use Rattle.irig_guard.proofs.file_run.run_on_track.Goals as goal
 
-pub returns-in_default : goal.returns-in_default
-returns-in_default g c = (refl, refl, (λ to told. goes_nowhere _ _ (g.met.D.Disk.only_now _)), (λ is. absurd (cc is)))
+pub returns-in_default-clause-obeyed : goal.returns-in_default-clause-obeyed
+returns-in_default-clause-obeyed g c = (refl, (refl, (λ to told. goes_nowhere _ _ (g.met.D.Disk.only_now _))), (λ is. absurd (cc is)))
+
+pub returns-in_default-clause-spared : goal.returns-in_default-clause-spared
+returns-in_default-clause-spared g c = λ told. stays_here (g.D.Disk.disk c.args.disk.now) c.args.chosen.now.track.now (g.met.D.Disk.only_now c.args.disk.now)

@@ -1,0 +1,20 @@
+use Rattle.std.proofs.Common.{refl, rules}
+use Rattle.irig_files.specs.Going.{goes_nowhere}
+use Rattle.irig_files.proofs.Apart.{stays_here}
+use Rattle.irig_guard.proofs.file_run.run_apart.Goals as goal
+
+pub returns-in-Ok-false-clause-obeyed : goal.returns-in-Ok-false-clause-obeyed
+returns-in-Ok-false-clause-obeyed g c = λ source is whole. (refl, (source, whole, c.run_on_read-result.ensures.ran source is))
+
+pub returns-in-Ok-true-clause-obeyed : goal.returns-in-Ok-true-clause-obeyed
+returns-in-Ok-true-clause-obeyed g c = λ source is whole.
+    ((refl, (λ to told. goes_nowhere _ _ (g.met.D.Disk.only_now _))), search rules, search rules)
+
+pub returns-in-Ok-true-clause-spared : goal.returns-in-Ok-true-clause-spared
+returns-in-Ok-true-clause-spared g c = λ told. stays_here (g.D.Disk.disk c.args.disk.now) c.args.chosen.now.track.now (g.met.D.Disk.only_now c.args.disk.now)
+
+pub returns-in-Err-clause-obeyed : goal.returns-in-Err-clause-obeyed
+returns-in-Err-clause-obeyed g c = λ source is whole. (refl, (λ to told. goes_nowhere _ _ (g.met.D.Disk.only_now _)))
+
+pub returns-in-Err-clause-spared : goal.returns-in-Err-clause-spared
+returns-in-Err-clause-spared g c = λ told. stays_here (g.D.Disk.disk c.args.disk.now) c.args.chosen.now.track.now (g.met.D.Disk.only_now c.args.disk.now)
