@@ -75,6 +75,8 @@ TABLES = (
     ("a scope, upside down", ["--level", "--swap"], lambda: "t,V\n" + volts("%.5f,%.3f\n", sign=-1)),
     ("units in their own line", ["--level", "--column=Channel A"],
      lambda: "\ufeffTime;Channel A;Channel B\n(ms);(V);(V)\n\n" + comma(volts("%.2f;%.3f;0.0\n", 1e-3, -20.0))),
+    ("a micro sign in Latin-1", [], lambda: "Zeit [\u00b5s];D0\n".encode("latin-1") + "".join(
+        "%d;%d\n" % each for each in [(0, 0), *EDGES, (LENGTH, 0)]).encode()),
     ("decimal commas and tabs", ["--level"], lambda: "Zeit [ms]\tKanal\n" + comma(volts("%.2f\t%.3f\n", 1e-3))),
     ("heads in quotes", ["--level"], lambda: '"Time (s)","CH1 (V)"\n' + volts('"%.5f","%.3f"\n')),
     ("no heads", ["--level"], lambda: volts("%.5f,%.3f\n")),
@@ -88,7 +90,8 @@ TABLES = (
 
 def table(name, words, make):
     """Two frames, and each rise where it is, to two samples."""
-    status, dump, said = run("irig_demodulate", ["--table", *words, "-"], make().encode())
+    made = make()
+    status, dump, said = run("irig_demodulate", ["--table", *words, "-"], made if isinstance(made, bytes) else made.encode())
     found = rises_of(dump)
     shift = found[0] - RISES[0] if found and "begin" in name else 0
     good = status == 0 and len(found) == len(RISES) and fine(dump, "B") == 2

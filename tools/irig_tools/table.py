@@ -25,6 +25,14 @@ MOST_NAMED = 20  # stretches of lost rows
 Row = Tuple[float, float]  # a time in seconds, and a value
 
 
+def decoded(line: bytes, code: str) -> str:
+    """A line in this code, or else in Latin-1, which has the micro sign of older programs."""
+    try:
+        return line.decode(code)
+    except UnicodeDecodeError:
+        return line.decode("latin-1")
+
+
 class Table(Samples):
     """One column of a table as samples. `is_levels` if its first values are zeros and ones."""
 
@@ -50,7 +58,7 @@ class Table(Samples):
             self.number += 1
             if len(line) == LONGEST_LINE:
                 raise Problem("%s: line %d is too long for a table" % (self.path, self.number))
-            yield line.decode("utf-8-sig" if self.number == 1 else "utf-8", "replace").strip("\r\n\0 ")
+            yield decoded(line, "utf-8-sig" if self.number == 1 else "utf-8").strip("\r\n\0 ")
 
     def _heads(self, places: Sequence[int]) -> Tuple[List[str], str]:
         """The lines before the first row, and that one."""
