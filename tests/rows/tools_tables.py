@@ -75,6 +75,10 @@ TABLES = (
     ("a scope, upside down", ["--level", "--swap"], lambda: "t,V\n" + volts("%.5f,%.3f\n", sign=-1)),
     ("units in their own line", ["--level", "--column=Channel A"],
      lambda: "\ufeffTime;Channel A;Channel B\n(ms);(V);(V)\n\n" + comma(volts("%.2f;%.3f;0.0\n", 1e-3, -20.0))),
+    ("a unit in words", [], lambda: "Time (msec),D0\n" + "".join(
+        "%.3f,%d\n" % (time / 1000, level) for time, level in [(0, 0), *EDGES, (LENGTH, 0)])),
+    ("a unit as the head", ["--time-column=Microseconds"], lambda: "Microseconds,D0\n" + "".join(
+        "%d,%d\n" % each for each in [(0, 0), *EDGES, (LENGTH, 0)])),
     ("a micro sign in Latin-1", [], lambda: "Zeit [\u00b5s];D0\n".encode("latin-1") + "".join(
         "%d;%d\n" % each for each in [(0, 0), *EDGES, (LENGTH, 0)]).encode()),
     ("decimal commas and tabs", ["--level"], lambda: "Zeit [ms]\tKanal\n" + comma(volts("%.2f\t%.3f\n", 1e-3))),

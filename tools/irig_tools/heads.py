@@ -8,8 +8,9 @@ from typing import List, NamedTuple, Optional, Sequence
 from .digits import FRACTION, NUMBER, WHOLE
 from .editor import Problem
 
-SECONDS_IN = {"s": 1.0, "sec": 1.0, "second": 1.0, "seconds": 1.0, "ms": 1e-3, "us": 1e-6, "\u00b5s": 1e-6, "\u03bcs": 1e-6,
-              "ns": 1e-9, "ps": 1e-12}
+OF_A_SECOND = {"": 1.0, "m": 1e-3, "milli": 1e-3, "u": 1e-6, "\u00b5": 1e-6, "\u03bc": 1e-6, "micro": 1e-6, "n": 1e-9,
+               "nano": 1e-9, "p": 1e-12, "pico": 1e-12}
+SECONDS_IN = {part + name: size for part, size in OF_A_SECOND.items() for name in ("s", "sec", "second", "seconds")}
 NO_TIMES = ("v", "mv", "volt", "volts", "sequence")
 TIME = re.compile(r"(?i)\W*(time|t|timestamp|zeit|temps|x|x-axis|seconds?|sec)(\W.*|_(%s))?" % "|".join(SECONDS_IN))
 RATE_LINE = re.compile(r"(?i)\W*(?:meta )?samplerate\W*([0-9.]+) *([kmg]?)(?:hz)?\W*")
@@ -120,6 +121,6 @@ def _distinct(names: List[str], heads: Sequence[str]) -> List[str]:
 
 
 def _in_name(name: str) -> str:
-    """The last unit that a name has after its first word, as in `Time [s]`, `time_us` and `Time in ms`."""
+    """The last unit that a name has, as in `Time [s]`, `time_us`, `Time in ms` and `Milliseconds`."""
     words: List[str] = re.findall(r"[^\W_]+", name.lower())
-    return next((word for word in reversed(words[1:]) if word in SECONDS_IN), "")
+    return next((word for word in reversed(words) if word in SECONDS_IN), "")
