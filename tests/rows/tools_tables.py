@@ -155,6 +155,7 @@ def refused():
             (["--column=4"], "Time [s],A,B\n0,0,1\n", "no row of numbers"), ([], "A\n0\n1\n", "has no column of times"),
             ([], head + "0,0\n1,x\n", "line 3 has no number in column 2"), ([], head + "0,0\n1\n", "line 3 has no number in column 2"),
             ([], head + "0,0\n2,1\n1,0\n", "line 4 has a time before that of the last row"),
+            (["--column=A"], "X,A,Start\nSequence,Volt,-6e-03\n0,1.5,\n1,1.4,\n", "has no times, but 'sequence'; give --rate"),
             ([], head + "0,0\n" * 20000 + "1,2\n", "line 20002 has no level of 0 or 1"),
             ([], head + "0,0.5\n1,1\n5,2\n6,2\n", "its samples do not come at even times, first in row 3; with --rate"),
             ([], head + "0,5\n", "all the same, so they show no rate"), ([], head + "0,nan\n", "no row of numbers"),

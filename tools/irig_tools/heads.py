@@ -80,6 +80,8 @@ class Heads:
         """The columns that are meant; without times if the rows are counted."""
         place = self._place(time) if time else None if counted else self._time()
         unit = self.units[place] if place is not None and place < len(self.units) else ""
+        if place is not None and unit in NO_TIMES:
+            raise Problem("%s: column %d has no times, but '%s'; give --rate, in samples a second" % (self.path, place + 1, unit))
         return Columns(self.parted, place, self._place(value) if value else self._value(place), SECONDS_IN.get(unit, 1.0))
 
     def _time(self) -> Optional[int]:
