@@ -133,6 +133,17 @@ def times_of_rows():
     return good
 
 
+def rate_is_given():
+    """Times that are not read, as there is a rate, are named; a column that counts rows has none."""
+    results, rows = [], "".join("%.3f,%d\n" % (3.5 + number / RATE, number // 20 % 2) for number in range(100))
+    for head, are_times in (("Time [s],D0\n", True), ("number,D0\n", False), ("X,D0\nSequence,Volt\n", False)):
+        status, dump, said = run("irig_demodulate", ["--table", "--rate=20000", "--column=2", "-"], (head + rows).encode())
+        good = status == 0 and ("the times of the table are not read" in said and "its first row is at 0" in said) == are_times
+        results.append(good and rises_of(dump) == [1000, 3000])
+        results[-1] or print("FAILED irig_demodulate --table --rate of %r: %d %s" % (head, status, said))
+    return results
+
+
 def carrier():
     """Volts of a carrier in a table."""
     values, rises = signal("B", random.Random(3), 8000, 1000, 3.3, 0.02, 0.01, 0, 2)
@@ -258,6 +269,6 @@ def by_sigrok(top):
 
 def cases(top):
     return [*(case("table: " + row[0], table, *row) for row in TABLES), case("table: when it begins", begun),
-            case("table: times of rows", times_of_rows),
+            case("table: times of rows", times_of_rows), case("table: a rate instead of times", rate_is_given),
             case("table: a carrier", carrier), case("table: what is refused", refused), case("sigrok: channels", sigrok),
             case("sigrok: other folders", no_sigrok), case("sigrok: its own program", by_sigrok, top)]

@@ -79,10 +79,17 @@ class Heads:
     def form(self, time: Optional[str], value: Optional[str], counted: bool) -> Columns:
         """The columns that are meant; without times if the rows are counted."""
         place = self._place(time) if time else None if counted else self._time()
-        unit = self.units[place] if place is not None and place < len(self.units) else ""
+        unit = "" if place is None else self._unit(place)
         if place is not None and unit in NO_TIMES:
             raise Problem("%s: column %d has no times, but '%s'; give --rate, in samples a second" % (self.path, place + 1, unit))
         return Columns(self.parted, place, self._place(value) if value else self._value(place), SECONDS_IN.get(unit, 1.0))
+
+    def has_times(self) -> bool:
+        """Whether a column is named as one of times, and does not count rows."""
+        return any(TIME.fullmatch(name) and self._unit(place) not in NO_TIMES for place, name in enumerate(self.names))
+
+    def _unit(self, place: int) -> str:
+        return self.units[place] if place < len(self.units) else ""
 
     def _time(self) -> Optional[int]:
         for place, name in enumerate(self.names):

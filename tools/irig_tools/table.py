@@ -43,7 +43,10 @@ class Table(Samples):
         self.lines = self._lines(stream_of(path))
         heads, first = self._heads([int(name) - 1 for name in (time, value) if name and WHOLE.fullmatch(name) and int(name)])
         self.rate = rate or rate_of(heads)
-        self.form = Heads(heads, first, path).form(time, value, bool(rate))
+        named = Heads(heads, first, path)
+        self.form = named.form(time, value, bool(rate))
+        if rate and named.has_times():
+            self.notes.append("the times of the table are not read, as --rate is given: its first row is at 0 in the dump")
         if self.form.time is None and not self.rate:
             raise Problem("%s: has no column of times; name it by --time-column, or give --rate, in samples a second" % path)
         rows = self._rows(first)
@@ -104,7 +107,7 @@ class Table(Samples):
             raise Problem("%s: its times are all the same, so they show no rate; give --rate, in samples a second" % self.path)
         for number, (one, other) in enumerate(zip(looked, looked[1:])):
             if abs(other[0] - one[0] - wide) > EVEN * wide:
-                text = "%s: its samples do not come at even times, first in row %d; with --rate they are taken as even"
+                text = "%s: its samples do not come at even times, first in row %d; with --rate they are taken as even, from 0 on"
                 raise Problem(text % (self.path, number + 2))
         rate = float("%.3g" % (1 / wide))
         return max(1, round(rate if abs(rate * wide - 1) < ROUND else 1 / wide))
