@@ -122,14 +122,15 @@ def begun():
 
 
 def times_of_rows():
-    """Rises are where the times of the rows have them, also after rows that are lost, and at a rate of no three digits."""
+    """Rises are where the times of the rows have them, also if rows are lost or there twice, and at a rate of no three digits."""
     slow, rows = 1.00009, volts("%.7f,%.3f\n", 1 / 1.00009).splitlines(True)
-    text = "t,V\n" + "".join(rows[:13000] + rows[15000:])
-    status, dump, said = run("irig_demodulate", ["--table", "--level", "-"], text.encode())
-    wanted, found = [rise * slow for rise in RISES if not 640000 < rise < 760000], rises_of(dump)
-    good = status == 0 and "no rows from 0.650008 to 0.75006" in said
-    good = good and all(min(abs(one - other) for one in found) <= 50 for other in wanted)
-    good or print("FAILED irig_demodulate --table, lost rows: %d %s" % (status, said))
+    kept = rows[:3000] + rows[4000:11000] + sorted(rows[11000:11400] * 9) + rows[11400:13000] + rows[15000:]
+    status, dump, said = run("irig_demodulate", ["--table", "--level", "-"], "".join(["t,V\n", *kept]).encode())
+    wanted = [rise * slow for rise in RISES if not 140000 < rise < 210000 and not 640000 < rise < 760000]
+    good = status == 0 and "no rows from 0.149963 to 0.200018" in said and "no rows from 0.650008 to 0.75006" in said
+    good = good and said.count("no rows") == 2
+    good = good and all(min(abs(one - other) for one in rises_of(dump)) <= 50 for other in wanted)
+    good or print("FAILED irig_demodulate --table, uneven rows: %d %s" % (status, said))
     return good
 
 

@@ -17,7 +17,8 @@ from .wire import LONGEST_TIME
 LONGEST_LINE = 10000  # bytes of a line
 MOST_HEADS = 1000  # lines before the first row
 LOOKED_AT = 10000  # rows that show the rate, and whether the values are levels
-EVEN = 0.5  # of the distance of two samples: it is off by less
+EVEN = 0.5  # of the distance of two samples: it is off by at most that
+MOST_EVEN = 0.99  # of the first distances are even
 ROUND = 1e-4  # a rate that is as near to one of three digits is that one
 NEXT_ROW = 1.75  # distances of two samples: if rows are farther apart, others between them are lost
 MOST_NAMED = 20  # stretches of lost rows
@@ -101,14 +102,17 @@ class Table(Samples):
         return value
 
     def _rate(self, looked: Sequence[Row]) -> int:
-        """The samples in a second, by the first times."""
-        wide = looked[-1][0] / (len(looked) - 1) if len(looked) > 1 else 0.0
-        if not wide:
+        """The samples in a second, by the first times. Some rows can be lost or be there twice."""
+        apart = [other[0] - one[0] for one, other in zip(looked, looked[1:])]
+        if not any(apart):
             raise Problem("%s: its times are all the same, so they show no rate; give --rate, in samples a second" % self.path)
-        for number, (one, other) in enumerate(zip(looked, looked[1:])):
-            if abs(other[0] - one[0] - wide) > EVEN * wide:
-                text = "%s: its samples do not come at even times, first in row %d; with --rate they are taken as even, from 0 on"
-                raise Problem(text % (self.path, number + 2))
+        usual = sorted(apart)[len(apart) // 2]
+        even = [each for each in apart if abs(each - usual) <= EVEN * usual]
+        if not usual or len(even) < MOST_EVEN * len(apart):
+            row = next(row for row, each in enumerate(apart, 2) if abs(each - usual) > EVEN * usual)
+            text = "%s: its samples do not come at even times, first in row %d; with --rate they are taken as even, from 0 on"
+            raise Problem(text % (self.path, row))
+        wide = sum(even) / len(even)
         rate = float("%.3g" % (1 / wide))
         return max(1, round(rate if abs(rate * wide - 1) < ROUND else 1 / wide))
 
@@ -125,12 +129,13 @@ class Table(Samples):
             yield values
 
     def _know(self, times: Sequence[float]) -> None:
-        """Keeps the times of the first and the last row of a stretch, and of those next to lost ones."""
+        """Keeps the times of the first and the last row of a stretch, and of those next to uneven distances."""
         begun, kept = self.places[-1] + 1 if self.places else 0, {0, len(times) - 1}
         for place, (one, other) in enumerate(zip(times, times[1:])):
-            if other - one > NEXT_ROW / self.rate:
+            distances = (other - one) * self.rate
+            if abs(distances - 1) > EVEN:
                 kept |= {place, place + 1}
-                if len(self.notes) < MOST_NAMED:
+                if distances > NEXT_ROW and len(self.notes) < MOST_NAMED:
                     self.notes.append("no rows from %.6f to %.6f seconds" % (self._seconds(one), self._seconds(other)))
         for place in sorted(kept):
             self.places.append(begun + place)
