@@ -131,7 +131,9 @@ def times_of_rows():
     good = good and said.count("no rows") == 2
     good = good and all(min(abs(one - other) for one in rises_of(dump)) <= 50 for other in wanted)
     good or print("FAILED irig_demodulate --table, uneven rows: %d %s" % (status, said))
-    return good
+    few = "".join("%d,%d.5\n" % (number, number % 7) for number in range(5000) if number % 200)
+    said = run("irig_demodulate", ["--table", "--level", "-"], b"t,V\n" + few.encode())[2]
+    return [good, said.count("no rows") == 20 and "irig_demodulate: and 4 such stretches more\n" in said]
 
 
 def rate_is_given():

@@ -41,6 +41,7 @@ class Table(Samples):
         self.path, self.kind, self.notes, self.number, self.negative = path, "text", [], 0, negative
         self.places: List[int] = []  # of rows whose times are kept
         self.times: List[float] = []
+        self.lost = 0  # stretches of rows
         self.lines = self._lines(stream_of(path))
         heads, first = self._heads([int(name) - 1 for name in (time, value) if name and WHOLE.fullmatch(name) and int(name)])
         self.rate = rate or rate_of(heads)
@@ -123,10 +124,12 @@ class Table(Samples):
                 times.append(time)
                 values.append(value)
             if not values:
-                return
+                break
             if self.form.time is not None:
                 self._know(times)
             yield values
+        if self.lost > MOST_NAMED:
+            self.notes.append("and %d such stretches more" % (self.lost - MOST_NAMED))
 
     def _know(self, times: Sequence[float]) -> None:
         """Keeps the times of the first and the last row of a stretch, and of those next to uneven distances."""
@@ -135,7 +138,8 @@ class Table(Samples):
             distances = (other - one) * self.rate
             if abs(distances - 1) > EVEN:
                 kept |= {place, place + 1}
-                if distances > NEXT_ROW and len(self.notes) < MOST_NAMED:
+                self.lost += distances > NEXT_ROW
+                if distances > NEXT_ROW and self.lost <= MOST_NAMED:
                     self.notes.append("no rows from %.6f to %.6f seconds" % (self._seconds(one), self._seconds(other)))
         for place in sorted(kept):
             self.places.append(begun + place)
