@@ -88,6 +88,8 @@ TABLES = (
     ("a count instead of times", ["--level", "--column=CH1", "--rate=20000"],
      lambda: "X,CH1,Start,Increment\nSequence,Volt,-6e-03,5e-05\n" + "".join(
          "%d,%.2f,\n" % (number, 5 * level + 0.01 * (number % 3)) for number, level in enumerate(levels()))),
+    ("columns without numbers", ["--time-column=2", "--column=3"], lambda: "Day,Time,A,State\n" + "".join(
+        "1 May,%.6f,%d,OK\n" % (time / 1e6, level) for time, level in [(0, 0), *EDGES, (LENGTH, 0)])),
     ("names of both", ["--time-column=when", "--column=what", "--level"], lambda: "when,other,what\n" + volts("%.5f,7,%.3f\n")),
 )
 
@@ -162,6 +164,7 @@ def refused():
     head, results = "Time [s],A\n", []
     for words, text, said in (
             ([], "", "no row of numbers"), ([], "hello\nworld\n", "no row of numbers"),
+            ([], "Time,A,State\n0,1.5,OK\n1,1.4,OK\n", "if others have words, give the numbers of both, as --time-column 1"),
             ([], "Time [s],A,B\n0,0,1\n", "as --column 'A': A, B"),
             ([], "Time [s],A,A\n0,0,1\n", "as --column '2': number 2, number 3"),
             (["--column=A"], "Time [s],A,A\n0,0,1\n", "has several columns 'A'; give the number of one, from 1"),

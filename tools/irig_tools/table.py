@@ -74,7 +74,8 @@ class Table(Samples):
             heads.append(line)
             if len(heads) > MOST_HEADS:
                 break
-        raise Problem("%s: is no table: no row of numbers is found; the columns are parted by , ; or a tab" % self.path)
+        raise Problem("%s: is no table: no row of numbers is found; the columns are parted by , ; or a tab; if others have "
+                      "words, give the numbers of both, as --time-column 1 --column 2" % self.path)
 
     def _rows(self, first: str) -> Iterator[Row]:
         """The rows, by the time since the first."""
