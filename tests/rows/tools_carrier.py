@@ -292,7 +292,7 @@ def few():
                                                  ("silence", 0, [], 9000, True)):
         values, _ = signal("B", random.Random(5), 8000, 1000, 3.3, 0.01, drift, 0, 3)
         said = run("irig_demodulate", [*words, "-"], wav(values + array("h", [0] * silence), 8000))[2]
-        results.append(("are missing: silence, noise, or a carrier that is off" in said) == missing)
+        results.append(("are missing: silence, noise, another format (--format), or a carrier that is off" in said) == missing)
         results[-1] or print("FAILED irig_demodulate, few pulses, %s: %s" % (name, said))
     return results
 
