@@ -149,6 +149,19 @@ def rate_is_given():
     return results
 
 
+def zeros_first():
+    """Volts that begin with 0, as those of an input before there is code: levels or a carrier, as an option says."""
+    rows = [0.0] * 12000 + [3.3 * (number % 100 < 50) for number in range(5000)]
+    text = "t,V\n" + "".join("%.5f,%.3f\n" % (number / RATE, value) for number, value in enumerate(rows))
+    results = []
+    for words, status, part in (
+            (["--level"], 0, "50 pulses"), (["--format=B"], 1, "0 pulses"), ([], 2, "for volts that begin with 0 give --level")):
+        got, dump, said = run("irig_demodulate", ["--table", *words, "-"], text.encode())
+        results.append(got == status and part in said and rises_of(dump)[:1] == [599975] * (status == 0))
+        results[-1] or print("FAILED irig_demodulate --table, zeros first, %s: %d %s" % (words, got, said))
+    return results
+
+
 def carrier():
     """Volts of a carrier in a table."""
     values, rises = signal("B", random.Random(3), 8000, 1000, 3.3, 0.02, 0.01, 0, 2)
@@ -276,5 +289,6 @@ def by_sigrok(top):
 def cases(top):
     return [*(case("table: " + row[0], table, *row) for row in TABLES), case("table: when it begins", begun),
             case("table: times of rows", times_of_rows), case("table: a rate instead of times", rate_is_given),
+            case("table: zeros first", zeros_first),
             case("table: a carrier", carrier), case("table: what is refused", refused), case("sigrok: channels", sigrok),
             case("sigrok: other folders", no_sigrok), case("sigrok: its own program", by_sigrok, top)]

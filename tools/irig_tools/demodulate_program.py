@@ -70,8 +70,8 @@ def check_options(given: Given) -> None:
 
 
 def table_of(given: Given) -> Table:
-    swapped = given.has(SWAP) and given.has(LEVEL)
-    return Table(given.names[0], given.text(TIME_COLUMN), given.text(COLUMN), given.number(RATE) or 0, swapped)
+    swapped, volts = given.has(SWAP) and given.has(LEVEL), any(map(given.has, (LEVEL, CARRIER_FORMAT, CARRIER)))
+    return Table(given.names[0], given.text(TIME_COLUMN), given.text(COLUMN), given.number(RATE) or 0, swapped, volts)
 
 
 def reader_of(given: Given) -> Demodulator:

@@ -35,9 +35,11 @@ def decoded(line: bytes, code: str) -> str:
 
 
 class Table(Samples):
-    """One column of a table as samples. `is_levels` if its first values are zeros and ones."""
+    """One column of a table as samples. `is_levels` if its first values are zeros and ones; of zeros alone not if it has
+    `volts`."""
 
-    def __init__(self, path: str, time: Optional[str], value: Optional[str], rate: int, negative: bool = False) -> None:
+    def __init__(self, path: str, time: Optional[str], value: Optional[str], rate: int, negative: bool = False,
+                 volts: bool = False) -> None:
         self.path, self.kind, self.notes, self.number, self.negative = path, "text", [], 0, negative
         self.places: List[int] = []  # of rows whose times are kept
         self.times: List[float] = []
@@ -54,7 +56,8 @@ class Table(Samples):
         rows = self._rows(first)
         looked = list(islice(rows, LOOKED_AT))
         self.rows = chain(looked, rows)
-        self.is_levels = {level for _, level in looked} <= {0.0, 1.0}
+        values = {level for _, level in looked}
+        self.is_levels = values <= {0.0, 1.0} and not (volts and values == {0.0})
         if self.form.time is not None:
             self.rate = MICROSECONDS if self.is_levels else self._rate(looked)
 
@@ -172,7 +175,8 @@ class Steps:
         level = 0
         for time, value in self.samples.rows:
             if value not in (0.0, 1.0):
-                text = "%s: line %d has no level of 0 or 1, as the first %d rows have; --column names another column"
+                text = "%s: line %d has no level of 0 or 1, as the first %d rows have; for volts that begin with 0 give --level, or " \
+                       "--format of a carrier, and --column for another column"
                 raise Problem(text % (self.samples.path, self.samples.number, LOOKED_AT))
             self.length = time * self.samples.rate
             if int(value) ^ self.swapped != level:
