@@ -88,6 +88,7 @@ TABLES = (
     ("a count instead of times", ["--level", "--column=CH1", "--rate=20000"],
      lambda: "X,CH1,Start,Increment\nSequence,Volt,-6e-03,5e-05\n" + "".join(
          "%d,%.2f,\n" % (number, 5 * level + 0.01 * (number % 3)) for number, level in enumerate(levels()))),
+    ("channels that numbers name", ["--column=2"], lambda: "Time(s),0,1,2\n" + changes("%.9f,1,1,%d\n")),
     ("columns without numbers", ["--time-column=2", "--column=3"], lambda: "Day,Time,A,State\n" + "".join(
         "1 May,%.6f,%d,OK\n" % (time / 1e6, level) for time, level in [(0, 0), *EDGES, (LENGTH, 0)])),
     ("names of both", ["--time-column=when", "--column=what", "--level"], lambda: "when,other,what\n" + volts("%.5f,7,%.3f\n")),

@@ -42,7 +42,8 @@ def is_row(line: str, places: Sequence[int]) -> bool:
     """Whether a line has numbers: in all fields, or in those with these places."""
     fields = fields_of(line, parted_by(line))
     if places:
-        return all(place < len(fields) and NUMBER.fullmatch(fields[place]) for place in places)
+        are_names = len(places) == 1 and any(map(TIME.fullmatch, fields))  # of times, and of channels that can be numbers
+        return not are_names and all(place < len(fields) and NUMBER.fullmatch(fields[place]) for place in places)
     full = fields[:-1] if len(fields) > 1 and not fields[-1] else fields
     return bool(full) and all(NUMBER.fullmatch(field) for field in full if field) and any(full)
 
