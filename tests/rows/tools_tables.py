@@ -1,5 +1,6 @@
 """Tables of logic analysers and oscilloscopes, and files of sigrok, made of one track: their frames and rises."""
 import io
+import math
 import os
 import random
 import shutil
@@ -137,6 +138,18 @@ def times_of_rows():
     few = "".join("%d,%d.5\n" % (number, number % 7) for number in range(5000) if number % 200)
     said = run("irig_demodulate", ["--table", "--level", "-"], b"t,V\n" + few.encode())[2]
     return [good, said.count("no rows") == 20 and "irig_demodulate: and 4 such stretches more\n" in said]
+
+
+def uneven_clock():
+    """Rises are where the times of the rows have them, to half a row, if a clock is up to 30 % too fast or too slow for a while."""
+    times = [(number + 60 * math.sin(number / 200)) / RATE for number in range(15000)]
+    rows = "".join("%.7f,%.1f\n" % (time, 3.3 * (number % 100 < 50)) for number, time in enumerate(times))
+    status, dump, said = run("irig_demodulate", ["--table", "--level", "-"], b"t,V\n" + rows.encode())
+    wanted = [500000 * (times[place - 1] + times[place]) for place in range(100, 15000, 100)]
+    found = rises_of(dump)[1:]
+    good = status == 0 and len(found) == len(wanted) and all(abs(one - other) <= 26 for one, other in zip(found, wanted))
+    good or print("FAILED irig_demodulate --table, an uneven clock: %d %s" % (status, said))
+    return good
 
 
 def rate_is_given():
@@ -290,6 +303,6 @@ def by_sigrok(top):
 def cases(top):
     return [*(case("table: " + row[0], table, *row) for row in TABLES), case("table: when it begins", begun),
             case("table: times of rows", times_of_rows), case("table: a rate instead of times", rate_is_given),
-            case("table: zeros first", zeros_first),
+            case("table: zeros first", zeros_first), case("table: an uneven clock", uneven_clock),
             case("table: a carrier", carrier), case("table: what is refused", refused), case("sigrok: channels", sigrok),
             case("sigrok: other folders", no_sigrok), case("sigrok: its own program", by_sigrok, top)]

@@ -20,6 +20,7 @@ LOOKED_AT = 10000  # rows that show the rate, and whether the values are levels
 EVEN = 0.5  # of the distance of two samples: it is off by at most that
 MOST_EVEN = 0.99  # of the first distances are even
 ROUND = 1e-4  # a rate that is as near to one of three digits is that one
+NEAR_ROW = 0.25  # of that distance: a row is where the rate has it
 NEXT_ROW = 1.75  # distances of two samples: if rows are farther apart, others between them are lost
 MOST_NAMED = 20  # stretches of lost rows
 
@@ -41,8 +42,8 @@ class Table(Samples):
     def __init__(self, path: str, time: Optional[str], value: Optional[str], rate: int, negative: bool = False,
                  volts: bool = False) -> None:
         self.path, self.kind, self.notes, self.number, self.negative = path, "text", [], 0, negative
-        self.places: List[int] = []  # of rows whose times are kept
-        self.times: List[float] = []
+        self.places = array("q")  # of rows whose times are kept
+        self.times = array("d")
         self.lost = 0  # stretches of rows
         self.lines = self._lines(stream_of(path))
         heads, first = self._heads([int(name) - 1 for name in (time, value) if name and WHOLE.fullmatch(name) and int(name)])
@@ -136,18 +137,24 @@ class Table(Samples):
             self.notes.append("and %d such stretches more" % (self.lost - MOST_NAMED))
 
     def _know(self, times: Sequence[float]) -> None:
-        """Keeps the times of the first and the last row of a stretch, and of those next to uneven distances."""
+        """Keeps the times of the first and the last row of a stretch, and of each that is not near where the rate has it after
+        one that is kept, with the row before."""
         begun, kept = self.places[-1] + 1 if self.places else 0, {0, len(times) - 1}
-        for place, (one, other) in enumerate(zip(times, times[1:])):
-            distances = (other - one) * self.rate
-            if abs(distances - 1) > EVEN:
-                kept |= {place, place + 1}
-                self.lost += distances > NEXT_ROW
-                if distances > NEXT_ROW and self.lost <= MOST_NAMED:
-                    self.notes.append("no rows from %.6f to %.6f seconds" % (self._seconds(one), self._seconds(other)))
+        last, since = 0, times[0]
+        for place, (one, other) in enumerate(zip(times, times[1:]), 1):
+            if abs((other - since) * self.rate - (place - last)) > NEAR_ROW:
+                kept |= {place - 1, place}
+                last, since = place, other
+                if (other - one) * self.rate > NEXT_ROW:
+                    self._lose(one, other)
         for place in sorted(kept):
             self.places.append(begun + place)
             self.times.append(times[place])
+
+    def _lose(self, one: float, other: float) -> None:
+        self.lost += 1
+        if self.lost <= MOST_NAMED:
+            self.notes.append("no rows from %.6f to %.6f seconds" % (self._seconds(one), self._seconds(other)))
 
     def _seconds(self, since: float) -> float:
         return since + self.begun / MICROSECONDS
