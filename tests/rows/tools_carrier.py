@@ -292,7 +292,7 @@ def few():
                                                  ("silence", 0, [], 9000, True)):
         values, _ = signal("B", random.Random(5), 8000, 1000, 3.3, 0.01, drift, 0, 3)
         said = run("irig_demodulate", [*words, "-"], wav(values + array("h", [0] * silence), 8000))[2]
-        results.append(("are missing: silence, noise, or a carrier that is off" in said) == missing)
+        results.append(("are missing: silence, noise, another format (--format), or a carrier that is off" in said) == missing)
         results[-1] or print("FAILED irig_demodulate, few pulses, %s: %s" % (name, said))
     return results
 
@@ -462,11 +462,17 @@ def no_sound():
             (riff(b"")[:40], 2, "has no samples: its chunk of data is missing"),
             (riff(b"").replace(b"\x10\0\0\0", b"\4\0\0\0"), 2, "does not say how its samples are written"),
             (riff(b"", channels=0, size=0), 2, "says that it has 0 channels"), (riff(b"abcdefg", said=9), 1, "the file is cut off"),
+            (riff(b"\0\0\1\0" * 9, said=8), 1, "has more after the samples that its head counts; 'sox --ignore-length"),
             (riff(struct.pack("<4f", 1, 2, math.nan, 3), 3, 4), 2, "is no number from -1e30 to 1e30"),
             (riff(struct.pack("<2d", 1e300, -1e300), 3, 8), 2, "is no number from -1e30 to 1e30")):
         got, _, said = run("irig_demodulate", ["-"], data)
         results.append(got == status and text in said and said.startswith("irig_demodulate: "))
         results[-1] or print("FAILED irig_demodulate of %r: %d %s" % (data[:12], got, said))
+    for data in (riff(b"ab"), riff(b"abc\0", size=1, said=3), riff(b"ab") + b"LIST\4\0\0\0abcd", riff(b"a\0LIST", size=1, said=1),
+                 w64(b"ab" + b"\0" * 6 + b"list", 26)):
+        said = run("irig_demodulate", ["-"], data)[2]
+        results.append("has more" not in said)
+        results[-1] or print("FAILED irig_demodulate of %r: %s" % (data[:12], said))
     return results
 
 

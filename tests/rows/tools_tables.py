@@ -1,5 +1,6 @@
 """Tables of logic analysers and oscilloscopes, and files of sigrok, made of one track: their frames and rises."""
 import io
+import math
 import os
 import random
 import shutil
@@ -75,6 +76,12 @@ TABLES = (
     ("a scope, upside down", ["--level", "--swap"], lambda: "t,V\n" + volts("%.5f,%.3f\n", sign=-1)),
     ("units in their own line", ["--level", "--column=Channel A"],
      lambda: "\ufeffTime;Channel A;Channel B\n(ms);(V);(V)\n\n" + comma(volts("%.2f;%.3f;0.0\n", 1e-3, -20.0))),
+    ("a unit in words", [], lambda: "Time (msec),D0\n" + "".join(
+        "%.3f,%d\n" % (time / 1000, level) for time, level in [(0, 0), *EDGES, (LENGTH, 0)])),
+    ("a unit as the head", ["--time-column=Microseconds"], lambda: "Microseconds,D0\n" + "".join(
+        "%d,%d\n" % each for each in [(0, 0), *EDGES, (LENGTH, 0)])),
+    ("a micro sign in Latin-1", [], lambda: "Zeit [\u00b5s];D0\n".encode("latin-1") + "".join(
+        "%d;%d\n" % each for each in [(0, 0), *EDGES, (LENGTH, 0)]).encode()),
     ("decimal commas and tabs", ["--level"], lambda: "Zeit [ms]\tKanal\n" + comma(volts("%.2f\t%.3f\n", 1e-3))),
     ("heads in quotes", ["--level"], lambda: '"Time (s)","CH1 (V)"\n' + volts('"%.5f","%.3f"\n')),
     ("no heads", ["--level"], lambda: volts("%.5f,%.3f\n")),
@@ -82,13 +89,17 @@ TABLES = (
     ("a count instead of times", ["--level", "--column=CH1", "--rate=20000"],
      lambda: "X,CH1,Start,Increment\nSequence,Volt,-6e-03,5e-05\n" + "".join(
          "%d,%.2f,\n" % (number, 5 * level + 0.01 * (number % 3)) for number, level in enumerate(levels()))),
+    ("channels that numbers name", ["--column=2"], lambda: "Time(s),0,1,2\n" + changes("%.9f,1,1,%d\n")),
+    ("columns without numbers", ["--time-column=2", "--column=3"], lambda: "Day,Time,A,State\n" + "".join(
+        "1 May,%.6f,%d,OK\n" % (time / 1e6, level) for time, level in [(0, 0), *EDGES, (LENGTH, 0)])),
     ("names of both", ["--time-column=when", "--column=what", "--level"], lambda: "when,other,what\n" + volts("%.5f,7,%.3f\n")),
 )
 
 
 def table(name, words, make):
     """Two frames, and each rise where it is, to two samples."""
-    status, dump, said = run("irig_demodulate", ["--table", *words, "-"], make().encode())
+    made = make()
+    status, dump, said = run("irig_demodulate", ["--table", *words, "-"], made if isinstance(made, bytes) else made.encode())
     found = rises_of(dump)
     shift = found[0] - RISES[0] if found and "begin" in name else 0
     good = status == 0 and len(found) == len(RISES) and fine(dump, "B") == 2
@@ -115,15 +126,54 @@ def begun():
 
 
 def times_of_rows():
-    """Rises are where the times of the rows have them, also after rows that are lost, and at a rate of no three digits."""
+    """Rises are where the times of the rows have them, also if rows are lost or there twice, and at a rate of no three digits."""
     slow, rows = 1.00009, volts("%.7f,%.3f\n", 1 / 1.00009).splitlines(True)
-    text = "t,V\n" + "".join(rows[:13000] + rows[15000:])
-    status, dump, said = run("irig_demodulate", ["--table", "--level", "-"], text.encode())
-    wanted, found = [rise * slow for rise in RISES if not 640000 < rise < 760000], rises_of(dump)
-    good = status == 0 and "no rows from 0.650008 to 0.75006" in said
-    good = good and all(min(abs(one - other) for one in found) <= 50 for other in wanted)
-    good or print("FAILED irig_demodulate --table, lost rows: %d %s" % (status, said))
+    kept = rows[:3000] + rows[4000:11000] + sorted(rows[11000:11400] * 9) + rows[11400:13000] + rows[15000:]
+    status, dump, said = run("irig_demodulate", ["--table", "--level", "-"], "".join(["t,V\n", *kept]).encode())
+    wanted = [rise * slow for rise in RISES if not 140000 < rise < 210000 and not 640000 < rise < 760000]
+    good = status == 0 and "no rows from 0.149963 to 0.200018" in said and "no rows from 0.650008 to 0.75006" in said
+    good = good and said.count("no rows") == 2
+    good = good and all(min(abs(one - other) for one in rises_of(dump)) <= 50 for other in wanted)
+    good or print("FAILED irig_demodulate --table, uneven rows: %d %s" % (status, said))
+    few = "".join("%d,%d.5\n" % (number, number % 7) for number in range(5000) if number % 200)
+    said = run("irig_demodulate", ["--table", "--level", "-"], b"t,V\n" + few.encode())[2]
+    return [good, said.count("no rows") == 20 and "irig_demodulate: and 4 such stretches more\n" in said]
+
+
+def uneven_clock():
+    """Rises are where the times of the rows have them, to half a row, if a clock is up to 30 % too fast or too slow for a while."""
+    times = [(number + 60 * math.sin(number / 200)) / RATE for number in range(15000)]
+    rows = "".join("%.7f,%.1f\n" % (time, 3.3 * (number % 100 < 50)) for number, time in enumerate(times))
+    status, dump, said = run("irig_demodulate", ["--table", "--level", "-"], b"t,V\n" + rows.encode())
+    wanted = [500000 * (times[place - 1] + times[place]) for place in range(100, 15000, 100)]
+    found = rises_of(dump)[1:]
+    good = status == 0 and len(found) == len(wanted) and all(abs(one - other) <= 26 for one, other in zip(found, wanted))
+    good or print("FAILED irig_demodulate --table, an uneven clock: %d %s" % (status, said))
     return good
+
+
+def rate_is_given():
+    """Times that are not read, as there is a rate, are named; a column that counts rows has none."""
+    results, rows = [], "".join("%.3f,%d\n" % (3.5 + number / RATE, number // 20 % 2) for number in range(100))
+    for head, are_times in (("Time [s],D0\n", True), ("number,D0\n", False), ("X,D0\nSequence,Volt\n", False)):
+        status, dump, said = run("irig_demodulate", ["--table", "--rate=20000", "--column=2", "-"], (head + rows).encode())
+        good = status == 0 and ("the times of the table are not read" in said and "its first row is at 0" in said) == are_times
+        results.append(good and rises_of(dump) == [1000, 3000])
+        results[-1] or print("FAILED irig_demodulate --table --rate of %r: %d %s" % (head, status, said))
+    return results
+
+
+def zeros_first():
+    """Volts that begin with 0, as those of an input before there is code: levels or a carrier, as an option says."""
+    rows = [0.0] * 12000 + [3.3 * (number % 100 < 50) for number in range(5000)]
+    text = "t,V\n" + "".join("%.5f,%.3f\n" % (number / RATE, value) for number, value in enumerate(rows))
+    results = []
+    for words, status, part in (
+            (["--level"], 0, "50 pulses"), (["--format=B"], 1, "0 pulses"), ([], 2, "for volts that begin with 0 give --level")):
+        got, dump, said = run("irig_demodulate", ["--table", *words, "-"], text.encode())
+        results.append(got == status and part in said and rises_of(dump)[:1] == [599975] * (status == 0))
+        results[-1] or print("FAILED irig_demodulate --table, zeros first, %s: %d %s" % (words, got, said))
+    return results
 
 
 def carrier():
@@ -141,6 +191,7 @@ def refused():
     head, results = "Time [s],A\n", []
     for words, text, said in (
             ([], "", "no row of numbers"), ([], "hello\nworld\n", "no row of numbers"),
+            ([], "Time,A,State\n0,1.5,OK\n1,1.4,OK\n", "if others have words, give the numbers of both, as --time-column 1"),
             ([], "Time [s],A,B\n0,0,1\n", "as --column 'A': A, B"),
             ([], "Time [s],A,A\n0,0,1\n", "as --column '2': number 2, number 3"),
             (["--column=A"], "Time [s],A,A\n0,0,1\n", "has several columns 'A'; give the number of one, from 1"),
@@ -148,6 +199,7 @@ def refused():
             (["--column=4"], "Time [s],A,B\n0,0,1\n", "no row of numbers"), ([], "A\n0\n1\n", "has no column of times"),
             ([], head + "0,0\n1,x\n", "line 3 has no number in column 2"), ([], head + "0,0\n1\n", "line 3 has no number in column 2"),
             ([], head + "0,0\n2,1\n1,0\n", "line 4 has a time before that of the last row"),
+            (["--column=A"], "X,A,Start\nSequence,Volt,-6e-03\n0,1.5,\n1,1.4,\n", "has no times, but 'sequence'; give --rate"),
             ([], head + "0,0\n" * 20000 + "1,2\n", "line 20002 has no level of 0 or 1"),
             ([], head + "0,0.5\n1,1\n5,2\n6,2\n", "its samples do not come at even times, first in row 3; with --rate"),
             ([], head + "0,5\n", "all the same, so they show no rate"), ([], head + "0,nan\n", "no row of numbers"),
@@ -250,6 +302,7 @@ def by_sigrok(top):
 
 def cases(top):
     return [*(case("table: " + row[0], table, *row) for row in TABLES), case("table: when it begins", begun),
-            case("table: times of rows", times_of_rows),
+            case("table: times of rows", times_of_rows), case("table: a rate instead of times", rate_is_given),
+            case("table: zeros first", zeros_first), case("table: an uneven clock", uneven_clock),
             case("table: a carrier", carrier), case("table: what is refused", refused), case("sigrok: channels", sigrok),
             case("sigrok: other folders", no_sigrok), case("sigrok: its own program", by_sigrok, top)]

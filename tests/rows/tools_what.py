@@ -41,6 +41,7 @@ def dump(edges, length, unit="1 us", scale=1, upside=False, declared="$var wire 
 
 
 B = track("B", 4, 30000)
+OPEN = [(10 * i, i % 2) for i in range(20000)], 200000  # an input that nothing was connected to
 YEAR = track("B", 4, 30000, expression=7)
 SCOPES = "$scope module tb $end $var wire 1 c clock $end $var wire 1 ! irig $end $upscope $end"
 BUS = "$scope module tb $end $var wire 1 c clock $end $var reg 4 ! bus [3:0] $end $upscope $end"
@@ -56,6 +57,9 @@ def bus(edges):
 ROWS = [
     ("format B", dump(*B), [], 0, ["upright, format B", "expression 2: 4 of 4 frames fine, 061 12:34:20"], 4),
     ("with year and seconds", dump(*YEAR), [], 0, ["expression 7: 4 of 4 frames fine, 061 12:34:20 year 24 to"], 4),
+    ("code after much else", dump([*OPEN[0], *((time + OPEN[1], level) for time, level in B[0])], OPEN[1] + B[1]), [], 1,
+     ["no wire of 1 carries time code", "1 wire changed 16,384 times without time code, and what follows was not looked at; "
+      "irig_wire --from TIME"], None),
     ("format A", dump(*track("A", 5)), [], 0, ["expression 2: 5 of 5", "12:34:20.00 to 061 12:34:20.40"], 5),
     ("format E", dump(*track("E", 3)), [], 0, ["format E", "expression 2: 3 of 3"], 3),
     ("format G", dump(*track("G", 9)), [], 0, ["format G", "expression 2: 9 of 9"], 9),

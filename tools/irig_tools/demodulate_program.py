@@ -70,8 +70,8 @@ def check_options(given: Given) -> None:
 
 
 def table_of(given: Given) -> Table:
-    swapped = given.has(SWAP) and given.has(LEVEL)
-    return Table(given.names[0], given.text(TIME_COLUMN), given.text(COLUMN), given.number(RATE) or 0, swapped)
+    swapped, volts = given.has(SWAP) and given.has(LEVEL), any(map(given.has, (LEVEL, CARRIER_FORMAT, CARRIER)))
+    return Table(given.names[0], given.text(TIME_COLUMN), given.text(COLUMN), given.number(RATE) or 0, swapped, volts)
 
 
 def reader_of(given: Given) -> Demodulator:
@@ -120,8 +120,8 @@ def say_few(name: str, pulses: int, seconds: float) -> None:
     """Says so if there are far fewer pulses than a format has in that time."""
     wanted = round(seconds * 1000000 / INTERVAL[name])
     if pulses < ENOUGH * wanted:
-        text = "format %s has %d pulses in that time, so %d are missing: silence, noise, or a carrier that is off by more "
-        say((text + "than 8 %% (--carrier HERTZ sets another)") % (name, wanted, wanted - pulses))
+        text = "format %s has %d pulses in that time, so %d are missing: silence, noise, another format (--format), or a carrier "
+        say((text + "that is off by more than 8 %% (--carrier HERTZ sets another)") % (name, wanted, wanted - pulses))
 
 
 def say(text: str) -> None:

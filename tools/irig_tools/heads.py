@@ -8,8 +8,9 @@ from typing import List, NamedTuple, Optional, Sequence
 from .digits import FRACTION, NUMBER, WHOLE
 from .editor import Problem
 
-SECONDS_IN = {"s": 1.0, "sec": 1.0, "second": 1.0, "seconds": 1.0, "ms": 1e-3, "us": 1e-6, "\u00b5s": 1e-6, "\u03bcs": 1e-6,
-              "ns": 1e-9, "ps": 1e-12}
+OF_A_SECOND = {"": 1.0, "m": 1e-3, "milli": 1e-3, "u": 1e-6, "\u00b5": 1e-6, "\u03bc": 1e-6, "micro": 1e-6, "n": 1e-9,
+               "nano": 1e-9, "p": 1e-12, "pico": 1e-12}
+SECONDS_IN = {part + name: size for part, size in OF_A_SECOND.items() for name in ("s", "sec", "second", "seconds")}
 NO_TIMES = ("v", "mv", "volt", "volts", "sequence")
 TIME = re.compile(r"(?i)\W*(time|t|timestamp|zeit|temps|x|x-axis|seconds?|sec)(\W.*|_(%s))?" % "|".join(SECONDS_IN))
 RATE_LINE = re.compile(r"(?i)\W*(?:meta )?samplerate\W*([0-9.]+) *([kmg]?)(?:hz)?\W*")
@@ -41,7 +42,8 @@ def is_row(line: str, places: Sequence[int]) -> bool:
     """Whether a line has numbers: in all fields, or in those with these places."""
     fields = fields_of(line, parted_by(line))
     if places:
-        return all(place < len(fields) and NUMBER.fullmatch(fields[place]) for place in places)
+        are_names = len(places) == 1 and any(map(TIME.fullmatch, fields))  # of times, and of channels that can be numbers
+        return not are_names and all(place < len(fields) and NUMBER.fullmatch(fields[place]) for place in places)
     full = fields[:-1] if len(fields) > 1 and not fields[-1] else fields
     return bool(full) and all(NUMBER.fullmatch(field) for field in full if field) and any(full)
 
@@ -78,8 +80,17 @@ class Heads:
     def form(self, time: Optional[str], value: Optional[str], counted: bool) -> Columns:
         """The columns that are meant; without times if the rows are counted."""
         place = self._place(time) if time else None if counted else self._time()
-        unit = self.units[place] if place is not None and place < len(self.units) else ""
+        unit = "" if place is None else self._unit(place)
+        if place is not None and unit in NO_TIMES:
+            raise Problem("%s: column %d has no times, but '%s'; give --rate, in samples a second" % (self.path, place + 1, unit))
         return Columns(self.parted, place, self._place(value) if value else self._value(place), SECONDS_IN.get(unit, 1.0))
+
+    def has_times(self) -> bool:
+        """Whether a column is named as one of times, and does not count rows."""
+        return any(TIME.fullmatch(name) and self._unit(place) not in NO_TIMES for place, name in enumerate(self.names))
+
+    def _unit(self, place: int) -> str:
+        return self.units[place] if place < len(self.units) else ""
 
     def _time(self) -> Optional[int]:
         for place, name in enumerate(self.names):
@@ -120,6 +131,6 @@ def _distinct(names: List[str], heads: Sequence[str]) -> List[str]:
 
 
 def _in_name(name: str) -> str:
-    """The last unit that a name has after its first word, as in `Time [s]`, `time_us` and `Time in ms`."""
+    """The last unit that a name has, as in `Time [s]`, `time_us`, `Time in ms` and `Milliseconds`."""
     words: List[str] = re.findall(r"[^\W_]+", name.lower())
-    return next((word for word in reversed(words[1:]) if word in SECONDS_IN), "")
+    return next((word for word in reversed(words) if word in SECONDS_IN), "")

@@ -2,6 +2,7 @@
 from __future__ import annotations
 
 import math
+import re
 import sys
 from array import array
 from typing import IO, Iterator, List, Optional, Sequence, Tuple, cast
@@ -16,6 +17,8 @@ from .sound import SoundReader
 MICROSECONDS = 1000000
 LONGEST_NUMBER = 1000  # bytes of a line with a number
 LARGEST = 1e30  # of a number
+AFTER = 11  # bytes after the samples that are looked at: nothing, or the name of a chunk, after what fills them up
+AFTER_SAMPLES = re.compile(rb"\0{0,7}([ -~]{4}|\Z)")
 LITTLE = {"u8": ("B", 1), "s8": ("b", 1), "s16": ("h", 2), "s24": ("i", 3), "s32": ("i", 4), "f32": ("f", 4),
           "f64": ("d", 8)}
 BIG = {kind + "be": form for kind, form in LITTLE.items() if form[1] > 1}
@@ -106,6 +109,9 @@ class Samples:
             if over < len(data):
                 yield data[:len(data) - over]
             data = self._read(size)
+        if self.left == 0 and not AFTER_SAMPLES.match(self.stream.read(AFTER)):
+            self.notes.append("the file has more after the samples that its head counts; 'sox --ignore-length FILE -t wav - | "
+                              "irig_demodulate -' reads all")
         if self.left:
             self.notes.append("the file is cut off: it has %s of samples less than it says" % texts.counted(self.left, "byte"))
 

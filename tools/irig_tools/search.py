@@ -92,6 +92,7 @@ class Found:
     looked_at: int
     dumps: int = 1
     is_cut: bool = False  # the file ends within a time
+    hopeless: int = 0  # wires that were looked at no longer
 
 
 def search(path: str, unit: str, number: int) -> Found:
@@ -140,6 +141,7 @@ def _look(source: Source, every: Every, units: Dict[str, Dict[str, float]], foun
             probe = probes[number] = Probe(every.signal(number), units)
         if probe.change(time, letter == "1"):
             wanted.drop(number, probe.signal.code)
+            found.hopeless += 1
     found.probes = [probes[number] for number in sorted(probes)]
     found.is_cut = body.more == "cut"
     return body

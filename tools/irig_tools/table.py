@@ -17,31 +17,48 @@ from .wire import LONGEST_TIME
 LONGEST_LINE = 10000  # bytes of a line
 MOST_HEADS = 1000  # lines before the first row
 LOOKED_AT = 10000  # rows that show the rate, and whether the values are levels
-EVEN = 0.5  # of the distance of two samples: it is off by less
+EVEN = 0.5  # of the distance of two samples: it is off by at most that
+MOST_EVEN = 0.99  # of the first distances are even
 ROUND = 1e-4  # a rate that is as near to one of three digits is that one
+NEAR_ROW = 0.25  # of that distance: a row is where the rate has it
 NEXT_ROW = 1.75  # distances of two samples: if rows are farther apart, others between them are lost
 MOST_NAMED = 20  # stretches of lost rows
 
 Row = Tuple[float, float]  # a time in seconds, and a value
 
 
-class Table(Samples):
-    """One column of a table as samples. `is_levels` if its first values are zeros and ones."""
+def decoded(line: bytes, code: str) -> str:
+    """A line in this code, or else in Latin-1, which has the micro sign of older programs."""
+    try:
+        return line.decode(code)
+    except UnicodeDecodeError:
+        return line.decode("latin-1")
 
-    def __init__(self, path: str, time: Optional[str], value: Optional[str], rate: int, negative: bool = False) -> None:
+
+class Table(Samples):
+    """One column of a table as samples. `is_levels` if its first values are zeros and ones; of zeros alone not if it has
+    `volts`."""
+
+    def __init__(self, path: str, time: Optional[str], value: Optional[str], rate: int, negative: bool = False,
+                 volts: bool = False) -> None:
         self.path, self.kind, self.notes, self.number, self.negative = path, "text", [], 0, negative
-        self.places: List[int] = []  # of rows whose times are kept
-        self.times: List[float] = []
+        self.places = array("q")  # of rows whose times are kept
+        self.times = array("d")
+        self.lost = 0  # stretches of rows
         self.lines = self._lines(stream_of(path))
         heads, first = self._heads([int(name) - 1 for name in (time, value) if name and WHOLE.fullmatch(name) and int(name)])
         self.rate = rate or rate_of(heads)
-        self.form = Heads(heads, first, path).form(time, value, bool(rate))
+        named = Heads(heads, first, path)
+        self.form = named.form(time, value, bool(rate))
+        if rate and named.has_times():
+            self.notes.append("the times of the table are not read, as --rate is given: its first row is at 0 in the dump")
         if self.form.time is None and not self.rate:
             raise Problem("%s: has no column of times; name it by --time-column, or give --rate, in samples a second" % path)
         rows = self._rows(first)
         looked = list(islice(rows, LOOKED_AT))
         self.rows = chain(looked, rows)
-        self.is_levels = {level for _, level in looked} <= {0.0, 1.0}
+        values = {level for _, level in looked}
+        self.is_levels = values <= {0.0, 1.0} and not (volts and values == {0.0})
         if self.form.time is not None:
             self.rate = MICROSECONDS if self.is_levels else self._rate(looked)
 
@@ -50,7 +67,7 @@ class Table(Samples):
             self.number += 1
             if len(line) == LONGEST_LINE:
                 raise Problem("%s: line %d is too long for a table" % (self.path, self.number))
-            yield line.decode("utf-8-sig" if self.number == 1 else "utf-8", "replace").strip("\r\n\0 ")
+            yield decoded(line, "utf-8-sig" if self.number == 1 else "utf-8").strip("\r\n\0 ")
 
     def _heads(self, places: Sequence[int]) -> Tuple[List[str], str]:
         """The lines before the first row, and that one."""
@@ -61,7 +78,8 @@ class Table(Samples):
             heads.append(line)
             if len(heads) > MOST_HEADS:
                 break
-        raise Problem("%s: is no table: no row of numbers is found; the columns are parted by , ; or a tab" % self.path)
+        raise Problem("%s: is no table: no row of numbers is found; the columns are parted by , ; or a tab; if others have "
+                      "words, give the numbers of both, as --time-column 1 --column 2" % self.path)
 
     def _rows(self, first: str) -> Iterator[Row]:
         """The rows, by the time since the first."""
@@ -90,14 +108,17 @@ class Table(Samples):
         return value
 
     def _rate(self, looked: Sequence[Row]) -> int:
-        """The samples in a second, by the first times."""
-        wide = looked[-1][0] / (len(looked) - 1) if len(looked) > 1 else 0.0
-        if not wide:
+        """The samples in a second, by the first times. Some rows can be lost or be there twice."""
+        apart = [other[0] - one[0] for one, other in zip(looked, looked[1:])]
+        if not any(apart):
             raise Problem("%s: its times are all the same, so they show no rate; give --rate, in samples a second" % self.path)
-        for number, (one, other) in enumerate(zip(looked, looked[1:])):
-            if abs(other[0] - one[0] - wide) > EVEN * wide:
-                text = "%s: its samples do not come at even times, first in row %d; with --rate they are taken as even"
-                raise Problem(text % (self.path, number + 2))
+        usual = sorted(apart)[len(apart) // 2]
+        even = [each for each in apart if abs(each - usual) <= EVEN * usual]
+        if not usual or len(even) < MOST_EVEN * len(apart):
+            row = next(row for row, each in enumerate(apart, 2) if abs(each - usual) > EVEN * usual)
+            text = "%s: its samples do not come at even times, first in row %d; with --rate they are taken as even, from 0 on"
+            raise Problem(text % (self.path, row))
+        wide = sum(even) / len(even)
         rate = float("%.3g" % (1 / wide))
         return max(1, round(rate if abs(rate * wide - 1) < ROUND else 1 / wide))
 
@@ -108,22 +129,32 @@ class Table(Samples):
                 times.append(time)
                 values.append(value)
             if not values:
-                return
+                break
             if self.form.time is not None:
                 self._know(times)
             yield values
+        if self.lost > MOST_NAMED:
+            self.notes.append("and %d such stretches more" % (self.lost - MOST_NAMED))
 
     def _know(self, times: Sequence[float]) -> None:
-        """Keeps the times of the first and the last row of a stretch, and of those next to lost ones."""
+        """Keeps the times of the first and the last row of a stretch, and of each that is not near where the rate has it after
+        one that is kept, with the row before."""
         begun, kept = self.places[-1] + 1 if self.places else 0, {0, len(times) - 1}
-        for place, (one, other) in enumerate(zip(times, times[1:])):
-            if other - one > NEXT_ROW / self.rate:
-                kept |= {place, place + 1}
-                if len(self.notes) < MOST_NAMED:
-                    self.notes.append("no rows from %.6f to %.6f seconds" % (self._seconds(one), self._seconds(other)))
+        last, since = 0, times[0]
+        for place, (one, other) in enumerate(zip(times, times[1:]), 1):
+            if abs((other - since) * self.rate - (place - last)) > NEAR_ROW:
+                kept |= {place - 1, place}
+                last, since = place, other
+                if (other - one) * self.rate > NEXT_ROW:
+                    self._lose(one, other)
         for place in sorted(kept):
             self.places.append(begun + place)
             self.times.append(times[place])
+
+    def _lose(self, one: float, other: float) -> None:
+        self.lost += 1
+        if self.lost <= MOST_NAMED:
+            self.notes.append("no rows from %.6f to %.6f seconds" % (self._seconds(one), self._seconds(other)))
 
     def _seconds(self, since: float) -> float:
         return since + self.begun / MICROSECONDS
@@ -151,7 +182,8 @@ class Steps:
         level = 0
         for time, value in self.samples.rows:
             if value not in (0.0, 1.0):
-                text = "%s: line %d has no level of 0 or 1, as the first %d rows have; --column names another column"
+                text = "%s: line %d has no level of 0 or 1, as the first %d rows have; for volts that begin with 0 give --level, or " \
+                       "--format of a carrier, and --column for another column"
                 raise Problem(text % (self.samples.path, self.samples.number, LOOKED_AT))
             self.length = time * self.samples.rate
             if int(value) ^ self.swapped != level:

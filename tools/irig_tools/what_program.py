@@ -8,6 +8,8 @@ from .ending import ALL_RIGHT, FOUND
 from .facts import json_lines as objects
 from .options import DUMP, JSON, TIMESCALE, Command, Given
 from .output import check_apart
+from .search import HOPELESS, WINDOW
+from .texts import counted
 from .what import What
 
 COMMAND = Command("irig_what", ("DUMP",), """\
@@ -40,6 +42,9 @@ def as_text(what: What) -> str:
     else:
         text = "no wire of %d carries time code of format A, B, E or G; %s (--timescale UNIT takes another)"
         lines.append(text % (what.found.looked_at, what.unit_text()))
+        if what.found.hopeless:
+            text = "%s changed %s times without time code, and what follows was not looked at; irig_wire --from TIME leaves out the "
+            lines.append((text + "beginning") % (counted(what.found.hopeless, "wire"), format(HOPELESS * WINDOW, ",")))
     return "".join(line + "\n" for line in lines)
 
 
