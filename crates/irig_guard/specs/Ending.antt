@@ -1,6 +1,6 @@
 -- What the program does for the words of its command line: from the files and the script to what is
 -- printed and written. This project's own.
-use Rattle.std.specs.Prelude.{◌≡◌, ◌<◌, ◌^◌, ℕ, List, Option, Result, Ok, Err, IfSome, is_some}
+use Rattle.std.specs.Prelude.{◌≡◌, ◌<◌, ◌^◌, ℕ, List, Result, Ok, Err, IfSome, is_some}
 use Rattle.std.specs.Prelude.{length, option_map, true}
 use Rattle.clap.specs.Words.{Text}
 use Rattle.irig_script.specs.{Obey.Desk.desk, declared.obey.status.Status.Status}
