@@ -228,6 +228,15 @@ def page_alone():
     return in_folder(lambda: list(holds()), rec=damages.dump(recorded(glitch), END))
 
 
+def one_line():
+    """What became of a recording is one line, whatever the name of the file is."""
+    def holds():
+        _, printed, _ = run("irig_mend", ["--expression=4", "--apply", "new.vcd", "a\nb\x1b[1m.vcd"])
+        return same("a newline in a name", printed.decode().partition(": ")[0], r"a\nb\x1b[1m.vcd")
+
+    return in_folder(holds, **{"a\nb\x1b[1m": damages.dump(recorded(), END)})
+
+
 GROWING = """#!/bin/sh
 echo '#%d' >> rec.vcd
 exec '%s' "$@"
@@ -384,5 +393,5 @@ def cases(top):
     """Each part by its name."""
     return [*(case("apply: " + row[0], applied, *row) for row in APPLIED),
             *(case("apply: " + part.__name__, part)
-              for part in (into, options_of_a_script, late_times, saved, page_alone, growing, upside_down, steady, guarded, refused,
-                           objects, kinds))]
+              for part in (into, options_of_a_script, late_times, saved, page_alone, one_line, growing, upside_down, steady, guarded,
+                           refused, objects, kinds))]

@@ -16,7 +16,7 @@ from .apply import Summary, Target, as_object, find_guard, run_script, sound_fra
 from .damage import Seen, look
 from .damage_program import say_notes
 from .editor import Editor, Progress, progress_to
-from .ending import ALL_RIGHT, FOUND, Usage, complain
+from .ending import ALL_RIGHT, ESCAPED, FOUND, Usage, complain
 from .explain import explained
 from .facts import UNDECIDED, json_lines, repairs_as_json
 from .mend import called_for, propose, script_text
@@ -192,7 +192,7 @@ def report(given: Given, script: List[Repair], done: Summary, reasons: Sequence[
     if given.has(JSON):
         stream.write(json_lines([as_object(done)]))
         return
-    stream.write("%s: %s\n" % (given.names[0], done.text()))
+    stream.write("%s: %s\n" % (given.names[0].translate(ESCAPED), done.text()))
     stream.writelines(reason + "\n" for reason in reasons)
     for comment in (comment for repair in script for comment in repair.comments):
         if UNDECIDED in comment:
