@@ -282,6 +282,16 @@ def steps():
     yield from two_sided(
         "a small step", lambda pulses: moved(pulses, 845, 400), 12000400, "8450400: " + late
     )
+    near = recording(12)  # no whole frame is between the steps
+    moved(near, 450, 3300)
+    moved(near, 520, 2100)
+    lines = [line.partition(": ")[2] for line in lines_of(near, 12005400)]
+    yield starts("two steps that are near each other", lines, ["from pulse 451 at 4503300", "from pulse 521 at 5205400"])
+    unread = recording(12)
+    moved(unread, 450, 3300)
+    del unread[21::100]
+    lines = [line for line in lines_of(unread, 12003300) if "no frame can be read" in line]
+    yield starts("no frame is read on either side", lines, ["0 no frame can be read with expression 4, and only position"])
     copied = "5570000: the 130 elements from 4270000 on are there twice: at 5570000 the times begin again"
     yield from two_sided("a copy", lambda pulses: again(pulses, 430, 130), 13300000, copied)
 
