@@ -236,6 +236,11 @@ def gives_back(name, change, length):
     return good and same(name + ", a script", bool(script), name != "a sound recording")
 
 
+def nearly_in_time(pulses):
+    """Noise instead of a one: it begins 200 microseconds late, so samples there would get a time that is early by as much."""
+    pulses[301:302] = [[3010200, 3010900], [3011900, 3013000]]
+
+
 def in_every_frame(pulses):
     """No frame shows its time whole; each field can be read in several frames."""
     for frame, element in enumerate((2, 12, 22, 33) * 2):
@@ -398,6 +403,7 @@ def larger_rows():
         lines_of(tremble, 8000000),
         ["0 the whole recording: rises tremble: half of all"],
     )
+    yield gives_back("noise that rises nearly in time", nearly_in_time, 8000000)
     yield gives_back("the time from parts of several frames", in_every_frame, 8000000)
     script, after = mended(without_second(502), 11000000, move=True)  # a one of 5 and a one of 6 would be 7 seconds
     yield same("a frame that is put together of two", after, without_second(600))
