@@ -241,6 +241,13 @@ def nearly_in_time(pulses):
     pulses[301:302] = [[3010200, 3010900], [3011900, 3013000]]
 
 
+def chattering(pulses):
+    """One pulse in nine rises twice, with 150 microseconds between."""
+    for at in range(793, 2, -9):
+        rise, fall = pulses[at]
+        pulses[at:at + 1] = [[rise, rise + 60], [rise + 150, fall]]
+
+
 def in_every_frame(pulses):
     """No frame shows its time whole; each field can be read in several frames."""
     for frame, element in enumerate((2, 12, 22, 33) * 2):
@@ -404,6 +411,7 @@ def larger_rows():
         ["0 the whole recording: rises tremble: half of all"],
     )
     yield gives_back("noise that rises nearly in time", nearly_in_time, 8000000)
+    yield gives_back("one rise in nine chatters", chattering, 8000000)
     yield gives_back("the time from parts of several frames", in_every_frame, 8000000)
     script, after = mended(without_second(502), 11000000, move=True)  # a one of 5 and a one of 6 would be 7 seconds
     yield same("a frame that is put together of two", after, without_second(600))
