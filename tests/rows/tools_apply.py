@@ -237,6 +237,19 @@ def one_line():
     return in_folder(holds, **{"a\nb\x1b[1m": damages.dump(recorded(), END)})
 
 
+def cut():
+    """A recording that ends within a time has lost what came after it."""
+    def holds():
+        said = "the file ends within a time, so it is cut\n"
+        yield same("irig_damage", run("irig_damage", ["--quiet", "--expression=4", "rec.vcd"]), (1, b"", ""))
+        status, printed, _ = run("irig_damage", ["--expression=4", "rec.vcd"])
+        yield same("its line", (status, printed.decode()), (1, "7998000 " + said))
+        yield same("irig_mend --apply", run("irig_mend", ["--expression=4", "--apply", "new.vcd", "rec.vcd"])[::2],
+                   (1, "irig_mend: " + said))
+
+    return in_folder(lambda: list(holds()), rec=damages.dump(recorded(), END)[:-6])
+
+
 GROWING = """#!/bin/sh
 echo '#%d' >> rec.vcd
 exec '%s' "$@"
@@ -393,5 +406,5 @@ def cases(top):
     """Each part by its name."""
     return [*(case("apply: " + row[0], applied, *row) for row in APPLIED),
             *(case("apply: " + part.__name__, part)
-              for part in (into, options_of_a_script, late_times, saved, page_alone, one_line, growing, upside_down, steady, guarded,
-                           refused, objects, kinds))]
+              for part in (into, options_of_a_script, late_times, saved, page_alone, one_line, cut, growing, upside_down, steady,
+                           guarded, refused, objects, kinds))]

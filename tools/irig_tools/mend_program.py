@@ -27,6 +27,7 @@ from .overview import sheet_of
 from .page import page
 from .script import Repair
 from .temporary import temporary_folder
+from .wire import ENDS_WITHIN_TIME
 
 PAGE_OF_REPAIRS = Option("--page", "FILE", "also writes a page (HTML) to look at: the whole recording, each place before and "
                          "after its repair, and the script; with --apply what was changed, as irig_diff prints it")
@@ -88,7 +89,7 @@ def work(given: Given) -> int:
             out.write((repairs_as_json(script, track.offset) if given.has(JSON) else script_of(script, track)).encode("utf-8"))
     if given.has(APPLY):
         report(given, script, done, reasons)
-        return ALL_RIGHT if done.is_whole else FOUND
+        return ALL_RIGHT if done.is_whole and ENDS_WITHIN_TIME not in track.notes else FOUND
     return FOUND if script else ALL_RIGHT
 
 
