@@ -241,6 +241,12 @@ def nearly_in_time(pulses):
     pulses[301:302] = [[3010200, 3010900], [3011900, 3013000]]
 
 
+def two_of_the_last(pulses):
+    """The last frame has second 1 instead of 7."""
+    for at in (702, 703):
+        pulses[at][1] = pulses[at][0] + 2000
+
+
 def chattering(pulses):
     """One pulse in nine rises twice, with 150 microseconds between."""
     for at in range(793, 2, -9):
@@ -411,6 +417,7 @@ def larger_rows():
         ["0 the whole recording: rises tremble: half of all"],
     )
     yield gives_back("noise that rises nearly in time", nearly_in_time, 8000000)
+    yield gives_back("two elements of the last frame, and its seconds of the day say the time", two_of_the_last, 8000000)
     yield gives_back("one rise in nine chatters", chattering, 8000000)
     yield gives_back("the time from parts of several frames", in_every_frame, 8000000)
     script, after = mended(without_second(502), 11000000, move=True)  # a one of 5 and a one of 6 would be 7 seconds
@@ -459,6 +466,11 @@ def larger_rows():
     seen = "4000000 a frame alone shows 2024-061T12:01:40, to which no other frame leads"
     yield same("a frame of another time", lines_of(alone, 8000000), [seen])
     yield same("a frame of another time, mended", mended(alone, 8000000)[1], alone)
+    cut = recording(5)[:440]  # the recorder lost the fourth second, and after it there is no whole frame
+    del cut[300:400]
+    moved(cut, 300, -1000000)
+    script, after = mended(cut, 3400000)
+    yield same("the beginning of a frame of a second later", ("3 elements contradict" in script, after), (True, cut))
     late = [[rise + 3000000000, fall + 3000000000] for rise, fall in recording()]
     del late[243]
     yield same(

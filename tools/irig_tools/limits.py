@@ -112,6 +112,7 @@ LIKE_IN_BURST = 0.03  # intervals: the same in a burst of damage, which can look
 NOMINAL = 0.03  # intervals: a width that is no more off is the one of its class: a tenth of the way to the next class
 BURST = 2  # of the two places before and the two after one, at least that many are damaged in a burst: one is by chance
 MOST_CONTRARY = 3  # elements: a frame of which more say another time than its neighbours is no damage
+CONTRARY_AT_END = 1  # the same if no frame before it, or none after it, has a time of its own: two are no accident, a clock can be set
 INTERVAL_SEEN = 0.95  # intervals of a place whose level is looked at: the rest can be an early pulse
 UNLIKE = 0.02  # intervals: a width that is more off is changed if the pulse is edited anyway [2, 0]
 FEWEST_LOST = 8  # lost elements of a frame that is generated again: fewer are fewer lines one by one [7, 8]
