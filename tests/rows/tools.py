@@ -236,6 +236,24 @@ def gives_back(name, change, length):
     return good and same(name + ", a script", bool(script), name != "a sound recording")
 
 
+def nearly_in_time(pulses):
+    """Noise instead of a one: it begins 200 microseconds late, so samples there would get a time that is early by as much."""
+    pulses[301:302] = [[3010200, 3010900], [3011900, 3013000]]
+
+
+def two_of_the_last(pulses):
+    """The last frame has second 1 instead of 7."""
+    for at in (702, 703):
+        pulses[at][1] = pulses[at][0] + 2000
+
+
+def chattering(pulses):
+    """One pulse in nine rises twice, with 150 microseconds between."""
+    for at in range(793, 2, -9):
+        rise, fall = pulses[at]
+        pulses[at:at + 1] = [[rise, rise + 60], [rise + 150, fall]]
+
+
 def in_every_frame(pulses):
     """No frame shows its time whole; each field can be read in several frames."""
     for frame, element in enumerate((2, 12, 22, 33) * 2):
@@ -282,6 +300,16 @@ def steps():
     yield from two_sided(
         "a small step", lambda pulses: moved(pulses, 845, 400), 12000400, "8450400: " + late
     )
+    near = recording(12)  # no whole frame is between the steps
+    moved(near, 450, 3300)
+    moved(near, 520, 2100)
+    lines = [line.partition(": ")[2] for line in lines_of(near, 12005400)]
+    yield starts("two steps that are near each other", lines, ["from pulse 451 at 4503300", "from pulse 521 at 5205400"])
+    unread = recording(12)
+    moved(unread, 450, 3300)
+    del unread[21::100]
+    lines = [line for line in lines_of(unread, 12003300) if "no frame can be read" in line]
+    yield starts("no frame is read on either side", lines, ["0 no frame can be read with expression 4, and only position"])
     copied = "5570000: the 130 elements from 4270000 on are there twice: at 5570000 the times begin again"
     yield from two_sided("a copy", lambda pulses: again(pulses, 430, 130), 13300000, copied)
 
@@ -388,6 +416,9 @@ def larger_rows():
         lines_of(tremble, 8000000),
         ["0 the whole recording: rises tremble: half of all"],
     )
+    yield gives_back("noise that rises nearly in time", nearly_in_time, 8000000)
+    yield gives_back("two elements of the last frame, and its seconds of the day say the time", two_of_the_last, 8000000)
+    yield gives_back("one rise in nine chatters", chattering, 8000000)
     yield gives_back("the time from parts of several frames", in_every_frame, 8000000)
     script, after = mended(without_second(502), 11000000, move=True)  # a one of 5 and a one of 6 would be 7 seconds
     yield same("a frame that is put together of two", after, without_second(600))
@@ -435,6 +466,11 @@ def larger_rows():
     seen = "4000000 a frame alone shows 2024-061T12:01:40, to which no other frame leads"
     yield same("a frame of another time", lines_of(alone, 8000000), [seen])
     yield same("a frame of another time, mended", mended(alone, 8000000)[1], alone)
+    cut = recording(5)[:440]  # the recorder lost the fourth second, and after it there is no whole frame
+    del cut[300:400]
+    moved(cut, 300, -1000000)
+    script, after = mended(cut, 3400000)
+    yield same("the beginning of a frame of a second later", ("3 elements contradict" in script, after), (True, cut))
     late = [[rise + 3000000000, fall + 3000000000] for rise, fall in recording()]
     del late[243]
     yield same(

@@ -228,6 +228,28 @@ def page_alone():
     return in_folder(lambda: list(holds()), rec=damages.dump(recorded(glitch), END))
 
 
+def one_line():
+    """What became of a recording is one line, whatever the name of the file is."""
+    def holds():
+        _, printed, _ = run("irig_mend", ["--expression=4", "--apply", "new.vcd", "a\nb\x1b[1m.vcd"])
+        return same("a newline in a name", printed.decode().partition(": ")[0], r"a\nb\x1b[1m.vcd")
+
+    return in_folder(holds, **{"a\nb\x1b[1m": damages.dump(recorded(), END)})
+
+
+def cut():
+    """A recording that ends within a time has lost what came after it."""
+    def holds():
+        said = "the file ends within a time, so it is cut\n"
+        yield same("irig_damage", run("irig_damage", ["--quiet", "--expression=4", "rec.vcd"]), (1, b"", ""))
+        status, printed, _ = run("irig_damage", ["--expression=4", "rec.vcd"])
+        yield same("its line", (status, printed.decode()), (1, "7998000 " + said))
+        yield same("irig_mend --apply", run("irig_mend", ["--expression=4", "--apply", "new.vcd", "rec.vcd"])[::2],
+                   (1, "irig_mend: " + said))
+
+    return in_folder(lambda: list(holds()), rec=damages.dump(recorded(), END)[:-6])
+
+
 GROWING = """#!/bin/sh
 echo '#%d' >> rec.vcd
 exec '%s' "$@"
@@ -384,5 +406,5 @@ def cases(top):
     """Each part by its name."""
     return [*(case("apply: " + row[0], applied, *row) for row in APPLIED),
             *(case("apply: " + part.__name__, part)
-              for part in (into, options_of_a_script, late_times, saved, page_alone, growing, upside_down, steady, guarded, refused,
-                           objects, kinds))]
+              for part in (into, options_of_a_script, late_times, saved, page_alone, one_line, cut, growing, upside_down, steady,
+                           guarded, refused, objects, kinds))]

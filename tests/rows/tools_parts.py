@@ -110,6 +110,18 @@ def of_clock():
                   for pulse in tools.recording()]
         clock = Clock(listing_of(coarse), 10000)
         yield same(name, (abs(clock.grid - 1e6 / rate) < 1, len(clock.runs)), (True, 1))
+    for rate, begin, millionths, by in ((3000, 620, 10, 7), (5000, 750, 20, 5)):
+        gained = [[int(-(-(begin + time * (1 + millionths / 1e6)) * rate // 1000000) * 1000000 / rate) for time in pulse]
+                  for pulse in tools.recording()]
+        grids = []
+        for many in (0, 40):
+            gained[300:300 + many:2] = [[rise + by, rise + by + 2000] for rise, _ in gained[300:300 + many:2]]
+            clock = Clock(listing_of(gained), 10000)
+            grids.append((round(clock.grid), len(clock.runs)))
+        yield same("one is off by a sample, before and after repairs, %d" % rate, grids, [(round(1e6 / rate), 1)] * 2)
+    for begin, by in ((285, 333), (2000, 250)):
+        exact = [[begin + time for time in pulse] for pulse in late(tools.recording(), 450, by)]
+        yield same("a step of %d in a code that begins at %d" % (by, begin), len(Clock(listing_of(exact), 10000).runs), 2)
     rough = [[-(-time // 600) * 600 for time in pulse] for pulse in tools.recording()]  # distances of 10,200 and 9,600
     clock = Clock(listing_of(rough), 10000)
     yield same("a sample is 6 % of the interval", (round(clock.grid), len(clock.runs), round(clock.interval, -1)), (600, 1, 10000))

@@ -13,7 +13,7 @@ from .frames import Times
 from .interval import Clock, Run, share_in_step
 from .layout import Layout
 from .polarity import upside_down
-from .remarks import remarks
+from .remarks import of_no_frame, remarks
 from .script import Repair
 from .slots import link, parts, sure_parts
 from .steps import Step, apart, cut_by_a_step, step_zones, turned
@@ -123,6 +123,8 @@ def _examine_parts(clock: Clock, findings: Findings, move: bool) -> None:
             for run in linked:
                 if run.others:
                     _remark_unsure(findings, clock, run)
+    if findings.parts and not any(part.times.read or part.times.spans for part in findings.parts):
+        findings.remarks.append(of_no_frame(findings.parts[-1].track))
     for before, after in zip(found, found[1:]):
         elements = round((after[0].begin - before[-1].end) / clock.interval) - 1
         seen = "after that %d elements cannot be read" % elements

@@ -18,6 +18,7 @@ from .overview import sheet_of
 from .page import page
 from .picture import picture
 from .sheet import Sheet
+from .wire import ENDS_WITHIN_TIME
 
 PAGE = Option("--page", "FILE", "also writes a page (HTML) to look at: the whole recording, and each place as a "
               "waveform")
@@ -46,6 +47,8 @@ def work(given: Given) -> int:
         if not given.has(QUIET):
             say_notes(track, COMMAND.name)
         seen = look(Editor(track.words), progress_to(sys.stderr))
+        if ENDS_WITHIN_TIME in track.notes:
+            seen.damages.append(Damage(seen.listing.length, seen.listing.length, "", ENDS_WITHIN_TIME))
         found = sum(not damage.is_remark for damage in seen.damages)
         text = "%d\n" % found if given.has(COUNT) else text_of(seen.damages, track, given.has(JSON))
     if given.has(PAGE) or given.has(PICTURE):

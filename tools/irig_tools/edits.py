@@ -97,7 +97,9 @@ def _reduce(faults: Faults, place: PlaceNumber, pulses: Sequence[PulseIndex], ta
     if first > 0:
         edits.append(of_pulses("delete", pulses[0], pulses[first - 1]))
     rise, fall = faults.rises[pulses[first]], faults.falls[pulses[last]]
-    wrong = wrong or (bool(edits or off) and _is_unlike(faults, fall - rise, target))
+    is_edited = bool(edits or off or wrong)
+    off = off or (is_edited and abs(rise - begin) > faults.clock.least_late(1))
+    wrong = wrong or (is_edited and _is_unlike(faults, fall - rise, target))
     force, shift = of_pulse("force", pulses[0], NAMES[target]), of_pulse("shift", pulses[0], begin - rise)
     change = [force] * wrong + [shift] * off
     edits += change if begin > rise else reversed(change)

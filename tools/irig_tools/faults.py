@@ -95,13 +95,20 @@ class Faults:
         against = [element for element in told if text[element] != expected[element]]
         binary = {element for element, _ in self.layout.fields.get("binary", ())}
         twice_told = number in self.times.own and not binary.isdisjoint(against)
-        if len(against) <= (0 if twice_told or self.times.turns_at(number) else limits.MOST_CONTRARY):
+        # a clock that was set shows another time in both fields that say it
+        in_one = not binary.isdisjoint(told) and (binary.isdisjoint(against) or binary.issuperset(against))
+        most = limits.MOST_CONTRARY if in_one or self._is_between(number) else limits.CONTRARY_AT_END
+        if len(against) <= (0 if twice_told or self.times.turns_at(number) else most):
             return False
         seen = "%s: %s contradict%s the time that the frames next to it lead to" % (
             self.times.name(number), counted(len(against), "element"), "" if against[1:] else "s")
         first = max(self.track.first, place_in(number))
         self._remark(first, seen, LEFT_FRAME)
         return True
+
+    def _is_between(self, number: FrameNumber) -> bool:
+        """Whether frames before this one and after it have a time of their own."""
+        return min(self.times.own, default=number) < number < max(self.times.own, default=number)
 
     def _decide(self, place: PlaceNumber, control: bool) -> Optional[str]:
         """Zero or one if nothing follows for a place: by its shape, else by its neighbours, else a guess that is named as

@@ -97,10 +97,12 @@ class Clock:
         found = [run_of(first, beyond) for first, beyond in zip([PulseIndex(0), *ends], ends)]
         steady = [part for run in found for part in self._stepped(run, apart)]
         self.runs = [part for run in steady for part in self._parted(run)]
-        self._measure([self.rises[run.last] - self.rises[run.first] for run in self.runs])
+        within = [run for run in self.runs if run.count >= limits.SURE_RUN]
+        # the first and the last pulse of a run can be where the level chatters
+        self._measure([(run.count - 3, self.rises[run.last - 1] - self.rises[run.first + 1]) for run in within])
         self.runs = list(map(self.fit, self.runs))
         # again, as now no pulse that strays at an end of a run counts
-        self._measure([run.end - run.begin for run in self.runs])
+        self._measure([(run.count - 1, run.end - run.begin) for run in self.runs if run.count >= limits.SURE_RUN])
         self.runs = list(map(self.fit, self.runs))
         self.doubt = self._find_doubt()
 
@@ -108,9 +110,9 @@ class Clock:
         """That many times the noise, or what is less than two samples, between two shares of the interval, in microseconds."""
         return min(most * self.nominal, max(least * self.nominal, by_noise * self.noise, limits.BY_GRID * grid))
 
-    def _measure(self, lengths: Sequence[float]) -> None:
-        """The interval by the lengths of the runs, in microseconds. It is the nominal one if nothing shows another."""
-        long = [(run.count - 1, length) for run, length in zip(self.runs, lengths) if run.count >= limits.SURE_RUN]
+    def _measure(self, long: Sequence[Tuple[int, float]]) -> None:
+        """The interval by stretches of runs, each with its intervals and its length in microseconds. It is the nominal one if
+        nothing shows another."""
         if long:
             many = sum(steps for steps, _ in long)
             self.interval = sum(length for _, length in long) / many

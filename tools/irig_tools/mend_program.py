@@ -16,7 +16,7 @@ from .apply import Summary, Target, as_object, find_guard, run_script, sound_fra
 from .damage import Seen, look
 from .damage_program import say_notes
 from .editor import Editor, Progress, progress_to
-from .ending import ALL_RIGHT, FOUND, Usage, complain
+from .ending import ALL_RIGHT, ESCAPED, FOUND, Usage, complain
 from .explain import explained
 from .facts import UNDECIDED, json_lines, repairs_as_json
 from .mend import called_for, propose, script_text
@@ -27,6 +27,7 @@ from .overview import sheet_of
 from .page import page
 from .script import Repair
 from .temporary import temporary_folder
+from .wire import ENDS_WITHIN_TIME
 
 PAGE_OF_REPAIRS = Option("--page", "FILE", "also writes a page (HTML) to look at: the whole recording, each place before and "
                          "after its repair, and the script; with --apply what was changed, as irig_diff prints it")
@@ -88,7 +89,7 @@ def work(given: Given) -> int:
             out.write((repairs_as_json(script, track.offset) if given.has(JSON) else script_of(script, track)).encode("utf-8"))
     if given.has(APPLY):
         report(given, script, done, reasons)
-        return ALL_RIGHT if done.is_whole else FOUND
+        return ALL_RIGHT if done.is_whole and ENDS_WITHIN_TIME not in track.notes else FOUND
     return FOUND if script else ALL_RIGHT
 
 
@@ -192,7 +193,7 @@ def report(given: Given, script: List[Repair], done: Summary, reasons: Sequence[
     if given.has(JSON):
         stream.write(json_lines([as_object(done)]))
         return
-    stream.write("%s: %s\n" % (given.names[0], done.text()))
+    stream.write("%s: %s\n" % (given.names[0].translate(ESCAPED), done.text()))
     stream.writelines(reason + "\n" for reason in reasons)
     for comment in (comment for repair in script for comment in repair.comments):
         if UNDECIDED in comment:

@@ -27,13 +27,15 @@ def remarks(track: Track, times: Times) -> List[Remark]:
     return found + _of_control(track, times)
 
 
+def of_no_frame(track: Track) -> Remark:
+    """What is said if no part of the recording has a frame that can be read; the track is its first part."""
+    seen = "no frame can be read with expression %d, and only position identifiers are looked at" % track.layout.expression
+    return Remark(track.rises[track.runs[0].first], seen, OTHER_EXPRESSION)
+
+
 def _of_expression(track: Track, times: Times) -> List[Remark]:
-    expression, at = track.layout.expression, track.rises[track.runs[0].first]
-    if not times.read and not times.spans:
-        seen = "no frame can be read with expression %d, and only position identifiers are looked at" % expression
-        return [Remark(at, seen, OTHER_EXPRESSION)]
-    seen = "many frames have ones that expression %d does not use" % expression
-    return [Remark(at, seen, OTHER_EXPRESSION)] if times.doubtful else []
+    seen = "many frames have ones that expression %d does not use" % track.layout.expression
+    return [Remark(track.rises[track.runs[0].first], seen, OTHER_EXPRESSION)] if times.doubtful else []
 
 
 def _of_elsewhere(track: Track) -> List[Remark]:

@@ -3,7 +3,7 @@ from __future__ import annotations
 
 from collections import Counter
 from operator import sub
-from typing import Dict, List, Mapping, Sequence
+from typing import Dict, Iterable, List, Mapping, Sequence
 
 from . import limits
 from .editor import Listing
@@ -14,7 +14,8 @@ def spacing_of_samples(listing: Listing, between: Sequence[int], nominal: int, i
     off = Counter(int(abs(each - interval)) for each in between if abs(each - interval) >= limits.LEAST_STEP)
     size = min((size for size in off if off[size] + off[size + 1] >= limits.OFF_BY_SAMPLE), default=0)
     found = (sample for sample in _like(size, nominal) if _all_on(listing, sample))
-    return next(found, 0) or (0 if noise > limits.ROUNDED else _spacing_of_most(listing, between, interval, off))
+    sample = _spacing_from_begin(listing, off, nominal) or next(found, 0)
+    return sample or (0 if noise > limits.ROUNDED else _spacing_of_most(listing, between, interval, off))
 
 
 def are_often_off(between: Sequence[int], interval: float, sample: float) -> bool:
@@ -33,8 +34,28 @@ def _all_on(listing: Listing, sample: float) -> bool:
     """Whether all edges are a whole number of samples after the first, up to the rounding of both."""
     first = listing.rises[0]
     return not any(
-        abs(time - first - round((time - first) / sample) * sample) >= limits.ROUNDED
-        for times in (listing.rises, listing.falls) for time in times)
+        _off(time - first, sample) >= limits.ROUNDED for times in (listing.rises, listing.falls) for time in times)
+
+
+def _off(time: float, sample: float) -> float:
+    """How far a time is from a whole number of samples."""
+    return abs(time - round(time / sample) * sample)
+
+
+def _spacing_from_begin(listing: Listing, sizes: Iterable[int], nominal: int) -> float:
+    """The same if even one distance is off by it: a recorder counts its samples from the beginning, and its edges are at one.
+    Those of an exact code are at one by chance, or if it begins at a tenth of an interval: then one distance says nothing."""
+    each = len(listing.rises) // limits.SOME_PULSES + 1
+    some = [*listing.rises[1::each], *listing.falls[1::each]]
+    if not some or _off(some[0], nominal / 10) < limits.LEAST_STEP:
+        return 0
+    far = sorted((size for size in sizes if size >= limits.LEAST_FROM_BEGIN), reverse=True)
+    return next((sample for size in far for sample in _like(size, nominal) if _most_on(some, sample)), 0)
+
+
+def _most_on(times: Sequence[int], sample: float) -> bool:
+    """Whether these are a whole number of samples after the beginning, but for those that are damaged or repaired."""
+    return sum(_off(time, sample) < limits.ROUNDED for time in times) >= limits.ON_SAMPLE * len(times)
 
 
 def _spacing_of_most(listing: Listing, between: Sequence[int], interval: float, off: Counter[int]) -> float:
@@ -67,4 +88,4 @@ def _sample(apart: Dict[int, int], interval: float, many: int) -> float:
 
 def _whole(lengths: Mapping[float, int], sample: float) -> int:
     """How many of the lengths are a whole number of samples, up to the rounding of both ends."""
-    return sum(many for each, many in lengths.items() if abs(each - round(each / sample) * sample) < limits.ROUNDED)
+    return sum(many for each, many in lengths.items() if _off(each, sample) < limits.ROUNDED)
