@@ -3,6 +3,7 @@ import os
 import random
 import subprocess
 import tempfile
+from itertools import product
 
 from built import TOP
 from cases import case
@@ -337,12 +338,13 @@ def together():
 
 
 def sampled():
-    """A recorder with 5,000 samples in a second, and a clock that is off by 100 in a million: repaired pulses know no samples."""
-    pulses = [[int(-(-time * 1.0001 // 200) * 200) for time in pulse] for pulse in recording(12)]
-    lost = pulses[570:630]
-    del pulses[570:630]
-    for move in (False, True):
-        script, after = mended(pulses, 12002000, move=move)
+    """A recorder with 5,000 samples in a second, and a clock that is off by 100 in a million: repaired pulses know no samples. The
+    second rise is then at a tenth of an interval, so that it does not say either how far they are apart."""
+    for move, later in product((False, True), (0, 800)):
+        pulses = [[int(-(-(time * 1.0001 + later) // 200) * 200) for time in pulse] for pulse in recording(12)]
+        lost = pulses[570:630]
+        del pulses[570:630]
+        script, after = mended(pulses, 12003000, move=move)
         yield same("samples are no steps", ("shift" in script, len(after)), (False, 1200))
         off = max(abs(found[0] - true[0]) for found, true in zip(after[570:630], lost))
         yield same("what is filled in", (off <= 200, after[630:]), (True, pulses[570:]))
