@@ -84,6 +84,8 @@ TABLES = (
         "%d;%d\n" % each for each in [(0, 0), *EDGES, (LENGTH, 0)]).encode()),
     ("decimal commas and tabs", ["--level"], lambda: "Zeit [ms]\tKanal\n" + comma(volts("%.2f\t%.3f\n", 1e-3))),
     ("heads in quotes", ["--level"], lambda: '"Time (s)","CH1 (V)"\n' + volts('"%.5f","%.3f"\n')),
+    ("commas in quotes", ["--column=CH1, V"], lambda: '"Time, s","CH1, V","CH2, V"\n' + "".join('"%s","%d",%d\n' % (
+        comma("%.6f" % (time / 1e6)), level, 1 - level) for time, level in [(0, 0), *EDGES, (LENGTH, 0)])),
     ("no heads", ["--level"], lambda: volts("%.5f,%.3f\n")),
     ("an old scope", ["--level", "--time-column=4", "--column=5"], old_scope),
     ("a count instead of times", ["--level", "--column=CH1", "--rate=20000"],

@@ -14,6 +14,7 @@ SECONDS_IN = {part + name: size for part, size in OF_A_SECOND.items() for name i
 NO_TIMES = ("v", "mv", "volt", "volts", "sequence")
 TIME = re.compile(r"(?i)\W*(time|t|timestamp|zeit|temps|x|x-axis|seconds?|sec)(\W.*|_(%s))?" % "|".join(SECONDS_IN))
 RATE_LINE = re.compile(r"(?i)\W*(?:meta )?samplerate\W*([0-9.]+) *([kmg]?)(?:hz)?\W*")
+COMMA = re.compile(r"[+-]?([0-9]+,[0-9]*|,[0-9]+)([eE][+-]?[0-9]+)?")  # a number with a decimal comma
 CHANNELS = re.compile(r"; *Channels \([0-9/]+\): *(.*)")  # of sigrok, which can call each column `logic`
 PREFIXES = {"": 1, "k": 1000, "m": 1000000, "g": 1000000000}
 
@@ -29,8 +30,17 @@ class Columns(NamedTuple):
 
 def fields_of(line: str, parted: str) -> List[str]:
     """The fields of a line, with a point in a number instead of a comma."""
-    fields = [field.strip().strip('"').strip() for field in line.split(parted)]
-    return fields if parted == "," else [field.replace(",", ".") for field in fields]
+    fields = [field.strip() for field in _parts_of(line, parted)]
+    return [field.replace(",", ".") if COMMA.fullmatch(field) else field for field in fields]
+
+
+def _parts_of(line: str, parted: str) -> List[str]:
+    """What is between the signs that part fields; within quotes they part nothing."""
+    pieces = line.split('"')
+    if len(pieces) % 2 == 0:  # a quote that is not closed
+        return line.split(parted)
+    pieces[::2] = [piece.replace(parted, "\n") for piece in pieces[::2]]
+    return "".join(pieces).split("\n")
 
 
 def parted_by(line: str) -> str:
