@@ -29,8 +29,11 @@ class Columns(NamedTuple):
 
 
 def fields_of(line: str, parted: str) -> List[str]:
-    """The fields of a line, with a point in a number instead of a comma."""
+    """The fields of a line, with a point in a number instead of a comma. Next to a number with a point it parts thousands, and stays:
+    so the field is no number."""
     fields = [field.strip() for field in _parts_of(line, parted)]
+    if any("." in field and NUMBER.fullmatch(field) for field in fields):
+        return fields
     return [field.replace(",", ".") if COMMA.fullmatch(field) else field for field in fields]
 
 
