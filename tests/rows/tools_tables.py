@@ -78,6 +78,8 @@ TABLES = (
      lambda: "\ufeffTime;Channel A;Channel B\n(ms);(V);(V)\n\n" + comma(volts("%.2f;%.3f;0.0\n", 1e-3, -20.0))),
     ("a unit in words", [], lambda: "Time (msec),D0\n" + "".join(
         "%.3f,%d\n" % (time / 1000, level) for time, level in [(0, 0), *EDGES, (LENGTH, 0)])),
+    ("a unit in German", [], lambda: "Zeit [Millisekunden];D0\n" + "".join(
+        "%s;%d\n" % (comma("%.3f" % (time / 1000)), level) for time, level in [(0, 0), *EDGES, (LENGTH, 0)])),
     ("a unit as the head", ["--time-column=Microseconds"], lambda: "Microseconds,D0\n" + "".join(
         "%d,%d\n" % each for each in [(0, 0), *EDGES, (LENGTH, 0)])),
     ("a micro sign in Latin-1", [], lambda: "Zeit [\u00b5s];D0\n".encode("latin-1") + "".join(
@@ -194,6 +196,7 @@ def refused():
     for words, text, said in (
             ([], "", "no row of numbers"), ([], "hello\nworld\n", "no row of numbers"),
             ([], "Time,A,State\n0,1.5,OK\n1,1.4,OK\n", "if others have words, give the numbers of both, as --time-column 1"),
+            ([], "Time [min],A\n0,0\n1,1\n", "the times of column 1 are in 'min', which is not read as a unit; change its head"),
             ([], "Time [s],A,B\n0,0,1\n", "as --column 'A': A, B"),
             ([], "Time [s],A,A\n0,0,1\n", "as --column '2': number 2, number 3"),
             (["--column=A"], "Time [s],A,A\n0,0,1\n", "has several columns 'A'; give the number of one, from 1"),

@@ -9,11 +9,13 @@ from .digits import FRACTION, NUMBER, WHOLE
 from .editor import Problem
 
 OF_A_SECOND = {"": 1.0, "m": 1e-3, "milli": 1e-3, "u": 1e-6, "\u00b5": 1e-6, "\u03bc": 1e-6, "micro": 1e-6, "n": 1e-9,
-               "nano": 1e-9, "p": 1e-12, "pico": 1e-12}
-SECONDS_IN = {part + name: size for part, size in OF_A_SECOND.items() for name in ("s", "sec", "second", "seconds")}
+               "mikro": 1e-6, "nano": 1e-9, "p": 1e-12, "pico": 1e-12}
+SECOND_NAMES = ("s", "sec", "second", "seconds", "sekunden", "secondes")
+SECONDS_IN = {part + name: size for part, size in OF_A_SECOND.items() for name in SECOND_NAMES}
 NO_TIMES = ("v", "mv", "volt", "volts", "sequence")
 TIME = re.compile(r"(?i)\W*(time|t|timestamp|zeit|temps|x|x-axis|seconds?|sec)(\W.*|_(%s))?" % "|".join(SECONDS_IN))
 RATE_LINE = re.compile(r"(?i)\W*(?:meta )?samplerate\W*([0-9.]+) *([kmg]?)(?:hz)?\W*")
+IN_BRACKETS = re.compile(r".*[\[(]\s*([^\])]*[^\W\d_][^\])]*)[\])]\W*")  # what may be a unit
 COMMA = re.compile(r"[+-]?([0-9]+,[0-9]*|,[0-9]+)([eE][+-]?[0-9]+)?")  # a number with a decimal comma
 CHANNELS = re.compile(r"; *Channels \([0-9/]+\): *(.*)")  # of sigrok, which can call each column `logic`
 PREFIXES = {"": 1, "k": 1000, "m": 1000000, "g": 1000000000}
@@ -96,6 +98,8 @@ class Heads:
         unit = "" if place is None else self._unit(place)
         if place is not None and unit in NO_TIMES:
             raise Problem("%s: column %d has no times, but '%s'; give --rate, in samples a second" % (self.path, place + 1, unit))
+        if place is not None and not unit:
+            self._check_unit(place)
         return Columns(self.parted, place, self._place(value) if value else self._value(place), SECONDS_IN.get(unit, 1.0))
 
     def has_times(self) -> bool:
@@ -104,6 +108,13 @@ class Heads:
 
     def _unit(self, place: int) -> str:
         return self.units[place] if place < len(self.units) else ""
+
+    def _check_unit(self, place: int) -> None:
+        """Times without a unit are seconds, but not those in an unknown one."""
+        found = IN_BRACKETS.fullmatch(self._name(place))
+        if found:
+            text = "%s: the times of column %d are in '%s', which is not read as a unit; change its head, as 'Time [s]', or give --rate"
+            raise Problem(text % (self.path, place + 1, found[1].strip()))
 
     def _time(self) -> Optional[int]:
         for place, name in enumerate(self.names):
