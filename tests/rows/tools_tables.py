@@ -80,6 +80,8 @@ TABLES = (
         "%.3f,%d\n" % (time / 1000, level) for time, level in [(0, 0), *EDGES, (LENGTH, 0)])),
     ("a unit in German", [], lambda: "Zeit [Millisekunden];D0\n" + "".join(
         "%s;%d\n" % (comma("%.3f" % (time / 1000)), level) for time, level in [(0, 0), *EDGES, (LENGTH, 0)])),
+    ("UTF-16", ["--level"], lambda: ("\ufeffZeit [\u00b5s]\tK\r\n" + volts("%.1f\t%.3f\r\n", 1e-6)).encode("utf-16-le")),
+    ("UTF-16, the highest byte first", ["--level"], lambda: ("\ufefft,V\n" + volts("%.5f,%.3f\n")).encode("utf-16-be")),
     ("a unit as the head", ["--time-column=Microseconds"], lambda: "Microseconds,D0\n" + "".join(
         "%d,%d\n" % each for each in [(0, 0), *EDGES, (LENGTH, 0)])),
     ("a micro sign in Latin-1", [], lambda: "Zeit [\u00b5s];D0\n".encode("latin-1") + "".join(
@@ -213,8 +215,10 @@ def refused():
             ([], head + "0,0\n\u0661,1\n", "line 3 has no number in column 1"),
             (["--column=\u00b2"], head + "0,0\n1,1\n", "has no column '\u00b2'"),
             (["--rate=5", "--time-column=1"], head + "0,0\n", "--rate and --time-column exclude each other"),
-            ([], "5" * 20000, "is too long"), (["--raw=text"], head, "--table has no --raw")):
-        status, _, shown = run("irig_demodulate", ["--table", *words, "-"], text.encode())
+            ([], "5" * 20000, "is too long"), ([], ("\ufeff" + "5" * 20000).encode("utf-16-be"), "line 1 is too long"),
+            ([], ("\ufeff" + head + "0,0\n1,10").encode("utf-16-le")[:-1], "line 3 has no number in column 2"),
+            (["--raw=text"], head, "--table has no --raw")):
+        status, _, shown = run("irig_demodulate", ["--table", *words, "-"], text if isinstance(text, bytes) else text.encode())
         results.append(status == 2 and said in shown)
         results[-1] or print("FAILED irig_demodulate --table of %r: %d %s" % (text[:30], status, shown))
     for rate in ("1.5.3 MHz", ".", "1_000 Hz", "1,000,000 Hz", "1e6 Hz", "0.3 Hz", "1.5 Hz", "9" * 400):

@@ -1,6 +1,7 @@
 """Tables of logic analysers and oscilloscopes: rows of numbers with times, or at a rate, of levels or volts."""
 from __future__ import annotations
 
+import codecs
 import math
 from array import array
 from bisect import bisect_right
@@ -35,6 +36,21 @@ def decoded(line: bytes, code: str) -> str:
         return line.decode("latin-1")
 
 
+def utf8_lines(stream: IO[bytes]) -> Iterator[bytes]:
+    """The lines of a text; if it is UTF-16 with a byte order mark, in UTF-8. Of a line that is too long there is the beginning."""
+    first = stream.readline(LONGEST_LINE)
+    pieces = chain([first], iter(lambda: stream.readline(LONGEST_LINE), b""), [b""])
+    if first[:2] not in (codecs.BOM_UTF16_LE, codecs.BOM_UTF16_BE):
+        yield from filter(None, pieces)
+        return
+    decoder, rest = codecs.getincrementaldecoder("utf-16")("replace"), ""
+    for piece in pieces:
+        *whole, rest = (rest + decoder.decode(piece, not piece)).split("\n")
+        yield from (line.encode() for line in whole)
+        if len(rest) >= LONGEST_LINE or not piece:
+            yield rest.encode()
+
+
 class Table(Samples):
     """One column of a table as samples. `is_levels` if its first values are zeros and ones; of zeros alone not if it has
     `volts`."""
@@ -63,9 +79,9 @@ class Table(Samples):
             self.rate = MICROSECONDS if self.is_levels else self._rate(looked)
 
     def _lines(self, stream: IO[bytes]) -> Iterator[str]:
-        for line in iter(lambda: stream.readline(LONGEST_LINE), b""):
+        for line in utf8_lines(stream):
             self.number += 1
-            if len(line) == LONGEST_LINE:
+            if len(line) >= LONGEST_LINE:
                 raise Problem("%s: line %d is too long for a table" % (self.path, self.number))
             yield decoded(line, "utf-8-sig" if self.number == 1 else "utf-8").strip("\r\n\0 ")
 
