@@ -76,6 +76,8 @@ ROWS = [
     ("upside down", HEAD + "#0 1! #5 0! #7 1! #9", ["--invert"], EDGES, 0, "swapped"),
     ("an extended dump", HEAD.replace("wire", "port").replace("!", "<0") + "#0 pD 6 0 <0 #5 pU 0 6 <0 #7 pN 0 0 <0 #9",
      [], EDGES, 0, "the states of ports were read as levels"),
+    ("a port with a range", HEAD.replace("wire 1 ! a", "port [0:1] <0 bus") + "#0 pDD 66 00 <0 #5 pDU 66 00 <0 #7 pDD 66 00 <0 #9",
+     ["bus[1]"], EDGES, 0, "the wire is bus[1] (code <0)"),
     ("a wire that never changes", HEAD + "#0 0! #9", [], [(9000, None)], 1, "never changes; irig_what finds the wires"),
     ("--wire without --into", HEAD + UP, ["--wire=a"], None, 2, "--wire is only for --into; without it WIRE comes after DUMP"),
     ("a track that is too long", HEAD + "#0 0! #5 1! #9000000000000 0!", [], None, 1, "reads at most"),

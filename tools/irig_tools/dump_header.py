@@ -14,6 +14,7 @@ HEADS = {b"$date", b"$version", b"$timescale", b"$scope", b"$upscope", b"$var", 
 BODY = {b"$dumpvars", b"$dumpall", b"$dumpon", b"$dumpoff", b"$dumpports", b"$dumpportsall", b"$dumpportson",
         b"$dumpportsoff"}
 NO_BITS = {"real", "realtime", "event", "parameter", "string", "shortreal"}
+PORT_RANGE = re.compile(rb"\[([0-9]{1,9}):([0-9]{1,9})\]")
 MOST_BEFORE = 10000  # words before the header
 ENDLESS = ": is no dump: the declarations do not end; the file is cut off, or it has no $enddefinitions"
 
@@ -148,6 +149,7 @@ class Reader:
             self.header.offset = self.header.offset or read_offset(words)
 
     def _wire(self, words: List[bytes]) -> None:
+        words = _with_size(words)
         if len(words) < 4 or not words[1].isdigit() or len(words[1]) > 9:
             self._note("a $var that is not of the standard was left out: '%s'" % shown(b" ".join(words)[:60]))
             return
@@ -155,6 +157,15 @@ class Reader:
         name, ends = _range(shown(b"".join(words[3:])), size)
         path = ".".join([*self.scopes, name])
         self.header.wires.append(Wire(code, path, size, *ends, kind not in NO_BITS and size > 0))
+
+
+def _with_size(words: List[bytes]) -> List[bytes]:
+    """A port of an extended dump has its range instead of its size: `port [7:0] <0 bus`."""
+    found = PORT_RANGE.fullmatch(words[1]) if len(words) == 4 else None
+    if not found:
+        return words
+    size = abs(int(found[1]) - int(found[2])) + 1
+    return [words[0], b"%d" % size, words[2], words[3] + found[0]]
 
 
 def _range(reference: str, size: int) -> Tuple[str, Tuple[int, int]]:
