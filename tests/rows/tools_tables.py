@@ -169,6 +169,18 @@ def rate_is_given():
     return results
 
 
+def coarse():
+    """Changes that have one time, as the column has whole seconds, are counted."""
+    results, same = [], len(EDGES) - len({time // 1000000 for time, _ in EDGES})
+    for rows, said in (
+            ("".join("%d,%d\n" % (time // 1000000, level) for time, level in [(0, 0), *EDGES]), "%d changes have the time of" % same),
+            ("0,0\n1,1\n1,0\n2,1\n", "1 change has the time of"), ("0,0\n1,0\n1,1\n2,1\n2,0\n", "")):
+        status, _, shown = run("irig_demodulate", ["--table", "-"], ("Time [s],D0\n" + rows).encode())
+        results.append(status == 0 and said in shown and ("the change before" in shown) == bool(said))
+        results[-1] or print("FAILED irig_demodulate --table, coarse times: %d %s" % (status, shown))
+    return results
+
+
 def zeros_first():
     """Volts that begin with 0, as those of an input before there is code: levels or a carrier, as an option says."""
     rows = [0.0] * 12000 + [3.3 * (number % 100 < 50) for number in range(5000)]
@@ -313,6 +325,6 @@ def by_sigrok(top):
 def cases(top):
     return [*(case("table: " + row[0], table, *row) for row in TABLES), case("table: when it begins", begun),
             case("table: times of rows", times_of_rows), case("table: a rate instead of times", rate_is_given),
-            case("table: zeros first", zeros_first), case("table: an uneven clock", uneven_clock),
+            case("table: coarse times", coarse), case("table: zeros first", zeros_first), case("table: an uneven clock", uneven_clock),
             case("table: a carrier", carrier), case("table: what is refused", refused), case("sigrok: channels", sigrok),
             case("sigrok: other folders", no_sigrok), case("sigrok: its own program", by_sigrok, top)]

@@ -24,6 +24,7 @@ ROUND = 1e-4  # a rate that is as near to one of three digits is that one
 NEAR_ROW = 0.25  # of that distance: a row is where the rate has it
 NEXT_ROW = 1.75  # distances of two samples: if rows are farther apart, others between them are lost
 MOST_NAMED = 20  # stretches of lost rows
+COARSE_TIMES = "%s the time of the change before, so pulses are lost: the times are too coarse, or --time-column has to name another"
 
 Row = Tuple[float, float]  # a time in seconds, and a value
 
@@ -195,7 +196,7 @@ class Steps:
         self.gaps: List[Tuple[int, int]] = []
 
     def edges(self) -> Iterator[Edge]:
-        level = 0
+        level, changed, same = 0, -1.0, 0
         for time, value in self.samples.rows:
             if value not in (0.0, 1.0):
                 text = "%s: line %d has no level of 0 or 1, as the first %d rows have; for volts that begin with 0 give --level, or " \
@@ -203,6 +204,8 @@ class Steps:
                 raise Problem(text % (self.samples.path, self.samples.number, LOOKED_AT))
             self.length = time * self.samples.rate
             if int(value) ^ self.swapped != level:
-                level = 1 - level
+                level, same, changed = 1 - level, same + (time == changed), time
                 yield self.length, level
+        if same:
+            self.samples.notes.append(COARSE_TIMES % ("1 change has" if same == 1 else "%d changes have" % same))
         self.length += self.samples.form.time is None  # the last sample, too, has its time
