@@ -221,6 +221,7 @@ def refused():
             (["--column=A"], "X,A,Start\nSequence,Volt,-6e-03\n0,1.5,\n1,1.4,\n", "has no times, but 'sequence'; give --rate"),
             ([], head + "0,0\n" * 20000 + "1,2\n", "line 20002 has no level of 0 or 1"),
             ([], head + "0,0.5\n1,1\n5,2\n6,2\n", "its samples do not come at even times, first in row 3; with --rate"),
+            ([], head + "0,0\n0.002,5\n0.010,0\n", "; if its rows are changes, the levels have to be 0 and 1"),
             ([], head + "0,5\n", "all the same, so they show no rate"), ([], head + "0,nan\n", "no row of numbers"),
             (["--level"], "Time [us]\tA\n999\t0.5\n1,000\t3.5\n", "line 3 has no number in column 1"),
             ([], head + "0,0\n1_0,1\n", "line 3 has no number in column 1"),

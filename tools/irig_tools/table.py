@@ -24,6 +24,7 @@ ROUND = 1e-4  # a rate that is as near to one of three digits is that one
 NEAR_ROW = 0.25  # of that distance: a row is where the rate has it
 NEXT_ROW = 1.75  # distances of two samples: if rows are farther apart, others between them are lost
 MOST_NAMED = 20  # stretches of lost rows
+OR_CHANGES = "; if its rows are changes, the levels have to be 0 and 1"
 COARSE_TIMES = "%s the time of the change before, so pulses are lost: the times are too coarse, or --time-column has to name another"
 
 Row = Tuple[float, float]  # a time in seconds, and a value
@@ -134,7 +135,7 @@ class Table(Samples):
         if not usual or len(even) < MOST_EVEN * len(apart):
             row = next(row for row, each in enumerate(apart, 2) if abs(each - usual) > EVEN * usual)
             text = "%s: its samples do not come at even times, first in row %d; with --rate they are taken as even, from 0 on"
-            raise Problem(text % (self.path, row))
+            raise Problem((text + OR_CHANGES) % (self.path, row))
         wide = sum(even) / len(even)
         rate = float("%.3g" % (1 / wide))
         return max(1, round(rate if abs(rate * wide - 1) < ROUND else 1 / wide))
