@@ -80,6 +80,8 @@ TABLES = (
         "%.3f,%d\n" % (time / 1000, level) for time, level in [(0, 0), *EDGES, (LENGTH, 0)])),
     ("a unit in German", [], lambda: "Zeit [Millisekunden];D0\n" + "".join(
         "%s;%d\n" % (comma("%.3f" % (time / 1000)), level) for time, level in [(0, 0), *EDGES, (LENGTH, 0)])),
+    ("a short unit in German", [], lambda: "Zeit (Sek.);D0\n" + "".join(
+        "%s;%d\n" % (comma("%.6f" % (time / 1e6)), level) for time, level in [(0, 0), *EDGES, (LENGTH, 0)])),
     ("UTF-16", ["--level"], lambda: ("\ufeffZeit [\u00b5s]\tK\r\n" + volts("%.1f\t%.3f\r\n", 1e-6)).encode("utf-16-le")),
     ("UTF-16, the highest byte first", ["--level"], lambda: ("\ufefft,V\n" + volts("%.5f,%.3f\n")).encode("utf-16-be")),
     ("a unit as the head", ["--time-column=Microseconds"], lambda: "Microseconds,D0\n" + "".join(

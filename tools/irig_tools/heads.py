@@ -10,7 +10,7 @@ from .editor import Problem
 
 OF_A_SECOND = {"": 1.0, "m": 1e-3, "milli": 1e-3, "u": 1e-6, "\u00b5": 1e-6, "\u03bc": 1e-6, "micro": 1e-6, "n": 1e-9,
                "mikro": 1e-6, "nano": 1e-9, "p": 1e-12, "pico": 1e-12}
-SECOND_NAMES = ("s", "sec", "second", "seconds", "sekunden", "secondes")
+SECOND_NAMES = ("s", "sec", "second", "seconds", "sek", "sekunden", "secondes")
 SECONDS_IN = {part + name: size for part, size in OF_A_SECOND.items() for name in SECOND_NAMES}
 NO_TIMES = ("v", "mv", "volt", "volts", "sequence")
 TIME = re.compile(r"(?i)\W*(time|t|timestamp|zeit|temps|x|x-axis|seconds?|sec)(\W.*|_(%s))?" % "|".join(SECONDS_IN))
