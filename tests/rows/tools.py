@@ -19,8 +19,8 @@ NOON = 12 * 360000
 FRAME = "frame 2024-061T12:00:0"
 
 
-def recording(frames=8, leap=False, begin=(DAY, NOON)):
-    """Frames of format B, expression 4, from 12:00:00 on; or those around a leap second."""
+def recording(frames=8, leap=False, begin=(DAY, NOON), expression=4):
+    """Frames of format B, expression 4 or another one, from 12:00:00 on; or those around a leap second."""
     pulses = []
     for k in range(frames):
         start = (begin[0], begin[1] + 100 * k)
@@ -33,7 +33,7 @@ def recording(frames=8, leap=False, begin=(DAY, NOON)):
         if leap and k == 4:
             values = timecode.generated("B", (736329, timecode.DAY - 100), 0, 0)
             values.update(seconds=60, sbs=86400)
-        for name in timecode.encode("B", 4, values):
+        for name in timecode.encode("B", expression, values):
             rise = 10000 * len(pulses)
             pulses.append([rise, rise + timecode.nominal(10000, name)])
     return pulses
@@ -219,10 +219,10 @@ def starts(name, got, wanted):
     return good or same(name, got, wanted)
 
 
-def mended(pulses, length, steady=False, move=False):
+def mended(pulses, length, steady=False, move=False, expression=4):
     """The script that is proposed, and the pulses after it."""
     with tempfile.TemporaryDirectory() as folder:
-        opened = editor.Editor(["--expression", "4", written(folder, pulses, length)])
+        opened = editor.Editor(["--expression", str(expression), written(folder, pulses, length)])
         script = mend.propose(opened, lambda text: None, steady, move)
         after = opened.ask([repair.lines() for repair in script])
     return mend.script_text(script), [list(each) for each in zip(after.rises, after.falls)]
@@ -313,6 +313,33 @@ def steps():
     yield starts("no frame is read on either side", lines, ["0 no frame can be read with expression 4, and only position"])
     copied = "5570000: the 130 elements from 4270000 on are there twice: at 5570000 the times begin again"
     yield from two_sided("a copy", lambda pulses: again(pulses, 430, 130), 13300000, copied)
+
+
+def missing_near_the_end(first, beyond, count):
+    """That many pulses, with elements cut out near the end. Expression 6 uses few elements, so the frame that the cut makes of
+    two is contradicted by its position identifiers, and by hardly anything else."""
+    pulses = recording(8, expression=6)[:count]
+    del pulses[first:beyond]
+    moved(pulses, first, -10000 * (beyond - first))
+    return pulses
+
+
+def missing():
+    """What comes after a cut near the end has another time: the frame that the cut makes of two is left, and the one before it
+    is repaired."""
+    rows = (("one marker comes after it", 460, 470, 515, 0, False),
+            ("the last pulse is cut by the end", 460, 470, 520, 5000, False),
+            ("no whole frame is next to it", 585, 599, 618, 0, True))
+    for name, first, beyond, count, lost, is_repaired in rows:
+        pulses = missing_near_the_end(first, beyond, count)
+        pulses[-1][1] -= lost
+        broken = [list(pulse) for pulse in pulses]
+        rise, fall = broken[430]  # a glitch, after which no frame is whole
+        broken[430:431] = [[rise, rise + 500], [rise + 540, fall]]
+        for there, wanted in ((pulses, pulses), (broken, pulses if is_repaired else broken)):
+            script, after = mended(there, pulses[-1][1] + 2000 * (not lost), expression=6)
+            changed = [at for at, (one, other) in enumerate(zip(after, wanted)) if one != other]
+            yield same("%s, %d pulses" % (name, len(there)), ("undecided" in script, changed), (True, []))
 
 
 def late_for_a_while(pulses, by=3300, back=3300):
@@ -601,6 +628,7 @@ def cases(top):
     found = [case("mend: row: " + each[0], row, *each) for each in ROWS]
     found += [case("mend: repaired: " + name, gives_back, name, change, length) for name, change, length, _ in ROWS[:9]]
     groups = (("larger rows", larger_rows), ("steps", steps), ("steps that belong together", together),
+              ("elements are missing near the end", missing),
               ("samples of a recorder", sampled), ("harms", harms), ("explained", explained))
     found += [case("mend: " + name, rows) for name, rows in groups]
     return found + [case("mend: processes", processes, top), case("mend: hostile tracks", no_line_refused, top)]

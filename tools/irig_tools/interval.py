@@ -9,7 +9,7 @@ from typing import List, Optional, Sequence, Tuple
 
 from . import limits
 from .editor import Listing
-from .phases import turns
+from .phases import Turn, turn_near, turns
 from .sampling import are_often_off, spacing_of_samples
 from .units import Microseconds, PlaceNumber, PulseIndex, plus
 
@@ -46,6 +46,17 @@ class Run:
 def run_of(first: PulseIndex, beyond: PulseIndex, glued: bool = False) -> Run:
     """The pulses from one up to another."""
     return Run(first, plus(beyond, -1), glued=glued)
+
+
+def _parts(run: Run, parted_at: Sequence[Turn]) -> List[Run]:
+    """The parts of a run between its turns."""
+    parts: List[Run] = []
+    first = run.first
+    for low, high in parted_at:
+        if run.first + low > first and high < run.count:
+            parts.append(run_of(first, plus(run.first, low), glued=bool(parts)))
+            first = plus(run.first, high)
+    return parts + [run_of(first, plus(run.last, 1), glued=bool(parts))]
 
 
 def distances(times: Sequence[Microseconds]) -> List[int]:
@@ -165,15 +176,19 @@ class Clock:
 
     def _parted(self, run: Run) -> List[Run]:
         """The run, or the parts of it that have one phase each."""
-        if run.count < limits.LONG_RUN:
+        return [run] if run.count < limits.LONG_RUN else _parts(run, turns(self._uncut(run)))
+
+    def parted_near(self, run: Run) -> List[Run]:
+        """The same for a run without a whole frame, whose phase follows from the runs next to it."""
+        if run.count < limits.LONG_RUN or run.lead < limits.LEAST_LEAD or run.glued or run.ends:
             return [run]
-        parts: List[Run] = []
-        first = run.first
-        for low, high in turns(self.text(run)):
-            if run.first + low > first and high < run.count:
-                parts.append(run_of(first, plus(run.first, low), glued=bool(parts)))
-                first = plus(run.first, high)
-        return parts + [run_of(first, plus(run.last, 1), glued=bool(parts))]
+        found = _parts(run, turn_near(self._uncut(run), run.place % 100))
+        return list(map(self.fit, found)) if len(found) > 1 else [run]
+
+    def _uncut(self, run: Run) -> str:
+        """The classes of its pulses, without one that is cut by the end of the recording."""
+        is_cut = run.last == len(self.rises) - 1 and self.listing.falls[-1] == self.listing.length
+        return self.text(run)[:-1] if is_cut else self.text(run)
 
     def text(self, run: Run) -> str:
         """The classes of its pulses."""

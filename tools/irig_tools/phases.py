@@ -118,7 +118,9 @@ def _turn(text: str, lefts: Sequence[int], rights: Sequence[int], at: int = 0) -
         return [(at + low, at + high)]
     # position identifiers that are ten apart agree on both sides but for the marker
     ten_apart = left != right and (left - right) % 10 == 0 and least == 0 and one_known
-    marked = _has_marker(left, low) if len(lefts) > 1 else _has_marker((right + high) % 100, len(text) - high)
+    # what is before `high` agrees on both sides, so the first position identifier of a marker is there
+    begin = high - 1
+    marked = _has_marker(left, low) if len(lefts) > 1 else _has_marker((right + begin) % 100, len(text) - begin)
     return [(at + low, at + high)] if whole - least >= limits.FEWER_AT_MARKER and ten_apart and marked else []
 
 
@@ -134,6 +136,14 @@ def turns(classes: str) -> List[Turn]:
             _, low, high, _, _ = parting(text[before:after + 100], [0], [(before - after) % 100])
             found.append((before + low, before + high))
     return found + _turn(text[whole[-1]:], [0], every, whole[-1])
+
+
+def turn_near(classes: str, phase: int) -> List[Turn]:
+    """Where a run without a whole frame continues with another phase, after its first pulse, if that of its beginning, or of
+    its end, is known."""
+    text, every = classes.translate(ONLY_P), range(100)
+    found = [] if whole_frames(classes) else _turn(text, [phase], every) or _turn(text, every, [phase])
+    return [(max(1, low), max(1, high)) for low, high in found]
 
 
 def tells_phase(text: str) -> bool:

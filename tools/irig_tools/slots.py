@@ -219,6 +219,9 @@ def sure_parts(runs: Sequence[Run]) -> List[List[Run]]:
 def link(clock: Clock, runs: List[Run], unused: Sequence[int]) -> Linked:
     """The runs with their places, and what it costs to believe them."""
     way = _follow(clock, runs, unused)
+    parted = [part for run in way.runs for part in clock.parted_near(run)]
+    if len(parted) > len(runs):
+        way = _follow(clock, _trim(clock, parted), unused)
     kept = _without_stray(clock, way.runs)
     while len(kept) < len(way.runs):
         way = _follow(clock, kept, unused)
