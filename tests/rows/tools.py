@@ -325,8 +325,8 @@ def missing_near_the_end(first, beyond, count):
 
 
 def missing():
-    """What comes after a cut near the end has another time: the frame that the cut makes of two is left, and the one before it
-    is repaired."""
+    """What is on the other side of a cut near an end has another time: the frame that the cut makes of two is left, and the one
+    next to it is repaired."""
     rows = (("one marker comes after it", 460, 470, 515, 0, False),
             ("the last pulse is cut by the end", 460, 470, 520, 5000, False),
             ("no whole frame is next to it", 585, 599, 618, 0, True))
@@ -340,6 +340,16 @@ def missing():
             script, after = mended(there, pulses[-1][1] + 2000 * (not lost), expression=6)
             changed = [at for at, (one, other) in enumerate(zip(after, wanted)) if one != other]
             yield same("%s, %d pulses" % (name, len(there)), ("undecided" in script, changed), (True, []))
+    early = recording(8, expression=6)[130:]  # the same near the beginning, soon after a marker
+    del early[72:82]
+    moved(early, 72, -100000)
+    moved(early, 0, -1300000)
+    broken = [list(pulse) for pulse in early]
+    rise, fall = broken[205]
+    broken[205:206] = [[rise, rise + 500], [rise + 540, fall]]
+    script, after = mended(broken, early[-1][1] + 2000, expression=6)
+    changed = [at for at, (one, other) in enumerate(zip(after, early)) if one != other]
+    yield same("near the beginning", ("undecided" in script, changed), (True, []))
 
 
 def late_for_a_while(pulses, by=3300, back=3300):
@@ -628,7 +638,7 @@ def cases(top):
     found = [case("mend: row: " + each[0], row, *each) for each in ROWS]
     found += [case("mend: repaired: " + name, gives_back, name, change, length) for name, change, length, _ in ROWS[:9]]
     groups = (("larger rows", larger_rows), ("steps", steps), ("steps that belong together", together),
-              ("elements are missing near the end", missing),
+              ("elements are missing near an end", missing),
               ("samples of a recorder", sampled), ("harms", harms), ("explained", explained))
     found += [case("mend: " + name, rows) for name, rows in groups]
     return found + [case("mend: processes", processes, top), case("mend: hostile tracks", no_line_refused, top)]

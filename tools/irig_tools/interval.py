@@ -176,19 +176,15 @@ class Clock:
 
     def _parted(self, run: Run) -> List[Run]:
         """The run, or the parts of it that have one phase each."""
-        return [run] if run.count < limits.LONG_RUN else _parts(run, turns(self._uncut(run)))
+        return [run] if run.count < limits.LONG_RUN else _parts(run, turns(self.text(run)))
 
-    def parted_near(self, run: Run) -> List[Run]:
-        """The same for a run without a whole frame, whose phase follows from the runs next to it."""
+    def parted_near(self, run: Run, begins: bool) -> List[Run]:
+        """The same for a run without a whole frame. Its phase follows from the run before it if that `begins` it, or else from
+        the one after it."""
         if run.count < limits.LONG_RUN or run.lead < limits.LEAST_LEAD or run.glued or run.ends:
             return [run]
-        found = _parts(run, turn_near(self._uncut(run), run.place % 100))
+        found = _parts(run, turn_near(self.text(run), run.place % 100, begins))
         return list(map(self.fit, found)) if len(found) > 1 else [run]
-
-    def _uncut(self, run: Run) -> str:
-        """The classes of its pulses, without one that is cut by the end of the recording."""
-        is_cut = run.last == len(self.rises) - 1 and self.listing.falls[-1] == self.listing.length
-        return self.text(run)[:-1] if is_cut else self.text(run)
 
     def text(self, run: Run) -> str:
         """The classes of its pulses."""

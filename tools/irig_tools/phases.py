@@ -108,6 +108,7 @@ def _has_marker(phase: int, count: int) -> bool:
 
 def _turn(text: str, lefts: Sequence[int], rights: Sequence[int], at: int = 0) -> List[Turn]:
     """Where the phase may change in a text that begins at a place, if it does. At most one side's phase is known."""
+    text = text[:-1]  # the last pulse can be cut, by the end of the recording or by what ends the run
     marks = Marks(text)
     whole = min(map(marks.faults, lefts if len(lefts) <= len(rights) else rights))
     if whole < 2 or len(text) > limits.LONGEST_TURN:
@@ -138,11 +139,12 @@ def turns(classes: str) -> List[Turn]:
     return found + _turn(text[whole[-1]:], [0], every, whole[-1])
 
 
-def turn_near(classes: str, phase: int) -> List[Turn]:
-    """Where a run without a whole frame continues with another phase, after its first pulse, if that of its beginning, or of
-    its end, is known."""
+def turn_near(classes: str, phase: int, begins: bool) -> List[Turn]:
+    """Where a run without a whole frame continues with another phase, after its first pulse. The phase is that with which it
+    begins, or that with which it ends, as if no element were missing."""
     text, every = classes.translate(ONLY_P), range(100)
-    found = [] if whole_frames(classes) else _turn(text, [phase], every) or _turn(text, every, [phase])
+    lefts, rights = ([phase], every) if begins else (every, [phase])
+    found = [] if whole_frames(classes) else _turn(text, lefts, rights)
     return [(max(1, low), max(1, high)) for low, high in found]
 
 

@@ -219,7 +219,8 @@ def sure_parts(runs: Sequence[Run]) -> List[List[Run]]:
 def link(clock: Clock, runs: List[Run], unused: Sequence[int]) -> Linked:
     """The runs with their places, and what it costs to believe them."""
     way = _follow(clock, runs, unused)
-    parted = [part for run in way.runs for part in clock.parted_near(run)]
+    on_time = [at > 0 and not _is_off(clock, run) for at, run in enumerate(way.runs)]
+    parted = [part for run, begins in zip(way.runs, on_time) for part in clock.parted_near(run, begins)]
     if len(parted) > len(runs):
         way = _follow(clock, _trim(clock, parted), unused)
     kept = _without_stray(clock, way.runs)
