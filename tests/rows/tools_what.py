@@ -34,6 +34,16 @@ def track(kind, frames, start=0, jitter=None, expression=2):
     return edges, start + (len(widths) + 2) * step
 
 
+def with_event():
+    """Expression 4 or 7, and in the second frame a control function, so it is 4, and a glitch."""
+    edges, length = track("B", 4, 30000, expression=7)
+    event = edges.index((1680000 + 2000, 0))  # element 64
+    edges[event] = (1680000 + 5000, 0)
+    rise = edges[event + 5][0]  # of element 67
+    edges[event + 6:event + 6] = [(rise + 700, 0), (rise + 740, 1)]
+    return edges, length
+
+
 def dump(edges, length, unit="1 us", scale=1, upside=False, declared="$var wire 1 ! irig $end", ends=""):
     lines = ["$timescale %s $end" % unit if unit else "", declared, "$enddefinitions $end", "#0 %d!" % upside]
     lines += ["#%d %d!" % (time * scale, level ^ upside) for time, level in edges]
@@ -78,6 +88,8 @@ ROWS = [
     ("nothing", dump([(5, 1), (9, 0)], 99), [], 1, ["A, B, E or G; the unit of time is 1us (--timescale UNIT takes another)"], None),
     ("nothing, and no unit", dump([(5, 1), (9, 0)], 99, unit=""), [], 1, ["no unit of time is named, and these were tried: 1 us,"], None),
     ("several expressions", dump(*B), [], 0, ["  expressions 2, 1, 5 and 6 fit equally; 2 is first, because it has no unused"], 4),
+    ("a control function in a damaged frame", dump(*with_event()), [], 0, ["  expression 4: 3 of 4 frames fine",
+     "expressions 4, 0 and 7 fit equally; 4 is first, because damaged frames"], None),
     ("a clock alone", dump([], 0, declared="$var wire 1 c c $end").replace("#0 0!", CLOCK), [], 1, ["no wire"], None),
     ("no dump", "hello", [], 2, [], None),
     ("a folder", None, ["/"], 2, [], None),

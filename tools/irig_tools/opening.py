@@ -12,7 +12,7 @@ from .dump_source import Source
 from .editor import Problem, called, find_editor
 from .ending import Usage
 from .options import DUMP, EXPRESSION, FORMAT, TIMESCALE, WIRE, Given
-from .readings import EXPRESSIONS, best, is_opened, is_read, read
+from .readings import EXPRESSIONS, is_opened, is_read, read
 from .search import Found, Probe, search
 from .temporary import named_if_no_room, temporary_track
 from .wire import Extract, Wish
@@ -185,9 +185,9 @@ def _read(path: str, found: Found, probe: Probe, dump: int) -> Taken:
             Extract(path, wish, track).run()
             track.flush()
         readings = read(track.name, kind)
-    if not readings.rows:
+    row = readings.best
+    if row is None:
         return Taken(found, probe, refused=readings.refused)
-    row = best(readings.rows)
     return Taken(found, probe, row.expression, row.frames, row.fine, readings.pulses)
 
 

@@ -1,15 +1,20 @@
 """What the editor reads on one wire under each coded expression."""
 from __future__ import annotations
 
+import re
+import statistics
 import subprocess
+from bisect import bisect_right
 from dataclasses import dataclass, field
 from typing import Dict, List, Optional, Sequence, Set
 
-from .editor import CUT_OFF, Problem, find_editor, info_of
-from .layout import WITH_BINARY, WITH_CONTROL, WITH_YEAR
+from .editor import CUT_OFF, Editor, Listing, Problem, find_editor, info_of
+from .interval import distances
+from .layout import WITH_BINARY, WITH_CONTROL, WITH_YEAR, Layout
 from .temporary import temporary_script
 
 EXPRESSIONS = {"A": range(8), "B": range(8), "E": (1, 2, 5, 6), "G": (1, 2, 5, 6)}
+CONTROL_TOO = {2: 1, 3: 0, 6: 5, 7: 4}  # expressions without control functions, and those that have them besides
 
 
 @dataclass
@@ -56,6 +61,8 @@ class Readings:
     pulses: int = 0
     length: int = 0
     refused: str = ""
+    best: Optional[Reading] = None
+    has_events: bool = False  # it has control functions, since only frames that are not fine show some
 
 
 def read(track: str, kind: str) -> Readings:
@@ -78,7 +85,28 @@ def read(track: str, kind: str) -> Readings:
         found.refused = run.stderr.read().decode(errors="replace").strip().rpartition(": ")[2]
     if run.returncode < 0 or found.rows and run.returncode:  # by a signal, or after a part of the answer
         raise Problem(CUT_OFF)
+    if found.rows:
+        _choose_careful(track, found)
     return found
+
+
+def _choose_careful(track: str, found: Readings) -> None:
+    """The expression that fits best. If one with control functions fits as well, and a frame that is not fine has some, it is that
+    one: with the other a repair would make zeros of them."""
+    found.best = best(found.rows)
+    kind, fine, number = found.best.kind, found.best.fine, CONTROL_TOO.get(found.best.expression)
+    careful = next((row for row in found.rows if row.expression == number and 0 < row.fine == fine < row.frames), None)
+    if careful and _has_control(Editor(["--format", kind, "--expression", str(number), track]).ask([])):
+        found.best, found.has_events = careful, True
+
+
+def _has_control(listing: Listing) -> bool:
+    """Whether a one is at a control function, by its distance from the marker before it."""
+    layout, rises = Layout(listing.kind, listing.expression), listing.rises
+    markers = [rises[pair.start() + 1] for pair in re.finditer("P(?=P)", listing.classes)]
+    interval, control = statistics.median(distances(rises)), set(layout.control)
+    ones = [rise for rise, name in zip(rises, listing.classes) if name == "1"]
+    return any(round((rise - markers[max(0, bisect_right(markers, rise) - 1)]) / interval) % 100 in control for rise in ones)
 
 
 def is_read(track: str, wire: Optional[str], pulses: int) -> bool:

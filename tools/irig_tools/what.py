@@ -11,7 +11,7 @@ from .editor import Editor
 from .mend import propose
 from .opening import MOST_READ, needed_name, wire_name
 from .proposal import Proposal, no_option
-from .readings import Reading, Readings, best, is_read, read
+from .readings import Reading, Readings, is_read, read
 from .script import Repair
 from .search import TRIED, Found, Probe, search
 from .temporary import named_if_no_room, temporary_track
@@ -31,7 +31,7 @@ class CodeWire:
 
     @property
     def best(self) -> Optional[Reading]:
-        return best(self.readings.rows) if self.readings.rows else None
+        return self.readings.best
 
     @property
     def fine(self) -> int:
@@ -75,7 +75,8 @@ class CodeWire:
             texts.append("other expressions (%s): no frame is fine" % others)
         alike = [str(row.expression) for row in fine if row.fine == fine[0].fine]
         if len(alike) > 1:
-            text = "expressions %s and %s fit equally; %s is first, because it has no unused fields"
+            text = "expressions %s and %s fit equally; %s is first, because "
+            text += "damaged frames have control functions" if self.readings.has_events else "it has no unused fields"
             texts.append(text % (", ".join(alike[:-1]), alike[-1], alike[0]))
         return texts
 
