@@ -55,7 +55,7 @@ def _votes(times: Times, number: FrameNumber) -> str:
     """How its elements vote on each base that a span has."""
     bases = sorted({span.base for span in times.spans})
     votes = [(base, *times.counted(number, base)) for base in bases]
-    said = ["of %d votes on base %d %d against it" % (agree + differ, base, differ) for base, agree, differ in votes]
+    said = ["%d votes on base %d, %d of them against it" % (agree + differ, base, differ) for base, agree, differ in votes]
     return ", ".join(said) or "no base"
 
 
