@@ -16,7 +16,7 @@ NO_TIMES = ("v", "mv", "volt", "volts", "sequence")
 TIME = re.compile(r"(?i)\W*(time|t|timestamp|zeit|temps|x|x-axis|seconds?|sec)(\W.*|_(%s))?" % "|".join(SECONDS_IN))
 RATE_LINE = re.compile(r"(?i)\W*(?:meta )?samplerate\W*([0-9.]+) *([kmg]?)(?:hz)?\W*")
 IN_BRACKETS = re.compile(r".*[\[(]\s*([^\])]*[^\W\d_][^\])]*)[\])]\W*")  # what may be a unit
-COMMA = re.compile(r"[+-]?([0-9]+,[0-9]*|,[0-9]+)([eE][+-]?[0-9]+)?")  # a number with a decimal comma
+BEGINS_NUMBER = "+-,0123456789"
 CHANNELS = re.compile(r"; *Channels \([0-9/]+\): *(.*)")  # of sigrok, which can call each column `logic`
 PREFIXES = {"": 1, "k": 1000, "m": 1000000, "g": 1000000000}
 
@@ -33,10 +33,13 @@ class Columns(NamedTuple):
 def fields_of(line: str, parted: str) -> List[str]:
     """The fields of a line, with a point in a number instead of a comma. Next to a number with a point it parts thousands, and stays:
     so the field is no number."""
-    fields = [field.strip() for field in _parts_of(line, parted)]
+    has_quotes = '"' in line
+    fields = [field.strip() for field in (_parts_of(line, parted) if has_quotes else line.split(parted))]
+    if "," not in line or parted == "," and not has_quotes:
+        return fields
     if any("." in field and NUMBER.fullmatch(field) for field in fields):
         return fields
-    return [field.replace(",", ".") if COMMA.fullmatch(field) else field for field in fields]
+    return [field.replace(",", ".") if field[:1] in BEGINS_NUMBER else field for field in fields]
 
 
 def _parts_of(line: str, parted: str) -> List[str]:
