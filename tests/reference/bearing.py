@@ -46,7 +46,7 @@ class Bearing:
     def count(self, one: Shown, other: Shown) -> int:
         """How many frame periods the time of the second is after that of the first; 0 if it is not a whole number."""
         later = clock_after(one.values, other.values)
-        if later is None or later <= clock(one.values) or (later - clock(one.values)) % self.period:
+        if goes_back(one.values, other.values) or later is None or later <= clock(one.values) or (later - clock(one.values)) % self.period:
             return 0
         return (later - clock(one.values)) // self.period
 
@@ -67,7 +67,18 @@ class Bearing:
 
     def allows(self, one: Shown, other: Shown) -> bool:
         """Whether they do not contradict each other."""
-        return self.is_far(one, other) or (self.count(one, other) > 0 and 2 * self.stray(one, other) < self.frame)
+        return self.is_far(one, other) or self.is_shown(one, other)
+
+    def is_shown(self, one: Shown, other: Shown) -> bool:
+        """Whether the distance shows as many frame periods as the times."""
+        return self.count(one, other) > 0 and 2 * self.stray(one, other) < self.frame
+
+    def is_within(self, near: Near, one: Shown, other: Shown) -> bool:
+        """Whether two frames stray by no more than half an interval more than those on both sides do from each other, if those
+        are there and agree."""
+        if near.before is None or near.after is None or not self.is_shown(near.before, near.after):
+            return True
+        return 2 * self.stray(one, other) <= self.interval + 2 * self.stray(near.before, near.after)
 
     # the clock of two frames
 
@@ -90,14 +101,40 @@ class Bearing:
             return False
         return self.in_time(two, near.before, frame) if near.before else self.in_time(two, frame, two[0])
 
+    # what is believed
+
+    def is_doubted(self, before: Optional[Shown], frame: Optional[Shown], after: Optional[Shown]) -> bool:
+        """Whether a frame is contradicted by both others, which do not contradict each other."""
+        if before is None or frame is None or after is None:
+            return False
+        return not self.allows(before, frame) and not self.allows(frame, after) and self.allows(before, after)
+
+    def believed(self, near: Near) -> Near:
+        """The frames next to a place, but for the one before it or the one after it if that is contradicted by both next to it; and none
+        of two on one side that contradict each other if the other has none."""
+        doubts_after = self.is_doubted(near.before, near.after, near.after_next)
+        doubts_before = self.is_doubted(near.before_last, near.before, near.after)
+        if doubts_after and not doubts_before:
+            return Near(near.before_last, near.before, near.after_next, None)
+        if doubts_before and not doubts_after:
+            return Near(None, near.before_last, near.after, near.after_next)
+        if self.is_disputed(near.before, near.after, near.after_next) or self.is_disputed(near.after, near.before_last, near.before):
+            return Near(None, None, None, None)
+        return near
+
+    def is_disputed(self, other: Optional[Shown], one: Optional[Shown], following: Optional[Shown]) -> bool:
+        """Whether nothing is on one side, and the two frames on the other contradict each other."""
+        return other is None and one is not None and following is not None and not self.allows(one, following)
+
     # what is borne out
 
     def is_borne(self, near: Near, frame: Shown) -> bool:
         """Whether the time of a frame is borne out: something supports it, and neither neighbour contradicts it."""
+        near = self.believed(near)
         before, after = near.before, near.after
         supported = (
-            (before is not None and self.leads(before, frame))
-            or (after is not None and self.leads(frame, after))
+            (before is not None and self.leads(before, frame) and self.is_within(near, before, frame))
+            or (after is not None and self.leads(frame, after) and self.is_within(near, frame, after))
             or self.by_clock(near, frame)
         )
         contradicted = (before is not None and not self.allows(before, frame)) or (
@@ -122,14 +159,23 @@ def clock(values: Dict[str, int]) -> int:
 def clock_after(one: Dict[str, int], other: Dict[str, int]) -> Optional[int]:
     """The time of the second on the clock of the first; None if it is more than a year later."""
     turn = turn_of(one, other)
-    inserted = 100 if one["seconds"] == 60 and other["seconds"] != 60 else 0
-    return None if turn is None else clock(other) + turn + inserted
+    return None if turn is None else clock(other) + turn + inserted_of(one, other)
+
+
+def goes_back(one: Dict[str, int], other: Dict[str, int]) -> bool:
+    """Whether the first is in second 60 of a minute, and the second in that minute before it."""
+    return one["seconds"] == 60 != other["seconds"] and all(one[name] == other[name] for name in ("days", "hours", "minutes"))
+
+
+def inserted_of(one: Dict[str, int], other: Dict[str, int]) -> int:
+    """The hundredths of a second that an inserted second 60 adds before the second."""
+    return 100 if one["seconds"] == 60 and other["seconds"] != 60 else 0
 
 
 def turn_of(one: Dict[str, int], other: Dict[str, int]) -> Optional[int]:
     """By how much the year of the second begins later; None if it is another one than that of the first or the next."""
     if "year" not in one:
-        return year_of(one["days"] == 366) if clock(other) < clock(one) else 0
+        return year_of(one["days"] == 366) if clock(other) + inserted_of(one, other) < clock(one) else 0
     if (one["year"] + 1) % 100 == other["year"]:
         return year_of(one["year"] % 4 == 0)
     return 0 if one["year"] == other["year"] else None

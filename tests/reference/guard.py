@@ -6,10 +6,13 @@ from reference import language, machine, timecode
 from reference.bearing import Bearing, Near, Shown, clock
 
 LONGEST_LINE, LONGEST_COMMENT = 1000, 900
+LEAST_ANCHORS = 60  # of a frame, if nothing was fine
 NOTHING_FINE, NOT_KEPT = b"# nothing to go by: no frame of the recording is fine", b"# not kept: "
 NO_REPAIR, REFUSED = "not a repair", "refused: "
 LOST, CHANGED, UNSUPPORTED = "would be lost", "would change", "would have a time that is not supported"
 UNRECORDED = "would have control functions that are not supported"
+MOVED = ": its pulses would move"
+MISPLACED = ": its pulses would rise where nothing supports it"
 ALONE = "fine frames would not support each other"
 EDITS = {
     "insert": machine.insert, "delete": machine.delete, "split": machine.split, "join": machine.join,
@@ -42,17 +45,19 @@ class Safety:
 
     def __init__(self, opened: machine.State, moved: bool) -> None:
         self.bearing = Bearing(opened.kind)
-        self.old = [frame.shown for frame in fine(opened)]
+        self.fines = fine(opened)
+        self.old = [frame.shown for frame in self.fines]
         self.moved = moved
         self.controls = Controls(opened)
+        self.anchors = Anchors(opened, self.bearing)
 
     def fault(self, last: Sequence[Shown], new: Sequence[Fine]) -> Optional[str]:
         """Why what is fine now is not safe; `last` was fine after the last repair that was kept."""
         now = [frame.shown for frame in new]
         if not self.old:
-            return self._first([None if self._support_each_other(now) else ALONE, self._lost(last, now)])
+            return self._first([None if self._support_each_other(now) else ALONE, self._unrooted(new), self._lost(last, now)])
         old = located(self.old, now) if self.moved else self.old
-        found = [self._times(old, now), self._controls(old, new)]
+        found = [self._times(old, now), self._controls(old, new), self._pulses(old, new)]
         return self._first([*found, self._lost(located(last, now) if self.moved else last, now)])
 
     def _first(self, found: Sequence[Optional[str]]) -> Optional[str]:
@@ -98,9 +103,31 @@ class Safety:
                 return named(frame.shown, UNRECORDED)
         return None
 
+    def _pulses(self, old: Sequence[Shown], new: Sequence[Fine]) -> Optional[str]:
+        """The first frame that was fine and still is, and whose pulses do not rise as long after its marker as they did; or that
+        was not, and whose pulses are not where the recording has them."""
+        rises = [frame.rise for frame in old]
+        for frame in new:
+            place = bisect_left(rises, frame.shown.rise)
+            if rises[place:place + 1] == [frame.shown.rise]:
+                if since(self.fines[place]) != since(frame):
+                    return named(frame.shown, MOVED)
+            elif not self.anchors.are_placed(near(old, place, place), frame):
+                return named(frame.shown, MISPLACED)
+        return None
+
+    def _unrooted(self, new: Sequence[Fine]) -> Optional[str]:
+        """If nothing was fine: the first frame of which fewer than 60 pulses are anchors."""
+        return next((named(frame.shown, MISPLACED) for frame in new if len(self.anchors.of(frame)) < LEAST_ANCHORS), None)
+
     def _support_each_other(self, new: Sequence[Shown]) -> bool:
         """If nothing was fine: whether there are none, or at least three, each of which leads to the next."""
         return not new or (len(new) >= 3 and all(self.bearing.leads(*pair) for pair in zip(new, new[1:])))
+
+
+def since(frame: Fine) -> List[int]:
+    """How long after its marker each pulse of a frame rises."""
+    return [rise - frame.shown.rise for rise, _ in frame.pulses]
 
 
 def has_control_of_both(near: Near, was: Shown, frame: Shown) -> bool:
@@ -163,6 +190,79 @@ class Controls:
 
         two = near.two()
         return two is not None and all(function(one) == function(frame) for one in two)
+
+
+Point = Tuple[int, int]  # an element, by its number in a frame, and when it rises
+
+
+class Anchors:
+    """Where a recording has the pulses of frames."""
+
+    def __init__(self, opened: machine.State, bearing: Bearing) -> None:
+        self.bearing = bearing
+        self.rises = {rise for rise, _ in opened.pulses()}
+        self.falls = {fall for _, fall in opened.pulses()}
+
+    def of(self, frame: Fine) -> List[Point]:
+        """The pulses of a frame that rise when one of the recording does, or that are a gap of it turned over."""
+        return [
+            (k, rise) for k, (rise, fall) in enumerate(frame.pulses)
+            if rise in self.rises or (rise in self.falls and fall in self.rises)
+        ]
+
+    def are_placed(self, near: Near, frame: Fine) -> bool:
+        """Whether each pulse is an anchor, or on the line between the anchors next to it."""
+        first, last = self._before(near, frame.shown), self._after(near, frame.shown)
+        points = self.of(frame)
+        anchored = dict(points)
+        for k, (rise, _) in enumerate(frame.pulses):
+            if k in anchored:
+                continue
+            before = max([point for point in points if point[0] < k], default=first)
+            after = min([point for point in points if point[0] > k], default=last)
+            if not self._is_on_line(near, before, (k, rise), after):
+                return False
+        return True
+
+    def _before(self, near: Near, frame: Shown) -> Optional[Point]:
+        """The marker of the nearest frame before, if both agree and are not too far from each other."""
+        if near.before is None or not self._agree(near.before, frame):
+            return None
+        return -100 * self.bearing.count(near.before, frame), near.before.rise
+
+    def _after(self, near: Near, frame: Shown) -> Optional[Point]:
+        if near.after is None or not self._agree(frame, near.after):
+            return None
+        return 100 * self.bearing.count(frame, near.after), near.after.rise
+
+    def _agree(self, one: Shown, other: Shown) -> bool:
+        return self.bearing.is_shown(one, other) and not self.bearing.is_far(one, other)
+
+    def _is_on_line(self, near: Near, before: Optional[Point], point: Point, after: Optional[Point]) -> bool:
+        if before is not None and after is not None:
+            return self._is_between(before, point, after)
+        if before is not None:
+            return self._is_along(near, before, point)
+        return after is not None and self._is_along(near, point, after)
+
+    def _is_between(self, before: Point, point: Point, after: Point) -> bool:
+        """Whether a point is on the line between two, to a tenth of an interval."""
+        many, whole = point[0] - before[0], after[0] - before[0]
+        due, found = many * (after[1] - before[1]), whole * (point[1] - before[1])
+        return 10 * abs(found - due) <= whole * self.bearing.interval
+
+    def _is_along(self, near: Near, one: Point, other: Point) -> bool:
+        """Whether two points are as far apart as the nominal interval says, to a tenth of it and a thousandth of the distance;
+        or as the clock of the two nearest frames says, to a tenth."""
+        many, distance = other[0] - one[0], other[1] - one[1]
+        if 1000 * abs(distance - many * self.bearing.interval) <= 100 * self.bearing.interval + distance:
+            return True
+        two = near.two()
+        if two is None or not self.bearing.shows_clock(*two):
+            return False
+        whole = self.bearing.count(*two)
+        due, found = many * (two[1].rise - two[0].rise) // 100, whole * distance
+        return abs(found - due) <= whole * (self.bearing.interval // 10)
 
 
 class Guard:
@@ -228,7 +328,7 @@ def named(frame: Shown, what: str) -> str:
     values = frame.values
     part = ".%02d" % values["hundredths"] if "hundredths" in values else ""
     time = "%03d %02d:%02d:%02d%s" % (values["days"], values["hours"], values["minutes"], values["seconds"], part)
-    return "frame %s at %d %s" % (time, frame.rise, what)
+    return "frame %s at %d%s%s" % (time, frame.rise, "" if what.startswith(":") else " ", what)
 
 
 def commented(line: bytes) -> bytes:

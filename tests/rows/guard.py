@@ -89,7 +89,7 @@ def dropped(reason: str, *lines: str) -> Tuple[str, ...]:
 
 def unsafe(time: str, rise: int, what: str, *lines: str) -> Tuple[str, ...]:
     """The same of a repair that is not safe, by the frame that shows it."""
-    return dropped("frame %s at %d %s" % (time, rise, what), *lines)
+    return dropped("frame %s at %d%s%s" % (time, rise, "" if what.startswith(":") else " ", what), *lines)
 
 
 def each_dropped(reason: str, *lines: str) -> Tuple[str, ...]:
@@ -124,7 +124,33 @@ LATE = [*SOUND[:600], *moved(SOUND[600:], lambda at: at + 7300)]  # from frame 6
 NO_REPAIR = "not a repair"
 LOST, CHANGED, UNSUPPORTED = "would be lost", "would change", "would have a time that is not supported"
 UNRECORDED = "would have control functions that are not supported"
+MOVED, MISPLACED = ": its pulses would move", ": its pulses would rise where nothing supports it"
 NOTHING_FINE = "# nothing to go by: no frame of the recording is fine"
+
+ALONE = without(SOUND, 343, *range(201, 300), *range(401, 500))  # frame 3, without element 42, between two holes
+TENTH = ["begin", "insert 3400900 3405900", "insert 3410000 3412000", "insert 3419100 3421100", "end"]  # elements 40 to 42
+
+
+def moves(micros: int) -> List[str]:
+    """Element 42 of frame 3 of ALONE, and the whole frame moved."""
+    return ["begin", "insert 3420000 3422000", "201,301 shift %d" % micros, "end"]
+
+
+def turned_at(pulses: Pulses, *times: int) -> Pulses:
+    """With the level changed at these times."""
+    edges = sorted({edge for pulse in pulses for edge in pulse} ^ set(times))
+    return [[rise, fall] for rise, fall in zip(edges[::2], edges[1::2])]
+
+
+def of_day(second: int, day: int) -> Dict[str, int]:
+    return dict(values_of("B2", datetime.datetime(2023, 3, 2, 12, 0, second)), days=day)
+
+
+# frame 2 has a glitch, and frame 3 shows day 69 among frames of day 61; and the lines that make frame 2 one of day 69
+WRONG_DAY = turned_at(frames("B2", [of_day(k, 69 if k == 3 else 61) for k in range(8)]), 2455000, 2455040)
+WRONG_FIRST = turned_at(frames("B2", [of_day(k, 69 if k == 2 else 61) for k in range(8)]), 1455000, 1455040)
+AS_FIRST = ["begin", "invert 1455000 1455040", "134 force one", "end"]
+AS_WRONG = ["begin", "invert 2455000 2455040", "234 force one", "end"]
 
 ROWS = (
     # what is kept
@@ -222,9 +248,29 @@ ROWS = (
         unsafe("138 12:34:54", 3000000, UNSUPPORTED, "regen 3000000 1 " + FOURTH)),
     Row("second 60 at the end", "B4", without(leap()[:500], 443), ["insert 4420000 4422000"],
         unsafe("366 23:59:60", 4000000, UNSUPPORTED, "insert 4420000 4422000")),
-    Row("half an interval and a thousandth beside its place", "B4", hole(SOUND, 3, 3),
-        ["regen 3007008 2 " + THIRD, "regen 3007007 2 " + THIRD],
-        [*unsafe("138 12:34:54", 4007008, UNSUPPORTED, "regen 3007008 2 " + THIRD), "regen 3007007 2 " + THIRD]),
+    Row("half an interval beside its place", "B4", hole(SOUND, 3, 3), ["regen 3005001 2 " + THIRD, "regen 3005000 2 " + THIRD],
+        [*unsafe("138 12:34:54", 4005001, UNSUPPORTED, "regen 3005001 2 " + THIRD),
+         *unsafe("138 12:34:54", 4005000, MISPLACED, "regen 3005000 2 " + THIRD)]),
+    Row("an interval beside its place, and recorded", "B4", ALONE, moves(10000), unsafe("138 12:34:53", 3010000, UNSUPPORTED, *moves(10000))),
+    Row("the frame before a frame shows another day, and the next ones do not", "B2", WRONG_DAY, ["invert 2455000 2455040"],
+        ["invert 2455000 2455040"]),
+    Row("a frame shows the wrong day of the next one", "B2", WRONG_DAY, AS_WRONG,
+        unsafe("069 12:00:02", 2000000, UNSUPPORTED, *AS_WRONG)),
+    Row("the first fine frame shows another day, and the next one contradicts it", "B2", WRONG_FIRST,
+        ["invert 1455000 1455040", *AS_FIRST],
+        [*unsafe("061 12:00:01", 1000000, UNSUPPORTED, "invert 1455000 1455040"), *unsafe("069 12:00:01", 1000000, UNSUPPORTED, *AS_FIRST)]),
+    # pulses
+    Row("inner pulses of a frame that was fine", "B4", SOUND, ["302,398 shift 900", "342 shift -1"],
+        [*unsafe("138 12:34:53", 3000000, MOVED, "302,398 shift 900"), *unsafe("138 12:34:53", 3000000, MOVED, "342 shift -1")]),
+    Row("an inner pulse of a frame that an earlier repair made fine", "B4", WITHOUT_ZERO, [MEND, "242 shift 900"],
+        [MEND, "242 shift 900"]),
+    Row("a tenth of an interval beside its place", "B4", hole(SOUND, 3, 3), ["regen 3001001 2 " + THIRD, "regen 3001000 2 " + THIRD],
+        [*unsafe("138 12:34:54", 4001001, MISPLACED, "regen 3001001 2 " + THIRD), "regen 3001000 2 " + THIRD]),
+    Row("less than half an interval beside its place, and recorded", "B4", ALONE, moves(2000),
+        unsafe("138 12:34:53", 3002000, MISPLACED, *moves(2000))),
+    Row("pulses between recorded ones", "B4", without(SOUND, 341, 342, 343), TENTH, TENTH),
+    Row("frames of nothing", "B4", [[0, 10], [9999990, 10000000]], ["regen 1000000 4 1987-200T03:04:05"],
+        [NOTHING_FINE, *unsafe("200 03:04:06", 2000000, MISPLACED, "regen 1000000 4 1987-200T03:04:05")]),
     # control functions
     Row("a control function that is not recorded, and that the nearest frames do not have", "B4", without(SOUND, 363),
         ["insert 3620000 3625000"], unsafe("138 12:34:53", 3000000, UNRECORDED, "insert 3620000 3625000")),
@@ -258,7 +304,12 @@ ROWS = (
     Row("a frame that an earlier repair mended, moved and lost", "B4", WITHOUT_ZERO, [MEND, "201,$ shift 600", "243 delete"],
         [MEND, "201,$ shift 600", *unsafe("138 12:34:52", 2000600, LOST, "243 delete")], True),
     Row("a time that the distances of the result support", "B4", hole(SOUND, 3, 2)[:-10],
-        ["301,$ shift 30000", "regen 3030000 2 " + THIRD], ["301,$ shift 30000", "regen 3030000 2 " + THIRD], True),
+        ["301,$ shift 2000", "regen 3001300 2 " + THIRD], ["301,$ shift 2000", "regen 3001300 2 " + THIRD], True),
+    Row("pulses that only one neighbour of the result supports", "B4", hole(SOUND, 3, 2)[:-10],
+        ["301,$ shift 30000", "regen 3030000 2 " + THIRD],
+        ["301,$ shift 30000", *unsafe("138 12:34:54", 4030000, MISPLACED, "regen 3030000 2 " + THIRD)], True),
+    Row("a frame that moves, and not all its pulses do", "B4", SOUND, ["begin", "601,$ shift 900", "642 shift -1", "end"],
+        unsafe("138 12:34:56", 6000900, MOVED, "begin", "601,$ shift 900", "642 shift -1", "end"), True),
     Row("a time that only those of another result would support", "B4", hole(SOUND, 3, 2)[:-10], ["regen 3030000 2 " + THIRD],
         unsafe("138 12:34:54", 4030000, UNSUPPORTED, "regen 3030000 2 " + THIRD), True),
     Row("another time of a frame that moves", "B6", steady("B6"), ["begin", "302 force zero", "601,$ shift 600", "end"],

@@ -8,7 +8,7 @@ from .grouping import grouped
 from .layout import INTERVAL
 from .script import Repair
 
-AT_FAULT = re.compile(r"# not kept: frame .* at ([0-9]+) would ")
+AT_FAULT = re.compile(r"# not kept: frame .* at ([0-9]+)(?: would|: its pulses would) ")
 UNSUPPORTED = "# not kept: fine frames would not support each other"
 FROM_END_TO_END = -1  # instead of where a frame begins: no frame was fine, so it is all of the recording
 

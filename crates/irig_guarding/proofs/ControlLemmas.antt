@@ -21,6 +21,7 @@ use Rattle.irig_safety.specs.declared.witnesses.Witnesses.{Witnesses}
 use Rattle.irig_safety.specs.declared.fault.Fault.TheVariants.{Lost, Unrecorded}
 use Rattle.irig_safety.proofs.SafetyLemmas.{drop-item, drop_past, next_behind}
 use Rattle.irig_guarding.specs.Controls.{AreBorneBy, AreBorneFrom, ControlsAt, ControlsFrom, IsAs, IsBorne, IsUnborneBy, IsUnborneFrom, Judges}
+use Rattle.irig_guarding.specs.Pulses.{StandBy, StrayBy}
 use Rattle.irig_guarding.specs.Trials.{HasFault, HasFaultAt, MayStay, StaysAt}
 use Rattle.irig_guarding.specs.Reading.{fine_frames, original_of, seen_at, seen_by, seen_frames, shown_at, shown_by}
 use Rattle.irig_guarding.specs.declared.seen.Seen.{Seen}
@@ -150,7 +151,7 @@ abbrev pub JudgesAll : OriginalView → State → List Seen → ℕ → ℕ → 
 JudgesAll o s new k i = (k ≤ length o.frames)
     × ((found : Option Fault) → ControlsAt o s k (drop i new) found → ControlsFrom o s None None o.frames new found)
 
-drop_seen : (xs : List Seen) (i : ℕ) (y : Seen) → slice_get xs i ≡ Some y → drop i xs ≡ y ∷ drop (i + 1) xs
+pub drop_seen : (xs : List Seen) (i : ℕ) (y : Seen) → slice_get xs i ≡ Some y → drop i xs ≡ y ∷ drop (i + 1) xs
 drop_seen xs i y e = drop_more xs i y (slice_get_within xs i y e) ∙ ap (λ (z : Seen). z ∷ drop (i + 1) xs) (get_or_from_slice_get xs i y y e)
 
 pub judge_on : (o : OriginalView) (s : State) (new : List Seen) (k i p : ℕ) (y : Seen) → slice_get new i ≡ Some y → p ≤ length o.frames
@@ -235,10 +236,12 @@ judged_fault o s new (Err why) b is f e h =
     (some_frame o s o.frames why b is f (subst (λ (l : List Seen). IsUnborneFrom o s None None o.frames l why) e h)).0
 
 -- pulses that are copied so far, and the rise of the last
-pub record IsCopied (ps : List Pulse) (i : ℕ) (xs : List Pulse) (last : ℕ) : Type 0 where
+pub record IsCopied (ps : List Pulse) (i : ℕ) (xs : List Pulse) (last end : ℕ) : Type 0 where
   pub all : xs ≡ take i ps
   pub rising : IsNonDecreasingBy (λ (p : Pulse). p.rise) xs
+  pub falling : IsNonDecreasingBy (λ (p : Pulse). p.fall) xs
   pub last_is : (d : Pulse) → 0 < length xs → (get_or xs (length xs - 1) d).rise ≤ last
+  pub end_is : (d : Pulse) → 0 < length xs → (get_or xs (length xs - 1) d).fall ≤ end
 
 last_item : (xs : List Pulse) (y d : Pulse) → get_or (xs ++ y ∷ []) (length (xs ++ y ∷ []) - 1) d ≡ y
 last_item xs y d =
@@ -249,31 +252,39 @@ last_item xs y d =
     at_end [] = refl
     at_end (x ∷ xs) = at_end xs
 
-pub copied_none : (ps : List Pulse) → IsCopied ps 0 [] 0
-copied_none ps = record { all = refl; rising = λ i j d less within. absurd (omega (arith, within)); last_is = λ d some. absurd (omega (arith, some)) }
+pub copied_none : (ps : List Pulse) → IsCopied ps 0 [] 0 0
+copied_none ps = record {
+  all = refl;
+  rising = λ i j d less within. absurd (omega (arith, within));
+  falling = λ i j d less within. absurd (omega (arith, within));
+  last_is = λ d some. absurd (omega (arith, some));
+  end_is = λ d some. absurd (omega (arith, some));
+}
 
-pub copied_more : (ps xs new : List Pulse) (i last : ℕ) (y : Pulse) → slice_get ps i ≡ Some y → new ≡ xs ++ y ∷ [] → last ≤ y.rise → IsCopied ps i xs last
-    → IsCopied ps (i + 1) new y.rise
-copied_more ps xs new i last y here e least h =
+pub copied_more : (ps xs new : List Pulse) (i last end : ℕ) (y : Pulse) → slice_get ps i ≡ Some y → new ≡ xs ++ y ∷ [] → last ≤ y.rise → end ≤ y.fall
+    → IsCopied ps i xs last end → IsCopied ps (i + 1) new y.rise y.fall
+copied_more ps xs new i last end y here e least most h =
     let within = slice_get_within ps i y here in
     let more : take (i + 1) ps ≡ take i ps ++ y ∷ [] = take_more ps i y within ∙ ap (λ (p : Pulse). take i ps ++ p ∷ []) (get_or_from_slice_get ps i y y here) in
-    subst (λ (l : List Pulse). IsCopied ps (i + 1) l y.rise) (sym e) (record {
+    subst (λ (l : List Pulse). IsCopied ps (i + 1) l y.rise y.fall) (sym e) (record {
       all = ap (λ l. l ++ y ∷ []) h.all ∙ sym more;
       rising = IsNonDecreasingBy-push (λ (p : Pulse). p.rise) xs y h.rising (λ d some. let low = h.last_is d some in omega (arith, low, least));
+      falling = IsNonDecreasingBy-push (λ (p : Pulse). p.fall) xs y h.falling (λ d some. let low = h.end_is d some in omega (arith, low, most));
+      end_is = λ d some. let same : (get_or (xs ++ y ∷ []) (length (xs ++ y ∷ []) - 1) d).fall ≡ y.fall = ap (λ (p : Pulse). p.fall) (last_item xs y d) in omega (arith, same);
       last_is = λ d some. let same : (get_or (xs ++ y ∷ []) (length (xs ++ y ∷ []) - 1) d).rise ≡ y.rise = ap (λ (p : Pulse). p.rise) (last_item xs y d) in omega (arith, same);
     })
 
-pub copied_all : (ps xs : List Pulse) (i last : ℕ) → length ps ≤ i → IsCopied ps i xs last → xs ≡ ps
-copied_all ps xs i last past h = h.all ∙ take_all i ps past
+pub copied_all : (ps xs : List Pulse) (i last end : ℕ) → length ps ≤ i → IsCopied ps i xs last end → xs ≡ ps
+copied_all ps xs i last end past h = h.all ∙ take_all i ps past
 
 -- what is found of all that may stay
 pub stays_all : (o : OriginalView) (last : List Shown) (s : State) (now : List Shown) (r : Result Unit Fault) → now ≡ fine_frames s
-    → IsSafe s.format o.frames now → AreBorneBy o.frames o s → OnOk r (NoneIsSpoiled last now) → OnOk r (StaysAt o last s)
-stays_all o last s now (Ok u) e safe borne h = (
-  (subst (λ (l : List Shown). IsSafe s.format o.frames l) e safe, borne),
+    → IsSafe s.format o.frames now → AreBorneBy o.frames o s → StandBy o.frames o s → OnOk r (NoneIsSpoiled last now) → OnOk r (StaysAt o last s)
+stays_all o last s now (Ok u) e safe borne stand h = (
+  (subst (λ (l : List Shown). IsSafe s.format o.frames l) e safe, borne, stand),
   subst (λ (l : List Shown). NoneIsSpoiled last l) e h,
 )
-stays_all o last s now (Err why) e safe borne h = tt
+stays_all o last s now (Err why) e safe borne stand h = tt
 
 pub spoiled_all : (o : OriginalView) (last : List Shown) (s : State) (now : List Shown) (r : Result Unit Fault) → now ≡ fine_frames s
     → OnErr r (NoneIsSpoiled last now → ⊥) → OnErr r (StaysAt o last s → ⊥)
@@ -281,11 +292,11 @@ spoiled_all o last s now (Ok u) e h = tt
 spoiled_all o last s now (Err why) e h = λ k. h (subst (λ (l : List Shown). NoneIsSpoiled last l) (sym e) k.1)
 
 pub spoiled_fault : (o : OriginalView) (last : List Shown) (s : State) (now : List Shown) (r : Result Unit Fault) → now ≡ fine_frames s
-    → IsSafe s.format o.frames now → AreBorneBy o.frames o s → IfErr r (IsSpoiledBy last now) → IfErr r (HasFaultAt o last s)
-spoiled_fault o last s now (Ok u) e safe borne h = tt
-spoiled_fault o last s now (Err why) e safe borne h = inr (
+    → IsSafe s.format o.frames now → AreBorneBy o.frames o s → StandBy o.frames o s → IfErr r (IsSpoiledBy last now) → IfErr r (HasFaultAt o last s)
+spoiled_fault o last s now (Ok u) e safe borne stand h = tt
+spoiled_fault o last s now (Err why) e safe borne stand h = inr (
   subst (λ (l : List Shown). IsSafe s.format o.frames l) e safe,
-  inr (borne, subst (λ (l : List Shown). IsSpoiledBy last l why) e h),
+  inr (borne, inr (stand, subst (λ (l : List Shown). IsSpoiledBy last l why) e h)),
 )
 
 pub unsafe_fault : (o : OriginalView) (last : List Shown) (s : State) (now : List Shown) (why : Fault) → now ≡ fine_frames s
@@ -299,6 +310,10 @@ unsafe_so o last s now e h k = h (subst (λ (l : List Shown). IsSafe s.format o.
 pub unborne_fault_of : (o : OriginalView) (last : List Shown) (s : State) (now : List Shown) (why : Fault) → now ≡ fine_frames s
     → IsSafe s.format o.frames now → IsUnborneBy o.frames o s why → HasFaultAt o last s why
 unborne_fault_of o last s now why e safe h = inr (subst (λ (l : List Shown). IsSafe s.format o.frames l) e safe, inl h)
+
+pub stray_fault_of : (o : OriginalView) (last : List Shown) (s : State) (now : List Shown) (why : Fault) → now ≡ fine_frames s
+    → IsSafe s.format o.frames now → AreBorneBy o.frames o s → StrayBy o.frames o s why → HasFaultAt o last s why
+stray_fault_of o last s now why e safe borne h = inr (subst (λ (l : List Shown). IsSafe s.format o.frames l) e safe, inr (borne, inl h))
 
 -- where the frames are, if they may move and if not
 rest_located : (o : OriginalView) (xs now : List Shown) → o.moved ≡ false → xs ≡ located o.moved xs now

@@ -19,7 +19,7 @@ use Rattle.irig_guarding.specs.Reasons.{head_lines, reason_line}
 use Rattle.irig_safety.specs.{Moved.located, Original.with_frames}
 use Rattle.irig_safety.proofs.MovedLemmas.{located_self}
 use Rattle.irig_safety.specs.{Original.OriginalView, Safety.IsSafe, Safety.IsSafeFrom, Safety.NoneIsSpoiled, declared.shown.Shown.Shown}
-use Rattle.irig_guarding.proofs.{AgainLemmas.obeyed_again, ControlLemmas.borne_self, ReasonLemmas.head_remarks, ReasonLemmas.reason_remark, RepairLemmas.obeyed_then}
+use Rattle.irig_guarding.proofs.{AgainLemmas.obeyed_again, ControlLemmas.borne_self, PulseLemmas.stand_self, ReasonLemmas.head_remarks, ReasonLemmas.reason_remark, RepairLemmas.obeyed_then}
 
 pub on_ok : {V E : Type 0} {P Q : Type 0} (r : Result V E) → OnOk r P → (P → Q) → OnOk r Q
 on_ok (Ok v) p f = f p
@@ -124,7 +124,7 @@ safe_whole f (x ∷ xs) = safe_self f None None (x ∷ xs)
 safe_by_self : (moved : Bool) (s : State) → IsSafeBy (original_of moved s) s
 safe_by_self moved s =
     subst (λ (l : List Shown). IsSafeAt (with_frames l (original_of moved s)) s) (sym (located_self moved (fine_frames s)))
-    (safe_whole s.format (fine_frames s), borne_self moved s)
+    (safe_whole s.format (fine_frames s), borne_self moved s, stand_self moved s)
 
 -- the run of the script that is printed
 not_quit : (c : Command) → IsPrinted c → c ≢ command.Quit

@@ -1,9 +1,11 @@
 pub mod AgainLemmas
+pub mod AnchorLemmas
 pub mod ControlLemmas
 pub mod DropLemmas
 pub mod GuardLemmas
 pub mod PaddedLemmas
 pub mod PrintedLemmas
+pub mod PulseLemmas
 pub mod ReasonLemmas
 pub mod RepairLemmas
 pub mod RisingFrames

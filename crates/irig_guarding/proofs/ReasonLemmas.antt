@@ -12,7 +12,7 @@ use Rattle.irig_script.specs.{Obey.Run.IsPlain, Obey.Run.unlines, Print.FrameLin
 use Rattle.irig_guarding.specs.{Guarded.IsRemark, Reasons.fault_text, Reasons.frame_text, Reasons.head_lines, Reasons.reason_line, Reasons.reason_text, Reasons.refusal_name}
 use Rattle.irig_guarding.specs.declared.reason.Reason.{Reason}
 use Rattle.irig_guarding.specs.declared.reason.Reason.TheVariants.{NoRepair, NotSafe, OutOfMemory, Refused}
-use Rattle.irig_safety.specs.declared.fault.Fault.TheVariants.{Alone, Changed, Lost, Unrecorded, Unsupported}
+use Rattle.irig_safety.specs.declared.fault.Fault.TheVariants.{Alone, Changed, Lost, Misplaced, Moved, Unrecorded, Unsupported}
 use Rattle.irig_safety.specs.{declared.fault.Fault.Fault, declared.shown.Shown.Shown}
 
 -- a front after a number sign is a remark
@@ -113,6 +113,8 @@ fits_fault : (why : Fault) → Fits 600 (fault_text why)
 fits_fault (Lost x) = both 500 100 _ _ (fits_frame x) (record { plain = refl; few = omega arith })
 fits_fault (Changed x) = both 500 100 _ _ (fits_frame x) (record { plain = refl; few = omega arith })
 fits_fault (Unsupported x) = both 500 100 _ _ (fits_frame x) (record { plain = refl; few = omega arith })
+fits_fault (Misplaced x) = both 500 100 _ _ (fits_frame x) (record { plain = refl; few = omega arith })
+fits_fault (Moved x) = both 500 100 _ _ (fits_frame x) (record { plain = refl; few = omega arith })
 fits_fault (Unrecorded x) = both 500 100 _ _ (fits_frame x) (record { plain = refl; few = omega arith })
 fits_fault Alone = record { plain = refl; few = omega arith }
 

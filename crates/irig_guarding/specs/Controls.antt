@@ -9,7 +9,7 @@ use Rattle.irig_safety.specs.{Moved.located, Safety.IsSafe, Safety.behind, decla
 use Rattle.irig_safety.specs.declared.fault.Fault.TheVariants.{Lost, Unrecorded}
 use Rattle.irig_safety.specs.declared.shown.Shown.{Shown}
 use Rattle.irig_safety.specs.declared.witnesses.Witnesses.{Witnesses}
-use Rattle.irig_guarding.specs.{Reading.fine_frames, Reading.seen_frames}
+use Rattle.irig_guarding.specs.{Pulses.StandBy, Reading.fine_frames, Reading.seen_frames}
 use Rattle.irig_guarding.specs.declared.seen.Seen.{Seen}
 
 -- the control functions of a frame are borne out, next to these frames of the recording
@@ -76,10 +76,11 @@ abbrev pub IsUnborneBy : List Shown → OriginalView → State → Fault → Typ
 IsUnborneBy [] o s why = ⊥
 IsUnborneBy (x ∷ frames) o s why = IsUnborneFrom o s None None (x ∷ frames) (seen_frames s) why
 
--- the frames of a state are safe by those of the recording at some places: their times, and their
--- control functions
+-- the frames of a state are safe by those of the recording at some places: their times, their
+-- control functions, and their pulses
 abbrev pub IsSafeAt : OriginalView → State → Type 0
 IsSafeAt o s = IsSafe s.format o.frames (fine_frames s) × AreBorneBy o.frames o s
+    × StandBy o.frames o s
 
 -- the recording, its frames where they are in a state if they may move
 abbrev pub located_by : OriginalView → State → OriginalView

@@ -2,6 +2,7 @@ pub mod Controls
 pub mod Guarded
 pub mod GuardedRun
 pub mod Meaning
+pub mod Pulses
 pub mod Reading
 pub mod Reasons
 pub mod Repair

@@ -1,5 +1,5 @@
 -- The frames that read well, and what is known of a recording by them. This project's own.
-use Rattle.std.specs.Prelude.{ℕ, Bool, List, [], ◌∷◌, get_or}
+use Rattle.std.specs.Prelude.{ℕ, Bool, List, [], ◌∷◌, get_or, map}
 use Rattle.std.specs.List.{flat_map}
 use Rattle.irig_codes.specs.declared.note.Note.TheVariants.{Fine}
 use Rattle.irig_recording.specs.declared.pulse.Pulse.{Pulse}
@@ -39,4 +39,9 @@ seen_frames s = flat_map (seen_by s.pulses) (frames_of s)
 
 -- what is known of a recording that was opened as a state, and whether its frames may move
 abbrev pub original_of : Bool → State → OriginalView
-original_of moved s = record { frames = fine_frames s; pulses = s.pulses; moved = moved }
+original_of moved s = record {
+  frames = fine_frames s;
+  markers = map (λ y. y.marker) (seen_frames s);
+  pulses = s.pulses;
+  moved = moved;
+}

@@ -6,8 +6,8 @@ use Rattle.irig_guarding.specs.declared.reason.Reason.{Reason}
 use Rattle.irig_guarding.specs.declared.reason.Reason.TheVariants.{NoRepair, NotSafe, OutOfMemory}
 use Rattle.irig_guarding.specs.declared.reason.Reason.TheVariants.{Refused}
 use Rattle.irig_safety.specs.declared.fault.Fault.{Fault}
-use Rattle.irig_safety.specs.declared.fault.Fault.TheVariants.{Alone, Changed, Lost, Unrecorded}
-use Rattle.irig_safety.specs.declared.fault.Fault.TheVariants.{Unsupported}
+use Rattle.irig_safety.specs.declared.fault.Fault.TheVariants.{Alone, Changed, Lost, Misplaced, Moved}
+use Rattle.irig_safety.specs.declared.fault.Fault.TheVariants.{Unrecorded, Unsupported}
 use Rattle.irig_safety.specs.declared.shown.Shown.{Shown}
 
 -- number and name of a refusal: what the editor answers, without the mark before them and the
@@ -26,6 +26,9 @@ fault_text (Changed x) = frame_text x ++ codes " would change"
 fault_text (Unsupported x) = frame_text x ++ codes " would have a time that is not supported"
 fault_text (Unrecorded x) =
     frame_text x ++ codes " would have control functions that are not supported"
+fault_text (Moved x) = frame_text x ++ codes ": its pulses would move"
+fault_text (Misplaced x) =
+    frame_text x ++ codes ": its pulses would rise where nothing supports it"
 fault_text Alone = codes "fine frames would not support each other"
 
 -- why a repair is not kept

@@ -16,6 +16,7 @@ use Rattle.irig_guarding.specs.Repair.{Agrees, Asks, IsRepair, ObeyedAll}
 use Rattle.irig_guarding.specs.declared.reason.Reason.TheVariants.{NoRepair, NotSafe, OutOfMemory}
 use Rattle.irig_guarding.specs.declared.reason.Reason.TheVariants.{Refused}
 use Rattle.irig_guarding.specs.Controls.{AreBorneBy, IsSafeAt, IsUnborneBy, located_by}
+use Rattle.irig_guarding.specs.Pulses.{StandBy, StrayBy}
 use Rattle.irig_guarding.specs.Reading.{fine_frames, original_of}
 use Rattle.irig_guarding.specs.Reasons.{head_lines, reason_line}
 use Rattle.irig_guarding.specs.declared.reason.Reason.{Reason}
@@ -81,13 +82,14 @@ MayStay opened last s =
     StaysAt (located_by opened s) (located opened.moved last (fine_frames s)) s
 
 -- the first fault of frames whose times are not safe by those of the recording; or that are, but
--- whose control functions are not; or both are, but of those that read well before the repair some
--- are spoiled
+-- whose control functions are not; or both are, but their pulses are not; or all are, but of those
+-- that read well before the repair some are spoiled
 abbrev pub HasFaultAt : OriginalView → List Shown → State → Fault → Type 0
 HasFaultAt opened last s why =
     IsFault s.format opened.frames (fine_frames s) why
     ⊎ (IsSafe s.format opened.frames (fine_frames s) × (IsUnborneBy opened.frames opened s why
-    ⊎ (AreBorneBy opened.frames opened s × IsSpoiledBy last (fine_frames s) why)))
+    ⊎ (AreBorneBy opened.frames opened s × (StrayBy opened.frames opened s why
+    ⊎ (StandBy opened.frames opened s × IsSpoiledBy last (fine_frames s) why)))))
 
 -- so by the places where all these are, if they may move
 abbrev pub HasFault : OriginalView → List Shown → State → Fault → Type 0

@@ -147,7 +147,7 @@ fn is_recorded(session: &Session, opened: &Original, pulse: Option<Pulse>) -> bo
 }
 
 /// The pulse of an element of a frame, if there is one.
-fn pulse_at(session: &Session, marker: usize, element: usize) -> Option<Pulse>
+pub fn pulse_at(session: &Session, marker: usize, element: usize) -> Option<Pulse>
     ensures { result ≡ slice_get session.now.state.pulses (marker + element) }
 {
     if marker < session.len() && element < session.len() - marker {

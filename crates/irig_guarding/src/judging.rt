@@ -3,10 +3,12 @@
 ghost use Rattle.std.specs.Prelude.{◌≡◌, IfErr, OnErr, OnOk, false, true};
 ghost use Rattle.irig_safety.specs.Original.{with_frames};
 ghost use Rattle.irig_guarding.specs.Controls.{AreBorneBy, IsUnborneBy};
+ghost use Rattle.irig_guarding.specs.Pulses.{StandBy, StrayBy};
 ghost use Rattle.irig_guarding.specs.Trials.{HasFaultAt, MayStay, StaysAt, Sways};
 ghost use Rattle.irig_guarding.specs.{Reading.fine_frames, Reading.seen_frames};
 
 use crate::controls::check_controls;
+use crate::pulses::{check_rooted, check_stand};
 use crate::reading::fine_frames;
 use crate::reason::Reason;
 use crate::seen::{Seen, seen_frames};
@@ -117,6 +119,9 @@ fn check_frames(
     if let Err(why) = check_borne(session, opened, old, seen) {
         return Err(why);
     }
+    if let Err(why) = check_pulses(session, opened, old, seen) {
+        return Err(why);
+    }
     check_unspoiled(last, now)
 }
 
@@ -139,4 +144,25 @@ fn check_borne(
         return Ok(());
     }
     check_controls(session, opened, old, seen)
+}
+
+/// Whether the pulses of the frames stand, or if no frame of the recording reads well are rooted.
+fn check_pulses(
+    session: &Session,
+    opened: &Original,
+    old: &[Shown],
+    seen: &[Seen],
+) -> Result<(), Fault>
+    requires { seen.now ≡ seen_frames session.now.state }
+    ensures stand { OnOk result (StandBy old.now (with_frames old.now opened.now)
+        session.now.state) }
+    ensures stray { OnErr result (StandBy old.now (with_frames old.now opened.now)
+        session.now.state → ⊥) }
+    ensures fault { IfErr result (StrayBy old.now (with_frames old.now opened.now)
+        session.now.state) }
+{
+    if old.is_empty() {
+        return check_rooted(session, opened, seen);
+    }
+    check_stand(session, opened, old, seen)
 }

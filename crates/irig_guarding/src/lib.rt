@@ -1,6 +1,7 @@
 //! A guard for proposed repairs: a repair is kept only if it is safe.
 #![tactic(auto)]
 
+mod anchors;
 mod commands;
 mod controls;
 mod frame_text;
@@ -14,6 +15,7 @@ mod opening;
 mod output;
 mod printing;
 mod product;
+mod pulses;
 mod reading;
 mod reason;
 mod reason_text;

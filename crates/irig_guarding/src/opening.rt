@@ -1,11 +1,12 @@
 //! What is known of a recording as it was opened.
 
-ghost use Rattle.std.specs.Prelude.{◌≡◌, IfOk};
+ghost use Rattle.std.specs.Prelude.{◌≡◌, IfOk, map};
 ghost use Rattle.std.specs.List.Sorted.{IsNonDecreasingBy};
 ghost use Rattle.irig_recording.specs.declared.pulse.Pulse.{Pulse as SomePulse};
 ghost use Rattle.irig_guarding.specs.Reading.{original_of};
 
 use crate::reading::fine_frames;
+use crate::seen::{Seen, seen_frames};
 use irig_edit::{Pulse, Session};
 use irig_safety::Original;
 use std::alloc::{AllocError, Global};
@@ -16,8 +17,21 @@ pub fn original_of(alloc: Global, session: &Session, moved: bool) -> Result<Orig
     ensures { IfOk result (λ opened. opened ≡ original_of moved session.now.state) }
 {
     let frames = fine_frames(alloc, session)?;
+    let seen = seen_frames(alloc, session)?;
+    let markers = markers_of(alloc, seen.as_slice())?;
     let pulses = pulses_of(alloc, session)?;
-    Ok(Original::new(frames, pulses, moved))
+    Ok(Original::new(frames, markers, pulses, moved))
+}
+
+/// The markers of frames.
+fn markers_of(alloc: Global, frames: &[Seen]) -> Result<Vec<usize>, AllocError>
+    ensures { IfOk result (λ markers. markers.items ≡ map (λ y. y.marker) frames.now) }
+{
+    let mut markers = Vec::new(alloc);
+    for frame in frames {
+        markers.push(frame.marker)?;
+    }
+    Ok(markers)
 }
 
 /// The pulses of a session.
@@ -25,16 +39,21 @@ fn pulses_of(alloc: Global, session: &Session) -> Result<Vec<Pulse>, AllocError>
     ensures all { IfOk result (λ pulses. pulses.items ≡ session.now.state.pulses) }
     ensures rising { IfOk result (λ pulses.
         IsNonDecreasingBy (λ (p : SomePulse). p.rise) pulses.items) }
+    ensures falling { IfOk result (λ pulses.
+        IsNonDecreasingBy (λ (p : SomePulse). p.fall) pulses.items) }
 {
     let mut pulses = Vec::new(alloc);
-    let mut last = 0;
+    let (mut last, mut end) = (0, 0);
     for index in 0..session.len() {
         let pulse = session.pulse(index + 1);
         if pulse.rise < last {
             // Never: the pulses of a session rise, but no clause of it says so.
             return Err(AllocError);
         }
-        last = pulse.rise;
+        if pulse.fall < end {
+            return Err(AllocError);
+        }
+        (last, end) = (pulse.rise, pulse.fall);
         pulses.push(pulse)?;
     }
     Ok(pulses)

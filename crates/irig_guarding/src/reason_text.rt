@@ -47,6 +47,12 @@ fn put_fault(out: &mut Vec<u8>, fault: Fault) -> Result<(), AllocError>
             &frame,
             b" would have control functions that are not supported",
         ),
+        Fault::Moved(frame) => put_what(out, &frame, b": its pulses would move"),
+        Fault::Misplaced(frame) => put_what(
+            out,
+            &frame,
+            b": its pulses would rise where nothing supports it",
+        ),
         Fault::Alone => out.extend_from_slice(b"fine frames would not support each other"),
     }
 }

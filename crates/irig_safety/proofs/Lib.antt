@@ -4,4 +4,5 @@ pub mod SafetyLemmas
 pub mod MeaningLemmas
 pub mod MovedLemmas
 pub mod RecordedLemmas
+pub mod RiseLemmas
 pub mod WorkedValues

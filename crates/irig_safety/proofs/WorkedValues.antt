@@ -1,11 +1,14 @@
 -- Worked values of what bears out a frame, in format B with expression 4 (a period of 1 s, an interval of 10 ms).
-use Rattle.std.proofs.Common.{◌≡◌, ◌^◌, ℕ, true, false, List, None, Some, ap, arith, map, refl}
+use Rattle.std.proofs.Common.{◌≡◌, ◌-◌, ◌^◌, ℕ, true, false, List, [], ◌∷◌, None, Some, ap, arith, map, refl}
 use Rattle.std.specs.Prelude.{unwrap_or}
 use Rattle.std.specs.List.{range_with_len}
 use Rattle.irig_codes.specs.{Format.FormatView, Format.control_count_of, declared.fields.Fields.Fields, declared.format.Kind.Kind}
 use Rattle.irig_codes.specs.{Layout.control, Layout.rows_of, declared.format.Kind.TheVariants.A, declared.format.Kind.TheVariants.B}
 use Rattle.irig_codes.specs.declared.format.Kind.TheVariants.{E, G}
 use Rattle.irig_safety.specs.Bearing.{clock_of, is_far, is_later, leads, periods, shows_clock, slack, stray}
+use Rattle.irig_recording.specs.declared.pulse.Pulse.{Pulse}
+use Rattle.irig_safety.specs.{Anchors.is_anchor, Lines.is_between, Lines.is_nominal, Rises.rise_in, declared.lines.Anchor.Anchor}
+use Rattle.irig_safety.specs.Witnesses.{is_doubted, is_led}
 use Rattle.irig_safety.specs.Mended.{HasControlOfBoth, with_control}
 use Rattle.irig_safety.specs.{Controls.function_element, Witnesses.is_borne, declared.shown.Shown.Shown}
 
@@ -186,3 +189,54 @@ g_functions_with_year = refl
 
 weights_double : map (λ r. r.weight) (rows_of (format E 1) control) ≡ map (λ k. 2 ^ k) (range_with_len 0 45)
 weights_double = refl
+
+-- a tenth of an interval beside the middle of 20 elements, and a microsecond more
+abbrev anchor : ℕ → ℕ → Anchor
+anchor steps rise = record { steps = steps; rise = rise }
+
+on_line : is_between b4 (anchor 10 5000000) 5101000 (anchor 10 5200000) ≡ true
+on_line = refl
+
+beside_line : is_between b4 (anchor 10 5000000) 5101001 (anchor 10 5200000) ≡ false
+beside_line = refl
+
+-- at the nominal interval to a tenth of it and a thousandth: 100 elements of 10 ms
+nominal : is_nominal b4 100 1002002 ≡ true
+nominal = refl
+
+not_nominal : is_nominal b4 100 1002003 ≡ false
+not_nominal = refl
+
+-- a pulse that rises when one does, a gap that was turned over, and neither
+abbrev pulse : ℕ → ℕ → Pulse
+pulse rise fall = record { rise = rise; fall = fall }
+
+abbrev recorded : List Pulse
+recorded = pulse 100 300 ∷ pulse 1100 1600 ∷ []
+
+rises_there : is_anchor recorded (Some (pulse 1100 1300)) ≡ true
+rises_there = refl
+
+is_gap : is_anchor recorded (Some (pulse 300 1100)) ≡ true
+is_gap = refl
+
+falls_there : is_anchor recorded (Some (pulse 300 500)) ≡ false
+falls_there = refl
+
+-- the second element of a frame rises 1000 microseconds after its marker
+rise_of_second : rise_in recorded 0 1 - rise_in recorded 0 0 ≡ 1000
+rise_of_second = refl
+
+-- between 12:34:55 at 5 s and 12:34:58 at 7.9994 s a frame may stray by 5.6 ms; and it is led
+led : is_led b4 (Some before) (Some after) (at 6005600 (time 24 138 12 34 56)) ≡ true
+led = refl
+
+not_led : is_led b4 (Some before) (Some after) (at 6005601 (time 24 138 12 34 56)) ≡ false
+not_led = refl
+
+-- a frame of day 139 between them is not believed
+other_day : is_doubted b4 (Some before) (Some (at 7000000 (time 24 139 12 34 57))) (Some after) ≡ true
+other_day = refl
+
+not_believed : is_borne b4 None (Some before) (Some (at 7000000 (time 24 139 12 34 57))) (Some after) (at 6000000 (time 24 138 12 34 56)) ≡ true
+not_believed = refl

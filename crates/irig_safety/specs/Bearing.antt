@@ -23,18 +23,19 @@ is_near_year (Some a) (Some b) = (a == b) || ((a + 1) % 100 == b)
 abbrev pub year_of : Bool → ℕ
 year_of is_long = if is_long then 3162240000 else 3153600000
 
+-- how many hundredths of a second an inserted second 60 adds before the second frame
+abbrev pub inserted_of : Fields → Fields → ℕ
+inserted_of g h = if (g.seconds == 60) && not (h.seconds == 60) then 100 else 0
+
 -- by how many hundredths of a second the year of the second fields begins after that of the first.
 -- If the years are not known, time that goes back goes into the next year, after 366 days if the
 -- first are of day 366
 abbrev pub turn_of : Option ℕ → Option ℕ → Fields → Fields → ℕ
-turn_of None None g h = if nat_lt (clock_of h) (clock_of g) then year_of (g.days == 366) else 0
+turn_of None None g h =
+    if nat_lt (clock_of h + inserted_of g h) (clock_of g) then year_of (g.days == 366) else 0
 turn_of None (Some b) g h = 0
 turn_of (Some a) None g h = 0
 turn_of (Some a) (Some b) g h = if (a + 1) % 100 == b then year_of (a % 4 == 0) else 0
-
--- how many hundredths of a second an inserted second 60 adds before the second frame
-abbrev pub inserted_of : Fields → Fields → ℕ
-inserted_of g h = if (g.seconds == 60) && not (h.seconds == 60) then 100 else 0
 
 -- the time of the second frame, on the clock of the year of the first
 abbrev pub clock_after : Shown → Shown → ℕ
@@ -46,11 +47,18 @@ clock_after a b =
 abbrev pub periods : FormatView → Shown → Shown → ℕ
 periods f a b = (clock_after a b - clock_of a.fields) / period_of f
 
+-- the first time is in second 60 of a minute, and the second in that minute before it
+abbrev pub goes_back : Fields → Fields → Bool
+goes_back g h =
+    (g.seconds == 60) && not (h.seconds == 60) && (g.days == h.days) && (g.hours == h.hours)
+    && (g.minutes == h.minutes)
+
 -- the second time is whole frame periods after the first, one at least, and no later than in the
 -- next year
 abbrev pub is_later : FormatView → Shown → Shown → Bool
 is_later f a b =
-    nat_lt (clock_of a.fields) (clock_after a b)
+    not (goes_back a.fields b.fields)
+    && nat_lt (clock_of a.fields) (clock_after a b)
     && is_near_year a.fields.year b.fields.year
     && (clock_of a.fields + periods f a b * period_of f == clock_after a b)
 
@@ -88,6 +96,11 @@ leads f a b = is_later f a b && not (is_far f a b) && nat_le (2000 * stray f a b
 abbrev pub allows : FormatView → Shown → Shown → Bool
 allows f a b = is_far f a b || is_shown f a b
 
+-- the frames are near enough for their distance to say how many frame periods it is, and their times
+-- are as many apart
+abbrev pub agrees : FormatView → Shown → Shown → Bool
+agrees f a b = not (is_far f a b) && is_shown f a b
+
 -- the frames agree, and so show by how much the clock is off: by a fortieth at most
 abbrev pub shows_clock : FormatView → Shown → Shown → Bool
 shows_clock f p q =
@@ -105,3 +118,9 @@ is_in_time f p q x y =
 -- so on the clock that p and q show
 abbrev pub is_by_clock : FormatView → Shown → Shown → Shown → Shown → Bool
 is_by_clock f p q x y = shows_clock f p q && is_in_time f p q x y
+
+-- two frames stray by no more than half an interval more than two others do from each other, or those
+-- do not agree
+abbrev pub is_within : FormatView → Shown → Shown → Shown → Shown → Bool
+is_within f p q x y =
+    not (is_shown f p q) || nat_le (2 * stray f x y) (interval_of f.kind + 2 * stray f p q)

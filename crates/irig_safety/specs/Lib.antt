@@ -1,9 +1,12 @@
+pub mod Anchors
 pub mod Bearing
 pub mod Controls
 pub mod Faults
+pub mod Lines
 pub mod Meaning
 pub mod Mended
 pub mod Moved
 pub mod Original
+pub mod Rises
 pub mod Safety
 pub mod Witnesses

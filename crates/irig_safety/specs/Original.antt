@@ -6,9 +6,11 @@ use Rattle.irig_recording.specs.declared.pulse.Pulse.{Pulse}
 use Rattle.irig_safety.specs.{Bearing.apart, Safety.behind, declared.shown.Shown.Shown}
 use Rattle.irig_safety.specs.declared.witnesses.Witnesses.{Witnesses}
 
--- the frames that read well, all pulses, and whether frames may move
+-- the frames that read well, the places of their markers among the pulses, all pulses, and whether
+-- frames may move
 pub record OriginalView : Type 0 where
   pub frames : List Shown
+  pub markers : List ℕ
   pub pulses : List Pulse
   pub moved : Bool
 

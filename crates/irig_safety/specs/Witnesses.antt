@@ -1,18 +1,20 @@
 -- When the frames next to a frame bear out its time. This project's own.
-use Rattle.std.specs.Prelude.{◌&&◌, ◌||◌, Bool, true, false, nat_le, is_some, Option, Some, None}
+use Rattle.std.specs.Prelude.{◌&&◌, ◌||◌, Bool, true, false, not, nat_le, is_some, Option, Some, None}
+use Rattle.std.specs.Prelude.{if◌then◌else◌}
 use Rattle.irig_codes.specs.Format.{FormatView}
-use Rattle.irig_safety.specs.Bearing.{allows, is_by_clock, leads}
-use Rattle.irig_safety.specs.declared.shown.Shown.{Shown}
+use Rattle.irig_safety.specs.Bearing.{allows, is_by_clock, is_within, leads}
+use Rattle.irig_safety.specs.{declared.shown.Shown.Shown, declared.witnesses.Witnesses.Witnesses}
+
+-- the frame before it leads to a frame, or it leads to the one after it. If both are there and agree,
+-- they stray no more from it than from each other, but for half an interval
+abbrev pub is_led : FormatView → Option Shown → Option Shown → Shown → Bool
+is_led f None None y = false
+is_led f (Some a) None y = leads f a y
+is_led f None (Some b) y = leads f y b
+is_led f (Some a) (Some b) y =
+    (leads f a y && is_within f a b a y) || (leads f y b && is_within f a b y b)
 
 -- a frame and one that may be there, before it or after it
-abbrev pub leads_from : FormatView → Option Shown → Shown → Bool
-leads_from f None y = false
-leads_from f (Some a) y = leads f a y
-
-abbrev pub leads_to : FormatView → Shown → Option Shown → Bool
-leads_to f y None = false
-leads_to f y (Some b) = leads f y b
-
 abbrev pub allows_from : FormatView → Option Shown → Shown → Bool
 allows_from f None y = true
 allows_from f (Some a) y = allows f a y
@@ -46,8 +48,37 @@ may_stand a b y = nat_le y.fields.seconds 59 || (is_some a && is_some b)
 
 -- of the two frames before it and the two after it one leads to it, or it is in time by their
 -- clock; and the nearest on both sides do not contradict it
+abbrev pub bears : FormatView → Witnesses → Shown → Bool
+bears f w y =
+    (is_led f w.before w.after y || is_timed f w.before2 w.before w.after w.after2 y)
+    && (allows_from f w.before y && allows_to f y w.after) && may_stand w.before w.after y
+
+-- a frame is contradicted by both others, which do not contradict each other
+abbrev pub is_doubted : FormatView → Option Shown → Option Shown → Option Shown → Bool
+is_doubted f (Some a) (Some b) (Some c) =
+    not (allows f a b) && not (allows f b c) && allows f a c
+is_doubted f a b c = false
+
+-- nothing is on one side, and the two on the other contradict each other
+abbrev pub is_disputed : FormatView → Option Shown → Option Shown → Option Shown → Bool
+is_disputed f None (Some p) (Some q) = not (allows f p q)
+is_disputed f x p q = false
+
+-- these are next to a place
+abbrev pub witnesses : Option Shown → Option Shown → Option Shown → Option Shown → Witnesses
+witnesses a2 a b b2 = record { before2 = a2; before = a; after = b; after2 = b2 }
+
+-- but for the one before it or the one after it, if that is contradicted by both next to it; and none
+-- of two on one side, if they contradict each other and the other has none
+abbrev pub believed : FormatView → Option Shown → Option Shown → Option Shown → Option Shown
+    → Witnesses
+believed f a2 a b b2 =
+    if is_doubted f a b b2 && not (is_doubted f a2 a b) then witnesses a2 a b2 None
+    else if is_doubted f a2 a b && not (is_doubted f a b b2) then witnesses None a2 b b2
+    else if is_disputed f a b b2 || is_disputed f b a2 a then witnesses None None None None
+    else witnesses a2 a b b2
+
+-- those that are believed bear it out
 abbrev pub is_borne : FormatView → Option Shown → Option Shown → Option Shown → Option Shown
     → Shown → Bool
-is_borne f a2 a b b2 y =
-    (leads_from f a y || leads_to f y b || is_timed f a2 a b b2 y)
-    && (allows_from f a y && allows_to f y b) && may_stand a b y
+is_borne f a2 a b b2 y = bears f (believed f a2 a b b2) y

@@ -1,10 +1,11 @@
 //! How the times and the rises of two frames go together.
 
 ghost use Rattle.std.specs.Prelude.{◌≡◌, ◌+◌, ◌*◌, ◌%◌, ◌==◌, ◌^◌, ◌<◌};
-ghost use Rattle.irig_safety.specs.Bearing.{allows, apart, clock_after, clock_of, distance};
+ghost use Rattle.irig_safety.specs.Bearing.{agrees, allows, apart, clock_after, clock_of};
+ghost use Rattle.irig_safety.specs.Bearing.{distance, goes_back};
 ghost use Rattle.irig_safety.specs.Bearing.{inserted_of, is_by_clock, is_far, is_in_time, is_later};
 ghost use Rattle.irig_safety.specs.Bearing.{is_near_year, is_shown, leads, periods, shows_clock};
-ghost use Rattle.irig_safety.specs.Bearing.{slack, stray, turn_of, year_of};
+ghost use Rattle.irig_safety.specs.Bearing.{is_within, slack, stray, turn_of, year_of};
 ghost use Rattle.irig_moment.specs.Generated.{period_of};
 
 use crate::shown::Shown;
@@ -75,7 +76,7 @@ fn turn(one: &Fields, other: &Fields) -> u128
             }
         }
         (None, None) => {
-            if clock(other) < clock(one) {
+            if clock(other) + inserted(one, other) < clock(one) {
                 year(one.days == 366)
             } else {
                 0
@@ -106,12 +107,23 @@ fn clock_after(one: &Shown, other: &Shown) -> u128
 }
 
 /// How many frame periods lie between the times of two frames.
-fn periods(format: Format, one: &Shown, other: &Shown) -> u128
+pub fn periods(format: Format, one: &Shown, other: &Shown) -> u128
     ensures value { result ≡ periods format one.now other.now }
     ensures small { result < 2 ^ 61 }
 {
     let period = period(format);
     clock_after(one, other).saturating_sub(clock(&one.fields)) / period
+}
+
+/// Whether a time is in second 60 of a minute, and another in that minute before it.
+fn goes_back(one: &Fields, other: &Fields) -> bool
+    ensures { result ≡ goes_back one.now other.now }
+{
+    one.seconds == 60
+        && other.seconds != 60
+        && one.days == other.days
+        && one.hours == other.hours
+        && one.minutes == other.minutes
 }
 
 /// Whether a frame says a time that is whole frame periods after that of another, no later than in
@@ -120,13 +132,14 @@ fn is_later(format: Format, one: &Shown, other: &Shown) -> bool
     ensures { result ≡ is_later format one.now other.now }
 {
     let (from, to) = (clock(&one.fields), clock_after(one, other));
-    from < to
+    !goes_back(&one.fields, &other.fields)
+        && from < to
         && is_near_year(one.fields.year, other.fields.year)
         && from + periods(format, one, other) * period(format) == to
 }
 
 /// How many microseconds after a frame another begins.
-fn distance(one: &Shown, other: &Shown) -> u128
+pub fn distance(one: &Shown, other: &Shown) -> u128
     ensures value { result ≡ distance one.now other.now }
     ensures small { result < 2 ^ 64 }
 {
@@ -134,7 +147,7 @@ fn distance(one: &Shown, other: &Shown) -> u128
 }
 
 /// How far two numbers are apart.
-fn apart(one: u128, other: u128) -> u128
+pub fn apart(one: u128, other: u128) -> u128
     ensures value { result ≡ apart one other }
     ensures within { (one < 2 ^ 125) → (other < 2 ^ 125) → result < 2 ^ 125 }
 {
@@ -164,14 +177,14 @@ fn slack(format: Format, one: &Shown, other: &Shown) -> u128
 
 /// Whether two frames are so far from each other that their distance does not say how many frame
 /// periods it is.
-fn is_far(format: Format, one: &Shown, other: &Shown) -> bool
+pub fn is_far(format: Format, one: &Shown, other: &Shown) -> bool
     ensures { result ≡ is_far format one.now other.now }
 {
     1_000 * u128::from(format.frame_period()) <= slack(format, one, other)
 }
 
 /// Whether the distance of two frames shows as many frame periods as their times.
-fn is_shown(format: Format, one: &Shown, other: &Shown) -> bool
+pub fn is_shown(format: Format, one: &Shown, other: &Shown) -> bool
     ensures { result ≡ is_shown format one.now other.now }
 {
     is_later(format, one, other)
@@ -195,8 +208,16 @@ pub fn allows(format: Format, one: &Shown, other: &Shown) -> bool
     is_far(format, one, other) || is_shown(format, one, other)
 }
 
+/// Whether two frames are near enough for their distance to say how many frame periods it is, and
+/// their times are as many apart.
+pub fn agrees(format: Format, one: &Shown, other: &Shown) -> bool
+    ensures { result ≡ agrees format one.now other.now }
+{
+    !is_far(format, one, other) && is_shown(format, one, other)
+}
+
 /// Whether two frames agree, and so show by how much the clock is off: by a fortieth at most.
-fn shows_clock(format: Format, one: &Shown, other: &Shown) -> bool
+pub fn shows_clock(format: Format, one: &Shown, other: &Shown) -> bool
     ensures { result ≡ shows_clock format one.now other.now }
 {
     is_shown(format, one, other)
@@ -220,4 +241,14 @@ pub fn is_by_clock(format: Format, one: &Shown, other: &Shown, from: &Shown, fra
     ensures { result ≡ is_by_clock format one.now other.now from.now frame.now }
 {
     shows_clock(format, one, other) && is_in_time(format, one, other, from, frame)
+}
+
+/// Whether two frames stray by no more than half an interval more than two others do from each
+/// other, or those do not agree.
+pub fn is_within(format: Format, one: &Shown, other: &Shown, from: &Shown, frame: &Shown) -> bool
+    ensures { result ≡ is_within format one.now other.now from.now frame.now }
+{
+    !is_shown(format, one, other)
+        || 2 * stray(format, from, frame)
+            <= u128::from(format.interval()) + 2 * stray(format, one, other)
 }

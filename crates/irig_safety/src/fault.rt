@@ -13,6 +13,10 @@ pub enum Fault {
     Unsupported(Shown),
     /// This one did not read well, or is another one now, and nothing bears out its control functions.
     Unrecorded(Shown),
+    /// This one read well and still does, and its pulses do not rise when they did.
+    Moved(Shown),
+    /// This one did not read well, and its pulses rise where nothing supports it.
+    Misplaced(Shown),
     /// None read well, and they do not bear each other out.
     Alone,
 }

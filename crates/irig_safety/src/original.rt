@@ -1,11 +1,14 @@
 //! What is known of a recording as it was opened.
 
-ghost use Rattle.std.specs.Prelude.{◌≡◌, ◌↔◌, ◌-◌, ◌≤◌, IsTrue, length, slice_get};
+ghost use Rattle.std.specs.Prelude.{◌≡◌, ◌↔◌, ◌-◌, ◌≤◌, IsTrue, get_or, length, slice_get, Some};
 ghost use Rattle.std.specs.List.Sorted.{IsNonDecreasingBy};
 ghost use Rattle.irig_codes.specs.Width.{class_of};
 ghost use Rattle.irig_recording.specs.declared.pulse.Pulse.{Pulse as SomePulse};
+ghost use Rattle.irig_safety.specs.Anchors.{is_anchor};
 ghost use Rattle.irig_safety.specs.Original.{IsRecorded, near_in};
+ghost use Rattle.irig_safety.specs.Rises.{rise_in, rise_or};
 
+use crate::rises::{has_fall, has_rise};
 use crate::safety::{frame_at, frame_behind};
 use crate::shown::Shown;
 use crate::witnesses::Witnesses;
@@ -13,11 +16,12 @@ use irig_codes::{Element, Format, class};
 use irig_recording::Pulse;
 use std::marker::Model;
 
-/// What is known of a recording as it was opened: the frames that read well, and all pulses, which
-/// rise; and whether its frames may move.
+/// What is known of a recording as it was opened: the frames that read well, the places of their
+/// markers, from 0, and all pulses, which rise; and whether its frames may move.
 #[derive(Drop)]
 pub struct Original {
     frames: Vec<Shown>,
+    markers: Vec<usize>,
     pulses: Vec<Pulse>,
     moved: bool,
 }
@@ -30,23 +34,28 @@ impl Model for Original {
 
     ghost view = { λ o. record {
       frames = o.frames.items;
+      markers = o.markers.items;
       pulses = o.pulses.items;
       moved = o.moved;
     } };
 
-    ghost invariant = { λ o. IsNonDecreasingBy (λ p. p.rise) o.pulses.items };
+    ghost invariant = { λ o. IsNonDecreasingBy (λ p. p.rise) o.pulses.items
+        × IsNonDecreasingBy (λ p. p.fall) o.pulses.items };
 }
 
 impl Original {
-    /// The two put together, and whether frames may move.
-    pub fn new(frames: Vec<Shown>, pulses: Vec<Pulse>, moved: bool) -> Original
-        requires { IsNonDecreasingBy (λ (p : SomePulse). p.rise) pulses.items }
+    /// All put together, and whether frames may move.
+    pub fn new(frames: Vec<Shown>, markers: Vec<usize>, pulses: Vec<Pulse>, moved: bool) -> Original
+        requires rising { IsNonDecreasingBy (λ (p : SomePulse). p.rise) pulses.items }
+        requires falling { IsNonDecreasingBy (λ (p : SomePulse). p.fall) pulses.items }
         ensures frames { result.frames ≡ frames.items }
+        ensures markers { result.markers ≡ markers.items }
         ensures pulses { result.pulses ≡ pulses.items }
         ensures moved { result.moved ≡ moved }
     {
         Original {
             frames,
+            markers,
             pulses,
             moved,
         }
@@ -66,12 +75,65 @@ impl Original {
         self.frames.as_slice()
     }
 
+    /// The place of the marker of a frame, from 0; 0 if there is no such frame.
+    pub fn marker(&self, place: usize) -> usize
+        ensures { result ≡ get_or self.now.markers place 0 }
+    {
+        match self.markers.get(place) {
+            Some(marker) => *marker,
+            None => 0,
+        }
+    }
+
+    /// When the pulse of an element rises of a frame with a marker.
+    pub fn rise(&self, marker: usize, element: usize) -> u64
+        ensures { result ≡ rise_in self.now.pulses marker element }
+    {
+        let pulses = self.pulses.as_slice();
+        if marker < pulses.len() && element < pulses.len() - marker {
+            rise_or(Some(pulses[marker + element]))
+        } else {
+            rise_or(None)
+        }
+    }
+
+    /// Whether a pulse, if it is there, rises when one of the recording does, or is a gap of it turned
+    /// over.
+    pub fn holds(&self, pulse: Option<Pulse>) -> bool
+        ensures { result ≡ is_anchor self.now.pulses pulse }
+    {
+        match pulse {
+            Some(pulse) => is_anchor(self.pulses.as_slice(), pulse),
+            None => false,
+        }
+    }
+
     /// Whether a pulse is as recorded: one of the same class rises within a tenth of the interval of
     /// it.
     pub fn has(&self, format: Format, pulse: Pulse) -> bool
         ensures { IsTrue result ↔ IsRecorded format self.now.pulses pulse }
     {
         has_like(format, self.pulses.as_slice(), pulse)
+    }
+}
+
+/// Whether a pulse rises when one of others does, or rises when one falls and falls when one rises.
+fn is_anchor(recorded: &[Pulse], pulse: Pulse) -> bool
+    requires rising { IsNonDecreasingBy (λ (p : SomePulse). p.rise) recorded.now }
+    requires falling { IsNonDecreasingBy (λ (p : SomePulse). p.fall) recorded.now }
+    ensures { result ≡ is_anchor recorded.now (Some pulse) }
+{
+    has_rise(recorded, pulse.rise)
+        || has_fall(recorded, pulse.rise) && has_rise(recorded, pulse.fall)
+}
+
+/// When a pulse rises; 0 if there is none.
+pub fn rise_or(pulse: Option<Pulse>) -> u64
+    ensures { result ≡ rise_or pulse }
+{
+    match pulse {
+        Some(pulse) => pulse.rise,
+        None => 0,
     }
 }
 

@@ -1,11 +1,12 @@
 //! Whether the frames on both sides of a frame bear out its time.
 
-ghost use Rattle.std.specs.Prelude.{◌≡◌};
-ghost use Rattle.irig_safety.specs.Witnesses.{allows_from, allows_to, is_borne, is_timed};
-ghost use Rattle.irig_safety.specs.Witnesses.{is_timed_from, is_timed_to, leads_from, leads_to};
+ghost use Rattle.std.specs.Prelude.{◌≡◌, Some};
+ghost use Rattle.irig_safety.specs.Witnesses.{allows_from, allows_to, bears, believed, is_borne};
+ghost use Rattle.irig_safety.specs.Witnesses.{is_disputed, is_doubted, is_led, is_timed, is_timed_from};
+ghost use Rattle.irig_safety.specs.Witnesses.{is_timed_to};
 ghost use Rattle.irig_safety.specs.Witnesses.{may_stand};
 
-use crate::bearing::{allows, is_by_clock, leads};
+use crate::bearing::{allows, is_by_clock, is_within, leads};
 use crate::shown::Shown;
 use irig_codes::Format;
 
@@ -18,24 +19,25 @@ pub struct Witnesses {
     pub after2: Option<Shown>,
 }
 
-/// Whether the frame before leads to a frame, if there is one.
-fn leads_from(format: Format, before: Option<Shown>, frame: &Shown) -> bool
-    ensures { result ≡ leads_from format before frame.now }
+/// Whether the frame before a frame leads to it, or it leads to the one after it; if both are there and
+/// agree, with no more than half an interval beside what they stray.
+fn is_led(format: Format, before: Option<Shown>, after: Option<Shown>, frame: &Shown) -> bool
+    ensures { result ≡ is_led format before after frame.now }
 {
-    match before {
-        Some(before) => leads(format, &before, frame),
-        None => false,
+    match (before, after) {
+        (None, None) => false,
+        (Some(a), None) => leads(format, &a, frame),
+        (None, Some(b)) => leads(format, frame, &b),
+        (Some(a), Some(b)) => is_led_by(format, &a, &b, frame),
     }
 }
 
-/// Whether a frame leads to the frame after it, if there is one.
-fn leads_to(format: Format, frame: &Shown, after: Option<Shown>) -> bool
-    ensures { result ≡ leads_to format frame.now after }
+/// The same between two frames.
+fn is_led_by(format: Format, before: &Shown, after: &Shown, frame: &Shown) -> bool
+    ensures { result ≡ is_led format (Some before.now) (Some after.now) frame.now }
 {
-    match after {
-        Some(after) => leads(format, frame, &after),
-        None => false,
-    }
+    leads(format, before, frame) && is_within(format, before, after, before, frame)
+        || leads(format, frame, after) && is_within(format, before, after, frame, after)
 }
 
 /// Whether the frame before does not contradict a frame.
@@ -100,13 +102,86 @@ fn may_stand(near: &Witnesses, frame: &Shown) -> bool
 
 /// Whether the frames next to a frame bear out its time: one of them leads to it, or it is in time
 /// by their clock, and none contradicts it.
+fn bears(format: Format, near: &Witnesses, frame: &Shown) -> bool
+    ensures { result ≡ bears format near.now frame.now }
+{
+    (is_led(format, near.before, near.after, frame) || is_timed(format, near, frame))
+        && (allows_from(format, near.before, frame) && allows_to(format, frame, near.after))
+        && may_stand(near, frame)
+}
+
+/// Whether a frame is contradicted by both others, which do not contradict each other.
+fn is_doubted(
+    format: Format,
+    before: Option<Shown>,
+    frame: Option<Shown>,
+    after: Option<Shown>,
+) -> bool
+    ensures { result ≡ is_doubted format before frame after }
+{
+    match (before, frame, after) {
+        (Some(a), Some(b), Some(c)) => {
+            !allows(format, &a, &b) && !allows(format, &b, &c) && allows(format, &a, &c)
+        }
+        _ => false,
+    }
+}
+
+/// Whether nothing is on one side, and the two frames on the other contradict each other.
+fn is_disputed(
+    format: Format,
+    other: Option<Shown>,
+    one: Option<Shown>,
+    next: Option<Shown>,
+) -> bool
+    ensures { result ≡ is_disputed format other one next }
+{
+    match (other, one, next) {
+        (None, Some(p), Some(q)) => !allows(format, &p, &q),
+        _ => false,
+    }
+}
+
+/// The frames next to a place, but for the one before it or the one after it if that is contradicted
+/// by both next to it; and none of two on one side that contradict each other if the other has none.
+fn believed(format: Format, near: &Witnesses) -> Witnesses
+    ensures { result
+        ≡ believed format near.now.before2 near.now.before near.now.after near.now.after2 }
+{
+    let doubts_after = is_doubted(format, near.before, near.after, near.after2);
+    let doubts_before = is_doubted(format, near.before2, near.before, near.after);
+    if doubts_after && !doubts_before {
+        Witnesses {
+            before2: near.before2,
+            before: near.before,
+            after: near.after2,
+            after2: None,
+        }
+    } else if doubts_before && !doubts_after {
+        Witnesses {
+            before2: None,
+            before: near.before2,
+            after: near.after,
+            after2: near.after2,
+        }
+    } else if is_disputed(format, near.before, near.after, near.after2)
+        || is_disputed(format, near.after, near.before2, near.before)
+    {
+        Witnesses {
+            before2: None,
+            before: None,
+            after: None,
+            after2: None,
+        }
+    } else {
+        *near
+    }
+}
+
+/// Whether the frames next to a frame that are believed bear out its time.
 pub fn is_borne(format: Format, near: &Witnesses, frame: &Shown) -> bool
     ensures { result
         ≡ is_borne format near.now.before2 near.now.before near.now.after near.now.after2 frame.now }
 {
-    (leads_from(format, near.before, frame)
-        || leads_to(format, frame, near.after)
-        || is_timed(format, near, frame))
-        && (allows_from(format, near.before, frame) && allows_to(format, frame, near.after))
-        && may_stand(near, frame)
+    bears(format, &believed(format, near), frame)
 }

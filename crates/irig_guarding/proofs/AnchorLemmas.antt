@@ -1,0 +1,98 @@
+-- Anchors of a frame, element by element.
+use Rattle.std.proofs.Common.{◌≡◌, ◌+◌, ◌-◌, ◌<◌, ◌≤◌, ◌∙◌, ◌||◌, ℕ, zero, suc, Bool, true, false, List, Option, Some, None, ap, arith, inl, inr, refl, subst, sym}
+use Rattle.std.specs.Prelude.{◌⊎◌, IfSome}
+use Rattle.std.proofs.lemmas.Bool.{cases_lt}
+use Rattle.irig_codes.specs.Format.{FormatView}
+use Rattle.irig_recording.specs.declared.pulse.Pulse.{Pulse}
+use Rattle.irig_safety.specs.Anchors.{anchors_among, is_anchored, is_held, is_placed, last_anchor, next_anchor}
+use Rattle.irig_safety.specs.{declared.shown.Shown.Shown, declared.witnesses.Witnesses.Witnesses}
+
+module _ (recorded pulses : List Pulse) (marker : ℕ) where
+  -- the first anchor from an element on that is one
+  pub next_here : (j : ℕ) → j < 100 → is_anchored recorded pulses marker j ≡ true → next_anchor recorded pulses marker (100 - j) j ≡ Some j
+  next_here j few on =
+      let more : 100 - j ≡ suc (100 - (j + 1)) = omega (arith, few) in
+      ap (λ n. next_anchor recorded pulses marker n j) more ∙ (rw on refl)
+
+  -- and that is none
+  pub next_over : (j : ℕ) → j < 100 → is_anchored recorded pulses marker j ≡ false
+      → next_anchor recorded pulses marker (100 - j) j ≡ next_anchor recorded pulses marker (100 - (j + 1)) (j + 1)
+  next_over j few off =
+      let more : 100 - j ≡ suc (100 - (j + 1)) = omega (arith, few) in
+      ap (λ n. next_anchor recorded pulses marker n j) more ∙ (rw off refl)
+
+  pub next_past : (j : ℕ) → 100 ≤ j → next_anchor recorded pulses marker (100 - j) j ≡ None
+  next_past j past = let none : 100 - j ≡ 0 = omega (arith, past) in ap (λ n. next_anchor recorded pulses marker n j) none
+
+  pub last_here : (j : ℕ) → is_anchored recorded pulses marker j ≡ true → last_anchor recorded pulses marker (j + 1) ≡ Some j
+  last_here j on = let one : j + 1 ≡ suc j = omega arith in ap (last_anchor recorded pulses marker) one ∙ (rw on refl)
+
+  pub last_over : (j : ℕ) → is_anchored recorded pulses marker j ≡ false → last_anchor recorded pulses marker (j + 1) ≡ last_anchor recorded pulses marker j
+  last_over j off = let one : j + 1 ≡ suc j = omega arith in ap (last_anchor recorded pulses marker) one ∙ (rw off refl)
+
+  pub among_more : (j : ℕ) → is_anchored recorded pulses marker j ≡ true → anchors_among recorded pulses marker (j + 1) ≡ anchors_among recorded pulses marker j + 1
+  among_more j on = let one : j + 1 ≡ suc j = omega arith in ap (anchors_among recorded pulses marker) one ∙ (rw on refl)
+
+  pub among_same : (j : ℕ) → is_anchored recorded pulses marker j ≡ false → anchors_among recorded pulses marker (j + 1) ≡ anchors_among recorded pulses marker j
+  among_same j off =
+      let one : j + 1 ≡ suc j = omega arith in
+      let none : anchors_among recorded pulses marker j + 0 ≡ anchors_among recorded pulses marker j = omega arith in
+      ap (anchors_among recorded pulses marker) one ∙ ((rw off refl) ∙ none)
+
+-- the elements before one are placed, and what is next to it is known
+pub record IsPlacedUpTo (f : FormatView) (recorded pulses : List Pulse) (marker : ℕ) (w : Witnesses) (y : Shown) (n : ℕ) (last next : Option ℕ) : Type 0 where
+  pub placed : (j : ℕ) → j < n → is_placed f recorded pulses marker w y j ≡ true
+  pub last_is : last ≡ last_anchor recorded pulses marker n
+  pub next_is : next ≡ next_anchor recorded pulses marker (100 - n) n
+  pub few : IfSome next (λ k. k < 100)
+
+split : (j k : ℕ) → j < k + 1 → (j < k) ⊎ (j ≡ k)
+split j k less = elim (cases_lt j k) [
+  | inl before ↦ inl before
+  | inr from ↦ inr (omega (arith, less, from))
+]
+
+module _ (f : FormatView) (recorded pulses : List Pulse) (marker : ℕ) (w : Witnesses) (y : Shown) where
+  more : (n : ℕ) → ((j : ℕ) → j < n → is_placed f recorded pulses marker w y j ≡ true) → is_placed f recorded pulses marker w y n ≡ true
+      → (j : ℕ) → j < n + 1 → is_placed f recorded pulses marker w y j ≡ true
+  more n each one j less = elim (split j n less) [
+    | inl before ↦ each j before
+    | inr same ↦ ap (is_placed f recorded pulses marker w y) same ∙ one
+  ]
+
+  pub placed_anchor : (n : ℕ) (last next new : Option ℕ) → is_anchored recorded pulses marker n ≡ true
+      → new ≡ next_anchor recorded pulses marker (100 - (n + 1)) (n + 1) → IfSome new (λ k. k < 100)
+      → IsPlacedUpTo f recorded pulses marker w y n last next → IsPlacedUpTo f recorded pulses marker w y (n + 1) (Some n) new
+  placed_anchor n last next new on is few h = record {
+    placed = more n h.placed (rw on refl);
+    last_is = sym (last_here recorded pulses marker n on);
+    next_is = is;
+    few = few;
+  }
+
+  pub placed_by : (n : ℕ) (last next : Option ℕ) → is_anchored recorded pulses marker n ≡ false → IsPlacedUpTo f recorded pulses marker w y n last next
+      → is_placed f recorded pulses marker w y n ≡ is_held f pulses marker w y n last next
+  placed_by n last next off h =
+      (rw off refl) ∙ (λ i. is_held f pulses marker w y n (sym h.last_is i) (sym h.next_is i))
+
+  pub placed_held : (n : ℕ) (last next : Option ℕ) → n < 100 → is_anchored recorded pulses marker n ≡ false → is_held f pulses marker w y n last next ≡ true
+      → IsPlacedUpTo f recorded pulses marker w y n last next → IsPlacedUpTo f recorded pulses marker w y (n + 1) last next
+  placed_held n last next less off held h = record {
+    placed = more n h.placed (placed_by n last next off h ∙ held);
+    last_is = h.last_is ∙ sym (last_over recorded pulses marker n off);
+    next_is = h.next_is ∙ next_over recorded pulses marker n less off;
+    few = h.few;
+  }
+
+  pub placed_not : (n : ℕ) (last next : Option ℕ) → n < 100 → is_anchored recorded pulses marker n ≡ false → is_held f pulses marker w y n last next ≡ false
+      → IsPlacedUpTo f recorded pulses marker w y n last next → ((j : ℕ) → j < 100 → is_placed f recorded pulses marker w y j ≡ true) → ⊥
+  placed_not n last next less off held h each =
+      let bad : false ≡ true = sym held ∙ (sym (placed_by n last next off h) ∙ each n less) in cc
+
+  pub placed_none : (next : Option ℕ) → next ≡ next_anchor recorded pulses marker 100 0 → IfSome next (λ k. k < 100)
+      → IsPlacedUpTo f recorded pulses marker w y 0 None next
+  placed_none next is few = record { placed = λ j less. absurd (omega (arith, less)); last_is = refl; next_is = is; few = few }
+
+  pub placed_as : (n : ℕ) (last next one other : Option ℕ) → one ≡ last → other ≡ next → IsPlacedUpTo f recorded pulses marker w y n last next
+      → IsPlacedUpTo f recorded pulses marker w y n one other
+  placed_as n last next one other p q h = subst (λ (T : Type 0). T) (λ i. IsPlacedUpTo f recorded pulses marker w y n (sym p i) (sym q i)) h

@@ -1,0 +1,152 @@
+//! Whether the pulses of the frames stay where they were.
+
+ghost use Rattle.std.specs.Prelude.{◌≡◌, ◌↔◌, ◌+◌, ◌<◌, ◌≤◌, ◌∷◌, List, IsTrue, None, Option, Some};
+ghost use Rattle.std.specs.Prelude.{IfErr, IfOk, OnErr, OnOk, drop, get_or, length};
+ghost use Rattle.irig_safety.specs.Original.{with_frames};
+ghost use Rattle.irig_safety.specs.Rises.{KeepsRises, rise_in};
+ghost use Rattle.irig_safety.specs.declared.fault.Fault.{Fault as SomeFault};
+ghost use Rattle.irig_guarding.specs.Pulses.{Comes, IsRooted, PulsesAt, StandFrom, StandsAs};
+ghost use Rattle.irig_guarding.specs.Pulses.{StrayFrom, UnrootedFrom};
+ghost use Rattle.std.specs.List.{AllByRecursion};
+ghost use Rattle.irig_guarding.specs.declared.seen.Seen.{Seen as SeenFrame};
+
+use crate::anchors::{are_placed, is_rooted};
+use crate::controls::pulse_at;
+use crate::seen::Seen;
+use irig_edit::Session;
+use irig_safety::{Fault, Original, Shown, Witnesses, frame_at, near_in, rise_or};
+
+/// Whether the pulses of each frame that reads well stand, by the frames at the old places. If not,
+/// the first that is at fault.
+pub fn check_stand(
+    session: &Session,
+    opened: &Original,
+    old: &[Shown],
+    frames: &[Seen],
+) -> Result<(), Fault>
+    ensures stand { OnOk result (StandFrom (with_frames old.now opened.now) session.now.state
+        opened.now.markers None None old.now frames.now) }
+    ensures stray { OnErr result (StandFrom (with_frames old.now opened.now) session.now.state
+        opened.now.markers None None old.now frames.now → ⊥) }
+    ensures fault { IfErr result (StrayFrom (with_frames old.now opened.now) session.now.state
+        opened.now.markers None None old.now frames.now) }
+{
+    let mut passed = 0;
+    for frame in frames {
+        match pass(session, opened, old, passed, frame) {
+            Ok(place) => passed = place,
+            Err(why) => return Err(why),
+        }
+    }
+    Ok(())
+}
+
+/// How many of the former frames are passed after one more frame, or why it is at fault.
+fn pass(
+    session: &Session,
+    opened: &Original,
+    old: &[Shown],
+    passed: usize,
+    frame: &Seen,
+) -> Result<usize, Fault>
+    requires { passed ≤ length old.now }
+    ensures within { IfOk result (λ place. place ≤ length old.now) }
+    ensures stand { (rest : List SeenFrame) (found : Option SomeFault) → IfOk result (λ place.
+        PulsesAt (with_frames old.now opened.now) session.now.state place rest found
+        → PulsesAt (with_frames old.now opened.now) session.now.state passed (frame.now ∷ rest)
+        found) }
+    ensures fault { (rest : List SeenFrame) → IfErr result (λ why.
+        PulsesAt (with_frames old.now opened.now) session.now.state passed (frame.now ∷ rest)
+        (Some why)) }
+{
+    let Some(former) = frame_at(old, passed) else {
+        return come(
+            session,
+            opened,
+            &near_in(old, passed, passed),
+            frame,
+            passed,
+        );
+    };
+    if frame.shown.rise < former.rise {
+        return come(
+            session,
+            opened,
+            &near_in(old, passed, passed),
+            frame,
+            passed,
+        );
+    }
+    if former.rise < frame.shown.rise {
+        return Err(Fault::Lost(former));
+    }
+    if stands_as(session, opened, passed, frame) {
+        Ok(passed + 1)
+    } else {
+        Err(Fault::Moved(frame.shown))
+    }
+}
+
+/// How many frames are passed after one that was not fine, next to some of the former, or why it is at
+/// fault.
+fn come(
+    session: &Session,
+    opened: &Original,
+    near: &Witnesses,
+    frame: &Seen,
+    passed: usize,
+) -> Result<usize, Fault>
+    ensures { Comes opened.now session.now.state near.now frame.now passed result }
+{
+    if are_placed(session, opened, near, frame) {
+        Ok(passed)
+    } else {
+        Err(Fault::Misplaced(frame.shown))
+    }
+}
+
+/// Whether most pulses of each frame that reads well are anchors. If not, the first that is at fault.
+pub fn check_rooted(session: &Session, opened: &Original, frames: &[Seen]) -> Result<(), Fault>
+    ensures rooted { OnOk result
+        (AllByRecursion (IsRooted opened.now session.now.state) frames.now) }
+    ensures unrooted { OnErr result
+        (AllByRecursion (IsRooted opened.now session.now.state) frames.now → ⊥) }
+    ensures fault { IfErr result (UnrootedFrom opened.now session.now.state frames.now) }
+{
+    for frame in frames {
+        if !is_rooted(session, opened, frame) {
+            return Err(Fault::Misplaced(frame.shown));
+        }
+    }
+    Ok(())
+}
+
+/// Whether the pulses of a frame rise as those of the former one at a place.
+fn stands_as(session: &Session, opened: &Original, place: usize, frame: &Seen) -> bool
+    ensures { IsTrue result
+        ↔ StandsAs opened.now session.now.state (drop place opened.now.markers) frame.now }
+{
+    keeps_rises(session, opened, opened.marker(place), frame.marker)
+}
+
+/// Whether the pulses of the frame of a marker rise as those of the former one of another.
+fn keeps_rises(session: &Session, opened: &Original, former: usize, marker: usize) -> bool
+    ensures { IsTrue result ↔ KeepsRises opened.now.pulses former session.now.state.pulses marker }
+{
+    let from = opened.rise(former, 0);
+    let start = rise_at(session, marker, 0);
+    for element in 0..100 {
+        let before = opened.rise(former, element).saturating_sub(from);
+        if before != rise_at(session, marker, element).saturating_sub(start) {
+            return false;
+        }
+    }
+    true
+}
+
+/// When the pulse of an element rises of the frame of a marker.
+pub fn rise_at(session: &Session, marker: usize, element: usize) -> u64
+    ensures { result ≡ rise_in session.now.state.pulses marker element }
+{
+    rise_or(pulse_at(session, marker, element))
+}

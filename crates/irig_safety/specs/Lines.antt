@@ -1,0 +1,65 @@
+-- When a pulse is on the line between two whose place is known. This project's own.
+use Rattle.std.specs.Prelude.{◌+◌, ◌-◌, ◌*◌, ◌/◌, ◌&&◌, ◌||◌, ℕ, Bool, false, not, nat_le}
+use Rattle.std.specs.Prelude.{Option, Some, None, if◌then◌else◌}
+use Rattle.irig_codes.specs.Format.{FormatView, interval_of}
+use Rattle.irig_safety.specs.Bearing.{apart, distance, is_far, is_shown, periods, shows_clock}
+use Rattle.irig_safety.specs.declared.lines.Anchor.{Anchor}
+use Rattle.irig_safety.specs.{declared.shown.Shown.Shown, declared.witnesses.Witnesses.Witnesses}
+
+-- the marker of the frame before a frame, as it is seen from an element of that: if both agree, and
+-- are not too far from each other
+abbrev pub marker_before : FormatView → Option Shown → Shown → ℕ → Option Anchor
+marker_before f None y j = None
+marker_before f (Some a) y j =
+    if is_shown f a y && not (is_far f a y)
+    then Some (record { steps = 100 * periods f a y + j; rise = a.rise }) else None
+
+-- so the marker of the frame after it
+abbrev pub marker_after : FormatView → Option Shown → Shown → ℕ → Option Anchor
+marker_after f None y j = None
+marker_after f (Some b) y j =
+    if is_shown f y b && not (is_far f y b)
+    then Some (record { steps = 100 * periods f y b - j; rise = b.rise }) else None
+
+-- a time is on the line between two anchors, to a tenth of an interval
+abbrev pub is_between : FormatView → Anchor → ℕ → Anchor → Bool
+is_between f a t b =
+    nat_le (apart ((t - a.rise) * (a.steps + b.steps)) (a.steps * (b.rise - a.rise)))
+    ((a.steps + b.steps) * (interval_of f.kind / 10))
+
+-- so many elements are as long as they nominally are, to a tenth of an interval and a thousandth
+abbrev pub is_nominal : FormatView → ℕ → ℕ → Bool
+is_nominal f steps micros =
+    nat_le (1000 * apart micros (steps * interval_of f.kind)) (100 * interval_of f.kind + micros)
+
+-- they are by the clock of two frames, to a tenth of an interval
+abbrev pub is_at_clock : FormatView → ℕ → ℕ → Shown → Shown → Bool
+is_at_clock f steps micros p q =
+    shows_clock f p q
+    && nat_le (apart (micros * periods f p q) (steps * distance p q / 100))
+    (periods f p q * (interval_of f.kind / 10))
+
+-- two frames, if they are there
+abbrev pub is_at_clock_of : FormatView → ℕ → ℕ → Option Shown → Option Shown → Bool
+is_at_clock_of f steps micros None q = false
+is_at_clock_of f steps micros (Some p) None = false
+is_at_clock_of f steps micros (Some p) (Some q) = is_at_clock f steps micros p q
+
+-- by that of the two nearest frames: one on each side, or the two of one side if the other has none
+abbrev pub is_clocked : FormatView → Witnesses → ℕ → ℕ → Bool
+is_clocked f w steps micros = both w.before2 w.before w.after w.after2 where
+  both : Option Shown → Option Shown → Option Shown → Option Shown → Bool
+  both a2 a None b2 = is_at_clock_of f steps micros a2 a
+  both a2 None (Some b) b2 = is_at_clock_of f steps micros (Some b) b2
+  both a2 (Some a) (Some b) b2 = is_at_clock f steps micros a b
+
+-- by one of both
+abbrev pub is_along : FormatView → Witnesses → ℕ → ℕ → Bool
+is_along f w steps micros = is_nominal f steps micros || is_clocked f w steps micros
+
+-- a time is where the anchors have it that are there before it and after it
+abbrev pub is_on_line : FormatView → Witnesses → Option Anchor → ℕ → Option Anchor → Bool
+is_on_line f w None t None = false
+is_on_line f w (Some a) t None = is_along f w a.steps (t - a.rise)
+is_on_line f w None t (Some b) = is_along f w b.steps (b.rise - t)
+is_on_line f w (Some a) t (Some b) = is_between f a t b

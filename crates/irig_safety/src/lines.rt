@@ -1,0 +1,173 @@
+//! Whether a pulse is on the line between two whose place is known.
+
+ghost use Rattle.std.specs.Prelude.{◌≡◌, ◌≤◌, ◌<◌, ◌+◌, ◌-◌, ◌/◌, ◌^◌, IfSome};
+ghost use Rattle.irig_codes.specs.Format.{interval_of};
+ghost use Rattle.irig_safety.specs.Lines.{is_along, is_at_clock, is_at_clock_of, is_between};
+ghost use Rattle.irig_safety.specs.Lines.{is_clocked, is_nominal, is_on_line, marker_after};
+ghost use Rattle.irig_safety.specs.Lines.{marker_before};
+
+use crate::bearing::{apart, distance, is_far, is_shown, periods, shows_clock};
+use crate::shown::Shown;
+use crate::witnesses::Witnesses;
+use irig_codes::Format;
+
+/// A pulse whose place is known: how many elements it is away from another, and when it rises.
+#[derive(Clone, Copy)]
+pub struct Anchor {
+    pub steps: u128,
+    pub rise: u64,
+}
+
+/// The marker of the frame before a frame, as it is seen from an element of that: if both agree, and
+/// are not too far from each other.
+pub fn marker_before(
+    format: Format,
+    before: Option<Shown>,
+    frame: &Shown,
+    element: usize,
+) -> Option<Anchor>
+    requires { element ≤ 100 }
+    ensures value { result ≡ marker_before format before frame.now element }
+    ensures few { IfSome result (λ a. a.steps ≤ 2 ^ 17) }
+{
+    let Some(before) = before else {
+        return None;
+    };
+    if is_shown(format, &before, frame) && !is_far(format, &before, frame) {
+        let many = periods(format, &before, frame);
+        Some(Anchor {
+            steps: 100 * many + element as u128,
+            rise: before.rise,
+        })
+    } else {
+        None
+    }
+}
+
+/// So the marker of the frame after it.
+pub fn marker_after(
+    format: Format,
+    after: Option<Shown>,
+    frame: &Shown,
+    element: usize,
+) -> Option<Anchor>
+    ensures value { result ≡ marker_after format after frame.now element }
+    ensures few { IfSome result (λ a. a.steps ≤ 2 ^ 17) }
+{
+    let Some(after) = after else {
+        return None;
+    };
+    if is_shown(format, frame, &after) && !is_far(format, frame, &after) {
+        let many = periods(format, frame, &after);
+        Some(Anchor {
+            steps: (100 * many).saturating_sub(element as u128),
+            rise: after.rise,
+        })
+    } else {
+        None
+    }
+}
+
+/// A tenth of an interval, in microseconds.
+fn tenth(format: Format) -> u128
+    ensures value { result ≡ interval_of format.kind / 10 }
+    ensures small { result < 2 ^ 20 }
+{
+    u128::from(format.interval() / 10)
+}
+
+/// How many microseconds a time is after another.
+fn between(from: u64, to: u64) -> u128
+    ensures value { result ≡ to - from }
+    ensures small { result < 2 ^ 64 }
+{
+    u128::from(to.saturating_sub(from))
+}
+
+/// Whether a time is on the line between two anchors, to a tenth of an interval.
+fn is_between(format: Format, before: &Anchor, rise: u64, after: &Anchor) -> bool
+    requires { (before.now.steps ≤ 2 ^ 17) × (after.now.steps ≤ 2 ^ 17) }
+    ensures { result ≡ is_between format before.now rise after.now }
+{
+    let whole = before.steps + after.steps;
+    let found = between(before.rise, rise) * whole;
+    let wanted = before.steps * between(before.rise, after.rise);
+    apart(found, wanted) <= whole * tenth(format)
+}
+
+/// Whether so many elements are as long as they nominally are, to a tenth of an interval and a
+/// thousandth.
+fn is_nominal(format: Format, steps: u128, micros: u128) -> bool
+    requires { (steps ≤ 2 ^ 17) × (micros < 2 ^ 64) }
+    ensures { result ≡ is_nominal format steps micros }
+{
+    let interval = u128::from(format.interval());
+    1_000 * apart(micros, steps * interval) <= 100 * interval + micros
+}
+
+/// Whether they are by the clock of two frames, to a tenth of an interval.
+fn is_at_clock(format: Format, steps: u128, micros: u128, one: &Shown, other: &Shown) -> bool
+    requires { (steps ≤ 2 ^ 17) × (micros < 2 ^ 64) }
+    ensures { result ≡ is_at_clock format steps micros one.now other.now }
+{
+    let whole = periods(format, one, other);
+    let wanted = steps * distance(one, other) / 100;
+    shows_clock(format, one, other) && apart(micros * whole, wanted) <= whole * tenth(format)
+}
+
+/// So by that of two frames, if they are there.
+fn is_at_clock_of(
+    format: Format,
+    steps: u128,
+    micros: u128,
+    one: Option<Shown>,
+    other: Option<Shown>,
+) -> bool
+    requires { (steps ≤ 2 ^ 17) × (micros < 2 ^ 64) }
+    ensures { result ≡ is_at_clock_of format steps micros one other }
+{
+    match (one, other) {
+        (Some(one), Some(other)) => is_at_clock(format, steps, micros, &one, &other),
+        _ => false,
+    }
+}
+
+/// So by that of the two nearest frames.
+fn is_clocked(format: Format, near: &Witnesses, steps: u128, micros: u128) -> bool
+    requires { (steps ≤ 2 ^ 17) × (micros < 2 ^ 64) }
+    ensures { result ≡ is_clocked format near.now steps micros }
+{
+    match (near.before, near.after) {
+        (before, None) => is_at_clock_of(format, steps, micros, near.before2, before),
+        (None, Some(after)) => is_at_clock_of(format, steps, micros, Some(after), near.after2),
+        (Some(before), Some(after)) => is_at_clock(format, steps, micros, &before, &after),
+    }
+}
+
+/// By one of both.
+fn is_along(format: Format, near: &Witnesses, steps: u128, micros: u128) -> bool
+    requires { (steps ≤ 2 ^ 17) × (micros < 2 ^ 64) }
+    ensures { result ≡ is_along format near.now steps micros }
+{
+    is_nominal(format, steps, micros) || is_clocked(format, near, steps, micros)
+}
+
+/// Whether a time is where the anchors have it that are there before it and after it.
+pub fn is_on_line(
+    format: Format,
+    near: &Witnesses,
+    before: Option<Anchor>,
+    rise: u64,
+    after: Option<Anchor>,
+) -> bool
+    requires before { IfSome before (λ a. a.steps ≤ 2 ^ 17) }
+    requires after { IfSome after (λ a. a.steps ≤ 2 ^ 17) }
+    ensures { result ≡ is_on_line format near.now before rise after }
+{
+    match (before, after) {
+        (None, None) => false,
+        (Some(a), None) => is_along(format, near, a.steps, between(a.rise, rise)),
+        (None, Some(b)) => is_along(format, near, b.steps, between(rise, b.rise)),
+        (Some(a), Some(b)) => is_between(format, &a, rise, &b),
+    }
+}
