@@ -6,8 +6,9 @@ use Rattle.irig_difference.specs.PatchText.{patch_text}
 use Rattle.irig_files.specs.declared.dump_file.DumpFileFault.TheVariants.{OutOfMemory}
 use Rattle.irig_recording.specs.Recording.{RecordingView}
 use Rattle.irig_diff.specs.Ending.{Held, Obeys, PrintsIfRoom, PrintsText, text_between}
-use Rattle.irig_diff.specs.{Tracks.HasFault, Tracks.Says, Tracks.name_in, declared.chosen.Settings.Settings, declared.ending.Ending.Ending}
-use Rattle.irig_diff.specs.{declared.ending.TrackFault.TrackFault, declared.ending.TrackFault.TheVariants.File}
+use Rattle.irig_files.specs.Tracks.{HasFault, Says, name_in}
+use Rattle.irig_diff.specs.{declared.chosen.Settings.Settings, declared.ending.Ending.Ending}
+use Rattle.irig_files.specs.declared.track.{TrackFault.TrackFault, TrackFault.TheVariants.File}
 use Rattle.irig_diff.specs.declared.ending.Ending.TheVariants as ending
 
 -- a text was printed that takes no memory

@@ -10,10 +10,12 @@ use Rattle.irig_recording.specs.Recording.{RecordingView}
 use Rattle.irig_diff.specs.declared.command_line.UsageFault.TheVariants.{Words, Value as of_value}
 use Rattle.irig_diff.specs.declared.ending.Ending.TheVariants.{Usage, Value, Unread, Compared}
 use Rattle.irig_diff.specs.declared.ending.Ending.TheVariants.{Unprinted}
-use Rattle.irig_diff.specs.{Printing.AppendsFront, Settings.Reads, Tracks.HasFault, Tracks.Says}
-use Rattle.irig_diff.specs.{Tracks.name_in, declared.chosen.Settings.Settings}
-use Rattle.irig_diff.specs.{declared.ending.Ending.Ending, declared.ending.TrackFault.TrackFault}
-use Rattle.irig_diff.specs.{declared.ending.TrackFault.TheVariants.File}
+use Rattle.irig_diff.specs.{Printing.AppendsFront, Settings.Reads}
+use Rattle.irig_files.specs.Tracks.{HasFault, Says, name_in}
+use Rattle.irig_diff.specs.declared.chosen.Settings.{Settings}
+use Rattle.irig_diff.specs.declared.ending.Ending.{Ending}
+use Rattle.irig_files.specs.declared.track.TrackFault.{TrackFault}
+use Rattle.irig_files.specs.declared.track.TrackFault.TheVariants.{File}
 use Rattle.irig_files.specs.declared.dump_file.DumpFileFault.TheVariants.{OutOfMemory}
 
 -- what the files hold, by their paths

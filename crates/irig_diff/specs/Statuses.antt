@@ -1,19 +1,10 @@
 -- The statuses of the program as a process, after diff(1) of POSIX. This project's own.
-use Rattle.std.specs.Prelude.{◌≡◌, ◌⊎◌, ℕ, List, codes, true, false, Option}
+use Rattle.std.specs.Prelude.{◌≡◌, ◌⊎◌, ℕ, List, true, false, Option}
 use Rattle.clap.specs.Words.{Text}
-use Rattle.irig_files.specs.declared.dump_file.DumpFileFault.{DumpFileFault}
-use Rattle.irig_files.specs.declared.dump_file.DumpFileFault.TheVariants.{CannotBeRead, TooLong}
-use Rattle.irig_files.specs.declared.dump_file.DumpFileFault.TheVariants.{OutOfMemory}
 use Rattle.irig_diff.specs.declared.ending.Ending.TheVariants.{Usage, Value, Unread, Compared}
 use Rattle.irig_diff.specs.declared.ending.Ending.TheVariants.{Unprinted}
 use Rattle.irig_diff.specs.{Ending.EndsBy, Ending.Held, declared.ending.Ending.Ending}
 use Rattle.irig_words.specs.Errors.{IsHelp, IsMistake}
-
--- what the program says of a file that it did not read
-abbrev pub unread_text : DumpFileFault → List ℕ
-unread_text CannotBeRead = codes "cannot be read"
-unread_text TooLong = codes "too long"
-unread_text OutOfMemory = codes "V14 OutOfMemory"
 
 -- the status for how the program ended: 0 if the tracks are the same, 1 if they differ, 2 in
 -- trouble. Help ends with 0, or with 2 if it could not be printed

@@ -5,16 +5,15 @@ ghost use Rattle.irig_comments.specs.{Framed.framed, Parts.commented_text};
 ghost use Rattle.irig_difference.specs.PatchText.{patch_text};
 ghost use Rattle.irig_vcd.specs.Answer.{name_of};
 ghost use Rattle.irig_diff.specs.Ending.{EndsBy, Obeys, PrintsIfRoom, PrintsText, text_between};
-ghost use Rattle.irig_diff.specs.Tracks.{IsTrackOf, name_in};
 
 use crate::chosen::Settings;
 use crate::command_line::{UsageFault, settings};
-use crate::ending::{Ending, TrackFault};
+use crate::ending::Ending;
 use crate::printing::print;
 use irig_codes::Format;
 use irig_comments::{CommentedPatch, Framed};
 use irig_difference::{PatchText, Recording};
-use irig_files::{Disk, DumpFileFault};
+use irig_files::{Disk, DumpFileFault, TrackFault, read_track};
 use irig_text::new_block;
 use std::alloc::Global;
 use std::io::Write;
@@ -143,31 +142,5 @@ fn print_patch<'a, W: Write>(
     match print(out, &mut PatchText::between(before, after), block) {
         Ok(same) => Ending::Compared(same),
         Err(_) => Ending::Unprinted,
-    }
-}
-
-/// The track of a wire in the dump at a path.
-fn read_track<D: Disk>(
-    alloc: Global,
-    disk: &D,
-    path: &str,
-    wire: Option<&str>,
-) -> Result<Recording, TrackFault>
-    ensures { IsTrackOf (D.held disk.now path.now) (name_in wire.entry) result }
-{
-    match disk.read(alloc, path, bytes_of(wire)) {
-        Ok(Ok((recording, _))) => Ok(recording),
-        Ok(Err(fault)) => Err(TrackFault::Dump(fault)),
-        Err(fault) => Err(TrackFault::File(fault)),
-    }
-}
-
-/// The bytes of a wire's name, if one is given.
-fn bytes_of<'a>(wire: Option<&'a str>) -> Option<&'a [u8]>
-    ensures { name_of result ≡ name_in wire.entry }
-{
-    match wire {
-        Some(name) => Some(name.as_bytes()),
-        None => None,
     }
 }

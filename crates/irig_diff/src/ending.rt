@@ -1,17 +1,7 @@
 //! How the program ends.
 
 use crate::chosen::OptionFault;
-use irig_files::DumpFileFault;
-use irig_vcd::VcdFault;
-
-/// Why a track was not read.
-#[derive(Clone, Copy)]
-pub enum TrackFault {
-    /// The file of the dump was not read.
-    File(DumpFileFault),
-    /// The file is no dump of such a wire.
-    Dump(VcdFault),
-}
+use irig_files::TrackFault;
 
 /// How the program ends, before it is reported.
 #[derive(Drop)]

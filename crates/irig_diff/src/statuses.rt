@@ -3,10 +3,9 @@
 ghost use Rattle.std.specs.Prelude.{◌≡◌, ◌⊎◌};
 ghost use Rattle.std.specs.Process.{exit_status};
 ghost use Rattle.irig_words.specs.Errors.{IsHelp, IsMistake};
-ghost use Rattle.irig_diff.specs.Statuses.{HasStatus, unread_text};
+ghost use Rattle.irig_diff.specs.Statuses.{HasStatus};
 
-use crate::ending::{Ending, TrackFault};
-use irig_files::DumpFileFault;
+use crate::ending::Ending;
 use std::fmt::Display;
 use std::process::ExitCode;
 
@@ -17,8 +16,7 @@ pub fn report<R: Print + Eprint>(rt: &R, ending: &Ending<'_>) -> ExitCode
     match ending {
         Ending::Usage(error) => explain(rt, error),
         Ending::Value(fault) => tell(rt, fault),
-        Ending::Unread(path, TrackFault::File(fault)) => tell_of(rt, path, &unread_text(*fault)),
-        Ending::Unread(path, TrackFault::Dump(fault)) => tell_of(rt, path, fault),
+        Ending::Unread(path, fault) => tell_of(rt, path, fault),
         Ending::Compared(true) => ExitCode::SUCCESS,
         Ending::Compared(false) => ExitCode::from(1),
         Ending::Unprinted => tell(rt, &"output failed"),
@@ -50,16 +48,5 @@ pub fn explain<R: Print + Eprint>(rt: &R, error: &clap::Error) -> ExitCode
         _ if error.use_stderr() => ExitCode::from(2),
         Ok(()) => ExitCode::SUCCESS,
         Err(_) => tell(rt, &"output failed"),
-    }
-}
-
-/// What the program says of a file that it did not read.
-fn unread_text<'a>(fault: DumpFileFault) -> &'a str
-    ensures { result.now ≡ unread_text fault }
-{
-    match fault {
-        DumpFileFault::CannotBeRead => "cannot be read",
-        DumpFileFault::TooLong => "too long",
-        DumpFileFault::OutOfMemory => "V14 OutOfMemory",
     }
 }

@@ -1,8 +1,9 @@
-pub mod Reads
-pub mod Puts
-pub mod Writes
+pub mod Apart
+pub mod Going
 pub mod Once
 pub mod Paths
+pub mod Puts
+pub mod Reads
+pub mod Tracks
 pub mod Ways
-pub mod Going
-pub mod Apart
+pub mod Writes

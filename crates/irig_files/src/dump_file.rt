@@ -16,18 +16,22 @@ use std::fs::{Metadata, OpenFile};
 use std::io::{ErrorKind, Read};
 use std::rt::Files;
 use std::{fs, io};
+use thiserror::Error;
 
 /// How many bytes are read at a time.
 const PART: usize = 65_536;
 
 /// Why the dump in a file was not read.
-#[derive(Clone, Copy)]
+#[derive(Clone, Copy, Debug, Error)]
 pub enum DumpFileFault {
     /// The file is missing, or is none, or there is no permission to read it.
+    #[error("cannot be read")]
     CannotBeRead,
     /// The file has more than 2^28 bytes.
+    #[error("too long")]
     TooLong,
     /// A growth was refused.
+    #[error("V14 OutOfMemory")]
     OutOfMemory,
 }
 

@@ -5,8 +5,8 @@ use denote.Ref.{Bor}
 use Rattle.irig_recording.specs.Recording.{RecordingView}
 use Rattle.irig_vcd.specs.Parts.{dump_parts}
 use Rattle.irig_files.specs.declared.dump_file.DumpFileFault.TheVariants.{TooLong}
-use Rattle.irig_diff.specs.declared.ending.TrackFault.{TrackFault}
-use Rattle.irig_diff.specs.declared.ending.TrackFault.TheVariants.{File, Dump}
+use Rattle.irig_files.specs.declared.track.TrackFault.{TrackFault}
+use Rattle.irig_files.specs.declared.track.TrackFault.TheVariants.{File, Dump}
 
 -- a wire's name, without where it lies in memory
 abbrev pub name_in : Option (Bor (List ℕ)) → Option (List ℕ)
