@@ -23,6 +23,7 @@ class Options(NamedTuple):
     header: int = 0
     year: Optional[int] = None
     form: str = "ordinal"
+    alone: bool = False
 
 
 class Time(NamedTuple):
@@ -35,6 +36,7 @@ class Time(NamedTuple):
 
 class Frame(NamedTuple):
     marker: int  # the place of its first pulse
+    rise: int  # of that pulse, in microseconds
     time: Time
 
 
@@ -48,7 +50,7 @@ def frames_of(kind, expression, pulses):
         values, note = timecode.decode(kind, expression, timecode.ones_of(interval, pulses, marker))
         micros = 1_000_000 * values["seconds"] + 10_000 * values.get("hundredths", 0)
         if note == "fine" and micros + PERIOD[kind] <= LONG_MINUTE:
-            found.append(Frame(marker, Time(values.get("year"), values["days"], values["hours"], values["minutes"], micros)))
+            found.append(Frame(marker, pulses[marker][0], Time(values.get("year"), values["days"], values["hours"], values["minutes"], micros)))
     return found
 
 
@@ -81,6 +83,172 @@ def follows(kind, century, time, later):
     return False
 
 
+def instant(time, year, leap):
+    """The microseconds of a time in a calendar of years of four digits."""
+    days = datetime.date(2000 + year, 1, 1).toordinal() if time.year is not None else (0 if not year else 366 if leap else 365)
+    return (((days + time.days) * 24 + time.hours) * 60 + time.minutes) * 60_000_000 + time.micros
+
+
+def agrees(kind, one, other):
+    """Whether the second frame is as many frame periods after the first as their distance shows."""
+    period, distance = PERIOD[kind], other.rise - one.rise
+    if 1000 * period <= 10 * period + 2 * distance:  # a thousandth of it and half an interval are half a period
+        return False
+    if one.time.year is None:
+        turns = int(other.time[1:] < one.time[1:])
+        years = (0, turns)
+    else:
+        if (other.time.year - one.time.year) % 100 > 1:
+            return False
+        years = (one.time.year, one.time.year + (other.time.year - one.time.year) % 100)
+    passed = instant(other.time, years[1], one.time.days == 366) - instant(one.time, years[0], False)
+    if one.time.micros >= 60_000_000 > other.time.micros and one.time[1:4] != other.time[1:4]:
+        passed += 1_000_000
+    return passed > 0 and passed % period == 0 and 2 * abs(passed - distance) < period
+
+
+def believed(options, frames):
+    """The frames that one of the two before or after agrees with, or the only one."""
+    if options.alone or len(frames) == 1:
+        return frames
+    kind, kept = options.kind, []
+    for place, frame in enumerate(frames):
+        before, after = frames[max(0, place - 2):place], frames[place + 1:place + 3]
+        if any(agrees(kind, other, frame) for other in before) or any(agrees(kind, frame, other) for other in after):
+            kept.append(frame)
+    return kept
+
+
+TIME_ELEMENTS = {"A": 45, "B": 42, "E": 42, "G": 45}  # the day, the hour, the minute and the second, and what is between
+MINUTE, HOUR, DAY = 60_000_000, 3_600_000_000, 86_400_000_000  # microseconds
+
+
+class Part(NamedTuple):
+    """Pulses, one after the other, that are elements of one frame."""
+
+    number: int  # the place of the first
+    element: int
+    count: int
+    time: Time  # of the frame
+
+
+def of_day(time):
+    return HOUR * time.hours + MINUTE * time.minutes + time.micros
+
+
+def on_day(time, micros):
+    """The time with these microseconds of the same day, if it has as many, each minute with 60 seconds."""
+    if not 0 <= micros < DAY:
+        return None
+    return time._replace(hours=micros // HOUR, minutes=micros // MINUTE % 60, micros=micros % MINUTE)
+
+
+def next_time(kind, time):
+    return None if time.micros >= MINUTE else on_day(time, of_day(time) + PERIOD[kind])
+
+
+def time_before(kind, time):
+    period = PERIOD[kind]
+    return time._replace(micros=time.micros - period) if time.micros >= period else on_day(time, of_day(time) - period)
+
+
+def is_whole(kind, time):
+    return time.micros + PERIOD[kind] <= LONG_MINUTE
+
+
+class Counting:
+    """The pulses beside frames that are in step with them."""
+
+    def __init__(self, kind, expression, century, pulses):
+        self.kind, self.expression, self.century, self.pulses = kind, expression, century, pulses
+
+    def in_step(self, place):
+        """Whether a pulse is in step with the one before it."""
+        if not 0 < place < len(self.pulses):
+            return False
+        return timecode.in_step(timecode.INTERVAL[self.kind], self.pulses[place][0] - self.pulses[place - 1][0])
+
+    def ahead(self, place, most):
+        return next((n for n in range(most) if not self.in_step(place + n)), most)
+
+    def behind(self, place, most):
+        return next((n for n in range(most) if not self.in_step(place - n)), most)
+
+    def parts(self, frames):
+        """The frames, and what is counted before, between and after them."""
+        found = []
+        for place, frame in enumerate(frames):
+            found += self.between(frames[place - 1], frame) if place else self.before(frame)
+            found.append(Part(frame.marker, 0, 100, frame.time))
+        return found + (self.after(frames[-1]) if frames else [])
+
+    def head(self, frame, count, time):
+        return Part(frame.marker + 100, 0, count, time)
+
+    def tail(self, frame, count, time):
+        return Part(frame.marker - count, 100 - count, count, time)
+
+    def middle(self, one, other):
+        """The time of the frame that is missing between two: in the minute of the first, or of the second."""
+        period = PERIOD[self.kind]
+        for time in (one.time._replace(micros=one.time.micros + period), other.time._replace(micros=other.time.micros - period)):
+            sound = 0 <= time.micros and is_whole(self.kind, time)
+            if sound and follows(self.kind, self.century, one.time, time) and follows(self.kind, self.century, time, other.time):
+                return time
+        return None
+
+    def missing(self, one, other):
+        """How many frames are missing between two, and the time of the first and of the last."""
+        period = PERIOD[self.kind]
+        many = (2 * (other.rise - one.rise) + period) // (2 * period)
+        if many < 2:
+            return 0, None, None
+        if many == 2:
+            time = self.middle(one, other)
+            return 1, time, time
+        same_day = (one.time.year, one.time.days) == (other.time.year, other.time.days)
+        if not same_day or of_day(other.time) - of_day(one.time) != many * period:
+            return 0, None, None
+        times = next_time(self.kind, one.time), time_before(self.kind, other.time)
+        sound = all(time is not None and is_whole(self.kind, time) for time in times)
+        return many - 1, *(times if sound else (None, None))
+
+    def between(self, one, other):
+        many, first, last = self.missing(one, other)
+        if first is None:
+            return []
+        gap = other.marker - one.marker - 100
+        after, before = self.ahead(one.marker + 100, min(gap, 100)), self.behind(other.marker, min(gap, 100))
+        if many == 1 and gap == 100 and after + before > 100:
+            return [self.head(one, 100, first)]
+        if many == 1:  # no element that both reach
+            after, before = min(after, 100 - before), min(before, 100 - after)
+        return [self.head(one, after, first), self.tail(other, before, last)] if after + before <= gap else []
+
+    def before(self, frame):
+        time = time_before(self.kind, frame.time)
+        return self.borne_out(self.tail(frame, self.behind(frame.marker, min(frame.marker, 100)), time))
+
+    def after(self, frame):
+        return self.borne_out(self.head(frame, self.ahead(frame.marker + 100, 100), next_time(self.kind, frame.time)))
+
+    def borne_out(self, part):
+        """The part, if at most two of its pulses say another time."""
+        if part.time is None or not is_whole(self.kind, part.time):
+            return []
+        time, wrong, interval = part.time, 0, timecode.INTERVAL[self.kind]
+        wanted = timecode.encode(self.kind, self.expression, {
+            "year": time.year, "days": time.days, "hours": time.hours, "minutes": time.minutes, "seconds": time.micros // 1_000_000,
+            "hundredths": time.micros // 10_000 % 100, "sbs": 0, "control": 0,
+        })
+        for place in range(part.count):
+            rise, fall = self.pulses[part.number + place]
+            known, name = part.element + place < TIME_ELEMENTS[self.kind], wanted[part.element + place]
+            found = timecode.class_of(interval, fall - rise)
+            wrong += found not in ("bad", name) and (known or name == "position")
+        return [part] if wrong <= 2 else []
+
+
 class Track:
     """A track of pulses, rise and fall, which gives moments their time."""
 
@@ -88,36 +256,35 @@ class Track:
         self.kind = options.kind
         self.century = options.year // 100 if options.year else 20
         self.pulses = pulses
-        self.frames = frames_of(options.kind, options.expression, pulses)
+        self.fine = frames_of(options.kind, options.expression, pulses)
+        self.frames = believed(options, self.fine)
+        parts = Counting(options.kind, options.expression, self.century, pulses).parts(self.frames)
+        self.points = {part.number + k: (part.element + k, part.time) for part in parts for k in range(part.count)}
 
     def time_at(self, moment):
-        """The time some microseconds, a fraction, after the start; None if there is none."""
+        """The time some microseconds, a fraction, after the start, between two pulses that have one; None if there is none."""
         risen = [place for place, (rise, _) in enumerate(self.pulses) if rise <= moment]
-        if not risen:
+        if not risen or not self.goes_on(risen[-1]):
             return None
-        place = risen[-1]
-        for frame in self.frames:
-            element = place - frame.marker
-            if 0 <= element < 100:
-                return self.time_in(frame, element, place, moment)
-        return None
-
-    def time_in(self, frame, element, place, moment):
+        (start, _), (end, _) = self.pulses[risen[-1]:risen[-1] + 2]
+        element, time = self.points[risen[-1]]
         interval = timecode.INTERVAL[self.kind]
-        start = self.pulses[place][0]
-        if element < 99 or self.is_followed(frame):
-            end = self.pulses[place + 1][0]
-        else:
-            end = start + interval
-        if moment >= end:
-            return None
         share = (moment - start) * interval / (end - start)
-        return frame.time._replace(micros=frame.time.micros + element * interval + share.__floor__())
+        return time._replace(micros=time.micros + element * interval + share.__floor__())
+
+    def goes_on(self, place):
+        """Whether a pulse has a time, and the next one that one interval later."""
+        if place not in self.points or place + 1 not in self.points:
+            return False
+        (element, time), (following, later) = self.points[place], self.points[place + 1]
+        if following:
+            return following == element + 1 and later == time
+        return element == 99 and follows(self.kind, self.century, time, later)
 
     def is_followed(self, frame):
         return any(
             later.marker == frame.marker + 100 and follows(self.kind, self.century, frame.time, later.time)
-            for later in self.frames
+            for later in self.fine
         )
 
 
@@ -126,7 +293,7 @@ def year_of(options, track, time):
         return 100 * track.century + time.year
     if options.year is None:
         return None
-    return options.year + (time.days < track.frames[0].time.days)
+    return options.year + bool(track.frames and time.days < track.frames[0].time.days)
 
 
 def word(options, track, time):
@@ -158,24 +325,31 @@ def table(options, pulses):
     """The rows of the frames that have a time: the microsecond of the marker, the time, and whether the next frame follows."""
     track = Track(options, pulses)
     rows = []
-    for frame in track.frames:
-        cells = (str(pulses[frame.marker][0]), word(options, track, frame.time), "yes" if track.is_followed(frame) else "no")
+    for frame in track.fine:
+        follows_it = "unsupported" if frame not in track.frames else "yes" if track.is_followed(frame) else "no"
+        cells = (str(frame.rise), word(options, track, frame.time), follows_it)
         rows.append((options.comma or b"\t").decode().join(cells) + "\n")
     return "".join(rows)
 
 
 def is_timed(options, pulses):
-    """Whether a frame has a time."""
+    """Whether a frame is believed."""
     return bool(Track(options, pulses).frames)
 
 
+def doubted(options, pulses):
+    """How many frames have a time and are not believed."""
+    track = Track(options, pulses)
+    return len(track.fine) - len(track.frames)
+
+
 def aligned(options, pulses, text):
-    """What is printed for the lines, and the status: 1 also if no frame has a time."""
+    """What is printed for the lines, and the status: 1 also if no frame has a time, or some are not believed."""
     track = Track(options, pulses)
     lines = text.split(b"\n")
     if not lines[-1]:
         lines.pop()
-    printed, status = [], int(not track.frames)
+    printed, status = [], int(not track.frames or len(track.fine) > len(track.frames))
     for place, line in enumerate(lines):
         if len(line) > LONGEST_LINE:
             return b"".join(printed), 4

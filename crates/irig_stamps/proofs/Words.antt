@@ -5,7 +5,7 @@ use Rattle.std.specs.Prelude.{option_map}
 use Rattle.irig_codes.specs.Format.{FormatView}
 use Rattle.irig_recording.specs.declared.pulse.Pulse.{Pulse}
 use Rattle.irig_track.specs.Track.{IsTrack}
-use Rattle.irig_times.specs.{declared.time.Time.Time, Elements.HasTime}
+use Rattle.irig_times.specs.{declared.time.Time.Time, Counted.IsTimed}
 use Rattle.irig_stamps.specs.{Stamps.IsTimeOf, Stamps.IsWord, Texts.word_of, declared.settings.Settings.Settings}
 use Rattle.irig_stamps.proofs.Late.{none-late}
 
@@ -29,15 +29,15 @@ module _ (f : FormatView) (ps : List Pulse) (s : Settings) where
       → (v : ℕ) → picos ≡ min v (2 ^ 120) → (x : Time) → (None ≡ Some x) ↔ IsTimeOf f ps s v x
   time-late micros picos track late v e x = (
     λ is. absurd (none-some x is),
-    λ is. absurd (omega (arith, late, e, none-late f s.century micros ps track (v - s.offset) x is.1)),
+    λ is. absurd (omega (arith, late, e, none-late f s.alone s.century micros ps track (v - s.offset) x is.1)),
   )
 
   -- each greatest number has no time, so it stands for all that are greater
   pub time-exact : (picos : ℕ) (result : Option Time) → s.offset ≤ 2 ^ 119 → s.offset ≤ picos → picos - s.offset < 2 ^ 62
-      → ((x : Time) → (result ≡ Some x) ↔ HasTime f s.century ps 1000000 (picos - s.offset) x)
+      → ((x : Time) → (result ≡ Some x) ↔ IsTimed f s.alone s.century ps 1000000 (picos - s.offset) x)
       → (v : ℕ) → picos ≡ min v (2 ^ 120) → (x : Time) → (result ≡ Some x) ↔ IsTimeOf f ps s v x
   time-exact picos result small le near h v e x =
       let same : picos ≡ v = omega (arith, e, small, near) in (
-        λ is. (omega (arith, same, le), subst (λ n. HasTime f s.century ps 1000000 (n - s.offset) x) same ((h x).0 is)),
-        λ is. (h x).1 (subst (λ n. HasTime f s.century ps 1000000 (n - s.offset) x) (sym same) is.1),
+        λ is. (omega (arith, same, le), subst (λ n. IsTimed f s.alone s.century ps 1000000 (n - s.offset) x) same ((h x).0 is)),
+        λ is. (h x).1 (subst (λ n. IsTimed f s.alone s.century ps 1000000 (n - s.offset) x) (sym same) is.1),
       )

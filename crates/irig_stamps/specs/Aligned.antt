@@ -7,20 +7,30 @@ use Rattle.irig_recording.specs.declared.pulse.Pulse.{Pulse}
 use Rattle.irig_track.specs.Edges.{edges_of}
 use Rattle.irig_stamps.specs.declared.fault.RunFault.TheVariants.{OutOfMemory}
 use Rattle.irig_stamps.specs.declared.settings.Settings.{Settings}
-use Rattle.irig_stamps.specs.{Dates.first_day, Runs.Ends, declared.fault.RunFault.RunFault}
+use Rattle.irig_stamps.specs.{Dates.doubted, Dates.first_day, Runs.Ends, declared.fault.RunFault.RunFault}
 use Rattle.irig_stamps.specs.declared.outcome.Outcome.{Outcome}
+use Rattle.irig_stamps.specs.declared.outcome.Standing.{Standing}
+use Rattle.irig_times.specs.Support.{believed}
 
--- the settings with the day of the first frame of a track that has a time; 0 if none has
+-- the day of the first frame of a track that is believed
+abbrev pub day_of : FormatView → List Pulse → Settings → Option ℕ
+day_of f ps s = first_day f (believed f s.alone ps) 0 (frames f ps)
+
+-- the settings with that day; 0 if none is
 abbrev pub with_first_day : FormatView → List Pulse → Settings → Settings
-with_first_day f ps s = record s { first_day = unwrap_or (first_day f (frames f ps)) 0 }
+with_first_day f ps s = record s { first_day = unwrap_or (day_of f ps s) 0 }
 
--- whether a frame of a track has a time
-abbrev pub is_timed : FormatView → List Pulse → Bool
-is_timed f ps = is_some (first_day f (frames f ps))
+-- whether a frame of a track is believed, and how many have a time and are not
+abbrev pub standing : Bool → ℕ → Standing
+standing timed doubted = record { timed = timed; doubted = doubted }
 
--- the outcome of a run: whether each line has a number, and whether a frame has a time
-abbrev pub outcome : Bool → Bool → Outcome
-outcome numbered timed = record { numbered = numbered; timed = timed }
+abbrev pub standing_of : FormatView → List Pulse → Settings → Standing
+standing_of f ps s =
+    standing (is_some (day_of f ps s)) (doubted f (believed f s.alone ps) 0 (frames f ps))
+
+-- the outcome of a run: whether each line has a number, and which frames are believed
+abbrev pub outcome : Bool → Standing → Outcome
+outcome numbered standing = record { numbered = numbered; standing = standing }
 
 -- whether the column of each line has a number, or why the run was broken off
 abbrev pub numbers_of : Result Outcome RunFault → Result Bool RunFault
@@ -33,7 +43,7 @@ pub record AlignsPulses (f : FormatView) (edges : List ℕ) (s : Settings)
   pub pulses : List Pulse
   pub are : edges_of pulses ≡ edges
   pub ends : Ends f pulses (with_first_day f pulses s) lines left from to (numbers_of result)
-  pub timed : IfOk result (λ outcome. outcome.timed ≡ is_timed f pulses)
+  pub stands : IfOk result (λ outcome. outcome.standing ≡ standing_of f pulses s)
 
 -- the same; or memory ran out, and nothing was read or printed
 abbrev pub Aligns : FormatView → List ℕ → Settings → Option (List ℕ) → Option (List ℕ)

@@ -1,6 +1,6 @@
 -- Years and dates of times, by the proleptic Gregorian calendar of jiff. A track lasts at most 12.7
 -- days, so it has at most one end of a year. This project's own.
-use Rattle.std.specs.Prelude.{ℕ, zero, suc, ◌+◌, ◌-◌, ◌*◌, ◌%◌, ◌==◌, nat_le, nat_lt, pos, List, []}
+use Rattle.std.specs.Prelude.{ℕ, zero, suc, Bool, true, false, slice_get, ◌+◌, ◌-◌, ◌*◌, ◌%◌, ◌==◌, nat_le, nat_lt, pos, List, []}
 use Rattle.std.specs.Prelude.{◌∷◌, Option, Some, None, if◌then◌else◌}
 use Rattle.jiff_core.specs.Calendar.{days_in_month}
 use Rattle.irig_codes.specs.{Format.FormatView, declared.fields.Fields.Fields}
@@ -13,12 +13,32 @@ abbrev pub day_or : Option Fields → Option ℕ → Option ℕ
 day_or (Some g) other = Some g.days
 day_or None other = other
 
--- the day in its year of the first frame that has a time, if one has
-abbrev pub first_day : FormatView → List Record → Option ℕ
-first_day f [] = None
-first_day f (r ∷ rs) = day_or (timed f r.verdict) (first_day f rs)
+-- the fields of a frame, if it is believed
+abbrev pub if_held : Option Bool → Option Fields → Option Fields
+if_held None g = None
+if_held (Some false) g = None
+if_held (Some true) g = g
 
--- the year of a day, if frames carry none: that of the first frame that has a time, or the year
+-- of the records from a place on, the day in its year of the first frame that is believed, if one is
+abbrev pub first_day : FormatView → List Bool → ℕ → List Record → Option ℕ
+first_day f held place [] = None
+first_day f held place (r ∷ rs) =
+    day_or (if_held (slice_get held place) (timed f r.verdict)) (first_day f held (suc place) rs)
+
+-- one, if a frame has a time and is not believed
+abbrev pub doubt_of : Option Bool → Option Fields → ℕ
+doubt_of None g = 0
+doubt_of (Some true) g = 0
+doubt_of (Some false) None = 0
+doubt_of (Some false) (Some g) = 1
+
+-- of the records from a place on, how many frames have a time and are not believed
+abbrev pub doubted : FormatView → List Bool → ℕ → List Record → ℕ
+doubted f held place [] = 0
+doubted f held place (r ∷ rs) =
+    doubt_of (slice_get held place) (timed f r.verdict) + doubted f held (suc place) rs
+
+-- the year of a day, if frames carry none: that of the first frame that is believed, or the year
 -- after, if the day is before that frame's
 abbrev pub counted_on : Settings → ℕ → Option ℕ
 counted_on s days = on s.year where

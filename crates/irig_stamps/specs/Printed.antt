@@ -4,7 +4,7 @@ use Rattle.std.specs.Prelude.{◌≡◌, ◌≢◌, ℕ, ◌+◌, ◌*◌, ◌<�
 use Rattle.irig_codes.specs.Format.{FormatView}
 use Rattle.irig_recording.specs.declared.pulse.Pulse.{Pulse}
 use Rattle.irig_track.specs.Track.{IsTrack}
-use Rattle.irig_times.specs.{declared.time.Time.Time, Elements.HasTime}
+use Rattle.irig_times.specs.{declared.time.Time.Time, Counted.IsTimed}
 use Rattle.irig_stamps.specs.Texts.{calendar_text, ordinal_text, seconds_text}
 use Rattle.irig_stamps.specs.{Dates.year_in, declared.settings.Settings.Settings}
 
@@ -17,8 +17,8 @@ pub record AreTimes (f : FormatView) (s : Settings) (x y : Time) : Type 0 where
   pub some : 0 < d
   pub n : ℕ
   pub m : ℕ
-  pub first : HasTime f s.century pulses d n x
-  pub second : HasTime f s.century pulses d m y
+  pub first : IsTimed f s.alone s.century pulses d n x
+  pub second : IsTimed f s.alone s.century pulses d m y
   pub century : s.century ≤ 99
   pub year : IfSome s.year (λ y. y ≤ 9998)
 

@@ -3,7 +3,7 @@ use Rattle.std.specs.Prelude.{◌≡◌, ℕ, ◌-◌, ◌≤◌, ◌++◌, List
 use Rattle.std.specs.Prelude.{Bool, true, false, ◌||◌, nat_lt, is_some}
 use Rattle.irig_codes.specs.Format.{FormatView}
 use Rattle.irig_recording.specs.declared.pulse.Pulse.{Pulse}
-use Rattle.irig_times.specs.{declared.time.Time.Time, Elements.HasTime}
+use Rattle.irig_times.specs.{declared.time.Time.Time, Counted.IsTimed}
 use Rattle.irig_stamps.specs.declared.settings.Settings.{Settings}
 use Rattle.irig_stamps.specs.{Columns.column_of, Numbers.number_in, Texts.word_of}
 
@@ -11,9 +11,11 @@ use Rattle.irig_stamps.specs.{Columns.column_of, Numbers.number_in, Texts.word_o
 abbrev pub picos_in : Settings → List ℕ → Option ℕ
 picos_in s line = number_in s.places (column_of s.comma s.column line)
 
--- the time of year v picoseconds after the recorder's zero; the track starts `offset` after it
+-- the time of year v picoseconds after the recorder's zero, by the frames that are believed and the
+-- pulses that are counted from them; the track starts `offset` after it
 abbrev pub IsTimeOf : FormatView → List Pulse → Settings → ℕ → Time → Type 0
-IsTimeOf f ps s v x = (s.offset ≤ v) × HasTime f s.century ps 1000000 (v - s.offset) x
+IsTimeOf f ps s v x =
+    (s.offset ≤ v) × IsTimed f s.alone s.century ps 1000000 (v - s.offset) x
 
 -- the word before a line: its time of year, or a hyphen if it has none
 abbrev pub IsWord : FormatView → List Pulse → Settings → Option ℕ → List ℕ → Type 0

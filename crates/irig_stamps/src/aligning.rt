@@ -1,19 +1,18 @@
 //! Lines that are aligned with a track.
 
 ghost use Rattle.std.specs.Prelude.{◌≡◌, ◌≤◌, ◌<◌, ◌^◌, IfOk, IfSome};
-ghost use Rattle.irig_index.specs.Frames.{frames};
-ghost use Rattle.irig_stamps.specs.Aligned.{Aligns, is_timed, numbers_of, with_first_day};
-ghost use Rattle.irig_stamps.specs.{Dates.first_day, Runs.Ends};
+ghost use Rattle.irig_stamps.specs.Aligned.{Aligns, numbers_of, standing_of, with_first_day};
+ghost use Rattle.irig_stamps.specs.Runs.{Ends};
 
 use crate::fault::RunFault;
-use crate::first_day::first_day;
-use crate::outcome::Outcome;
+use crate::first_day::{doubted, first_day};
+use crate::outcome::{Outcome, Standing};
 use crate::running::run;
 use crate::settings::Settings;
 use irig_codes::Format;
 use irig_index::Index;
 use irig_recording::Recording;
-use irig_times::FrameLens;
+use irig_times::{FrameLens, held_frames, timed_parts};
 use irig_track::Track;
 use std::alloc::Global;
 use std::io::{Read, Write};
@@ -56,30 +55,40 @@ fn align_track<R: Read, W: Write>(
     ensures ends { Ends format track.now.pulses
         (with_first_day format track.now.pulses settings.now) (R.remaining lines.old)
         (R.remaining lines.new) (W.contents out.old) (W.contents out.new) (numbers_of result) }
-    ensures timed { IfOk result (λ outcome. outcome.timed ≡ is_timed format track.now.pulses) }
+    ensures stands { IfOk result (λ outcome.
+        outcome.standing ≡ standing_of format track.now.pulses settings.now) }
 {
     let mut lens = track.lens();
     let Ok(index) = Index::build(alloc, &mut lens, format) else {
         return Err(RunFault::OutOfMemory);
     };
     let mut records = FrameLens::new(&index);
-    let day = first_day(&mut records, format);
+    let Ok(held) = held_frames(alloc, &mut lens, &mut records, format, settings.alone) else {
+        return Err(RunFault::OutOfMemory);
+    };
+    let day = first_day(&mut records, &held, format);
+    let doubted = doubted(&mut records, &held, format);
+    let Ok(parts) = timed_parts(
+        alloc,
+        &mut lens,
+        &mut records,
+        format,
+        settings.century,
+        settings.alone,
+    ) else {
+        return Err(RunFault::OutOfMemory);
+    };
     let settings = Settings {
         first_day: day.unwrap_or(0),
         ..*settings
     };
-    match run(
-        alloc,
-        lines,
-        out,
-        &mut lens,
-        &mut records,
-        format,
-        &settings,
-    ) {
+    match run(alloc, lines, out, &mut lens, &parts, format, &settings) {
         Ok(numbered) => Ok(Outcome {
             numbered,
-            timed: day.is_some(),
+            standing: Standing {
+                timed: day.is_some(),
+                doubted,
+            },
         }),
         Err(fault) => Err(fault),
     }

@@ -23,6 +23,6 @@ pub use aligning::align;
 pub use fault::RunFault;
 pub use law::digits_tell_times;
 pub use numbers::{number, whole};
-pub use outcome::Outcome;
+pub use outcome::{Outcome, Standing};
 pub use settings::{Form, Settings};
 pub use table::list;

@@ -1,10 +1,19 @@
 //! How lines were aligned.
 
+/// Which frames of a track are believed.
+#[derive(Clone, Copy)]
+pub struct Standing {
+    /// Whether one is.
+    pub timed: bool,
+    /// How many have a time, and are not.
+    pub doubted: usize,
+}
+
 /// How lines were aligned.
 #[derive(Clone, Copy)]
 pub struct Outcome {
     /// Whether the column of each line has a number, but for the header.
     pub numbered: bool,
-    /// Whether a frame of the track has a time.
-    pub timed: bool,
+    /// Which frames of the track are believed.
+    pub standing: Standing,
 }

@@ -3,7 +3,7 @@
 ghost use Rattle.std.specs.Prelude.{◌≡◌, ◌≤◌, ◌<◌, ◌^◌, [], ℕ, List, Option, true, OnOk, IfOk};
 ghost use Rattle.std.specs.Prelude.{IfSome};
 ghost use Rattle.std.specs.{Io.ReadsAtMost, Io.KnownBytes.IsAtEnd, Io.KnownBytes.ReadConsumes};
-ghost use Rattle.irig_index.specs.Frames.{frames};
+ghost use Rattle.irig_times.specs.Counted.{timed_parts};
 ghost use Rattle.irig_stamps.specs.Runs.{Ends};
 ghost use Rattle.irig_stamps.specs.Steps.{GoesOn, PrintsAll, Stops, Underway};
 
@@ -13,7 +13,7 @@ use crate::printing::put_all;
 use crate::settings::Settings;
 use crate::taking::{end_line, take_part};
 use irig_codes::Format;
-use irig_times::FrameLens;
+use irig_times::Part;
 use irig_track::Lens;
 use std::alloc::Global;
 use std::io::{Read, Write};
@@ -32,11 +32,12 @@ pub fn run<R: Read, W: Write>(
     lines: &mut R,
     out: &mut W,
     pulses: &mut Lens<'_>,
-    records: &mut FrameLens<'_>,
+    parts: &[Part],
     format: Format,
     settings: &Settings,
 ) -> Result<bool, RunFault>
-    requires frames { records.old.records ≡ frames format pulses.old.track.pulses }
+    requires parts { parts.now ≡ timed_parts format settings.now.alone
+        settings.now.century pulses.old.track.pulses }
     requires century { settings.now.century ≤ 99 }
     requires offset { settings.now.offset ≤ 2 ^ 119 }
     requires year { IfSome settings.now.year (λ y. y ≤ 9998) }
@@ -55,7 +56,7 @@ pub fn run<R: Read, W: Write>(
             &mut state,
             &mut text,
             pulses,
-            records,
+            parts,
             format,
             settings,
         ) {
@@ -75,11 +76,12 @@ fn run_read<R: Read, W: Write>(
     state: &mut Lines,
     text: &mut Vec<u8>,
     pulses: &mut Lens<'_>,
-    records: &mut FrameLens<'_>,
+    parts: &[Part],
     format: Format,
     settings: &Settings,
 ) -> Result<bool, RunFault>
-    requires frames { records.old.records ≡ frames format pulses.old.track.pulses }
+    requires parts { parts.now ≡ timed_parts format settings.now.alone
+        settings.now.century pulses.old.track.pulses }
     requires century { settings.now.century ≤ 99 }
     requires offset { settings.now.offset ≤ 2 ^ 119 }
     requires year { IfSome settings.now.year (λ y. y ≤ 9998) }
@@ -92,19 +94,18 @@ fn run_read<R: Read, W: Write>(
         (W.contents out.new) state.new result }
     ensures empty { OnOk result (text.new.items ≡ []) }
     ensures pulses { pulses.new.track ≡ pulses.old.track }
-    ensures same { records.new.records ≡ records.old.records }
 {
     let Ok(count) = read_part(lines, buffer) else {
         return Err(RunFault::ReadFailed);
     };
     if count == 0 {
-        return end(out, state, text, pulses, records, format, settings);
+        return end(out, state, text, pulses, parts, format, settings);
     }
     match take_part(
         state,
         text,
         pulses,
-        records,
+        parts,
         format,
         settings,
         &buffer[..count],
@@ -131,11 +132,12 @@ fn end<W: Write>(
     state: &mut Lines,
     text: &mut Vec<u8>,
     pulses: &mut Lens<'_>,
-    records: &mut FrameLens<'_>,
+    parts: &[Part],
     format: Format,
     settings: &Settings,
 ) -> Result<bool, RunFault>
-    requires frames { records.old.records ≡ frames format pulses.old.track.pulses }
+    requires parts { parts.now ≡ timed_parts format settings.now.alone
+        settings.now.century pulses.old.track.pulses }
     requires century { settings.now.century ≤ 99 }
     requires offset { settings.now.offset ≤ 2 ^ 119 }
     requires year { IfSome settings.now.year (λ y. y ≤ 9998) }
@@ -149,12 +151,11 @@ fn end<W: Write>(
     ensures empty { OnOk result (text.new.items ≡ []) }
     ensures ended { IfOk result (λ ended. ended ≡ true) }
     ensures pulses { pulses.new.track ≡ pulses.old.track }
-    ensures same { records.new.records ≡ records.old.records }
 {
     if state.line.is_empty() {
         return Ok(true);
     }
-    match end_line(state, text, pulses, records, format, settings) {
+    match end_line(state, text, pulses, parts, format, settings) {
         Ok(()) => print(out, text, true),
         Err(_) => Err(RunFault::OutOfMemory),
     }

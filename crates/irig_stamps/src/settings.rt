@@ -26,10 +26,12 @@ pub struct Settings {
     pub header: u64,
     /// The century of years of two digits.
     pub century: u32,
-    /// The year of the first frame that has a time, if frames carry no year.
+    /// The year of the first frame that is believed, if frames carry no year.
     pub year: Option<u32>,
     /// The day of that frame in its year. `align` finds it.
     pub first_day: u32,
+    /// Whether each fine frame is believed, and not only those that another one supports.
+    pub alone: bool,
     /// How a time is written.
     pub form: Form,
 }

@@ -2,7 +2,7 @@
 
 ghost use Rattle.std.specs.Prelude.{◌≡◌, ◌↔◌, ◌≤◌, ◌^◌, ◌++◌, ◌∷◌, [], ℕ, List, Some, min, Option};
 ghost use Rattle.std.specs.Prelude.{IfOk, IfSome, OnOk, is_some, option_map, unwrap_or};
-ghost use Rattle.irig_index.specs.Frames.{frames};
+ghost use Rattle.irig_times.specs.Counted.{timed_parts};
 ghost use Rattle.irig_times.specs.declared.time.Time.{Time};
 ghost use Rattle.irig_stamps.specs.Stamps.{IsOut, IsStamped, IsTimeOf, IsWord, is_header};
 ghost use Rattle.irig_stamps.specs.Stamps.{is_numbered, picos_in};
@@ -13,7 +13,7 @@ use crate::numbers::number;
 use crate::settings::Settings;
 use crate::text::put_word;
 use irig_codes::Format;
-use irig_times::{FrameLens, Time, time_at};
+use irig_times::{Part, Time, time_by};
 use irig_track::Lens;
 use std::alloc::AllocError;
 
@@ -23,18 +23,18 @@ const LATE: u128 = 4_611_686_018_427_387_904;
 /// The time of year of a recorder's time in picoseconds; 2^120 stands for all later.
 fn time_of(
     pulses: &mut Lens<'_>,
-    records: &mut FrameLens<'_>,
+    parts: &[Part],
     format: Format,
     settings: &Settings,
     picos: u128,
 ) -> Option<Time>
-    requires frames { records.old.records ≡ frames format pulses.old.track.pulses }
+    requires parts { parts.now ≡ timed_parts format settings.now.alone
+        settings.now.century pulses.old.track.pulses }
     requires century { settings.now.century ≤ 99 }
     requires offset { settings.now.offset ≤ 2 ^ 119 }
     ensures exact { (v : ℕ) → picos ≡ min v (2 ^ 120) → (x : Time) → (result ≡ Some x)
         ↔ IsTimeOf format pulses.old.track.pulses settings.now v x }
     ensures pulses { pulses.new.track ≡ pulses.old.track }
-    ensures same { records.new.records ≡ records.old.records }
 {
     // Read for its bounds alone.
     let _count = pulses.len();
@@ -45,28 +45,28 @@ fn time_of(
     if since >= LATE {
         return None;
     }
-    time_at(pulses, records, format, settings.century, since as u64)
+    time_by(pulses, parts, format, settings.century, since as u64)
 }
 
 /// The time of year of a recorder's time, if there is one.
 fn word_time(
     pulses: &mut Lens<'_>,
-    records: &mut FrameLens<'_>,
+    parts: &[Part],
     format: Format,
     settings: &Settings,
     told: Option<u128>,
 ) -> Option<Time>
-    requires frames { records.old.records ≡ frames format pulses.old.track.pulses }
+    requires parts { parts.now ≡ timed_parts format settings.now.alone
+        settings.now.century pulses.old.track.pulses }
     requires century { settings.now.century ≤ 99 }
     requires offset { settings.now.offset ≤ 2 ^ 119 }
     ensures word { (number : Option ℕ) → told ≡ option_map (λ v. min v (2 ^ 120)) number
         → IsWord format pulses.old.track.pulses settings.now number
         (word_of settings.now result) }
     ensures pulses { pulses.new.track ≡ pulses.old.track }
-    ensures same { records.new.records ≡ records.old.records }
 {
     match told {
-        Some(picos) => time_of(pulses, records, format, settings, picos),
+        Some(picos) => time_of(pulses, parts, format, settings, picos),
         None => None,
     }
 }
@@ -93,12 +93,13 @@ fn put_header(text: &mut Vec<u8>, line: &[u8]) -> Result<(), AllocError>
 fn stamp(
     text: &mut Vec<u8>,
     pulses: &mut Lens<'_>,
-    records: &mut FrameLens<'_>,
+    parts: &[Part],
     format: Format,
     settings: &Settings,
     line: &[u8],
 ) -> Result<bool, AllocError>
-    requires frames { records.old.records ≡ frames format pulses.old.track.pulses }
+    requires parts { parts.now ≡ timed_parts format settings.now.alone
+        settings.now.century pulses.old.track.pulses }
     requires century { settings.now.century ≤ 99 }
     requires offset { settings.now.offset ≤ 2 ^ 119 }
     requires year { IfSome settings.now.year (λ y. y ≤ 9998) }
@@ -108,11 +109,10 @@ fn stamp(
         × IsStamped format pulses.old.track.pulses settings.now line.now out
         × (text.new.items ≡ text.old.items ++ out)) }
     ensures pulses { pulses.new.track ≡ pulses.old.track }
-    ensures same { records.new.records ≡ records.old.records }
 {
     let column = column(settings.comma, settings.column, line);
     let told = number(settings.places, column);
-    let time = word_time(pulses, records, format, settings, told);
+    let time = word_time(pulses, parts, format, settings, told);
     put_word(text, settings, time)?;
     put_line(text, settings.comma, line)?;
     Ok(told.is_some())
@@ -123,13 +123,14 @@ fn stamp(
 pub fn line_out(
     text: &mut Vec<u8>,
     pulses: &mut Lens<'_>,
-    records: &mut FrameLens<'_>,
+    parts: &[Part],
     format: Format,
     settings: &Settings,
     count: u64,
     line: &[u8],
 ) -> Result<bool, AllocError>
-    requires frames { records.old.records ≡ frames format pulses.old.track.pulses }
+    requires parts { parts.now ≡ timed_parts format settings.now.alone
+        settings.now.century pulses.old.track.pulses }
     requires century { settings.now.century ≤ 99 }
     requires offset { settings.now.offset ≤ 2 ^ 119 }
     requires year { IfSome settings.now.year (λ y. y ≤ 9998) }
@@ -139,11 +140,10 @@ pub fn line_out(
         × IsOut format pulses.old.track.pulses settings.now (is_header settings.now count) line.now
         out × (text.new.items ≡ text.old.items ++ out)) }
     ensures pulses { pulses.new.track ≡ pulses.old.track }
-    ensures same { records.new.records ≡ records.old.records }
 {
     if count < settings.header {
         put_header(text, line)?;
         return Ok(true);
     }
-    stamp(text, pulses, records, format, settings, line)
+    stamp(text, pulses, parts, format, settings, line)
 }

@@ -4,24 +4,27 @@ ghost use Rattle.std.specs.Prelude.{◌≡◌, ◌≤◌, ◌<◌, ◌++◌, ℕ
 ghost use Rattle.std.specs.Prelude.{IfSome, OnOk, Option};
 ghost use Rattle.irig_index.specs.{Frames.frames, declared.record.Record.Record};
 ghost use Rattle.irig_times.specs.{Starts.IsStartOf, declared.start.FrameStart.FrameStart};
+ghost use Rattle.irig_times.specs.Support.{believed};
 ghost use Rattle.irig_stamps.specs.Aligned.{with_first_day};
 ghost use Rattle.irig_stamps.specs.Tables.{IsTable, Lists, ListsRecording, answer_of, row_of};
 ghost use Rattle.irig_stamps.specs.Tables.{row_text};
 
 use crate::fault::RunFault;
-use crate::first_day::first_day;
+use crate::first_day::{doubted, first_day, held_at};
+use crate::outcome::Standing;
 use crate::printing::put_all;
 use crate::settings::Settings;
 use crate::text::{put_number, put_word};
 use irig_codes::Format;
 use irig_index::Index;
 use irig_recording::Recording;
-use irig_times::{FrameLens, FrameStart, start_of};
+use irig_times::{FrameLens, FrameStart, held_frames, start_of};
 use irig_track::{Lens, Track};
 use std::alloc::{AllocError, Global};
 use std::io::Write;
 
-/// Prints the table of a recording: a row for each frame that has a time. Returns whether one has.
+/// Prints the table of a recording: a row for each frame that has a time. Returns which of
+/// them are believed.
 /// The table is made before it is printed, so nothing is printed if memory runs out.
 pub fn list<W: Write>(
     alloc: Global,
@@ -29,7 +32,7 @@ pub fn list<W: Write>(
     out: &mut W,
     format: Format,
     settings: &Settings,
-) -> Result<bool, RunFault>
+) -> Result<Standing, RunFault>
     requires century { settings.now.century ≤ 99 }
     requires year { IfSome settings.now.year (λ y. y ≤ 9998) }
     ensures { ListsRecording format recording.edges settings.now (W.contents out.old)
@@ -48,7 +51,7 @@ fn list_track<W: Write>(
     out: &mut W,
     format: Format,
     settings: &Settings,
-) -> Result<bool, RunFault>
+) -> Result<Standing, RunFault>
     requires century { settings.now.century ≤ 99 }
     requires year { IfSome settings.now.year (λ y. y ≤ 9998) }
     ensures { Lists format track.now.pulses (with_first_day format track.now.pulses settings.now)
@@ -59,16 +62,23 @@ fn list_track<W: Write>(
         return Err(RunFault::OutOfMemory);
     };
     let mut records = FrameLens::new(&index);
-    let day = first_day(&mut records, format);
+    let Ok(held) = held_frames(alloc, &mut lens, &mut records, format, settings.alone) else {
+        return Err(RunFault::OutOfMemory);
+    };
+    let day = first_day(&mut records, &held, format);
+    let doubted = doubted(&mut records, &held, format);
     let settings = Settings {
         first_day: day.unwrap_or(0),
         ..*settings
     };
-    let Ok(text) = table(alloc, &mut lens, &mut records, format, &settings) else {
+    let Ok(text) = table(alloc, &mut lens, &mut records, &held, format, &settings) else {
         return Err(RunFault::OutOfMemory);
     };
     match put_all(out, &text) {
-        Ok(()) => Ok(day.is_some()),
+        Ok(()) => Ok(Standing {
+            timed: day.is_some(),
+            doubted,
+        }),
         Err(_) => Err(RunFault::PrintFailed),
     }
 }
@@ -78,18 +88,20 @@ fn table(
     alloc: Global,
     pulses: &mut Lens<'_>,
     records: &mut FrameLens<'_>,
+    held: &[bool],
     format: Format,
     settings: &Settings,
 ) -> Result<Vec<u8>, AllocError>
     requires frames { records.old.records ≡ frames format pulses.old.track.pulses }
+    requires held { held.now ≡ believed format settings.now.alone pulses.old.track.pulses }
     requires century { settings.now.century ≤ 99 }
     requires year { IfSome settings.now.year (λ y. y ≤ 9998) }
-    ensures { IfOk result (λ text. IsTable format pulses.old.track.pulses settings.now
+    ensures { IfOk result (λ text. IsTable format pulses.old.track.pulses settings.now 0
         records.old.records text.items) }
 {
     let mut text = Vec::new(alloc);
     for place in 0..records.len() {
-        put_frame(&mut text, pulses, records, format, settings, place)?;
+        put_frame(&mut text, pulses, records, held, format, settings, place)?;
     }
     Ok(text)
 }
@@ -99,59 +111,73 @@ fn put_frame(
     text: &mut Vec<u8>,
     pulses: &mut Lens<'_>,
     records: &mut FrameLens<'_>,
+    held: &[bool],
     format: Format,
     settings: &Settings,
     place: usize,
 ) -> Result<(), AllocError>
     requires frames { records.old.records ≡ frames format pulses.old.track.pulses }
+    requires held { held.now ≡ believed format settings.now.alone pulses.old.track.pulses }
     requires century { settings.now.century ≤ 99 }
     requires year { IfSome settings.now.year (λ y. y ≤ 9998) }
     requires place { place < length records.old.records }
     ensures row { OnOk result ((r : Record) → slice_get records.old.records place ≡ Some r
         → (start : Option FrameStart)
         × IsStartOf format settings.now.century pulses.old.track.pulses r start
-        × (text.new.items ≡ text.old.items ++ row_of settings.now start)) }
+        × (text.new.items ≡ text.old.items
+        ++ row_of settings.now (slice_get held.now place) start)) }
     ensures pulses { pulses.new.track ≡ pulses.old.track }
     ensures same { records.new.records ≡ records.old.records }
 {
     let start = start_of(pulses, records, format, settings.century, place);
-    put_start(text, settings, start)
+    put_start(text, settings, held_at(held, place), start)
 }
 
 /// Adds the row of a frame, if there is one.
 fn put_start(
     text: &mut Vec<u8>,
     settings: &Settings,
+    held: Option<bool>,
     start: Option<FrameStart>,
 ) -> Result<(), AllocError>
     requires century { settings.now.century ≤ 99 }
     requires year { IfSome settings.now.year (λ y. y ≤ 9998) }
-    ensures { OnOk result (text.new.items ≡ text.old.items ++ row_of settings.now start) }
+    ensures { OnOk result (text.new.items ≡ text.old.items ++ row_of settings.now held start) }
 {
     match start {
-        Some(start) => put_row(text, settings, &start),
+        Some(start) => put_row(text, settings, held, &start),
         None => Ok(()),
     }
 }
 
 /// Adds the row of a frame.
-fn put_row(text: &mut Vec<u8>, settings: &Settings, start: &FrameStart) -> Result<(), AllocError>
+fn put_row(
+    text: &mut Vec<u8>,
+    settings: &Settings,
+    held: Option<bool>,
+    start: &FrameStart,
+) -> Result<(), AllocError>
     requires century { settings.now.century ≤ 99 }
     requires year { IfSome settings.now.year (λ y. y ≤ 9998) }
-    ensures { OnOk result (text.new.items ≡ text.old.items ++ row_text settings.now start.now) }
+    ensures { OnOk result
+        (text.new.items ≡ text.old.items ++ row_text settings.now held start.now) }
 {
     let comma = settings.comma.unwrap_or(b'\t');
     put_number(text, start.rise)?;
     text.extend_from_slice(&[comma])?;
     put_word(text, settings, Some(start.time))?;
     text.extend_from_slice(&[comma])?;
-    text.extend_from_slice(answer(start.is_followed))?;
+    text.extend_from_slice(answer(held, start.is_followed))?;
     text.extend_from_slice(b"\n")
 }
 
-/// The answer to a question.
-fn answer<'a>(is_so: bool) -> &'a [u8]
-    ensures { result.now ≡ answer_of is_so }
+/// Whether the next frame follows one; or that it is not believed.
+fn answer<'a>(held: Option<bool>, is_followed: bool) -> &'a [u8]
+    ensures { result.now ≡ answer_of held is_followed }
 {
-    if is_so { b"yes" } else { b"no" }
+    match held {
+        Some(true) if is_followed => b"yes",
+        Some(true) => b"no",
+        _ => b"unsupported",
+    }
 }

@@ -1,7 +1,7 @@
 //! Bytes of lines, as they come.
 
 ghost use Rattle.std.specs.Prelude.{◌≡◌, ◌≢◌, ◌≤◌, ◌<◌, ◌^◌, ◌∷◌, [], OnOk, IfSome};
-ghost use Rattle.irig_index.specs.Frames.{frames};
+ghost use Rattle.irig_times.specs.Counted.{timed_parts};
 ghost use Rattle.irig_stamps.specs.Steps.{PushesAs, Takes, TakesAs};
 
 use crate::fault::TakeFault;
@@ -9,7 +9,7 @@ use crate::lines::Lines;
 use crate::settings::Settings;
 use crate::stamping::line_out;
 use irig_codes::Format;
-use irig_times::FrameLens;
+use irig_times::Part;
 use irig_track::Lens;
 use std::alloc::AllocError;
 
@@ -21,12 +21,13 @@ fn take_byte(
     lines: &mut Lines,
     text: &mut Vec<u8>,
     pulses: &mut Lens<'_>,
-    records: &mut FrameLens<'_>,
+    parts: &[Part],
     format: Format,
     settings: &Settings,
     byte: u8,
 ) -> Result<(), TakeFault>
-    requires frames { records.old.records ≡ frames format pulses.old.track.pulses }
+    requires parts { parts.now ≡ timed_parts format settings.now.alone
+        settings.now.century pulses.old.track.pulses }
     requires century { settings.now.century ≤ 99 }
     requires offset { settings.now.offset ≤ 2 ^ 119 }
     requires year { IfSome settings.now.year (λ y. y ≤ 9998) }
@@ -34,12 +35,11 @@ fn take_byte(
     ensures taken { TakesAs format pulses.old.track.pulses settings.now (byte ∷ [])
         text.old.items text.new.items lines.old lines.new result }
     ensures pulses { pulses.new.track ≡ pulses.old.track }
-    ensures same { records.new.records ≡ records.old.records }
 {
     if byte != b'\n' {
         return push_byte(lines, byte);
     }
-    match end_line(lines, text, pulses, records, format, settings) {
+    match end_line(lines, text, pulses, parts, format, settings) {
         Ok(()) => Ok(()),
         Err(_) => Err(TakeFault::OutOfMemory),
     }
@@ -64,11 +64,12 @@ pub fn end_line(
     lines: &mut Lines,
     text: &mut Vec<u8>,
     pulses: &mut Lens<'_>,
-    records: &mut FrameLens<'_>,
+    parts: &[Part],
     format: Format,
     settings: &Settings,
 ) -> Result<(), AllocError>
-    requires frames { records.old.records ≡ frames format pulses.old.track.pulses }
+    requires parts { parts.now ≡ timed_parts format settings.now.alone
+        settings.now.century pulses.old.track.pulses }
     requires century { settings.now.century ≤ 99 }
     requires offset { settings.now.offset ≤ 2 ^ 119 }
     requires year { IfSome settings.now.year (λ y. y ≤ 9998) }
@@ -77,10 +78,9 @@ pub fn end_line(
         text.old.items text.new.items lines.old lines.new) }
     ensures next { OnOk result (lines.new.line.items ≡ []) }
     ensures pulses { pulses.new.track ≡ pulses.old.track }
-    ensures same { records.new.records ≡ records.old.records }
 {
     let line = lines.line.as_slice();
-    let numbered = line_out(text, pulses, records, format, settings, lines.count, line)?;
+    let numbered = line_out(text, pulses, parts, format, settings, lines.count, line)?;
     lines.all &= numbered;
     lines.count = lines.count.saturating_add(1);
     lines.line.clear();
@@ -92,12 +92,13 @@ pub fn take_part(
     lines: &mut Lines,
     text: &mut Vec<u8>,
     pulses: &mut Lens<'_>,
-    records: &mut FrameLens<'_>,
+    parts: &[Part],
     format: Format,
     settings: &Settings,
     part: &[u8],
 ) -> Result<(), TakeFault>
-    requires frames { records.old.records ≡ frames format pulses.old.track.pulses }
+    requires parts { parts.now ≡ timed_parts format settings.now.alone
+        settings.now.century pulses.old.track.pulses }
     requires century { settings.now.century ≤ 99 }
     requires offset { settings.now.offset ≤ 2 ^ 119 }
     requires year { IfSome settings.now.year (λ y. y ≤ 9998) }
@@ -105,10 +106,9 @@ pub fn take_part(
     ensures taken { TakesAs format pulses.old.track.pulses settings.now part.now
         text.old.items text.new.items lines.old lines.new result }
     ensures pulses { pulses.new.track ≡ pulses.old.track }
-    ensures same { records.new.records ≡ records.old.records }
 {
     for byte in part {
-        match take_byte(lines, text, pulses, records, format, settings, *byte) {
+        match take_byte(lines, text, pulses, parts, format, settings, *byte) {
             Ok(()) => {}
             Err(fault) => return Err(fault),
         }

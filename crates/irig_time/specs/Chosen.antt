@@ -41,11 +41,16 @@ pub record HasDates (a : Asked) (century : ℕ) (year : Option ℕ) (form : Form
   pub form_is : form_named (text_or a.form (codes "ordinal")) ≡ Some form
   pub year_is : HasYear a century year
 
+-- whether each fine frame is believed
+abbrev pub stands_alone : Asked → Bool
+stands_alone a = bytes_eq (text_or a.alone (codes "false")) (codes "true")
+
 -- how lines are read and stamped
 pub record HasSettings (a : Asked) (s : Settings) : Type 0 where
   pub columns : HasColumns a s.places s.offset s.column s.comma
   pub header : whole_between 0 4294967296 (text_or a.header (codes "0")) ≡ Some s.header
   pub dates : HasDates a s.century s.year s.form
+  pub alone : s.alone ≡ stands_alone a
 
 -- the values are within their limits
 abbrev pub IsSound : Settings → Type 0

@@ -1,39 +1,47 @@
 -- What the program does for the words of its command line: from a dump and lines to the lines with
 -- their times, or from a dump to its table. This project's own.
-use Rattle.std.specs.Prelude.{◌≡◌, ℕ, Bool, true, false, List, Option, Ok, Err}
+use Rattle.std.specs.Prelude.{◌≡◌, ◌<◌, ℕ, Bool, true, false, List, Option, Ok, Err}
 use Rattle.clap.specs.Words.{Text}
 use Rattle.irig_recording.specs.Recording.{RecordingView}
-use Rattle.irig_stamps.specs.{Aligned.Aligns, Aligned.outcome, Tables.ListsRecording}
+use Rattle.irig_stamps.specs.{Aligned.Aligns, Aligned.outcome, Aligned.standing, Tables.ListsRecording}
 use Rattle.irig_time.specs.declared.command_line.UsageFault.TheVariants.{Words, Value as of_value}
 use Rattle.irig_time.specs.declared.ending.Ending.TheVariants.{Usage, Value, Unread, Aligned}
-use Rattle.irig_time.specs.declared.ending.Ending.TheVariants.{Listed, Timeless, Broken}
-use Rattle.irig_time.specs.{Settings.Reads, Tracks.HasFault, Tracks.Says, Tracks.name_in}
+use Rattle.irig_time.specs.declared.ending.Ending.TheVariants.{Listed, Timeless, Doubted, Broken}
+use Rattle.irig_files.specs.Tracks.{HasFault, Says, name_in}
+use Rattle.irig_time.specs.Settings.{Reads}
 use Rattle.irig_time.specs.{declared.chosen.Chosen.Chosen, declared.ending.Ending.Ending}
 
 -- what the files hold, by their paths
 abbrev pub Held : Type 0
 Held = List ℕ → Option (List ℕ)
 
--- the lines were aligned with the pulses that have these edges, of which a frame has a time or none
--- has; or the run was broken off
+-- the lines were aligned with the pulses that have these edges, of which a frame is believed, or
+-- none has a time, or some are not believed; or the run was broken off
 abbrev pub AlignsAs : Chosen → List ℕ → Option (List ℕ) → Option (List ℕ) → Option (List ℕ)
     → Option (List ℕ) → Ending → Type 0
 AlignsAs chosen edges lines left from to (Aligned all) =
-    Aligns chosen.format edges chosen.settings lines left from to (Ok (outcome all true))
+    Aligns chosen.format edges chosen.settings lines left from to (Ok (outcome all (standing true 0)))
 AlignsAs chosen edges lines left from to (Timeless path) =
     (path ≡ chosen.track) × (all : Bool)
-    × Aligns chosen.format edges chosen.settings lines left from to (Ok (outcome all false))
+    × Aligns chosen.format edges chosen.settings lines left from to (Ok (outcome all (standing false 0)))
+AlignsAs chosen edges lines left from to (Doubted path count) =
+    (path ≡ chosen.track) × (0 < count) × (all : Bool) × (timed : Bool)
+    × Aligns chosen.format edges chosen.settings lines left from to
+    (Ok (outcome all (standing timed count)))
 AlignsAs chosen edges lines left from to (Broken fault) =
     Aligns chosen.format edges chosen.settings lines left from to (Err fault)
 AlignsAs chosen edges lines left from to _ = ⊥
 
--- the table of the pulses that have these edges was printed, of which a frame has a time or none
--- has; or the run was broken off
+-- the same with the table of the pulses that have these edges
 abbrev pub ListsAs : Chosen → List ℕ → Option (List ℕ) → Option (List ℕ) → Ending → Type 0
 ListsAs chosen edges from to Listed =
-    ListsRecording chosen.format edges chosen.settings from to (Ok true)
+    ListsRecording chosen.format edges chosen.settings from to (Ok (standing true 0))
 ListsAs chosen edges from to (Timeless path) =
-    (path ≡ chosen.track) × ListsRecording chosen.format edges chosen.settings from to (Ok false)
+    (path ≡ chosen.track)
+    × ListsRecording chosen.format edges chosen.settings from to (Ok (standing false 0))
+ListsAs chosen edges from to (Doubted path count) =
+    (path ≡ chosen.track) × (0 < count) × (timed : Bool)
+    × ListsRecording chosen.format edges chosen.settings from to (Ok (standing timed count))
 ListsAs chosen edges from to (Broken fault) =
     ListsRecording chosen.format edges chosen.settings from to (Err fault)
 ListsAs chosen edges from to _ = ⊥

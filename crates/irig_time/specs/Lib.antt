@@ -2,6 +2,5 @@ pub mod Options
 pub mod Values
 pub mod Chosen
 pub mod Settings
-pub mod Tracks
 pub mod Ending
 pub mod Statuses

@@ -9,6 +9,10 @@ use Rattle.irig_words.specs.Arguments.{needed, option}
 abbrev pub table : Rule
 table = record (new_rule (codes "table")) { long = Some (codes "table"); action = Some SetTrue }
 
+-- the option that believes each fine frame, which has no value
+abbrev pub alone : Rule
+alone = record (new_rule (codes "alone")) { long = Some (codes "alone"); action = Some SetTrue }
+
 -- how the track is read
 abbrev pub reading : App
 reading =
@@ -24,12 +28,16 @@ placing =
 -- and how a time is written
 abbrev pub writing : App
 writing =
-    with_rule (with_rule (with_rule (with_rule placing (option (codes "header") None))
-    (option (codes "year") None)) (option (codes "form") None)) table
+    with_rule (with_rule (with_rule placing (option (codes "header") None))
+    (option (codes "year") None)) (option (codes "form") None)
+
+-- and which frames are taken, and what is printed of them
+abbrev pub marking : App
+marking = with_rule (with_rule writing alone) table
 
 -- the command
 abbrev pub the_command : App
-the_command = with_rule writing (needed (codes "TRACK"))
+the_command = with_rule marking (needed (codes "TRACK"))
 
 abbrev pub IsReading : App → Type 0
 IsReading app = app ≡ reading
@@ -39,6 +47,9 @@ IsPlacing app = app ≡ placing
 
 abbrev pub IsWriting : App → Type 0
 IsWriting app = app ≡ writing
+
+abbrev pub IsMarking : App → Type 0
+IsMarking app = app ≡ marking
 
 -- it is the command line of the program
 abbrev pub IsCommand : App → Type 0

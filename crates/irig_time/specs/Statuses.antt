@@ -1,28 +1,20 @@
 -- The statuses of the program as a process. This project's own.
-use Rattle.std.specs.Prelude.{◌≡◌, ◌⊎◌, ℕ, List, codes, true, false, Option}
+use Rattle.std.specs.Prelude.{◌≡◌, ◌⊎◌, ℕ, List, true, false, Option}
 use Rattle.clap.specs.Words.{Text}
-use Rattle.irig_files.specs.declared.dump_file.DumpFileFault.{DumpFileFault}
-use Rattle.irig_files.specs.declared.dump_file.DumpFileFault.TheVariants.{CannotBeRead, TooLong}
-use Rattle.irig_files.specs.declared.dump_file.DumpFileFault.TheVariants.{OutOfMemory}
 use Rattle.irig_words.specs.Errors.{IsHelp, IsMistake}
 use Rattle.irig_time.specs.declared.ending.Ending.TheVariants.{Usage, Value, Unread, Aligned}
-use Rattle.irig_time.specs.declared.ending.Ending.TheVariants.{Listed, Timeless, Broken}
+use Rattle.irig_time.specs.declared.ending.Ending.TheVariants.{Listed, Timeless, Doubted, Broken}
 use Rattle.irig_time.specs.{Ending.EndsBy, Ending.Held, declared.ending.Ending.Ending}
 
--- what the program says of a file that it did not read
-abbrev pub unread_text : DumpFileFault → List ℕ
-unread_text CannotBeRead = codes "cannot be read"
-unread_text TooLong = codes "too long"
-unread_text OutOfMemory = codes "V14 OutOfMemory"
-
 -- the status for how the program ended: 0 if each line has a number or the table was printed, 1 if
--- some lines have none or no frame has a time, 2 for another command line, 3 if the track was not
+-- some lines have none, no frame has a time or some frames are not believed, 2 for another command line, 3 if the track was not
 -- read, 4 if the run was broken off. Help ends with 0, or with 4 if it could not be printed
 abbrev pub HasStatus : Ending → ℕ → Type 0
 HasStatus (Aligned true) status = status ≡ 0
 HasStatus (Aligned false) status = status ≡ 1
 HasStatus Listed status = status ≡ 0
 HasStatus (Timeless path) status = status ≡ 1
+HasStatus (Doubted path count) status = status ≡ 1
 HasStatus (Usage error) status =
     (IsMistake error → status ≡ 2) × (IsHelp error → (status ≡ 0) ⊎ (status ≡ 4))
 HasStatus (Value fault) status = status ≡ 2

@@ -25,6 +25,8 @@ pub struct Asked<'a> {
     pub year: Option<&'a str>,
     /// The form of a time.
     pub form: Option<&'a str>,
+    /// `true`, if each fine frame is believed.
+    pub alone: Option<&'a str>,
     /// `true`, if the table is asked for.
     pub table: Option<&'a str>,
 }

@@ -3,8 +3,8 @@
 ghost use Rattle.std.specs.Prelude.{◌≡◌, IfErr, IfOk, false, map, string_bytes};
 ghost use Rattle.clap.specs.Words.{app_of, found_of, rule_of};
 ghost use Rattle.irig_time.specs.Chosen.{IsSound};
-ghost use Rattle.irig_time.specs.Options.{IsCommand, IsParsed, IsPlacing, IsReading, IsWriting};
-ghost use Rattle.irig_time.specs.Options.{table, the_command};
+ghost use Rattle.irig_time.specs.Options.{IsCommand, IsMarking, IsParsed, IsPlacing, IsReading};
+ghost use Rattle.irig_time.specs.Options.{IsWriting, alone, table, the_command};
 ghost use Rattle.irig_time.specs.Settings.{AreValues, Reads, Values};
 ghost use Rattle.irig_words.specs.Errors.{IsMistake, MayRefuse, WantsMemory};
 
@@ -77,6 +77,7 @@ fn values_of<'a>(matches: &ArgMatches<'a>) -> Result<Asked<'a>, Error>
         header: matches.get_str("header"),
         year: matches.get_str("year"),
         form: matches.get_str("form"),
+        alone: matches.get_str("alone"),
         table: matches.get_str("table"),
     })
 }
@@ -93,10 +94,10 @@ fn parse_words<'a>(alloc: Global, words: &'a [String]) -> Result<ArgMatches<'a>,
 fn command<'a>(alloc: Global) -> Result<Command<'a>, AllocError>
     ensures { IfOk result (λ c. IsCommand (app_of c)) }
 {
-    let Ok(writing) = writing(alloc) else {
+    let Ok(marking) = marking(alloc) else {
         return Err(AllocError);
     };
-    writing.arg(needed_arg(alloc, "TRACK", "the dump; lines come on standard input"))
+    marking.arg(needed_arg(alloc, "TRACK", "the dump; lines come on standard input"))
 }
 
 /// Its options: also how a time is written.
@@ -106,11 +107,14 @@ fn writing<'a>(alloc: Global) -> Result<Command<'a>, AllocError>
     let header = option_arg(alloc, "header", "NUMBER", "lines handed through: 0");
     let year = option_arg(alloc, "year", "YEAR", "the year of the first fine frame");
     let form = option_arg(alloc, "form", "FORM", "ordinal, calendar or seconds");
-    placing(alloc)?
-        .arg(header)?
-        .arg(year)?
-        .arg(form)?
-        .arg(table_arg(alloc))
+    placing(alloc)?.arg(header)?.arg(year)?.arg(form)
+}
+
+/// Its options: also which frames are taken, and what is printed of them.
+fn marking<'a>(alloc: Global) -> Result<Command<'a>, AllocError>
+    ensures { IfOk result (λ c. IsMarking (app_of c)) }
+{
+    writing(alloc)?.arg(alone_arg(alloc))?.arg(table_arg(alloc))
 }
 
 /// Its options: also where the recorder's time is in a line.
@@ -154,6 +158,17 @@ fn reading<'a>(alloc: Global) -> Result<Command<'a>, AllocError>
         .arg(wire)?
         .arg(format)?
         .arg(expression)
+}
+
+/// The option that believes each fine frame.
+fn alone_arg<'a>(alloc: Global) -> Arg<'a>
+    ensures rule { rule_of result ≡ alone }
+    ensures local { result.global ≡ false }
+{
+    Arg::new(alloc, "alone")
+        .long("alone")
+        .help("take each frame that reads well, supported by another or not")
+        .action(ArgAction::SetTrue)
 }
 
 /// The option that asks for the table.

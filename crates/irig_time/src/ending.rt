@@ -1,18 +1,8 @@
 //! How the program ends.
 
 use crate::chosen::OptionFault;
-use irig_files::DumpFileFault;
+use irig_files::TrackFault;
 use irig_stamps::RunFault;
-use irig_vcd::VcdFault;
-
-/// Why a track was not read.
-#[derive(Clone, Copy)]
-pub enum TrackFault {
-    /// The file of the dump was not read.
-    File(DumpFileFault),
-    /// The file is no dump of such a wire.
-    Dump(VcdFault),
-}
 
 /// How the program ends, before it is reported.
 #[derive(Drop)]
@@ -27,8 +17,11 @@ pub enum Ending<'a> {
     Aligned(bool),
     /// The table was printed.
     Listed,
-    /// All lines were printed, or the table, but no frame of the track at this path has a time.
+    /// All lines were printed, or the table, but no frame of the track at this path is fine.
     Timeless(&'a str),
+    /// All lines were printed, or the table, but of the track at this path as many frames have a time
+    /// and are not believed.
+    Doubted(&'a str, usize),
     /// The run was broken off.
     Broken(RunFault),
 }

@@ -1,14 +1,13 @@
 //! Lines are aligned with the track of a dump, as the words of a command line ask.
 
-ghost use Rattle.std.specs.Prelude.{◌≡◌, map, option_map, string_bytes};
-ghost use Rattle.irig_vcd.specs.Answer.{name_of};
+ghost use Rattle.std.specs.Prelude.{map, string_bytes};
 ghost use Rattle.irig_time.specs.Ending.{AlignsAs, EndsBy, ListsAs, Obeys, RunsAs};
-ghost use Rattle.irig_time.specs.{Chosen.IsSound, Tracks.IsTrackOf, Tracks.name_in};
+ghost use Rattle.irig_time.specs.Chosen.{IsSound};
 
 use crate::chosen::Chosen;
 use crate::command_line::{UsageFault, chosen};
-use crate::ending::{Ending, TrackFault};
-use irig_files::Disk;
+use crate::ending::Ending;
+use irig_files::{Disk, read_track};
 use irig_recording::Recording;
 use irig_stamps::{align, list};
 use std::alloc::Global;
@@ -80,8 +79,9 @@ fn list_track<'a, W: Write>(
     ensures { ListsAs chosen.now recording.edges (W.contents out.old) (W.contents out.new) result }
 {
     match list(alloc, recording, out, chosen.format, &chosen.settings) {
-        Ok(true) => Ending::Listed,
-        Ok(false) => Ending::Timeless(chosen.track),
+        Ok(standing) if standing.doubted > 0 => Ending::Doubted(chosen.track, standing.doubted),
+        Ok(standing) if standing.timed => Ending::Listed,
+        Ok(_) => Ending::Timeless(chosen.track),
         Err(fault) => Ending::Broken(fault),
     }
 }
@@ -106,34 +106,11 @@ fn align_track<'a, R: Read, W: Write>(
         chosen.format,
         &chosen.settings,
     ) {
-        Ok(outcome) if outcome.timed => Ending::Aligned(outcome.numbered),
+        Ok(outcome) if outcome.standing.doubted > 0 => {
+            Ending::Doubted(chosen.track, outcome.standing.doubted)
+        }
+        Ok(outcome) if outcome.standing.timed => Ending::Aligned(outcome.numbered),
         Ok(_) => Ending::Timeless(chosen.track),
         Err(fault) => Ending::Broken(fault),
-    }
-}
-
-/// The track of a wire in the dump at a path.
-fn read_track<D: Disk>(
-    alloc: Global,
-    disk: &D,
-    path: &str,
-    wire: Option<&str>,
-) -> Result<Recording, TrackFault>
-    ensures { IsTrackOf (D.held disk.now path.now) (name_in wire.entry) result }
-{
-    match disk.read(alloc, path, bytes_of(wire)) {
-        Ok(Ok((recording, _))) => Ok(recording),
-        Ok(Err(fault)) => Err(TrackFault::Dump(fault)),
-        Err(fault) => Err(TrackFault::File(fault)),
-    }
-}
-
-/// The bytes of a wire's name, if one is given.
-fn bytes_of<'a>(wire: Option<&'a str>) -> Option<&'a [u8]>
-    ensures { name_of result ≡ name_in wire.entry }
-{
-    match wire {
-        Some(name) => Some(name.as_bytes()),
-        None => None,
     }
 }

@@ -3,8 +3,8 @@
 ghost use Rattle.std.specs.Prelude.{◌≡◌, ◌≤◌, ◌<◌, ◌^◌, IfErr, IfOk, IfSome, Some};
 ghost use Rattle.std.specs.Str.{bytes_eq};
 ghost use Rattle.irig_time.specs.Chosen.{HasColumns, HasDates, HasFault, HasSettings, IsChosen};
-ghost use Rattle.irig_time.specs.Chosen.{IsComma, IsFormat, IsSound, lacks_year, tells_of_lines};
-ghost use Rattle.irig_time.specs.Chosen.{wants_table};
+ghost use Rattle.irig_time.specs.Chosen.{IsComma, IsFormat, IsSound, lacks_year, stands_alone};
+ghost use Rattle.irig_time.specs.Chosen.{tells_of_lines, wants_table};
 ghost use Rattle.irig_time.specs.Values.{comma_named, digit_named, form_named, is_parting};
 ghost use Rattle.irig_time.specs.Values.{offset_named, places_named, prefix_places, text_or};
 ghost use Rattle.irig_time.specs.Values.{whole_between, within};
@@ -61,6 +61,13 @@ fn wants_table(asked: &Asked<'_>) -> bool
     is_text(text_or(asked.table, "false"), b"true")
 }
 
+/// Whether each fine frame is believed.
+fn stands_alone(asked: &Asked<'_>) -> bool
+    ensures { result ≡ stands_alone asked.now }
+{
+    is_text(text_or(asked.alone, "false"), b"true")
+}
+
 /// Whether an option is given that says how lines are read.
 fn tells_of_lines(asked: &Asked<'_>) -> bool
     ensures { result ≡ tells_of_lines asked.now }
@@ -108,6 +115,7 @@ fn settings_of(asked: &Asked<'_>) -> Result<Settings, OptionFault>
         century: dates.century,
         year: dates.year,
         first_day: 0,
+        alone: stands_alone(asked),
         form: dates.form,
     })
 }

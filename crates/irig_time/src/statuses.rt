@@ -3,10 +3,9 @@
 ghost use Rattle.std.specs.Prelude.{◌≡◌, ◌⊎◌};
 ghost use Rattle.std.specs.Process.{exit_status};
 ghost use Rattle.irig_words.specs.Errors.{IsHelp, IsMistake};
-ghost use Rattle.irig_time.specs.Statuses.{HasStatus, unread_text};
+ghost use Rattle.irig_time.specs.Statuses.{HasStatus};
 
-use crate::ending::{Ending, TrackFault};
-use irig_files::DumpFileFault;
+use crate::ending::Ending;
 use std::fmt::Display;
 use std::process::ExitCode;
 
@@ -17,8 +16,7 @@ pub fn report<R: Print + Eprint>(rt: &R, ending: &Ending<'_>) -> ExitCode
     match ending {
         Ending::Usage(error) => explain(rt, error),
         Ending::Value(fault) => tell(rt, 2, fault),
-        Ending::Unread(path, TrackFault::File(fault)) => tell_of(rt, 3, path, &unread_text(*fault)),
-        Ending::Unread(path, TrackFault::Dump(fault)) => tell_of(rt, 3, path, fault),
+        Ending::Unread(path, fault) => tell_of(rt, 3, path, fault),
         Ending::Aligned(true) | Ending::Listed => ExitCode::SUCCESS,
         Ending::Aligned(false) => ExitCode::from(1),
         Ending::Timeless(path) => tell_of(
@@ -27,6 +25,7 @@ pub fn report<R: Print + Eprint>(rt: &R, ending: &Ending<'_>) -> ExitCode
             path,
             &"no frame has a time with this format and expression",
         ),
+        Ending::Doubted(path, count) => tell_doubted(rt, path, *count),
         Ending::Broken(fault) => tell(rt, 4, fault),
     }
 }
@@ -47,6 +46,16 @@ fn tell_of<R: Eprint, T: Display>(rt: &R, status: u8, path: &str, why: &T) -> Ex
     ExitCode::from(status)
 }
 
+/// Says how many frames of a track are not believed.
+fn tell_doubted<R: Eprint>(rt: &R, path: &str, count: usize) -> ExitCode
+    ensures { exit_status result ≡ 1 }
+{
+    let what =
+        "frames that read well and that no frame near them supports, so they give no line a time";
+    let _ = eprintln!(rt; "irig_time: {path}: {what}: {count}");
+    ExitCode::from(1)
+}
+
 /// Prints what `clap` says: help on the standard output, a mistake on the standard error.
 pub fn explain<R: Print + Eprint>(rt: &R, error: &clap::Error) -> ExitCode
     ensures mistake { IsMistake error.now → exit_status result ≡ 2 }
@@ -56,16 +65,5 @@ pub fn explain<R: Print + Eprint>(rt: &R, error: &clap::Error) -> ExitCode
         _ if error.use_stderr() => ExitCode::from(2),
         Ok(()) => ExitCode::SUCCESS,
         Err(_) => tell(rt, 4, &"output failed"),
-    }
-}
-
-/// What the program says of a file that it did not read.
-fn unread_text<'a>(fault: DumpFileFault) -> &'a str
-    ensures { result.now ≡ unread_text fault }
-{
-    match fault {
-        DumpFileFault::CannotBeRead => "cannot be read",
-        DumpFileFault::TooLong => "too long",
-        DumpFileFault::OutOfMemory => "V14 OutOfMemory",
     }
 }

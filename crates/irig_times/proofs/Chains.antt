@@ -1,14 +1,15 @@
 -- Times in a chain of frames are in one order.
-use Rattle.std.proofs.Common.{◌≡◌, ℕ, suc, zero, ◌+◌, ◌-◌, ◌*◌, ◌<◌, ◌≤◌, ◌==◌, ◌&&◌, nat_lt, Bool, true, false, cond, List, Option, Some, None, slice_get}
+use Rattle.std.proofs.Common.{◌≡◌, ℕ, suc, zero, ◌+◌, ◌-◌, ◌*◌, ◌<◌, ◌≤◌, ◌==◌, ◌&&◌, nat_lt, true, cond, List, Option, Some, None}
 use Rattle.std.proofs.Common.{refl, sym, ap, ◌∙◌, inl, inr, subst, arith}
 use Rattle.std.proofs.lemmas.Bool.{and_parts, cases_Bool, eqb-true, or_cases}
 use Rattle.irig_codes.specs.{Format.FormatView, Format.frame_period_of, Format.interval_of, declared.fields.Fields.Fields}
 use Rattle.irig_recording.specs.declared.pulse.Pulse.{Pulse}
 use Rattle.irig_track.specs.Track.{IsTrack}
-use Rattle.irig_index.specs.{Frames.frames, declared.record.Record.Record}
+use Rattle.irig_index.specs.{Frames.frames}
 use Rattle.irig_times.specs.Follows.{is_later, is_later_in, minute_follows, same_minute, same_year}
-use Rattle.irig_times.specs.{declared.time.Time.Time, Chains.ChainsNeverFall, Chains.IsAfter, Chains.IsChained, Chains.MinutesAfter, Chains.minute_of}
-use Rattle.irig_times.specs.{Elements.HasTime, Elements.IsElement, Elements.IsFollowed, Elements.share, Times.minute_micros, Times.time_in}
+use Rattle.irig_times.specs.{declared.time.Time.Time, Chains.IsAfter, Chains.IsChained, Chains.MinutesAfter, Chains.minute_of}
+use Rattle.irig_times.specs.{Elements.TellsTime, Elements.IsElement, Elements.share, Times.minute_micros, Times.time_in}
+use Rattle.irig_times.proofs.ToldLaws.{ToldChainsNeverFall}
 use Rattle.irig_times.proofs.{OneTime.element-once, Shares.hundred-intervals, TimeLaws.micros-of, TimeLaws.never_falls, TimeLaws.share-of}
 use Rattle.std.proofs.Math.Nat.{mul-le-mul_right}
 
@@ -47,14 +48,14 @@ later-in n century period a b least most h =
           record { minutes = 1; counted = (a, b, refl, it.0, refl); least = omega (arith, micros, least); most = omega (arith, micros, most) }
     ]
 
-later : (century period : ℕ) (a b : Time) → is_later century period a b ≡ true → IsAfter century period a b
+pub later : (century period : ℕ) (a b : Time) → is_later century period a b ≡ true → IsAfter century period a b
 later century period a b h = elim (or_cases (is_later_in 60000000 century period a b) _ h) [
   | inl short ↦ later-in 60000000 century period a b (omega arith) (omega arith) short
   | inr long ↦ later-in 61000000 century period a b (omega arith) (omega arith) long
 ]
 
 -- minutes are counted from any time of the first to any of the last
-minutes-of : (century n : ℕ) (a b x y : Time) → minute_of a ≡ minute_of x → minute_of b ≡ minute_of y → MinutesAfter century n a b → MinutesAfter century n x y
+pub minutes-of : (century n : ℕ) (a b x y : Time) → minute_of a ≡ minute_of x → minute_of b ≡ minute_of y → MinutesAfter century n a b → MinutesAfter century n x y
 minutes-of century zero a b x y p q h = sym p ∙ (h ∙ q)
 minutes-of century (suc n) a b x y p q h = (h.0, h.1, minutes-of century n a h.0 x h.0 p refl h.2, h.3, h.4 ∙ q)
 
@@ -69,10 +70,10 @@ minutes-add century n zero a b c h k = subst (λ i. MinutesAfter century i a c) 
 minutes-add century n (suc m) a b c h k =
     subst (λ i. MinutesAfter century i a c) (sym (more-later m n)) (k.0, k.1, minutes-add century n m a b k.0 h k.2, k.3, k.4)
 
-after-none : (century : ℕ) (a : Time) → IsAfter century 0 a a
+pub after-none : (century : ℕ) (a : Time) → IsAfter century 0 a a
 after-none century a = record { minutes = 0; counted = refl; least = omega arith; most = omega arith }
 
-after-add : (century p q : ℕ) (a b c : Time) → IsAfter century p a b → IsAfter century q b c → IsAfter century (p + q) a c
+pub after-add : (century p q : ℕ) (a b c : Time) → IsAfter century p a b → IsAfter century q b c → IsAfter century (p + q) a c
 after-add century p q a b c h k = record {
   minutes = k.minutes + h.minutes;
   counted = minutes-add century h.minutes k.minutes a b c h.counted k.counted;
@@ -102,7 +103,7 @@ module _ (f : FormatView) (century : ℕ) (ps : List Pulse) where
       (frames-after k (from + 100) to it.next h begins b chain.1))
 
   module _ (micros : ℕ) (track : IsTrack micros ps) (d : ℕ) (some : 0 < d) (n m : ℕ) (x y : Time)
-      (a : HasTime f century ps d n x) (b : HasTime f century ps d m y) (le : n ≤ m) where
+      (a : TellsTime f century ps d n x) (b : TellsTime f century ps d m y) (le : n ≤ m) where
     -- what of a frame is over
     abbrev over-a : ℕ
     over-a = a.element * interval_of f.kind + share (interval_of f.kind) (n - d * a.point.rise) (d * (a.to - a.point.rise))
@@ -152,5 +153,5 @@ module _ (f : FormatView) (century : ℕ) (ps : List Pulse) where
           },
         )
 
-pub chains_never_fall : ChainsNeverFall
+pub chains_never_fall : ToldChainsNeverFall
 chains_never_fall f century micros ps track d some n m x y a b le k chain = chain-after f century ps micros track d some n m x y a b le k chain

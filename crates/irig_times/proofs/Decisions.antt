@@ -1,11 +1,11 @@
 -- A frame is followed by another, or it is not.
-use Rattle.std.proofs.Common.{◌≡◌, ℕ, suc, zero, ◌+◌, ◌-◌, ◌<◌, ◌≤◌, Bool, true, false, List, [], ◌∷◌, slice_get, Option, Some, None, refl, sym, ap, ◌∙◌, ◌⊎◌}
-use Rattle.std.proofs.Common.{inl, inr, subst, arith}
+use Rattle.std.proofs.Common.{◌≡◌, ℕ, suc, zero, ◌+◌, List, [], ◌∷◌, slice_get, Option, Some, None, refl, sym, ap, ◌∙◌, ◌⊎◌}
+use Rattle.std.proofs.Common.{inl, inr, arith}
 use Rattle.std.proofs.lemmas.{Bool.both_ways, Bool.cases_Bool, Bool.cases_eq, Bool.cases_order, Option.none-some, Option.same_Some}
 use Rattle.irig_codes.specs.{Format.FormatView, Format.frame_period_of, declared.fields.Fields.Fields}
 use Rattle.irig_recording.specs.declared.pulse.Pulse.{Pulse}
 use Rattle.irig_index.specs.{Frames.frames, declared.record.Record.Record}
-use Rattle.irig_times.specs.{Elements.IsElement, Elements.IsFollowed, Follows.is_later, FrameLooks.MarkersRise, Times.time_in, Times.timed}
+use Rattle.irig_times.specs.{Elements.IsElement, Elements.IsFollowed, Follows.is_later, Times.time_in, Times.timed}
 use Rattle.irig_times.proofs.{OneTime.element-once, Records.frames-rise}
 
 -- a record of a marker

@@ -1,12 +1,12 @@
 -- What a search for a microsecond shows of its time.
-use Rattle.std.proofs.Common.{◌≡◌, ℕ, ◌+◌, ◌-◌, ◌*◌, ◌/◌, ◌<◌, ◌≤◌, List, length, slice_get, Some, ap, sym, ◌∙◌, inl, inr, subst, arith}
-use Rattle.std.proofs.lemmas.{Bool.cases_lt, Option.slice_get-get_or}
-use Rattle.irig_codes.specs.{Format.FormatView, Format.interval_of, declared.fields.Fields.Fields}
-use Rattle.irig_index.specs.{Frames.frames, declared.record.Record.Record}
+use Rattle.std.proofs.Common.{◌≡◌, ℕ, ◌+◌, ◌/◌, ◌<◌, ◌≤◌, List, slice_get, Some, inl, inr, subst, arith}
+use Rattle.std.proofs.lemmas.{Bool.cases_lt}
+use Rattle.irig_codes.specs.{Format.FormatView, declared.fields.Fields.Fields}
+use Rattle.irig_index.specs.{Frames.frames}
 use Rattle.irig_recording.specs.{declared.pulse.Pulse.Pulse, Recording.RisesFrom}
 use Rattle.irig_track.specs.{Edges.edges_of, Splices.risen_by}
 use Rattle.irig_track.proofs.Searches.{risen_above, risen_below}
-use Rattle.irig_times.specs.{Elements.HasTime, Elements.IsElement, declared.time.Time.Time}
+use Rattle.irig_times.specs.{Elements.TellsTime, Elements.IsElement, declared.time.Time.Time}
 
 module _ (t : ℕ) (ps : List Pulse) (rises : RisesFrom 0 (edges_of ps)) where
   -- the last pulse that has risen by a time rises at or before it
@@ -25,7 +25,7 @@ module _ (t : ℕ) (ps : List Pulse) (rises : RisesFrom 0 (edges_of ps)) where
 
 -- a pulse that is no element has no time
 pub no-element : (f : FormatView) (century : ℕ) (ps : List Pulse) (d n number : ℕ) (x : Time) → risen_by (n / d) ps ≡ number + 1
-    → ((e : ℕ) (g : Fields) → IsElement f (frames f ps) number e g → ⊥) → HasTime f century ps d n x → ⊥
+    → ((e : ℕ) (g : Fields) → IsElement f (frames f ps) number e g → ⊥) → TellsTime f century ps d n x → ⊥
 no-element f century ps d n number x count none h =
     let same : h.number ≡ number = omega (arith, h.last, count) in
     none h.element h.fields (subst (λ k. IsElement f (frames f ps) k h.element h.fields) same h.is_element)

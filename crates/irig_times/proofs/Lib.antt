@@ -4,13 +4,31 @@ pub mod StandardFacts
 pub mod SoundFrames
 pub mod Records
 -- times
+pub mod ToldLaws
 pub mod OneTime
+pub mod PartPlaces
+pub mod SameTimes
+pub mod ByParts
+pub mod WholeSteps
+pub mod Filling
+pub mod WholeFrames
+pub mod StepCounts
+pub mod SupportCount
 pub mod Found
 pub mod Decisions
+pub mod SupportSteps
 pub mod Shares
 pub mod TimeLaws
+pub mod PartTimes
+pub mod KeptTimes
+pub mod NextTimes
+pub mod Origin
 pub mod Chains
+pub mod PartChains
 pub mod Calendar
+-- times by frames that are believed
+pub mod HeldTimes
+pub mod Supported
 -- looks
 pub mod FrameLookLemmas
 pub mod PulseLooks

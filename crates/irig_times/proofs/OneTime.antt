@@ -1,12 +1,13 @@
 -- A microsecond has one time at most.
-use Rattle.std.proofs.Common.{◌≡◌, ℕ, ◌+◌, ◌-◌, ◌*◌, ◌/◌, ◌<◌, ◌≤◌, List, slice_get, Some, refl, sym, ap, ◌∙◌, ◌⊎◌, inl, inr, subst, arith}
+use Rattle.std.proofs.Common.{◌≡◌, ℕ, ◌+◌, ◌-◌, ◌*◌, ◌/◌, ◌<◌, List, slice_get, Some, sym, ap, ◌∙◌, inl, inr, subst, arith}
 use Rattle.std.proofs.lemmas.{Bool.cases_order, Option.same_Some}
 use Rattle.irig_codes.specs.{Format.FormatView, Format.interval_of, declared.fields.Fields.Fields}
 use Rattle.irig_recording.specs.declared.pulse.Pulse.{Pulse}
 use Rattle.irig_track.specs.Splices.{risen_by}
 use Rattle.irig_index.specs.{Frames.frames, declared.record.Record.Record}
-use Rattle.irig_times.specs.Elements.{HasTime, IntervalEnds, IsElement, IsFollowed, NextRises, share}
-use Rattle.irig_times.specs.{declared.time.Time.Time, Laws.OneTime, Times.time_in, Times.timed}
+use Rattle.irig_times.specs.Elements.{TellsTime, IntervalEnds, IsElement, IsFollowed, MeanEnds, NextRises, share}
+use Rattle.irig_times.specs.{declared.time.Time.Time, Times.time_in, Times.timed}
+use Rattle.irig_times.proofs.ToldLaws.{ToldOneTime}
 use Rattle.irig_times.proofs.Records.{frames-apart, frames-rise}
 
 module _ (f : FormatView) (ps : List Pulse) where
@@ -38,6 +39,11 @@ module _ (f : FormatView) (ps : List Pulse) where
       let same : a.next ≡ b.next = same_Some a.next b.next (sym a.stands ∙ b.stands) in
       a.is ∙ (ap (λ (p : Pulse). p.rise) same ∙ sym b.is)
 
+  mean-once : (number from x y : ℕ) → MeanEnds ps number from x → MeanEnds ps number from y → x ≡ y
+  mean-once number from x y a b =
+      let same : a.first ≡ b.first = same_Some a.first b.first (sym a.stands ∙ b.stands) in
+      a.is ∙ (ap (λ (p : Pulse). from + (from - p.rise) / 99) same ∙ sym b.is)
+
   -- an interval has one end
   pub ends-once : (century number e : ℕ) (g : Fields) (from x y : ℕ)
       → IntervalEnds f century ps number e g from x → IntervalEnds f century ps number e g from y → x ≡ y
@@ -49,10 +55,10 @@ module _ (f : FormatView) (ps : List Pulse) where
   ends-once century number e g from x y (inr (inl a)) (inr (inr b)) = absurd (b.1.0 a.1.0)
   ends-once century number e g from x y (inr (inr a)) (inl b) = absurd (omega (arith, a.0, b.0))
   ends-once century number e g from x y (inr (inr a)) (inr (inl b)) = absurd (a.1.0 b.1.0)
-  ends-once century number e g from x y (inr (inr a)) (inr (inr b)) = omega (arith, a.1.1, b.1.1)
+  ends-once century number e g from x y (inr (inr a)) (inr (inr b)) = mean-once number from x y a.1.1 b.1.1
 
   -- what is known of the last pulse determines the time
-  pub time-by : (century d n : ℕ) (x : Time) (a : HasTime f century ps d n x) (number e : ℕ) (g : Fields) (p : Pulse) (to : ℕ)
+  pub time-by : (century d n : ℕ) (x : Time) (a : TellsTime f century ps d n x) (number e : ℕ) (g : Fields) (p : Pulse) (to : ℕ)
       → risen_by (n / d) ps ≡ number + 1 → slice_get ps number ≡ Some p → IsElement f rs number e g → IntervalEnds f century ps number e g p.rise to
       → (n < d * to) × (x ≡ time_in g (e * interval_of f.kind + share (interval_of f.kind) (n - d * p.rise) (d * (to - p.rise))))
   time-by century d n x a number e g p to last stands is ends =
@@ -68,6 +74,6 @@ module _ (f : FormatView) (ps : List Pulse) where
         a.is ∙ λ i. time_in (both.1 i) (both.0 i * interval_of f.kind + share (interval_of f.kind) (n - d * (ep i).rise) (d * (et i - (ep i).rise))),
       )
 
-pub one_time : OneTime
+pub one_time : ToldOneTime
 one_time f century ps d n x y a b =
     (time-by f ps century d n x a b.number b.element b.fields b.point b.to b.last b.stands b.is_element b.ends).1 ∙ sym b.is

@@ -1,5 +1,5 @@
 -- Looks at pulses add up.
-use Rattle.std.proofs.Common.{◌≡◌, ℕ, ◌+◌, ◌≤◌, ap, ap₂, ◌∙◌, arith}
+use Rattle.std.proofs.Common.{◌≡◌, ℕ, ◌+◌, ap, ap₂, ◌∙◌, arith}
 use Rattle.irig_track.specs.Looks.{LensView, LookedThrough, after_looks, counted, lens_view}
 use Rattle.irig_track.proofs.Looks.{after_looks-after_looks, lens_next}
 

@@ -1,8 +1,7 @@
 -- The records of a track by their places, and which of them a pulse belongs to.
-use Rattle.std.proofs.Common.{◌≡◌, ℕ, suc, zero, ◌+◌, ◌-◌, ◌<◌, ◌≤◌, List, length, slice_get, Option, Some, None, refl, sym, ap, ◌∙◌, ◌⊎◌, inl, inr, subst}
+use Rattle.std.proofs.Common.{◌≡◌, ℕ, ◌+◌, ◌<◌, ◌≤◌, List, length, slice_get, Some, sym, ap, ◌∙◌, inl, inr, subst}
 use Rattle.std.proofs.Common.{arith}
-use Rattle.std.specs.Prelude.{Contains}
-use Rattle.std.proofs.lemmas.{Bool.cases_lt, Bool.cases_order, Option.get_or_from_slice_get, Option.none-some, Option.same_Some, Option.slice_get_within}
+use Rattle.std.proofs.lemmas.{Bool.cases_lt, Bool.cases_order, Option.get_or_from_slice_get, Option.same_Some, Option.slice_get_within}
 use Rattle.irig_codes.specs.{Format.FormatView, declared.fields.Fields.Fields, declared.note.Note.TheVariants.Fine}
 use Rattle.irig_recording.specs.declared.pulse.Pulse.{Pulse}
 use Rattle.irig_index.specs.declared.record.Verdict.TheVariants.{Read}
@@ -98,6 +97,20 @@ module _ (f : FormatView) (rs : List Record) (are : AreFrames f rs) where
       | inr gt ↦
           let after = parted.after is.at is.one is.there (omega arith) in
           absurd (omega (arith, after, is.place))
+    ]
+  ]
+
+  -- a pulse is an element of one record's frame
+  pub element-at : (number d e : ℕ) (g h : Fields) (a : IsElement f rs number d g) (b : IsElement f rs number e h) → a.at ≡ b.at
+  element-at number d e g h a b = elim (cases_order a.at b.at) [
+    | inl same ↦ same
+    | inr other ↦ elim other [
+      | inl lt ↦
+          let apart = records-apart a.at b.at a.one b.one g a.there b.there a.tells (records-rise f rs are a.at b.at a.one b.one a.there b.there lt) in
+          absurd (omega (arith, apart, a.place, a.few, b.place))
+      | inr gt ↦
+          let apart = records-apart b.at a.at b.one a.one h b.there a.there b.tells (records-rise f rs are b.at a.at b.one a.one b.there a.there gt) in
+          absurd (omega (arith, apart, b.place, b.few, a.place))
     ]
   ]
 

@@ -1,6 +1,6 @@
 -- Shares of an interval, and the intervals of the formats.
 use Rattle.std.proofs.Common.{◌≡◌, ℕ, ◌+◌, ◌-◌, ◌*◌, ◌/◌, ◌<◌, ◌≤◌, refl, sym, ap, ◌∙◌, inl, inr, arith}
-use Rattle.std.proofs.Math.Nat.{add-mul-div_left, div-div-eq-div-mul, mul-div-mul_left, div-le_self, div-mul-le_self, mul-le-mul_left, mul-le-mul_right}
+use Rattle.std.proofs.Math.Nat.{add-mul-div_left, div-div-eq-div-mul, mul-div-mul_left, div-le_self, div-mul-le_self, mul-le-mul_right}
 use Rattle.std.proofs.lemmas.{Nat.div_below, Nat.le-div, Bool.cases_lt}
 use Rattle.irig_codes.specs.declared.format.Kind.TheVariants.{A, B, E, G}
 use Rattle.irig_codes.specs.{Format.frame_period_of, Format.interval_of, declared.format.Kind.Kind}

@@ -1,8 +1,8 @@
 -- Known times and known ends of minutes, days and years, proved of the definitions by computing.
 use Rattle.std.proofs.Common.{◌≡◌, ℕ, Bool, true, false, [], ◌∷◌, map, Option, Some, None, refl}
 use Rattle.irig_codes.specs.declared.format.Kind.TheVariants.{A, B, E, G}
-use Rattle.irig_codes.specs.declared.note.Note.TheVariants.{Fine, SbsDisagrees}
-use Rattle.irig_codes.specs.{Format.FormatView, declared.fields.Fields.Fields, declared.format.Kind.Kind}
+use Rattle.irig_codes.specs.declared.note.Note.TheVariants.{Fine}
+use Rattle.irig_codes.specs.{declared.fields.Fields.Fields, declared.format.Kind.Kind}
 use Rattle.irig_index.specs.declared.record.Verdict.TheVariants.{Read}
 use Rattle.irig_times.specs.{declared.time.Time.Time, Elements.share, Follows.is_later, Times.minute_micros, Times.timed}
 

@@ -8,8 +8,9 @@ use Rattle.irig_recording.specs.{Recording.RisesFrom, declared.pulse.Pulse.Pulse
 use Rattle.irig_track.specs.{Edges.edges_of, Splices.risen_by, Track.IsTrack}
 use Rattle.irig_track.proofs.Searches.{risen_above, risen_below, risen_by-le}
 use Rattle.irig_index.specs.{Frames.frames, declared.record.Record.Record}
-use Rattle.irig_times.specs.Elements.{HasTime, IntervalEnds, IsElement, IsFollowed, NextRises, share}
-use Rattle.irig_times.specs.Laws.{BeforeTheNext, ExactAtPoints, InItsMinute, NeverFalls, NotBefore, PicosecondsSuffice}
+use Rattle.irig_times.specs.Elements.{TellsTime, IntervalEnds, IsElement, IsFollowed, NextRises, share}
+use Rattle.irig_times.specs.Laws.{ExactAtPoints, NotBefore, PicosecondsSuffice}
+use Rattle.irig_times.proofs.ToldLaws.{ToldBeforeTheNext, ToldExactAtPoints, ToldInItsMinute, ToldNeverFalls, ToldPicosecondsSuffice}
 use Rattle.irig_times.specs.{declared.time.Time.Time, Times.minute_micros, Times.time_in, Times.timed}
 use Rattle.irig_times.proofs.Records.{frames-rise, marker-stands, next-stands}
 use Rattle.irig_times.proofs.Shares.{divides, hundred-intervals, interval-some, picos-after, picos-before, picos-micros, picos-share, times-less, share-below}
@@ -27,8 +28,21 @@ rise-order low zero p q (r ∷ s ∷ ps) h here there =
     omega (arith, first, second, h.1.0, h.1.1.0)
 rise-order low (suc i) p q (r ∷ ps) h here there = rise-order (r.fall + 1) i p q ps h.1.1 here there
 
+-- so k pulses later at least k microseconds later
+rise-later : (i k : ℕ) (p q : Pulse) (ps : List Pulse) → RisesFrom 0 (edges_of ps) → slice_get ps i ≡ Some p → slice_get ps (i + k) ≡ Some q
+    → p.rise + k ≤ q.rise
+rise-later i zero p q ps rises here there =
+    let at : i + 0 ≡ i = omega arith in
+    omega (arith, ap (λ (z : Pulse). z.rise) (same_Some p q (sym here ∙ (ap (slice_get ps) (sym at) ∙ there))))
+rise-later i (suc k) p q ps rises here there =
+    let at : i + suc k ≡ suc (i + k) = omega arith in
+    let last = ap (slice_get ps) (sym at) ∙ there in
+    let within : i + k < length ps = omega (arith, slice_get_within ps (suc (i + k)) q last) in
+    let m = slice_get-get_or ps (i + k) p within in
+    omega (arith, rise-later i k p _ ps rises here m, rise-order 0 (i + k) _ q ps rises m last)
+
 -- as many pulses have risen by the rise of one
-risen-at : (n : ℕ) (p : Pulse) (ps : List Pulse) → RisesFrom 0 (edges_of ps) → slice_get ps n ≡ Some p → risen_by p.rise ps ≡ n + 1
+pub risen-at : (n : ℕ) (p : Pulse) (ps : List Pulse) → RisesFrom 0 (edges_of ps) → slice_get ps n ≡ Some p → risen_by p.rise ps ≡ n + 1
 risen-at n p ps rises here =
     let least = risen_above p.rise 0 n p ps rises here (omega arith) in
     elim (cases_lt (n + 1) (length ps)) [
@@ -61,12 +75,21 @@ module _ (f : FormatView) (century micros : ℕ) (ps : List Pulse) (track : IsTr
                     inr (inl (last, (follows, record { next = next.0; stands = next.1; is = refl }))),
                     next-later p.rise ps track.rises number next.0 count next.1,
                   )
-              | inr alone ↦ (p.rise + interval_of f.kind, inr (inr (last, (alone, refl))), omega (arith, interval-some f.kind))
+              | inr alone ↦
+                  let marker = marker-stands f ps is.one.marker g
+                  record { at = is.at; one = is.one; there = is.there; tells = is.tells; place = omega arith; few = omega arith } in
+                  let back : is.one.marker ≡ number - 99 = omega (arith, is.place, last) in
+                  let on : number ≡ is.one.marker + 99 = omega (arith, is.place, last) in
+                  let far = rise-later is.one.marker 99 marker.0 p ps track.rises marker.1 (ap (slice_get ps) (sym on) ∙ here) in (
+                    p.rise + (p.rise - marker.0.rise) / 99,
+                    inr (inr (last, (alone, record { first = marker.0; stands = ap (slice_get ps) (sym back) ∙ marker.1; is = refl }))),
+                    omega (arith, far),
+                  )
             ]
       ]
 
   exact-at : (d : ℕ) → 0 < d → (number element : ℕ) (g : Fields) (p : Pulse) → IsElement f (frames f ps) number element g
-      → slice_get ps number ≡ Some p → HasTime f century ps d (d * p.rise) (time_in g (element * interval_of f.kind))
+      → slice_get ps number ≡ Some p → TellsTime f century ps d (d * p.rise) (time_in g (element * interval_of f.kind))
   exact-at d some number element g p is here =
       let end = interval-ends number element g p is here in
       let none : d * p.rise - d * p.rise ≡ 0 = omega arith in
@@ -90,19 +113,19 @@ module _ (f : FormatView) (century micros : ℕ) (ps : List Pulse) (track : IsTr
       }
 
   -- a point that has risen by n / d microseconds
-  risen-part : (d n : ℕ) (x : Time) (a : HasTime f century ps d n x) → d * a.point.rise ≤ n
+  risen-part : (d n : ℕ) (x : Time) (a : TellsTime f century ps d n x) → d * a.point.rise ≤ n
   risen-part d n x a =
       let up = last-risen (n / d) ps track.rises a.number a.point a.last a.stands in
       omega (arith, mul-le-mul_left d up, mul-div-le n d)
 
   -- and what is over since then is less than the interval
-  part-of : (d n : ℕ) (x : Time) (a : HasTime f century ps d n x) → n - d * a.point.rise < d * (a.to - a.point.rise)
+  part-of : (d n : ℕ) (x : Time) (a : TellsTime f century ps d n x) → n - d * a.point.rise < d * (a.to - a.point.rise)
   part-of d n x a =
       let up = risen-part d n x a in
       let less : a.point.rise < a.to = lt_of_mul-lt-mul_left d (omega (arith, up, a.before)) in
       omega (arith, up, a.before, times-less d a.point.rise a.to (omega (arith, less)))
 
-  module _ (d n : ℕ) (x : Time) (a : HasTime f century ps d n x) where
+  module _ (d n : ℕ) (x : Time) (a : TellsTime f century ps d n x) where
     -- the share of a time is less than the interval
     pub share-of : share (interval_of f.kind) (n - d * a.point.rise) (d * (a.to - a.point.rise)) < interval_of f.kind
     share-of = share-below (interval_of f.kind) (n - d * a.point.rise) (d * (a.to - a.point.rise)) (interval-some f.kind)
@@ -130,7 +153,7 @@ module _ (f : FormatView) (century micros : ℕ) (ps : List Pulse) (track : IsTr
         let most = mul-le-mul_right (interval_of f.kind) a.is_element.few in
         omega (arith, micros-of, share-of, most, hundred-intervals f.kind, whole-minute f a.is_element.one.verdict a.fields a.is_element.tells)
 
-  module _ (d : ℕ) (some : 0 < d) (n m : ℕ) (x y : Time) (a : HasTime f century ps d n x) (b : HasTime f century ps d m y) (le : n ≤ m) where
+  module _ (d : ℕ) (some : 0 < d) (n m : ℕ) (x y : Time) (a : TellsTime f century ps d n x) (b : TellsTime f century ps d m y) (le : n ≤ m) where
     -- a later time is of a later pulse
     numbers-rise : a.number ≤ b.number
     numbers-rise =
@@ -179,7 +202,7 @@ module _ (f : FormatView) (century micros : ℕ) (ps : List Pulse) (track : IsTr
       }
 
   -- whole picoseconds suffice
-  picoseconds : (d : ℕ) → 0 < d → (n : ℕ) (x : Time) → HasTime f century ps d n x → HasTime f century ps 1000000 (n * 1000000 / d) x
+  picoseconds : (d : ℕ) → 0 < d → (n : ℕ) (x : Time) → TellsTime f century ps d n x → TellsTime f century ps 1000000 (n * 1000000 / d) x
   picoseconds d some n x a =
       let i = interval_of f.kind in
       let j = divides f.kind in
@@ -198,7 +221,7 @@ module _ (f : FormatView) (century micros : ℕ) (ps : List Pulse) (track : IsTr
         is = a.is ∙ ap (λ k. time_in a.fields (a.element * i + k)) (sym same);
       }
 
-  exactly : (d : ℕ) → 0 < d → (n : ℕ) (x : Time) → HasTime f century ps 1000000 (n * 1000000 / d) x → HasTime f century ps d n x
+  exactly : (d : ℕ) → 0 < d → (n : ℕ) (x : Time) → TellsTime f century ps 1000000 (n * 1000000 / d) x → TellsTime f century ps d n x
   exactly d some n x a =
       let i = interval_of f.kind in
       let j = divides f.kind in
@@ -220,17 +243,30 @@ module _ (f : FormatView) (century micros : ℕ) (ps : List Pulse) (track : IsTr
         is = a.is ∙ ap (λ k. time_in a.fields (a.element * i + k)) same;
       }
 
-pub exact_at_points : ExactAtPoints
+pub exact_at_points : ToldExactAtPoints
 exact_at_points f century micros ps track = exact-at f century micros ps track
 
-pub before_the_next : BeforeTheNext
+pub before_the_next : ToldBeforeTheNext
 before_the_next f century micros ps track d some = before-next f century micros ps track d
 
-pub in_its_minute : InItsMinute
+pub in_its_minute : ToldInItsMinute
 in_its_minute f century micros ps track d some = in-minute f century micros ps track d
 
-pub never_falls : NeverFalls
+pub never_falls : ToldNeverFalls
 never_falls f century micros ps track = never-falls f century micros ps track
 
-pub picoseconds_suffice : PicosecondsSuffice
+pub picoseconds_suffice : ToldPicosecondsSuffice
 picoseconds_suffice f century micros ps track d some n x = (picoseconds f century micros ps track d some n x, exactly f century micros ps track d some n x)
+
+-- the same of the times of frames that are believed
+pub held_exact : ExactAtPoints
+unfolding exact_at_points exact-at
+held_exact f century micros ps held track d some number element g p is here =
+    record { told = exact_at_points f century micros ps track d some number element g p is.0 here; is_held = is.1 }
+
+pub held_picos : PicosecondsSuffice
+unfolding picoseconds_suffice picoseconds exactly
+held_picos f century micros ps held track d some n x = (
+  λ a. record { told = (picoseconds_suffice f century micros ps track d some n x).0 a.told; is_held = a.is_held },
+  λ a. record { told = (picoseconds_suffice f century micros ps track d some n x).1 a.told; is_held = a.is_held },
+)

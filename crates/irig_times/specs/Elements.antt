@@ -37,14 +37,21 @@ pub record NextRises (ps : List Pulse) (number time : ℕ) : Type 0 where
   pub stands : slice_get ps (number + 1) ≡ Some next
   pub is : time ≡ next.rise
 
+-- the last interval of a frame, from the pulse with this number, which rises at `from`, ends at `to`
+-- if it is as long as the others are on average
+pub record MeanEnds (ps : List Pulse) (number from to : ℕ) : Type 0 where
+  pub first : Pulse
+  pub stands : slice_get ps (number - 99) ≡ Some first
+  pub is : to ≡ from + (from - first.rise) / 99
+
 -- the interval from an index point, which rises at `from`, ends at `to`: at the next index point, in
--- this frame or in the one that follows it; or, if none follows, one interval later
+-- this frame or in the one that follows it; or, if none follows, after the mean interval
 abbrev pub IntervalEnds : FormatView → ℕ → List Pulse → ℕ → ℕ → Fields → ℕ → ℕ → Type 0
 IntervalEnds f century ps number element g from to =
     ((element < 99) × NextRises ps number to)
     ⊎ (((element ≡ 99) × (IsFollowed f century (frames f ps) number g × NextRises ps number to))
     ⊎ ((element ≡ 99) × ((IsFollowed f century (frames f ps) number g → ⊥)
-    × (to ≡ from + interval_of f.kind))))
+    × MeanEnds ps number from to)))
 
 -- how much of an interval is over, in whole microseconds, if `part` of the `whole` between two
 -- rises is; both in the same unit
@@ -53,7 +60,7 @@ share interval part whole = part * interval / whole
 
 -- n / d microseconds after the start of a track it is this time: that is in the interval from the
 -- last pulse that rises at or before it, an index point
-pub record HasTime (f : FormatView) (century : ℕ) (ps : List Pulse) (d n : ℕ) (time : Time)
+pub record TellsTime (f : FormatView) (century : ℕ) (ps : List Pulse) (d n : ℕ) (time : Time)
     : Type 0 where
   pub number : ℕ
   pub element : ℕ

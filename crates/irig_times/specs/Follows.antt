@@ -27,6 +27,10 @@ same_hour a b = same_day a b && (a.hours == b.hours)
 abbrev pub same_minute : Time → Time → Bool
 same_minute a b = same_hour a b && (a.minutes == b.minutes)
 
+-- whether two times are the same
+abbrev pub same_time : Time → Time → Bool
+same_time a b = same_minute a b && (a.micros == b.micros)
+
 -- whether the second time is on the day after that of the first, if its year has n days
 abbrev pub is_day_after : ℕ → Time → Time → Bool
 is_day_after n a b =

@@ -1,7 +1,17 @@
+pub mod Between
 pub mod Chains
+pub mod Counted
 pub mod Elements
+pub mod Ends
 pub mod Follows
 pub mod FrameLooks
+pub mod Held
 pub mod Laws
+pub mod Origins
+pub mod PartLaws
+pub mod Parts
 pub mod Starts
+pub mod Steps
+pub mod Support
 pub mod Times
+pub mod Whole

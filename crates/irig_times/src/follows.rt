@@ -3,6 +3,7 @@
 ghost use Rattle.std.specs.Prelude.{◌≡◌, ◌+◌, ◌*◌, ◌%◌, ◌≤◌, ◌<◌, ◌^◌, pos};
 ghost use Rattle.jiff_core.specs.Calendar.{days_in_year};
 ghost use Rattle.irig_times.specs.Follows.{same_year, next_year, same_day, same_hour, same_minute};
+ghost use Rattle.irig_times.specs.Follows.{same_time};
 ghost use Rattle.irig_times.specs.Follows.{is_day_after, day_follows, hour_follows, minute_follows};
 ghost use Rattle.irig_times.specs.Follows.{is_later_in, is_later};
 
@@ -32,7 +33,7 @@ fn next_year(year: Option<u32>) -> Option<u32>
 }
 
 /// Whether two times are on the same day.
-fn same_day(a: &Time, b: &Time) -> bool
+pub fn same_day(a: &Time, b: &Time) -> bool
     ensures { result ≡ same_day a.now b.now }
 {
     same_year(a.year, b.year) && a.days == b.days
@@ -50,6 +51,13 @@ fn same_minute(a: &Time, b: &Time) -> bool
     ensures { result ≡ same_minute a.now b.now }
 {
     same_hour(a, b) && a.minutes == b.minutes
+}
+
+/// Whether two times are the same.
+pub fn same_time(a: &Time, b: &Time) -> bool
+    ensures { result ≡ same_time a.now b.now }
+{
+    same_minute(a, b) && a.micros == b.micros
 }
 
 /// Whether the second time is on the day after that of the first, if its year has `count` days.

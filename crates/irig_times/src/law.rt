@@ -3,6 +3,7 @@
 ghost use Rattle.irig_times.specs.Chains.{ChainsNeverFall};
 ghost use Rattle.irig_times.specs.Laws.{BeforeTheNext, ExactAtPoints, InItsMinute, NeverFalls};
 ghost use Rattle.irig_times.specs.Laws.{OneTime, PicosecondsSuffice, TimesAreOfCalendar};
+ghost use Rattle.irig_times.specs.Laws.{TimesAreSupported};
 
 /// Does nothing. Its contract is what holds of the times of every track.
 pub fn times_are_exact()
@@ -14,4 +15,5 @@ pub fn times_are_exact()
     ensures minute { InItsMinute }
     ensures calendar { TimesAreOfCalendar }
     ensures picos { PicosecondsSuffice }
+    ensures supported { TimesAreSupported }
 {}

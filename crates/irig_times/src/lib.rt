@@ -1,16 +1,31 @@
 //! The time of each microsecond of a track, by the frames around it.
 #![tactic(auto)]
 
+mod between;
+mod by_count;
+mod counted;
+mod ends;
 mod follows;
 mod frame_lens;
 mod law;
+mod missing;
+mod part;
+mod part_law;
 mod point;
 mod start;
+mod steps;
+mod support;
 mod time;
 mod timing;
+mod whole;
 
+pub use by_count::time_by;
+pub use counted::timed_parts;
 pub use frame_lens::FrameLens;
 pub use law::times_are_exact;
+pub use part::Part;
+pub use part_law::parts_are_exact;
 pub use start::{FrameStart, start_of};
+pub use support::held_frames;
 pub use time::{Time, timed};
 pub use timing::time_at;

@@ -1,10 +1,11 @@
 //! Index points: which element of which frame a pulse is.
 
 ghost use Rattle.std.specs.Prelude.{◌≡◌, ◌↔◌, ◌<◌, ◌≤◌, ◌+◌, ◌*◌, ◌^◌, ℕ, IsTrue, MatchOption};
-ghost use Rattle.std.specs.Prelude.{length, OnSome, IfSome};
+ghost use Rattle.std.specs.Prelude.{length, slice_get, Some, true};
 ghost use Rattle.irig_codes.specs.declared.fields.Fields.{Fields};
 ghost use Rattle.irig_times.specs.Elements.{AreFrames, IsElement, IsFollowed};
 ghost use Rattle.irig_times.specs.FrameLooks.{LookedAtFrames, PartedAt};
+ghost use Rattle.irig_times.specs.Held.{IsHeldElement};
 
 use crate::follows::is_later;
 use crate::frame_lens::FrameLens;
@@ -27,8 +28,8 @@ pub fn point_at(records: &mut FrameLens<'_>, format: Format, number: usize) -> O
     requires { AreFrames format records.old.records }
     ensures exact { MatchOption result
         ((e : ℕ) (g : Fields) → IsElement format records.old.records number e g → ⊥)
-        (λ p. IsElement format records.old.records number p.element p.fields
-        × PartedAt records.old.records number p.next) }
+        (λ p. (is : IsElement format records.old.records number p.element p.fields)
+        × (p.next ≡ is.at + 1) × PartedAt records.old.records number p.next) }
     ensures same { records.new.records ≡ records.old.records }
     ensures looked { (digits : ℕ) → length records.old.records < 2 ^ digits →
         LookedAtFrames records.old records.new (digits + 1) }
@@ -50,6 +51,40 @@ pub fn point_at(records: &mut FrameLens<'_>, format: Format, number: usize) -> O
         }),
         None => None,
     }
+}
+
+/// The same, if its frame is believed.
+pub fn held_point(
+    records: &mut FrameLens<'_>,
+    held: &[bool],
+    format: Format,
+    number: usize,
+) -> Option<Point>
+    requires { AreFrames format records.old.records }
+    ensures exact { MatchOption result
+        ((e : ℕ) (g : Fields)
+        → IsHeldElement format records.old.records held.now number e g → ⊥)
+        (λ p. IsHeldElement format records.old.records held.now number p.element p.fields
+        × PartedAt records.old.records number p.next) }
+    ensures same { records.new.records ≡ records.old.records }
+    ensures looked { (digits : ℕ) → length records.old.records < 2 ^ digits →
+        LookedAtFrames records.old records.new (digits + 1) }
+{
+    let Some(point) = point_at(records, format, number) else {
+        return None;
+    };
+    if is_held_at(held, point.next - 1) {
+        Some(point)
+    } else {
+        None
+    }
+}
+
+/// Whether the frame of the record at a place is believed.
+fn is_held_at(held: &[bool], place: usize) -> bool
+    ensures { IsTrue result ↔ (slice_get held.now place ≡ Some true) }
+{
+    place < held.len() && held[place]
 }
 
 /// Whether the frame of an element is followed by another, if its last pulse is `number`.

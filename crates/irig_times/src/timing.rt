@@ -4,12 +4,14 @@ ghost use Rattle.std.specs.Prelude.{◌≡◌, ◌↔◌, ◌<◌, ◌≤◌, �
 ghost use Rattle.irig_track.specs.Looks.{LookedThrough, LensView};
 ghost use Rattle.irig_index.specs.Frames.{frames};
 ghost use Rattle.irig_codes.specs.Format.{interval_of};
-ghost use Rattle.irig_times.specs.Elements.{HasTime, IsElement, IntervalEnds, NextRises, share};
+ghost use Rattle.irig_times.specs.Elements.{IsElement, IntervalEnds, MeanEnds, NextRises};
+ghost use Rattle.irig_times.specs.Elements.{share};
 ghost use Rattle.irig_times.specs.FrameLooks.{LookedAtFrames, PartedAt};
+ghost use Rattle.irig_times.specs.Held.{HasTime};
 ghost use Rattle.irig_times.specs.{declared.time.Time.Time, Times.time_in};
 
 use crate::frame_lens::FrameLens;
-use crate::point::{Point, is_followed, point_at};
+use crate::point::{Point, held_point, is_followed};
 use crate::time::{Time, time_in};
 use irig_codes::Format;
 use irig_track::Lens;
@@ -17,12 +19,14 @@ use irig_track::Lens;
 /// The picoseconds of a microsecond.
 const PICOS: u64 = 1_000_000;
 
-/// The time of year some picoseconds after the start of a track, if its frames determine it.
+/// The time of year some picoseconds after the start of a track, if a frame that is believed
+/// determines it: of each record `held` says whether its frame is.
 ///
 /// The years of two digits are of this century: 20 for 2000 to 2099.
 pub fn time_at(
     pulses: &mut Lens<'_>,
     records: &mut FrameLens<'_>,
+    held: &[bool],
     format: Format,
     century: u32,
     picos: u64,
@@ -30,7 +34,7 @@ pub fn time_at(
     requires frames { records.old.records ≡ frames format pulses.old.track.pulses }
     requires century { century ≤ 99 }
     ensures exact { (x : Time) → (result ≡ Some x)
-        ↔ HasTime format century pulses.old.track.pulses 1000000 picos x }
+        ↔ HasTime format century pulses.old.track.pulses held.now 1000000 picos x }
     ensures pulses { pulses.new.track ≡ pulses.old.track }
     ensures same { records.new.records ≡ records.old.records }
     ensures looked { (digits : ℕ) → length pulses.old.track.pulses < 2 ^ digits →
@@ -43,7 +47,7 @@ pub fn time_at(
         return None;
     }
     let number = risen - 1;
-    match point_at(records, format, number) {
+    match held_point(records, held, format, number) {
         Some(point) => {
             let from = pulses.pulse(number).rise;
             let to = interval_end(pulses, records, format, century, number, &point, from);
@@ -86,8 +90,24 @@ fn interval_end(
     if is_followed(records, format, century, number, point) {
         next_rise(pulses, number)
     } else {
-        from + format.interval()
+        mean_end(pulses, number, from)
     }
+}
+
+/// Where the last interval of a frame ends, if it is as long as the others are on average.
+#[inline(never)]
+fn mean_end(pulses: &mut Lens<'_>, number: usize, from: u64) -> u64
+    requires last { 99 ≤ number }
+    requires stands { number < length pulses.old.track.pulses }
+    requires low { from ≤ 2 ^ 40 }
+    ensures exact { MeanEnds pulses.old.track.pulses number from result }
+    ensures low { result ≤ 2 ^ 41 }
+    ensures looked { LookedThrough pulses.old pulses.new 1 }
+{
+    // Read for its bound alone.
+    let _count = pulses.len();
+    let first = pulses.pulse(number - 99).rise;
+    from + from.saturating_sub(first) / 99
 }
 
 /// When the pulse after one rises.
@@ -117,7 +137,7 @@ fn shared(format: Format, point: &Point, part: u64, whole: u64) -> Time
 }
 
 /// How much of an interval is over, if these microseconds and picoseconds of `whole` are.
-fn share(interval: u64, micros: u64, picos: u64, whole: u64) -> u64
+pub fn share(interval: u64, micros: u64, picos: u64, whole: u64) -> u64
     requires interval { interval ≤ 100000 }
     requires picos { picos < 1000000 }
     requires order { micros < whole }

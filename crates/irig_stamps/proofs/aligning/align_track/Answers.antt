@@ -6,3 +6,9 @@ use Rattle.irig_stamps.proofs.aligning.align_track.Goals as goal
 
 pub returns-in_default-clause-ends : goal.returns-in_default-clause-ends
 returns-in_default-clause-ends g c = stopped _ _ _ _ _ _ _ _ _ [] _ _ OutOfMemory (begun _ _ _ _ _) (Consumes-nil _) refl
+
+pub returns-in_default-held_frames-clause-ends : goal.returns-in_default-held_frames-clause-ends
+returns-in_default-held_frames-clause-ends g c = stopped _ _ _ _ _ _ _ _ _ [] _ _ OutOfMemory (begun _ _ _ _ _) (Consumes-nil _) refl
+
+pub returns-in_default-timed_parts-clause-ends : goal.returns-in_default-timed_parts-clause-ends
+returns-in_default-timed_parts-clause-ends g c = stopped _ _ _ _ _ _ _ _ _ [] _ _ OutOfMemory (begun _ _ _ _ _) (Consumes-nil _) refl

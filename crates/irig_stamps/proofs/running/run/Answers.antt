@@ -11,7 +11,6 @@ loop-reads-init g c = record {
   underway = begun-with _ _ _ _ _ _ _ _ c.new-state.ensures.line c.new-state.ensures.count c.new-state.ensures.all;
   empty = c.new-text.ensures.items;
   track = refl;
-  records = refl;
 }
 
 pub returns-in-Ok-true : goal.returns-in-Ok-true

@@ -8,5 +8,4 @@ invariant-loop-reads g l = record {
       (g.W.Write.contents l.fn.out) (g.W.Write.contents l.out) l.state.line.items l.state.count l.state.all;
   empty : l.text.items ≡ [];
   track : l.pulses.track ≡ l.fn.pulses.track;
-  records : l.records.records ≡ l.fn.records.records;
 }

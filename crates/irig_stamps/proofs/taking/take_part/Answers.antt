@@ -11,7 +11,6 @@ loop-byte-preserved c =
     let inv = c.loop-byte.invariant in
     record {
       track = c.in-Ok.ensures.pulses ∙ inv.track;
-      records = c.in-Ok.ensures.same ∙ inv.records;
       taken = taken-more c.args.format c.args.pulses.now.track.pulses c.args.settings.now c.args.part.now i c.args.text.now.items c.loop-byte.text.items
           c.take_byte.new.text.items c.args.lines.now c.loop-byte.lines c.take_byte.new.lines (omega (arith, c.loop-byte-test.true)) inv.taken
           (subst (λ (t : TrackView). Takes c.args.format t.pulses c.args.settings.now (get_or c.args.part.now i 0 ∷ []) c.loop-byte.text.items

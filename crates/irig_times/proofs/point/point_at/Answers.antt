@@ -1,4 +1,4 @@
-use Rattle.std.proofs.Common.{◌≡◌, ℕ, ◌+◌, ◌-◌, length, slice_get, Some, ap, sym, ◌∙◌, subst, arith}
+use Rattle.std.proofs.Common.{◌≡◌, ◌+◌, ◌-◌, length, slice_get, ap, sym, ◌∙◌, subst, arith}
 use Rattle.std.proofs.lemmas.Option.{none-some}
 use Rattle.irig_times.specs.FrameLooks.{PartedAt}
 use Rattle.irig_times.proofs.{FrameLookLemmas.looked-next, Records.element-last, Records.records-rise}
@@ -41,6 +41,7 @@ returns-in-Some-clause-exact c =
         place = omega (arith, up);
         few = omega (arith, c.if-element-gt99.false);
       },
+      omega (arith, c.if-next-eq0.false),
       c.find-next.ensures.parted,
     )
 

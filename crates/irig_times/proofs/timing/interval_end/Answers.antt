@@ -1,4 +1,4 @@
-use Rattle.std.proofs.Common.{ℕ, ◌+◌, List, subst, arith}
+use Rattle.std.proofs.Common.{◌+◌, List, subst, arith}
 use Rattle.std.proofs.lemmas.Option.{slice_get_within}
 use Rattle.irig_index.specs.declared.record.Record.{Record}
 use Rattle.irig_times.specs.Elements.{IsElement, IsFollowed}
@@ -12,6 +12,9 @@ next_rise-requires c =
     c.requires.element in
     let next = next-stands c.args.format ps c.args.number c.args.point.now.element c.args.point.now.fields is (omega (arith, c.if-point-lt99.true)) in
     slice_get_within ps (c.args.number + 1) next.0 next.1
+
+pub mean_end-requires-clause-last : goal.mean_end-requires-clause-last
+mean_end-requires-clause-last c = omega (arith, c.requires.element.place, c.requires.element.few, c.if-point-lt99.false)
 
 pub next_rise-requires-then-is_followed : goal.next_rise-requires-then-is_followed
 next_rise-requires-then-is_followed c =

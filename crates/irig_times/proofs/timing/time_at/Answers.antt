@@ -1,11 +1,11 @@
-use Rattle.std.proofs.Common.{◌≡◌, ℕ, ◌+◌, ◌-◌, ◌*◌, ◌/◌, ◌<◌, ◌^◌, List, length, slice_get, Some, None, ap, sym, ◌∙◌, subst, arith}
-use Rattle.std.proofs.lemmas.Option.{none-some, same_Some, slice_get_within}
+use Rattle.std.proofs.Common.{◌≡◌, ℕ, ◌+◌, ◌-◌, ◌/◌, ◌<◌, ◌^◌, List, length, slice_get, Some, ap, sym, ◌∙◌, subst, arith}
+use Rattle.std.proofs.lemmas.Option.{none-some, same_Some}
 use Rattle.irig_codes.specs.declared.fields.Fields.{Fields}
 use Rattle.irig_recording.specs.declared.pulse.Pulse.{Pulse}
 use Rattle.irig_track.specs.Splices.{risen_by}
 use Rattle.irig_index.specs.{Frames.frames, declared.record.Record.Record}
-use Rattle.irig_times.specs.Elements.{IntervalEnds, IsElement}
-use Rattle.irig_times.proofs.{Found.last-risen, Found.no-element, FrameLookLemmas.looked-both, OneTime.time-by, PulseLooks.through-search}
+use Rattle.irig_times.specs.{Elements.IntervalEnds, Held.IsHeldElement}
+use Rattle.irig_times.proofs.{Found.last-risen, HeldTimes.no-held-element, FrameLookLemmas.looked-both, OneTime.time-by, PulseLooks.through-search}
 use Rattle.irig_times.proofs.timing.time_at.Goals as goal
 
 pub pulse-from-requires : goal.pulse-from-requires
@@ -74,24 +74,28 @@ returns-then-picos-to-clause-exact c x =
     let ps = c.args.pulses.now.track.pulses in
     let point = c.in-Some.point in
     let same = ap (λ v. v.track.pulses) c.pulse-from.ensures.counted ∙ ap (λ t. t.pulses) track in
-    let is = subst (λ (rs : List Record). IsElement c.args.format rs (c.find-risen.result - 1) point.element point.fields) c.requires.frames
-    c.in-Some.ensures.exact.0 in
+    let believed = subst (λ (rs : List Record). IsHeldElement c.args.format rs c.args.held.now (c.find-risen.result - 1) point.element point.fields)
+    c.requires.frames c.in-Some.ensures.exact.0 in
+    let is = believed.0 in
     let ends = subst (λ (qs : List Pulse). IntervalEnds c.args.format c.args.century qs (c.find-risen.result - 1) point.element point.fields
     c.pulse-from.result.rise c.interval_end-to.result) same c.interval_end-to.ensures.exact in (
       λ e. record {
-        number = c.find-risen.result - 1;
-        element = point.element;
-        fields = point.fields;
-        point = c.pulse-from.result;
-        to = c.interval_end-to.result;
-        last = count;
-        stands = here;
-        is_element = is;
-        ends = ends;
-        before = omega (arith, c.if-picos-to.true);
-        is = sym (same_Some c.shared.result x e) ∙ c.shared.ensures;
+        told = record {
+          number = c.find-risen.result - 1;
+          element = point.element;
+          fields = point.fields;
+          point = c.pulse-from.result;
+          to = c.interval_end-to.result;
+          last = count;
+          stands = here;
+          is_element = is;
+          ends = ends;
+          before = omega (arith, c.if-picos-to.true);
+          is = sym (same_Some c.shared.result x e) ∙ c.shared.ensures;
+        };
+        is_held = believed.1;
       },
-      λ h. ap Some (c.shared.ensures ∙ sym (time-by c.args.format ps c.args.century 1000000 c.args.picos x h (c.find-risen.result - 1) point.element point.fields c.pulse-from.result
+      λ h. ap Some (c.shared.ensures ∙ sym (time-by c.args.format ps c.args.century 1000000 c.args.picos x h.told (c.find-risen.result - 1) point.element point.fields c.pulse-from.result
           c.interval_end-to.result count here is ends).1),
     )
 
@@ -106,15 +110,16 @@ returns-else-picos-to-clause-exact c x =
     let ps = c.args.pulses.now.track.pulses in
     let point = c.in-Some.point in
     let same = ap (λ v. v.track.pulses) c.pulse-from.ensures.counted ∙ ap (λ t. t.pulses) track in
-    let is = subst (λ (rs : List Record). IsElement c.args.format rs (c.find-risen.result - 1) point.element point.fields) c.requires.frames
-    c.in-Some.ensures.exact.0 in
+    let believed = subst (λ (rs : List Record). IsHeldElement c.args.format rs c.args.held.now (c.find-risen.result - 1) point.element point.fields)
+    c.requires.frames c.in-Some.ensures.exact.0 in
+    let is = believed.0 in
     let ends = subst (λ (qs : List Pulse). IntervalEnds c.args.format c.args.century qs (c.find-risen.result - 1) point.element point.fields
     c.pulse-from.result.rise c.interval_end-to.result) same c.interval_end-to.ensures.exact in (
       λ e. absurd (none-some x e),
       λ h. absurd (omega (
         arith,
         c.if-picos-to.false,
-        (time-by c.args.format ps c.args.century 1000000 c.args.picos x h (c.find-risen.result - 1) point.element point.fields c.pulse-from.result
+        (time-by c.args.format ps c.args.century 1000000 c.args.picos x h.told (c.find-risen.result - 1) point.element point.fields c.pulse-from.result
             c.interval_end-to.result count here is ends).0,
       )),
     )
@@ -126,8 +131,10 @@ returns-in-None-clause-exact c x =
     let count : risen_by (c.args.picos / 1000000) c.args.pulses.now.track.pulses ≡ c.find-risen.result - 1 + 1 =
     omega (arith, c.find-risen.ensures.count, c.if-risen-eq0.false) in (
       λ e. absurd (none-some x e),
-      λ h. absurd (no-element c.args.format c.args.century c.args.pulses.now.track.pulses 1000000 c.args.picos (c.find-risen.result - 1) x count
-          (subst (λ (rs : List Record). (e : ℕ) (g : Fields) → IsElement c.args.format rs (c.find-risen.result - 1) e g → ⊥) c.requires.frames c.in-None.ensures.exact) h),
+      λ h. absurd (no-held-element c.args.format c.args.century c.args.pulses.now.track.pulses c.args.held.now 1000000 c.args.picos
+          (c.find-risen.result - 1) x count
+          (subst (λ (rs : List Record). (e : ℕ) (g : Fields) → IsHeldElement c.args.format rs c.args.held.now (c.find-risen.result - 1) e g → ⊥)
+          c.requires.frames c.in-None.ensures.exact) h),
     )
 
 pub returns-then-picos-to-clause-pulses : goal.returns-then-picos-to-clause-pulses

@@ -1,0 +1,274 @@
+-- What is counted between frames fits between them.
+use Rattle.std.proofs.Common.{◌*◌, ◌≡◌, ◌<◌, ◌≤◌, ◌+◌, ◌-◌, ◌++◌, ◌∷◌, [], ℕ, suc, zero, ◌==◌, ◌&&◌, nat_le, nat_lt, Bool, true, false, cond, List, Option, Some, None, drop, length, slice_get}
+use Rattle.std.proofs.Common.{refl, sym, ap, ◌∙◌, subst, append_assoc, arith}
+use Rattle.std.specs.Prelude.{IfSome, is_some, min}
+use Rattle.std.proofs.lemmas.Option.{none-some, slice_get_within}
+use Rattle.irig_times.specs.Ends.{after_last, alone, before_first, end_after, end_before, is_borne_out}
+use Rattle.std.proofs.lemmas.Bool.{and_parts, eqb-true, leb-true, ltb-true}
+use Rattle.irig_codes.specs.Format.{FormatView, frame_period_of, has_year}
+use Rattle.irig_recording.specs.declared.pulse.Pulse.{Pulse}
+use Rattle.irig_times.specs.{declared.missing.Missing.Missing, declared.part.Part.Part, declared.time.Time.Time, Follows.same_day}
+use Rattle.irig_times.specs.Between.{at_micros, at_minute, between, day_micros, gap, head_of, is_middle, is_whole, middle, missing_by, missing_in, missing_more, missing_one}
+use Rattle.irig_times.specs.Between.{kept, next_time, rounded, sides, sides_of, tail_of, time_before}
+use Rattle.irig_times.specs.Counted.{filled, sides_before, with_sides}
+use Rattle.irig_times.specs.Follows.{is_later}
+use Rattle.irig_times.specs.Parts.{AreParts, IsFrameTime, IsPart}
+use Rattle.irig_times.specs.Laws.{IsOfCalendar}
+use Rattle.irig_times.specs.Steps.{ahead, are_in_step, behind, is_in_step_at}
+use Rattle.irig_times.proofs.WholeSteps.{from-at}
+
+pub cond-holds : {X : Type 0} (P : X → Type 0) (b : Bool) (x y : X) → (b ≡ true → P x) → (b ≡ false → P y) → P (cond b x y)
+cond-holds P true x y p q = p refl
+cond-holds P false x y p q = q refl
+
+module _ (f : FormatView) (ps : List Pulse) where
+  pub ahead-few : (n k : ℕ) → ahead f ps k n ≤ n
+  ahead-few zero k = omega arith
+  ahead-few (suc n) k = cond-holds (λ m. m ≤ suc n) (is_in_step_at f ps k) _ _ (λ on. omega (arith, ahead-few n (k + 1))) (λ off. omega arith)
+
+  pub behind-few : (n k : ℕ) → behind f ps k n ≤ n
+  behind-few zero k = omega arith
+  behind-few (suc n) k = cond-holds (λ m. m ≤ suc n) (is_in_step_at f ps k) _ _ (λ on. omega (arith, behind-few n (k - 1))) (λ off. omega arith)
+
+-- a time on the day of another, at an hour and minute that there are
+on-day : (t : Time) (hours minutes n : ℕ) → IsOfCalendar t → hours ≤ 23 → minutes ≤ 59 → IsOfCalendar (at_minute t hours minutes n)
+on-day t hours minutes n h lh lm = record { year = h.year; first = h.first; days = h.days; hours = lh; minutes = lm }
+
+in-minute-of : (t : Time) (n : ℕ) → IsOfCalendar t → IsOfCalendar (at_micros t n)
+in-minute-of t n h = record { year = h.year; first = h.first; days = h.days; hours = h.hours; minutes = h.minutes }
+
+module _ (f : FormatView) (century : ℕ) where
+  abbrev period : ℕ
+  period = frame_period_of f.kind
+
+  -- a time of the calendar, with a year if frames carry one
+  abbrev InCalendar : Time → Type 0
+  InCalendar x = IsOfCalendar x × (is_some x.year ≡ has_year f.expression)
+
+  abbrev BothEnd : Missing → Type 0
+  BothEnd t = IsFrameTime f t.first × IsFrameTime f t.last
+
+  middle-ends : (a b : Time) → IsFrameTime f a → IsFrameTime f b → IfSome (middle century period a b) (IsFrameTime f)
+  middle-ends a b ha hb =
+      let x = at_micros a (a.micros + period) in
+      let y = at_micros b (b.micros - period) in
+      cond-holds (λ o. IfSome o (IsFrameTime f)) (is_middle century period a x b) _ _
+      (λ on. record {
+        minute = leb-true _ 61000000 (and_parts (is_later century period x b) _ (and_parts (is_later century period a x) _ on).1).1;
+        calendar = in-minute-of a _ ha.calendar;
+        year = ha.year;
+      })
+      (λ off. cond-holds (λ o. IfSome o (IsFrameTime f)) (nat_le period b.micros && is_middle century period a y b) _ _
+      (λ on. record {
+        minute = leb-true _ 61000000 (and_parts (is_later century period y b) _ (and_parts (is_later century period a y) _ (and_parts (nat_le period b.micros) _ on).1).1).1;
+        calendar = in-minute-of b _ hb.calendar;
+        year = hb.year;
+      })
+      (λ none. tt))
+
+  pub next-is : (t : Time) → IsFrameTime f t → IfSome (next_time period t) InCalendar
+  next-is t h = cond-holds (λ o. IfSome o InCalendar) (nat_le 60000000 t.micros) _ _ (λ leap. tt)
+      (λ usual. cond-holds (λ o. IfSome o InCalendar) (nat_lt (t.micros + period) 60000000) _ _ (λ on. (in-minute-of t _ h.calendar, h.year))
+      (λ off. cond-holds (λ o. IfSome o InCalendar) (nat_lt t.minutes 59) _ _
+      (λ on. (on-day t t.hours (t.minutes + 1) _ h.calendar h.calendar.hours (omega (arith, ltb-true t.minutes 59 on)), h.year))
+      (λ full. cond-holds (λ o. IfSome o InCalendar) (nat_lt t.hours 23) _ _
+      (λ on. (on-day t (t.hours + 1) 0 _ h.calendar (omega (arith, ltb-true t.hours 23 on)) (omega arith), h.year)) (λ midnight. tt))))
+
+  pub before-is : (t : Time) → IsFrameTime f t → IfSome (time_before period t) InCalendar
+  before-is t h = cond-holds (λ o. IfSome o InCalendar) (nat_le period t.micros) _ _ (λ on. (in-minute-of t _ h.calendar, h.year))
+      (λ off. cond-holds (λ o. IfSome o InCalendar) (nat_lt 0 t.minutes) _ _
+      (λ on. (on-day t t.hours (t.minutes - 1) _ h.calendar h.calendar.hours (omega (arith, h.calendar.minutes)), h.year))
+      (λ full. cond-holds (λ o. IfSome o InCalendar) (nat_lt 0 t.hours) _ _
+      (λ on. (on-day t (t.hours - 1) 59 _ h.calendar (omega (arith, h.calendar.hours)) (omega arith), h.year)) (λ midnight. tt)))
+
+  one-ends : (o : Option Time) → IfSome o (IsFrameTime f) → IfSome (missing_one o) BothEnd
+  one-ends None h = tt
+  one-ends (Some x) h = (h, h)
+
+  more-end : (x y : Option Time) → IfSome x InCalendar → IfSome y InCalendar → IfSome (missing_more period x y) BothEnd
+  more-end None y hx hy = tt
+  more-end (Some x) None hx hy = tt
+  more-end (Some x) (Some y) hx hy = cond-holds (λ o. IfSome o BothEnd) (is_whole period x && is_whole period y) _ _
+      (λ on. let both = and_parts (is_whole period x) _ on in
+      (record { minute = leb-true _ 61000000 both.0; calendar = hx.0; year = hx.1 }, record { minute = leb-true _ 61000000 both.1; calendar = hy.0; year = hy.1 }))
+      (λ off. tt)
+
+  missing-ends : (n : ℕ) (a b : Time) → IsFrameTime f a → IsFrameTime f b → IfSome (missing_in century period n a b) BothEnd
+  missing-ends n a b ha hb = cond-holds (λ o. IfSome o BothEnd) (nat_le n 1) _ _ (λ few. tt)
+      (λ many. cond-holds (λ o. IfSome o BothEnd) (n == 2) _ _ (λ two. one-ends (middle century period a b) (middle-ends a b ha hb))
+      (λ more. cond-holds (λ o. IfSome o BothEnd) (same_day a b && (day_micros b == day_micros a + n * period)) _ _
+      (λ on. more-end (next_time period a) (time_before period b) (next-is a ha) (before-is b hb)) (λ off. tt)))
+
+  missing-by-ends : (a b : Time) (p q : Option Pulse) → IsFrameTime f a → IsFrameTime f b → IfSome (missing_by century period a b p q) BothEnd
+  missing-by-ends a b None q ha hb = tt
+  missing-by-ends a b (Some p) None ha hb = tt
+  missing-by-ends a b (Some p) (Some q) ha hb = missing-ends (rounded period p.rise q.rise) a b ha hb
+
+-- some of those that one side reaches
+pub kept-few : (b : Bool) (m n : ℕ) → kept b m n ≤ m
+kept-few true m n = grind arith
+kept-few false m n = omega arith
+
+-- two parts fit between two others, one after the other
+pub record Fit (f : FormatView) (from to : ℕ) (s : Part × Part) : Type 0 where
+  pub first : from ≤ s.0.number
+  pub one : IsPart f s.0
+  pub middle : s.0.number + s.0.count ≤ s.1.number
+  pub two : IsPart f s.1
+  pub last : s.1.number + s.1.count ≤ to
+
+module _ (f : FormatView) (a b : Part) (order : a.number + a.count ≤ b.number) where
+  sides-fit : (m n : ℕ) (t : Missing) → m ≤ 100 → n ≤ 100 → BothEnd f 0 t → IfSome (sides a b m n t) (Fit f (a.number + a.count) b.number)
+  sides-fit m n t fm fn ends = cond-holds (λ o. IfSome o (Fit f (a.number + a.count) b.number)) (t.is_one && (gap a b == 100 && nat_lt 100 (m + n))) _ _
+      (λ on. (let whole : gap a b ≡ 100 = eqb-true (gap a b) 100 (and_parts (gap a b == 100) _ (and_parts t.is_one _ on).1).0 in
+      record {
+        first = omega arith;
+        one = record { few = omega arith; time = ends.0 };
+        middle = omega (arith, whole, order);
+        two = record { few = omega arith; time = ends.1 };
+        last = omega arith;
+      }))
+      (λ off. cond-holds (λ o. IfSome o (Fit f (a.number + a.count) b.number)) (nat_le (kept t.is_one m n + kept t.is_one n m) (gap a b)) _ _
+      (λ on. (let few : kept t.is_one m n + kept t.is_one n m ≤ gap a b = leb-true _ _ on in
+      let km = kept-few t.is_one m n in
+      let kn = kept-few t.is_one n m in
+      record {
+        first = omega arith;
+        one = record { few = omega (arith, fm, km); time = ends.0 };
+        middle = omega (arith, few, order);
+        two = record { few = omega (arith, fn, kn); time = ends.1 };
+        last = omega (arith, few, order);
+      })) (λ none. tt))
+
+  module _ (ps : List Pulse) where
+    sides-of-fit : (o : Option Missing) → IfSome o (BothEnd f 0) → IfSome (sides_of f ps a b o) (Fit f (a.number + a.count) b.number)
+    sides-of-fit None h = tt
+    sides-of-fit (Some t) h =
+        let m = ahead-few f ps (min (gap a b) 100) (a.number + a.count) in
+        let n = behind-few f ps (min (gap a b) 100) b.number in
+        sides-fit _ _ t (grind (arith, m)) (grind (arith, n)) h
+
+    pub between-fits : (century : ℕ) → IsPart f a → IsPart f b → IfSome (between f century ps a b) (Fit f (a.number + a.count) b.number)
+    between-fits century ha hb = sides-of-fit _ (missing-by-ends f century a.time b.time (slice_get ps a.number) (slice_get ps b.number) ha.time hb.time)
+
+-- what is counted at an end fits there
+module _ (f : FormatView) (ps : List Pulse) where
+  step-within : (k : ℕ) → is_in_step_at f ps k ≡ true → k < length ps
+  step-within zero on = absurd (cc on)
+  step-within (suc k) on = both (slice_get ps k) (slice_get ps (suc k)) refl on
+    where
+      both : (p q : Option Pulse) → slice_get ps (suc k) ≡ q → are_in_step f p q ≡ true → suc k < length ps
+      both None q e h = absurd (cc h)
+      both (Some p) None e h = absurd (cc h)
+      both (Some p) (Some q) e h = slice_get_within ps (suc k) q e
+
+  ahead-within : (n k : ℕ) → k ≤ length ps → k + ahead f ps k n ≤ length ps
+  ahead-within zero k le = omega (arith, le)
+  ahead-within (suc n) k le = cond-holds (λ m. k + m ≤ length ps) (is_in_step_at f ps k) _ _
+      (λ on. (let it = ahead-within n (k + 1) (omega (arith, step-within k on)) in omega (arith, it))) (λ off. omega (arith, le))
+
+  alone-fits : (from to : ℕ) (p : Part) → from ≤ p.number → p.element + p.count ≤ 100 → p.number + p.count ≤ to
+      → IsOfCalendar p.time × (is_some p.time.year ≡ has_year f.expression) → IfSome (alone f ps p) (Fit f from to)
+  alone-fits from to p first few last cal = cond-holds (λ o. IfSome o (Fit f from to)) (is_borne_out f ps p) _ _
+      (λ on. (let time : IsFrameTime f p.time = record {
+        minute = leb-true _ 61000000 (and_parts (is_whole (frame_period_of f.kind) p.time) _ on).0;
+        calendar = cal.0;
+        year = cal.1;
+      } in
+      record {
+        first = first;
+        one = record { few = few; time = time };
+        middle = omega arith;
+        two = record { few = omega arith; time = time };
+        last = omega (arith, last);
+      }))
+      (λ off. tt)
+
+  last-fits : (a : Part) (o : Option Time) → a.number + a.count ≤ length ps
+      → IfSome o (λ x. IsOfCalendar x × (is_some x.year ≡ has_year f.expression)) → IfSome (after_last f ps a o) (Fit f (a.number + a.count) (length ps))
+  last-fits a None le cal = tt
+  last-fits a (Some x) le cal =
+      let few = ahead-few f ps 100 (a.number + a.count) in
+      let within = ahead-within 100 (a.number + a.count) le in
+      alone-fits (a.number + a.count) (length ps) (head_of a (ahead f ps (a.number + a.count) 100) x) (omega arith) (omega (arith, few)) (omega (arith, within)) cal
+
+  first-fits : (b : Part) (o : Option Time) → IfSome o (λ x. IsOfCalendar x × (is_some x.year ≡ has_year f.expression))
+      → IfSome (before_first f ps b o) (Fit f 0 b.number)
+  first-fits b None cal = tt
+  first-fits b (Some x) cal =
+      let few = behind-few f ps (min b.number 100) b.number in
+      alone-fits 0 b.number (tail_of b (behind f ps b.number (min b.number 100)) x) (omega arith) (grind (arith, few)) (grind (arith, few)) cal
+
+module _ (f : FormatView) (century : ℕ) (ps : List Pulse) where
+  abbrev n : ℕ
+  n = length ps
+
+  -- a part ends where the next ones begin, if there is one
+  abbrev Ends : Option Part → ℕ → Type 0
+  Ends None from = from ≡ 0
+  Ends (Some a) from = (from ≡ a.number + a.count) × IsPart f a
+
+  before-fit : (before : Option Part) (from : ℕ) (b : Part) → Ends before from → from ≤ b.number → IsPart f b
+      → IfSome (sides_before f century ps before b) (Fit f from b.number)
+  before-fit None from b ends le is =
+      subst (λ k. IfSome (end_before f ps b) (Fit f k b.number)) (sym ends) (first-fits f ps b (time_before (frame_period_of f.kind) b.time) (before-is f century b.time is.time))
+  before-fit (Some a) from b ends le is =
+      subst (λ k. IfSome (between f century ps a b) (Fit f k b.number)) (sym ends.0) (between-fits f a b (omega (arith, ends.0, le)) ps century ends.1 is)
+
+  with-fit : (s : Option (Part × Part)) (from : ℕ) (b : Part) (parts : List Part) → IfSome s (Fit f from b.number) → from ≤ b.number
+      → IsPart f b → AreParts f (b.number + b.count) n parts → AreParts f from n (with_sides s (b ∷ parts))
+  with-fit None from b parts fits le is are = (le, is, are)
+  with-fit (Some s) from b parts fits le is are = (fits.first, fits.one, (fits.middle, fits.two, (fits.last, is, are)))
+
+  after-fit : (before : Option Part) (from : ℕ) → Ends before from → from ≤ n → IfSome (end_after f ps before) (Fit f from n)
+  after-fit None from ends le = tt
+  after-fit (Some a) from ends le =
+      subst (λ k. IfSome (end_after f ps (Some a)) (Fit f k n)) (sym ends.0)
+      (last-fits f ps a (next_time (frame_period_of f.kind) a.time) (omega (arith, ends.0, le)) (next-is f century a.time ends.1.time))
+
+  ended : (s : Option (Part × Part)) (from : ℕ) → IfSome s (Fit f from n) → from ≤ n → AreParts f from n (with_sides s [])
+  ended None from fits le = le
+  ended (Some s) from fits le = (fits.first, fits.one, (fits.middle, fits.two, fits.last))
+
+  filled-from : (before : Option Part) (from : ℕ) (parts : List Part) → Ends before from → AreParts f from n parts → AreParts f from n (filled f century ps before parts)
+  filled-from before from [] ends are = ended (end_after f ps before) from (after-fit before from ends are) are
+  filled-from before from (b ∷ parts) ends are =
+      with-fit (sides_before f century ps before b) from b (filled f century ps (Some b) parts) (before-fit before from b ends are.0 are.1) are.0 are.1
+      (filled-from (Some b) (b.number + b.count) parts (refl, are.1) are.2)
+
+  -- with what is counted they are parts of the track
+  pub filled-are : (parts : List Part) → AreParts f 0 n parts → AreParts f 0 n (filled f century ps None parts)
+  filled-are parts are = filled-from None 0 parts refl are
+
+  -- each frame that is believed stays
+  with-stays : (s : Option (Part × Part)) (b : Part) (parts : List Part) (j : ℕ) (p : Part) → slice_get (b ∷ parts) j ≡ Some p
+      → (i : ℕ) × (slice_get (with_sides s (b ∷ parts)) i ≡ Some p)
+  with-stays None b parts j p here = (j, here)
+  with-stays (Some s) b parts j p here = (suc (suc j), here)
+
+  pub filled-stays : (before : Option Part) (parts : List Part) (k : ℕ) (p : Part) → slice_get parts k ≡ Some p
+      → (i : ℕ) × (slice_get (filled f century ps before parts) i ≡ Some p)
+  filled-stays before [] k p here = absurd (none-some p here)
+  filled-stays before (b ∷ parts) zero p here = with-stays (sides_before f century ps before b) b (filled f century ps (Some b) parts) zero p here
+  filled-stays before (b ∷ parts) (suc k) p here =
+      let it = filled-stays (Some b) parts k p here in
+      with-stays (sides_before f century ps before b) b (filled f century ps (Some b) parts) (suc it.0) p it.1
+
+  with-more : (s : Option (Part × Part)) (xs : List Part) → with_sides s xs ≡ with_sides s [] ++ xs
+  with-more None xs = refl
+  with-more (Some s) xs = refl
+
+  -- one more frame
+  pub filled-more : (whole : List Part) (before : Option Part) (k : ℕ) (part : Part) (s : Option (Part × Part)) (list mid new all : List Part)
+      → slice_get whole k ≡ Some part → s ≡ sides_before f century ps before part → mid ≡ list ++ with_sides s [] → new ≡ mid ++ part ∷ []
+      → list ++ filled f century ps before (drop k whole) ≡ all → new ++ filled f century ps (Some part) (drop (k + 1) whole) ≡ all
+  filled-more whole before k part s list mid new all here is puts grows so_far =
+      let rest = filled f century ps (Some part) (drop (k + 1) whole) in
+      let step : filled f century ps before (drop k whole) ≡ with_sides s [] ++ part ∷ rest =
+      ap (filled f century ps before) (from-at whole k part here)
+      ∙ (ap (λ (o : Option (Part × Part)). with_sides o (part ∷ rest)) (sym is) ∙ with-more s (part ∷ rest)) in
+      ap (λ l. l ++ rest) grows
+      ∙ (ap (λ l. (l ++ part ∷ []) ++ rest) puts
+      ∙ (append_assoc (list ++ with_sides s []) (part ∷ []) rest
+      ∙ (append_assoc list (with_sides s []) (part ∷ rest)
+      ∙ (ap (λ l. list ++ l) (sym step) ∙ so_far))))

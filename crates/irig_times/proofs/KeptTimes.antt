@@ -1,0 +1,94 @@
+-- A moment that has a time by a frame that is believed has it by the parts.
+use Rattle.std.proofs.Common.{◌≡◌, ◌⊎◌, inl, inr, ◌<◌, ◌≤◌, ◌+◌, ◌-◌, ◌*◌, ℕ, Bool, true, List, Some, length, slice_get, refl, sym, ap, ◌∙◌, subst, arith}
+use Rattle.std.specs.Prelude.{is_some}
+use Rattle.std.proofs.lemmas.{Bool.cases_lt}
+use Rattle.irig_track.specs.Track.{IsTrack}
+use Rattle.irig_times.specs.{Counted.IsTimed, Laws.IsOfCalendar}
+use Rattle.irig_times.proofs.PartTimes.{parts_calendar, parts_minute}
+use Rattle.irig_codes.specs.{Format.FormatView, Format.has_year, Format.interval_of, declared.fields.Fields.Fields}
+use Rattle.irig_recording.specs.declared.pulse.Pulse.{Pulse}
+use Rattle.irig_index.specs.{Frames.frames}
+use Rattle.irig_times.specs.{Counted.timed_parts, Elements.IntervalEnds, Elements.NextRises, Elements.share, Held.IsHeldElement}
+use Rattle.irig_times.specs.{Parts.GoesOn, Parts.IsPoint, Parts.plus, PartLaws.HeldGoesOn, PartLaws.KeepsTimes, PartLaws.TimedPartsAreParts, Support.believed, Times.minute_micros, Times.time_in, Whole.whole}
+use Rattle.irig_times.specs.declared.time.Time.{Time}
+use Rattle.irig_times.proofs.{Filling.filled-are, Filling.filled-stays, WholeFrames.whole-are, WholeFrames.whole-there}
+
+pub timed_parts_are : TimedPartsAreParts
+timed_parts_are f alone century ps = filled-are f century ps _ (whole-are f ps (believed f alone ps))
+
+plus-none : (g : Fields) (n : ℕ) → time_in g n ≡ plus (time_in g 0) n
+plus-none g n =
+    let e : minute_micros g + n ≡ minute_micros g + 0 + n = omega arith in
+    λ i. record { year = g.year; days = g.days; hours = g.hours; minutes = g.minutes; micros = e i }
+
+module _ (f : FormatView) (alone : Bool) (century : ℕ) (ps : List Pulse) where
+  -- each element of a frame that is believed has its time
+  held-point : (number element : ℕ) (g : Fields) → IsHeldElement f (frames f ps) (believed f alone ps) number element g
+      → IsPoint (timed_parts f alone century ps) number element (time_in g 0)
+  held-point number element g (is, on) =
+      let there = whole-there f (frames f ps) (believed f alone ps) is.at is.one g is.there on is.tells in
+      let stays = filled-stays f century ps _ _ there.0 (whole is.one.marker g) there.1 in
+      record {
+        at = stays.0;
+        one = whole is.one.marker g;
+        there = stays.1;
+        from = omega (arith, is.place);
+        few = omega (arith, is.place, is.few);
+        place = omega (arith, is.place);
+        is = refl;
+      }
+
+  -- the next one
+  held-next : (number element : ℕ) (g : Fields) → element < 99 → IsHeldElement f (frames f ps) (believed f alone ps) number element g
+      → IsHeldElement f (frames f ps) (believed f alone ps) (number + 1) (element + 1) g
+  held-next number element g lt (is, on) =
+      (record { at = is.at; one = is.one; there = is.there; tells = is.tells; place = omega (arith, is.place); few = omega (arith, lt) }, on)
+
+  held-goes-on : (number element : ℕ) (g : Fields) → IsHeldElement f (frames f ps) (believed f alone ps) number element g
+      → HeldGoesOn f century ps (believed f alone ps) number element g → GoesOn f century (timed_parts f alone century ps) number element (time_in g 0)
+  held-goes-on number element g is h = elim (cases_lt element 99) [
+    | inl less ↦ inl (held-point (number + 1) (element + 1) g (held-next number element g less is))
+    | inr most ↦ last most h
+  ]
+    where
+      last : 99 ≤ element → HeldGoesOn f century ps (believed f alone ps) number element g → GoesOn f century (timed_parts f alone century ps) number element (time_in g 0)
+      last most (inl less) = absurd (omega (arith, less, most))
+      last most (inr next) = inr (omega (arith, most, is.0.few), time_in next.0 0, held-point (number + 1) 0 next.0 next.1, next.2)
+
+  -- the interval ends at the next rise
+  next-rises : (number element : ℕ) (g : Fields) (from to : ℕ) → HeldGoesOn f century ps (believed f alone ps) number element g
+      → IntervalEnds f century ps number element g from to → NextRises ps number to
+  next-rises number element g from to h (inl a) = a.1
+  next-rises number element g from to h (inr (inl a)) = a.1.1
+  next-rises number element g from to (inl less) (inr (inr a)) = absurd (omega (arith, less, a.0))
+  next-rises number element g from to (inr next) (inr (inr a)) = absurd (a.1.0 (record { next = next.0; begins = next.1.0; later = next.2 }))
+
+pub keeps_times : KeepsTimes
+keeps_times f alone century ps d n x a h =
+    let t = a.told in
+    let held : IsHeldElement f (frames f ps) (believed f alone ps) t.number t.element t.fields = (t.is_element, a.is_held) in
+    let next = next-rises f alone century ps t.number t.element t.fields t.point.rise t.to h t.ends in
+    record {
+      number = t.number;
+      element = t.element;
+      start = time_in t.fields 0;
+      point = t.point;
+      next = next.next;
+      last = t.last;
+      stands = t.stands;
+      stands_next = next.stands;
+      is_point = held-point f alone century ps t.number t.element t.fields held;
+      goes_on = held-goes-on f alone century ps t.number t.element t.fields held h;
+      is = t.is ∙ (plus-none t.fields _ ∙ ap (λ k. plus (time_in t.fields 0) (t.element * interval_of f.kind
+          + share (interval_of f.kind) (n - d * t.point.rise) (d * (k - t.point.rise)))) next.is);
+    }
+
+-- the times of a track are of the calendar, and in their minute
+pub timed_calendar : (f : FormatView) (alone : Bool) (century : ℕ) (ps : List Pulse) (d n : ℕ) (x : Time) → IsTimed f alone century ps d n x
+    → IsOfCalendar x × (is_some x.year ≡ has_year f.expression)
+timed_calendar f alone century ps d n x h = parts_calendar f century ps (timed_parts f alone century ps) (timed_parts_are f alone century ps) d n x h
+
+pub timed_minute : (f : FormatView) (alone : Bool) (century micros : ℕ) (ps : List Pulse) → IsTrack micros ps → (d : ℕ) → 0 < d → (n : ℕ) (x : Time)
+    → IsTimed f alone century ps d n x → x.micros < 61000000
+timed_minute f alone century micros ps track d some n x h =
+    parts_minute f century micros ps (timed_parts f alone century ps) (timed_parts_are f alone century ps) track d some n x h

@@ -1,0 +1,15 @@
+use Rattle.std.proofs.Common.{◌≡◌, ◌+◌, ap, sym, ◌∙◌, true, arith}
+use Rattle.irig_times.specs.Steps.{is_in_step_at}
+use Rattle.irig_times.proofs.StepCounts.{ahead-more}
+use Rattle.irig_times.proofs.steps.ahead.Goals as goal
+
+pub loop-count-preserved : goal.loop-count-preserved
+loop-count-preserved c =
+    let before = c.loop-count.invariant in
+    let on : is_in_step_at c.args.format c.args.pulses.now.track.pulses (c.args.number + c.loop-count.count) ≡ true =
+    ap (λ t. is_in_step_at c.args.format t.pulses (c.args.number + c.loop-count.count)) (sym before.track) ∙ (sym c.is_in_step_at.ensures.step ∙ c.if-not-is_in_step_at.false) in
+    record {
+      track = c.is_in_step_at.ensures.pulses ∙ before.track;
+      few = omega (arith, c.loop-count-test.true);
+      left = ahead-more c.args.format c.args.pulses.now.track.pulses c.args.number c.args.most c.loop-count.count _ c.loop-count-test.true on before.left;
+    }

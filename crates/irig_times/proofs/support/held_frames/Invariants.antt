@@ -1,0 +1,12 @@
+use Rattle.std.proofs.Common.{◌≡◌, ◌++◌, drop, None}
+use Rattle.irig_times.specs.Support.{held_from}
+use Rattle.irig_times.proofs.support.held_frames.Given as goal
+
+abbrev pub invariant-loop-place : goal.invariant-loop-place
+invariant-loop-place l = record {
+  track : l.pulses.track ≡ l.fn.pulses.track;
+  same : l.records.records ≡ l.fn.records.records;
+  left : l.list.items
+      ++ held_from l.format l.alone l.fn.pulses.track.pulses l.before2 l.before (drop l.place l.fn.records.records)
+      ≡ held_from l.format l.alone l.fn.pulses.track.pulses None None l.fn.records.records;
+}

@@ -1,0 +1,142 @@
+-- Which pulses between two frames have a time: those in step with one of them. This project's own.
+use Rattle.std.specs.Prelude.{ℕ, ◌+◌, ◌-◌, ◌*◌, ◌/◌, ◌==◌, ◌&&◌, nat_lt, nat_le, min}
+use Rattle.std.specs.Prelude.{Bool, true, false, List, Option, Some, None, if◌then◌else◌}
+use Rattle.std.specs.Prelude.{slice_get}
+use Rattle.irig_codes.specs.Format.{FormatView, frame_period_of}
+use Rattle.irig_recording.specs.declared.pulse.Pulse.{Pulse}
+use Rattle.irig_times.specs.{declared.part.Part.Part, declared.missing.Missing.Missing}
+use Rattle.irig_times.specs.declared.time.Time.{Time}
+use Rattle.irig_times.specs.{Follows.is_later, Follows.same_day}
+use Rattle.irig_times.specs.Steps.{ahead, behind}
+
+-- a time in the minute of another, with these microseconds
+abbrev pub at_micros : Time → ℕ → Time
+at_micros t n = record {
+  year = t.year;
+  days = t.days;
+  hours = t.hours;
+  minutes = t.minutes;
+  micros = n;
+}
+
+-- a time on the day of another
+abbrev pub at_minute : Time → ℕ → ℕ → ℕ → Time
+at_minute t hours minutes n = record {
+  year = t.year;
+  days = t.days;
+  hours = hours;
+  minutes = minutes;
+  micros = n;
+}
+
+-- a frame of a time ends with its minute
+abbrev pub is_whole : ℕ → Time → Bool
+is_whole period t = nat_le (t.micros + period) 61000000
+
+-- the second time is one period after the first and one before the third
+abbrev pub is_middle : ℕ → ℕ → Time → Time → Time → Bool
+is_middle century period a x b =
+    is_later century period a x && (is_later century period x b && is_whole period x)
+
+-- the time of the one frame that is missing between two: in the minute of the first, or in that of
+-- the last
+abbrev pub middle : ℕ → ℕ → Time → Time → Option Time
+middle century period a b =
+    if is_middle century period a (at_micros a (a.micros + period)) b
+    then Some (at_micros a (a.micros + period))
+    else (if nat_le period b.micros
+    && is_middle century period a (at_micros b (b.micros - period)) b
+    then Some (at_micros b (b.micros - period)) else None)
+
+-- the time one period later or earlier, on the same day, if each minute has 60 seconds
+abbrev pub next_time : ℕ → Time → Option Time
+next_time period t =
+    if nat_le 60000000 t.micros then None
+    else (if nat_lt (t.micros + period) 60000000 then Some (at_micros t (t.micros + period))
+    else (if nat_lt t.minutes 59
+    then Some (at_minute t t.hours (t.minutes + 1) (t.micros + period - 60000000))
+    else (if nat_lt t.hours 23
+    then Some (at_minute t (t.hours + 1) 0 (t.micros + period - 60000000)) else None)))
+
+abbrev pub time_before : ℕ → Time → Option Time
+time_before period t =
+    if nat_le period t.micros then Some (at_micros t (t.micros - period))
+    else (if nat_lt 0 t.minutes
+    then Some (at_minute t t.hours (t.minutes - 1) (t.micros + 60000000 - period))
+    else (if nat_lt 0 t.hours
+    then Some (at_minute t (t.hours - 1) 59 (t.micros + 60000000 - period)) else None))
+
+-- the microseconds since midnight, if each minute has 60 seconds
+abbrev pub day_micros : Time → ℕ
+day_micros t = 60000000 * (60 * t.hours + t.minutes) + t.micros
+
+-- how many periods two rises are apart, to the nearest
+abbrev pub rounded : ℕ → ℕ → ℕ → ℕ
+rounded period from to = (2 * (to - from) + period) / (2 * period)
+
+-- of the frames that are missing between two, the time of the first and of the last; `n` is how many
+-- periods the two are apart
+abbrev pub missing_one : Option Time → Option Missing
+missing_one None = None
+missing_one (Some x) = Some (record { is_one = true; first = x; last = x })
+
+abbrev pub missing_more : ℕ → Option Time → Option Time → Option Missing
+missing_more period None y = None
+missing_more period (Some x) None = None
+missing_more period (Some x) (Some y) =
+    if is_whole period x && is_whole period y
+    then Some (record { is_one = false; first = x; last = y }) else None
+
+abbrev pub missing_in : ℕ → ℕ → ℕ → Time → Time → Option Missing
+missing_in century period n a b =
+    if nat_le n 1 then None
+    else (if n == 2 then missing_one (middle century period a b)
+    else (if same_day a b && (day_micros b == day_micros a + n * period)
+    then missing_more period (next_time period a) (time_before period b) else None))
+
+-- the same of two parts, whose frames begin with these pulses
+abbrev pub missing_by : ℕ → ℕ → Time → Time → Option Pulse → Option Pulse → Option Missing
+missing_by century period a b None q = None
+missing_by century period a b (Some p) None = None
+missing_by century period a b (Some p) (Some q) =
+    missing_in century period (rounded period p.rise q.rise) a b
+
+-- the pulses after a frame that have a time, and those before one
+abbrev pub head_of : Part → ℕ → Time → Part
+head_of a n x = record { number = a.number + a.count; element = 0; count = n; time = x }
+
+abbrev pub tail_of : Part → ℕ → Time → Part
+tail_of b n x = record { number = b.number - n; element = 100 - n; count = n; time = x }
+
+-- how many pulses are between two parts
+abbrev pub gap : Part → Part → ℕ
+gap a b = b.number - (a.number + a.count)
+
+-- of the elements that one side reaches, those that the other does not reach too, if both are of one
+-- frame
+abbrev pub kept : Bool → ℕ → ℕ → ℕ
+kept is_one m n = if is_one then min m (100 - n) else m
+
+-- m pulses after a part and n before another are in step. If one frame is missing, there are as many
+-- pulses as it has, and each is reached, all have a time. Else those have one whose element is not
+-- reached from the other side too, if no pulse is
+abbrev pub sides : Part → Part → ℕ → ℕ → Missing → Option (Part × Part)
+sides a b m n t =
+    if t.is_one && (gap a b == 100 && nat_lt 100 (m + n))
+    then Some (head_of a 100 t.first, tail_of b 0 t.last)
+    else (if nat_le (kept t.is_one m n + kept t.is_one n m) (gap a b)
+    then Some (head_of a (kept t.is_one m n) t.first, tail_of b (kept t.is_one n m) t.last)
+    else None)
+
+abbrev pub sides_of : FormatView → List Pulse → Part → Part → Option Missing → Option (Part × Part)
+sides_of f ps a b None = None
+sides_of f ps a b (Some t) =
+    sides a b (ahead f ps (a.number + a.count) (min (gap a b) 100))
+    (behind f ps b.number (min (gap a b) 100)) t
+
+-- the pulses between two frames that have a time: those in step with the first, and those in step
+-- with the second
+abbrev pub between : FormatView → ℕ → List Pulse → Part → Part → Option (Part × Part)
+between f century ps a b =
+    sides_of f ps a b (missing_by century (frame_period_of f.kind) a.time b.time
+    (slice_get ps a.number) (slice_get ps b.number))

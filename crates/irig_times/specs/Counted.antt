@@ -1,0 +1,33 @@
+-- All pulses of a track that have a time: those of the frames that are believed, and those that are
+-- counted from them. This project's own.
+use Rattle.std.specs.Prelude.{ℕ, Bool, false, List, [], ◌∷◌, Option, Some, None}
+use Rattle.irig_codes.specs.Format.{FormatView}
+use Rattle.irig_recording.specs.declared.pulse.Pulse.{Pulse}
+use Rattle.irig_times.specs.{declared.part.Part.Part, Between.between, Whole.whole_parts}
+use Rattle.irig_times.specs.Ends.{end_after, end_before}
+use Rattle.irig_times.specs.{declared.time.Time.Time, Parts.TellsByParts}
+
+-- two parts more before others, if there are two
+abbrev pub with_sides : Option (Part × Part) → List Part → List Part
+with_sides None parts = parts
+with_sides (Some s) parts = s.0 ∷ s.1 ∷ parts
+
+-- what is counted between a frame and the one before it, or before the first one
+abbrev pub sides_before : FormatView → ℕ → List Pulse → Option Part → Part → Option (Part × Part)
+sides_before f century ps None b = end_before f ps b
+sides_before f century ps (Some a) b = between f century ps a b
+
+-- the parts from a frame on, and what is counted before, between and after them
+abbrev pub filled : FormatView → ℕ → List Pulse → Option Part → List Part → List Part
+filled f century ps before [] = with_sides (end_after f ps before) []
+filled f century ps before (b ∷ parts) =
+    with_sides (sides_before f century ps before b) (b ∷ filled f century ps (Some b) parts)
+
+-- all parts of a track that have a time
+abbrev pub timed_parts : FormatView → Bool → ℕ → List Pulse → List Part
+timed_parts f alone century ps = filled f century ps None (whole_parts f alone ps)
+
+-- n / d microseconds after the start of a track it is this time
+abbrev pub IsTimed : FormatView → Bool → ℕ → List Pulse → ℕ → ℕ → Time → Type 0
+IsTimed f alone century ps d n x =
+    TellsByParts f century ps (timed_parts f alone century ps) d n x

@@ -1,0 +1,178 @@
+//! The pulses between two frames that have a time.
+
+ghost use Rattle.std.specs.Prelude.{◌≡◌, ◌≤◌, ◌<◌, ◌+◌, ◌-◌, ◌^◌, IfSome, min, slice_get};
+ghost use Rattle.irig_codes.specs.Format.{frame_period_of};
+ghost use Rattle.irig_times.specs.Between.{between, gap, head_of, kept, missing_by, sides, sides_of};
+ghost use Rattle.irig_times.specs.Between.{tail_of};
+ghost use Rattle.irig_times.specs.Counted.{sides_before};
+
+use crate::ends::end_before;
+use crate::missing::{Missing, missing_in, rounded};
+use crate::part::Part;
+use crate::steps::{ahead, behind, pulse_at};
+use crate::time::Time;
+use irig_codes::Format;
+use irig_track::Lens;
+
+/// The first pulses after a part.
+pub fn head_of(part: &Part, count: usize, time: Time) -> Part
+    requires { part.now.number + part.now.count < 2 ^ 32 }
+    ensures { result ≡ head_of part.now count time }
+{
+    Part {
+        number: part.number + part.count,
+        element: 0,
+        count,
+        time,
+    }
+}
+
+/// The last pulses before a part.
+pub fn tail_of(part: &Part, count: usize, time: Time) -> Part
+    requires { (count ≤ part.now.number) × (count ≤ 100) }
+    ensures { result ≡ tail_of part.now count time }
+{
+    Part {
+        number: part.number - count,
+        element: 100 - count,
+        count,
+        time,
+    }
+}
+
+/// How many pulses are between two parts.
+fn gap(from: &Part, to: &Part) -> usize
+    requires order { from.now.number + from.now.count ≤ to.now.number }
+    requires small { to.now.number < 2 ^ 32 }
+    ensures { result ≡ gap from.now to.now }
+{
+    to.number - (from.number + from.count)
+}
+
+/// The parts between two, if some pulses after the first and some before the second are in step.
+fn sides(
+    from: &Part,
+    to: &Part,
+    after: usize,
+    before: usize,
+    missing: &Missing,
+) -> Option<(Part, Part)>
+    requires order { from.now.number + from.now.count ≤ to.now.number }
+    requires small { to.now.number < 2 ^ 32 }
+    requires few { (after ≤ 100) × (before ≤ 100) × (before ≤ to.now.number) }
+    ensures { result ≡ sides from.now to.now after before missing.now }
+{
+    let gap = gap(from, to);
+    if missing.is_one && gap == 100 && after + before > 100 {
+        return Some((
+            head_of(from, 100, missing.first),
+            tail_of(to, 0, missing.last),
+        ));
+    }
+    let head = kept(missing.is_one, after, before);
+    let tail = kept(missing.is_one, before, after);
+    if head + tail <= gap {
+        Some((
+            head_of(from, head, missing.first),
+            tail_of(to, tail, missing.last),
+        ))
+    } else {
+        None
+    }
+}
+
+/// Of the elements that one side reaches, how many the other does not reach too, if both are of one
+/// frame.
+fn kept(is_one: bool, count: usize, other: usize) -> usize
+    requires { other ≤ 100 }
+    ensures kept { result ≡ kept is_one count other }
+    ensures few { result ≤ count }
+{
+    if is_one {
+        min(count, 100 - other)
+    } else {
+        count
+    }
+}
+
+/// The frames that are missing between two parts, whose frames begin with their first pulses.
+fn missing_by(
+    pulses: &mut Lens<'_>,
+    format: Format,
+    century: u32,
+    from: &Part,
+    to: &Part,
+) -> Option<Missing>
+    requires century { century ≤ 99 }
+    requires times { (from.now.time.micros < 2 ^ 59) × (to.now.time.micros < 2 ^ 59) }
+    ensures missing { result ≡ missing_by century (frame_period_of format.kind) from.now.time
+        to.now.time (slice_get pulses.old.track.pulses from.now.number)
+        (slice_get pulses.old.track.pulses to.now.number) }
+    ensures pulses { pulses.new.track ≡ pulses.old.track }
+{
+    let first = pulse_at(pulses, from.number);
+    let last = pulse_at(pulses, to.number);
+    match (first, last) {
+        (Some(first), Some(last)) => {
+            let period = format.frame_period();
+            let count = rounded(period, first.rise, last.rise);
+            missing_in(century, period, count, &from.time, &to.time)
+        }
+        (Some(_), None) => None,
+        (None, Some(_)) => None,
+        (None, None) => None,
+    }
+}
+
+/// The pulses between two frames that have a time: those in step with the first, and those in step
+/// with the second.
+fn between(
+    pulses: &mut Lens<'_>,
+    format: Format,
+    century: u32,
+    from: &Part,
+    to: &Part,
+) -> Option<(Part, Part)>
+    requires century { century ≤ 99 }
+    requires times { (from.now.time.micros < 2 ^ 59) × (to.now.time.micros < 2 ^ 59) }
+    requires order { from.now.number + from.now.count ≤ to.now.number }
+    requires small { to.now.number < 2 ^ 32 }
+    ensures between { result ≡ between format century pulses.old.track.pulses from.now to.now }
+    ensures pulses { pulses.new.track ≡ pulses.old.track }
+{
+    let Some(missing) = missing_by(pulses, format, century, from, to) else {
+        return None;
+    };
+    let gap = gap(from, to);
+    let after = ahead(pulses, format, from.number + from.count, min(gap, 100));
+    let before = behind(pulses, format, to.number, min(gap, 100));
+    sides(from, to, after, before, &missing)
+}
+
+/// The smaller of two numbers.
+pub fn min(one: usize, other: usize) -> usize
+    ensures { result ≡ min one other }
+{
+    if one <= other { one } else { other }
+}
+
+/// What is counted between a frame and the one before it, or before the first one.
+pub fn sides_before(
+    pulses: &mut Lens<'_>,
+    format: Format,
+    century: u32,
+    from: Option<Part>,
+    to: &Part,
+) -> Option<(Part, Part)>
+    requires century { century ≤ 99 }
+    requires from { IfSome from (λ a. (a.time.micros < 2 ^ 59)
+        × (a.number + a.count ≤ to.now.number)) }
+    requires to { (to.now.time.micros < 2 ^ 59) × (to.now.number < 2 ^ 30) }
+    ensures sides { result ≡ sides_before format century pulses.old.track.pulses from to.now }
+    ensures pulses { pulses.new.track ≡ pulses.old.track }
+{
+    match from {
+        Some(from) => between(pulses, format, century, &from, to),
+        None => end_before(pulses, format, to),
+    }
+}

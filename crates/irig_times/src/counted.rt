@@ -1,0 +1,84 @@
+//! All pulses of a track that have a time.
+
+ghost use Rattle.std.specs.Prelude.{[], ◌≡◌, ◌≤◌, ◌<◌, ◌++◌, ◌∷◌, IfOk, None, OnOk, Some, length};
+ghost use Rattle.irig_index.specs.Frames.{frames};
+ghost use Rattle.irig_times.specs.Counted.{filled, timed_parts, with_sides};
+ghost use Rattle.irig_times.specs.Parts.{AreParts};
+
+use crate::between::sides_before;
+use crate::ends::end_after;
+use crate::frame_lens::FrameLens;
+use crate::part::Part;
+use crate::support::held_frames;
+use crate::whole::whole_parts;
+use irig_codes::Format;
+use irig_track::Lens;
+use std::alloc::{AllocError, Global};
+
+/// All pulses of a track that have a time. If frames stand alone, each frame that has a time is
+/// believed.
+///
+/// The years of two digits are of this century: 20 for 2000 to 2099.
+pub fn timed_parts(
+    alloc: Global,
+    pulses: &mut Lens<'_>,
+    records: &mut FrameLens<'_>,
+    format: Format,
+    century: u32,
+    alone: bool,
+) -> Result<Vec<Part>, AllocError>
+    requires frames { records.old.records ≡ frames format pulses.old.track.pulses }
+    requires century { century ≤ 99 }
+    ensures parts { IfOk result (λ list. list.items
+        ≡ timed_parts format alone century pulses.old.track.pulses) }
+    ensures pulses { pulses.new.track ≡ pulses.old.track }
+    ensures same { records.new.records ≡ records.old.records }
+{
+    let held = held_frames(alloc, pulses, records, format, alone)?;
+    let whole = whole_parts(alloc, records, &held, format)?;
+    counted_parts(alloc, pulses, &whole, format, century)
+}
+
+/// The frames of a track that are believed, and the pulses that are counted from them.
+fn counted_parts(
+    alloc: Global,
+    pulses: &mut Lens<'_>,
+    whole: &[Part],
+    format: Format,
+    century: u32,
+) -> Result<Vec<Part>, AllocError>
+    requires century { century ≤ 99 }
+    requires whole { AreParts format 0 (length pulses.old.track.pulses) whole.now }
+    ensures parts { IfOk result (λ list. list.items
+        ≡ filled format century pulses.old.track.pulses None whole.now) }
+    ensures pulses { pulses.new.track ≡ pulses.old.track }
+{
+    // Read for its bound alone.
+    let _count = pulses.len();
+    let mut list = Vec::new(alloc);
+    let mut before = None;
+    for place in 0..whole.len() {
+        let part = whole[place];
+        let sides = sides_before(pulses, format, century, before, &part);
+        put_sides(&mut list, sides)?;
+        list.push(part)?;
+        before = Some(part);
+    }
+    let sides = end_after(pulses, format, before);
+    put_sides(&mut list, sides)?;
+    Ok(list)
+}
+
+/// Adds two parts to a list, if there are two.
+fn put_sides(list: &mut Vec<Part>, sides: Option<(Part, Part)>) -> Result<(), AllocError>
+    ensures { OnOk result (list.new.items ≡ list.old.items ++ with_sides sides []) }
+{
+    match sides {
+        Some((first, last)) => {
+            list.push(first)?;
+            list.push(last)?;
+            Ok(())
+        }
+        None => Ok(()),
+    }
+}

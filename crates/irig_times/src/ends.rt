@@ -1,0 +1,199 @@
+//! The pulses at the two ends of a track that have a time.
+
+ghost use Rattle.std.specs.Prelude.{◌≡◌, ◌≤◌, ◌<◌, ◌+◌, ◌-◌, ◌^◌, IfSome, length, min, slice_get};
+ghost use Rattle.irig_codes.specs.Format.{frame_period_of};
+ghost use Rattle.std.specs.Prelude.{if◌then◌else◌};
+ghost use Rattle.irig_codes.specs.Fields.{part};
+ghost use Rattle.irig_times.specs.Ends.{after_last, alone, before_first, contradictions};
+ghost use Rattle.irig_times.specs.Ends.{contradicts, end_after, end_before, fields_at};
+ghost use Rattle.irig_times.specs.Ends.{is_borne_out, is_identifier, is_other, time_elements};
+
+use crate::between::{head_of, min, tail_of};
+use crate::missing::{is_whole, next_time, time_before};
+use crate::part::Part;
+use crate::steps::{ahead, behind, pulse_at};
+use crate::time::Time;
+use irig_codes::{Element, Fields, Format, Kind, class, encode, fits};
+use irig_track::Lens;
+
+/// The fields of a frame of a time; those that are no part of it are 0.
+fn fields_at(format: Format, time: &Time) -> Fields
+    requires { time.now.micros < 2 ^ 32 }
+    ensures { result ≡ fields_at format time.now }
+{
+    Fields {
+        hundredths: part(format.has_hundredths(), (time.micros / 10_000 % 100) as u32),
+        seconds: (time.micros / 1_000_000) as u32,
+        minutes: time.minutes,
+        hours: time.hours,
+        days: time.days,
+        year: time.year,
+        sbs: part(format.has_sbs(), 0),
+        control: if format.has_control() { Some(0) } else { None },
+    }
+}
+
+/// A part of the fields, if it is there.
+fn part(there: bool, value: u32) -> Option<u32>
+    ensures { result ≡ part there value }
+{
+    if there { Some(value) } else { None }
+}
+
+/// How many elements carry the day, the hour, the minute and the second.
+fn time_elements(format: Format) -> usize
+    ensures { result ≡ time_elements format.kind }
+{
+    match format.kind() {
+        Kind::A => 45,
+        Kind::B => 42,
+        Kind::E => 42,
+        Kind::G => 45,
+    }
+}
+
+/// Whether a class is not the one that is wanted.
+fn is_other(class: Option<Element>, wanted: Element) -> bool
+    ensures { result ≡ is_other class wanted }
+{
+    match (class, wanted) {
+        (None, _) => false,
+        (Some(Element::Zero), Element::Zero) => false,
+        (Some(Element::Zero), _) => true,
+        (Some(Element::One), Element::One) => false,
+        (Some(Element::One), _) => true,
+        (Some(Element::Position), Element::Position) => false,
+        (Some(Element::Position), _) => true,
+    }
+}
+
+/// Whether an element is a position identifier.
+fn is_identifier(element: Element) -> bool
+    ensures { result ≡ is_identifier element }
+{
+    match element {
+        Element::Position => true,
+        _ => false,
+    }
+}
+
+/// Whether the pulse of a number says that an element is another one than that of a frame.
+fn contradicts(
+    pulses: &mut Lens<'_>,
+    format: Format,
+    wanted: &[Element; 100],
+    number: usize,
+    element: usize,
+) -> bool
+    requires { element < 100 }
+    ensures answer { result ≡ contradicts format element
+        (slice_get pulses.old.track.pulses number) (slice_get wanted.now element) }
+    ensures pulses { pulses.new.track ≡ pulses.old.track }
+{
+    match pulse_at(pulses, number) {
+        Some(pulse) => {
+            (element < time_elements(format) || is_identifier(wanted[element]))
+                && is_other(
+                    class(format, pulse.fall.saturating_sub(pulse.rise)),
+                    wanted[element],
+                )
+        }
+        None => false,
+    }
+}
+
+/// How many pulses of a part say another time than its frame.
+fn contradictions(
+    pulses: &mut Lens<'_>,
+    format: Format,
+    wanted: &[Element; 100],
+    part: &Part,
+) -> usize
+    requires few { part.now.element + part.now.count ≤ 100 }
+    requires small { part.now.number < 2 ^ 32 }
+    ensures count { result ≡ contradictions format pulses.old.track.pulses wanted.now
+        part.now.number part.now.element part.now.count }
+    ensures pulses { pulses.new.track ≡ pulses.old.track }
+{
+    let mut count = 0;
+    for place in 0..part.count {
+        let here = contradicts(
+            pulses,
+            format,
+            wanted,
+            part.number + place,
+            part.element + place,
+        );
+        count = more(count, here);
+    }
+    count
+}
+
+/// One more, if it is so.
+fn more(count: usize, is_so: bool) -> usize
+    requires { count < 2 ^ 32 }
+    ensures { result ≡ (if is_so then count + 1 else count) }
+{
+    if is_so { count + 1 } else { count }
+}
+
+/// Whether a part says no other time than its own: at most two of its pulses do.
+fn is_borne_out(pulses: &mut Lens<'_>, format: Format, part: &Part) -> bool
+    requires few { part.now.element + part.now.count ≤ 100 }
+    requires small { (part.now.number < 2 ^ 32) × (part.now.time.micros < 2 ^ 60) }
+    ensures answer { result ≡ is_borne_out format pulses.old.track.pulses part.now }
+    ensures pulses { pulses.new.track ≡ pulses.old.track }
+{
+    if !is_whole(format.frame_period(), &part.time) {
+        return false;
+    }
+    let fields = fields_at(format, &part.time);
+    if !fits(format, &fields) {
+        return false;
+    }
+    let wanted = encode(format, &fields);
+    contradictions(pulses, format, &wanted, part) <= 2
+}
+
+/// The part, with an empty one after it, if it says no other time than its own.
+fn alone(pulses: &mut Lens<'_>, format: Format, part: Part) -> Option<(Part, Part)>
+    requires few { part.element + part.count ≤ 100 }
+    requires small { (part.number < 2 ^ 31) × (part.time.micros < 2 ^ 60) }
+    ensures part { result ≡ alone format pulses.old.track.pulses part }
+    ensures pulses { pulses.new.track ≡ pulses.old.track }
+{
+    if is_borne_out(pulses, format, &part) {
+        Some((part, head_of(&part, 0, part.time)))
+    } else {
+        None
+    }
+}
+
+/// The pulses after the last frame that have a time.
+pub fn end_after(pulses: &mut Lens<'_>, format: Format, from: Option<Part>) -> Option<(Part, Part)>
+    requires { IfSome from (λ a. (a.time.micros < 2 ^ 59) × (a.number + a.count < 2 ^ 30)) }
+    ensures end { result ≡ end_after format pulses.old.track.pulses from }
+    ensures pulses { pulses.new.track ≡ pulses.old.track }
+{
+    let Some(from) = from else {
+        return None;
+    };
+    let Some(time) = next_time(format.frame_period(), &from.time) else {
+        return None;
+    };
+    let count = ahead(pulses, format, from.number + from.count, 100);
+    alone(pulses, format, head_of(&from, count, time))
+}
+
+/// The pulses before the first frame that have a time.
+pub fn end_before(pulses: &mut Lens<'_>, format: Format, to: &Part) -> Option<(Part, Part)>
+    requires { (to.now.time.micros < 2 ^ 59) × (to.now.number < 2 ^ 30) }
+    ensures end { result ≡ end_before format pulses.old.track.pulses to.now }
+    ensures pulses { pulses.new.track ≡ pulses.old.track }
+{
+    let Some(time) = time_before(format.frame_period(), &to.time) else {
+        return None;
+    };
+    let count = behind(pulses, format, to.number, min(to.number, 100));
+    alone(pulses, format, tail_of(to, count, time))
+}

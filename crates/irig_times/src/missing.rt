@@ -1,0 +1,213 @@
+//! The times of frames that are missing between two others.
+
+ghost use Rattle.std.specs.Prelude.{IfSome, ◌≡◌, ◌≤◌, ◌+◌, ◌*◌, ◌^◌, ◌<◌};
+ghost use Rattle.irig_times.specs.Between.{at_micros, at_minute, day_micros, is_middle, is_whole};
+ghost use Rattle.irig_times.specs.Between.{middle, missing_in, missing_more, missing_one};
+ghost use Rattle.irig_times.specs.Between.{next_time, rounded, time_before};
+
+use crate::follows::{is_later, same_day};
+use crate::time::Time;
+
+/// The microseconds of a minute without a second 60.
+const MINUTE: u64 = 60_000_000;
+
+/// The microseconds of a minute with a second 60.
+const LONG_MINUTE: u64 = 61_000_000;
+
+/// Frames that are missing between two others.
+#[derive(Clone, Copy)]
+pub struct Missing {
+    /// Whether it is one frame alone.
+    pub is_one: bool,
+    /// The time of the first of them.
+    pub first: Time,
+    /// The time of the last of them.
+    pub last: Time,
+}
+
+/// A time in the minute of another.
+fn at_micros(time: &Time, micros: u64) -> Time
+    ensures { result ≡ at_micros time.now micros }
+{
+    Time { micros, ..*time }
+}
+
+/// A time on the day of another.
+fn at_minute(time: &Time, hours: u32, minutes: u32, micros: u64) -> Time
+    ensures { result ≡ at_minute time.now hours minutes micros }
+{
+    Time {
+        hours,
+        minutes,
+        micros,
+        ..*time
+    }
+}
+
+/// Whether a frame of a time ends with its minute.
+pub fn is_whole(period: u64, time: &Time) -> bool
+    requires { (period < 2 ^ 32) × (time.now.micros < 2 ^ 60) }
+    ensures { result ≡ is_whole period time.now }
+{
+    time.micros + period <= LONG_MINUTE
+}
+
+/// Whether a time is one period after another and one before a third.
+fn is_middle(century: u32, period: u64, from: &Time, time: &Time, to: &Time) -> bool
+    requires century { century ≤ 99 }
+    requires small { period < 2 ^ 32 }
+    requires times { (from.now.micros < 2 ^ 60) × (time.now.micros < 2 ^ 60) × (to.now.micros < 2 ^ 60) }
+    ensures { result ≡ is_middle century period from.now time.now to.now }
+{
+    is_later(century, period, from, time)
+        && is_later(century, period, time, to)
+        && is_whole(period, time)
+}
+
+/// The time of the one frame that is missing between two.
+fn middle(century: u32, period: u64, from: &Time, to: &Time) -> Option<Time>
+    requires century { century ≤ 99 }
+    requires small { period < 2 ^ 32 }
+    requires times { (from.now.micros < 2 ^ 59) × (to.now.micros < 2 ^ 59) }
+    ensures { result ≡ middle century period from.now to.now }
+{
+    let early = at_micros(from, from.micros + period);
+    if is_middle(century, period, from, &early, to) {
+        return Some(early);
+    }
+    if to.micros < period {
+        return None;
+    }
+    let late = at_micros(to, to.micros - period);
+    if is_middle(century, period, from, &late, to) {
+        Some(late)
+    } else {
+        None
+    }
+}
+
+/// The time one period later, on the same day, in a minute of 60 seconds.
+pub fn next_time(period: u64, time: &Time) -> Option<Time>
+    requires small { period < 2 ^ 32 }
+    ensures time { result ≡ next_time period time.now }
+    ensures small { IfSome result (λ t. t.micros < 2 ^ 60) }
+{
+    if time.micros >= MINUTE {
+        return None;
+    }
+    let micros = time.micros + period;
+    if micros < MINUTE {
+        Some(at_micros(time, micros))
+    } else if time.minutes < 59 {
+        Some(at_minute(time, time.hours, time.minutes + 1, micros - MINUTE))
+    } else if time.hours < 23 {
+        Some(at_minute(time, time.hours + 1, 0, micros - MINUTE))
+    } else {
+        None
+    }
+}
+
+/// The time one period earlier, on the same day, in a minute of 60 seconds.
+pub fn time_before(period: u64, time: &Time) -> Option<Time>
+    requires small { (period < 2 ^ 25) × (time.now.micros < 2 ^ 59) }
+    ensures time { result ≡ time_before period time.now }
+    ensures small { IfSome result (λ t. t.micros < 2 ^ 60) }
+{
+    if period <= time.micros {
+        Some(at_micros(time, time.micros - period))
+    } else if time.minutes > 0 {
+        Some(at_minute(
+            time,
+            time.hours,
+            time.minutes - 1,
+            time.micros + MINUTE - period,
+        ))
+    } else if time.hours > 0 {
+        Some(at_minute(time, time.hours - 1, 59, time.micros + MINUTE - period))
+    } else {
+        None
+    }
+}
+
+/// The microseconds since midnight, in minutes of 60 seconds.
+fn day_micros(time: &Time) -> u64
+    requires { time.now.micros < 2 ^ 59 }
+    ensures { result ≡ day_micros time.now }
+{
+    MINUTE * (60 * time.hours as u64 + time.minutes as u64) + time.micros
+}
+
+/// How many periods two rises are apart, to the nearest.
+pub fn rounded(period: u64, from: u64, to: u64) -> u64
+    requires some { 0 < period }
+    requires small { (period < 2 ^ 32) × (to < 2 ^ 60) }
+    ensures value { result ≡ rounded period from to }
+    ensures few { result ≤ 2 * to + 1 }
+{
+    (2 * to.saturating_sub(from) + period) / (2 * period)
+}
+
+/// The times of the frames that are missing between two, which are some periods apart.
+pub fn missing_in(century: u32, period: u64, count: u64, from: &Time, to: &Time) -> Option<Missing>
+    requires century { century ≤ 99 }
+    requires small { (period < 2 ^ 25) × (count < 2 ^ 42 + 2) }
+    requires times { (from.now.micros < 2 ^ 59) × (to.now.micros < 2 ^ 59) }
+    ensures { result ≡ missing_in century period count from.now to.now }
+{
+    if count <= 1 {
+        return None;
+    }
+    if count == 2 {
+        return missing_one(middle(century, period, from, to));
+    }
+    if !same_day(from, to) || u128::from(day_micros(to)) != later_micros(period, count, from) {
+        return None;
+    }
+    missing_more(period, next_time(period, from), time_before(period, to))
+}
+
+/// The microseconds since midnight some periods after a time.
+fn later_micros(period: u64, count: u64, from: &Time) -> u128
+    requires small { (period < 2 ^ 25) × (count < 2 ^ 42 + 2) }
+    requires times { from.now.micros < 2 ^ 59 }
+    ensures { result ≡ day_micros from.now + count * period }
+{
+    u128::from(day_micros(from)) + u128::from(count) * u128::from(period)
+}
+
+/// One frame of a time.
+fn missing_one(time: Option<Time>) -> Option<Missing>
+    ensures { result ≡ missing_one time }
+{
+    match time {
+        Some(time) => Some(Missing {
+            is_one: true,
+            first: time,
+            last: time,
+        }),
+        None => None,
+    }
+}
+
+/// Frames, the first and the last of these times.
+fn missing_more(period: u64, first: Option<Time>, last: Option<Time>) -> Option<Missing>
+    requires small { period < 2 ^ 25 }
+    requires first { IfSome first (λ t. t.micros < 2 ^ 60) }
+    requires last { IfSome last (λ t. t.micros < 2 ^ 60) }
+    ensures { result ≡ missing_more period first last }
+{
+    match (first, last) {
+        (Some(first), Some(last)) => {
+            if is_whole(period, &first) && is_whole(period, &last) {
+                Some(Missing {
+                    is_one: false,
+                    first,
+                    last,
+                })
+            } else {
+                None
+            }
+        }
+        _ => None,
+    }
+}

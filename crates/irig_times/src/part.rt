@@ -1,0 +1,72 @@
+//! Parts of frames whose time is known.
+
+ghost use Rattle.std.specs.Prelude.{◌≡◌, ◌↔◌, ◌<◌, ◌≤◌, ◌^◌, ℕ, MatchOption, length};
+ghost use Rattle.irig_codes.specs.Format.{FormatView};
+ghost use Rattle.irig_times.specs.declared.time.Time.{Time};
+ghost use Rattle.irig_times.specs.Parts.{AreParts, IsPoint, PartsAt};
+
+use crate::time::Time;
+use irig_codes::Format;
+
+/// Pulses that follow one another, as elements of one frame whose time is known.
+#[derive(Clone, Copy)]
+pub struct Part {
+    /// The number of its first pulse, from 0.
+    pub number: usize,
+    /// Which element of its frame that pulse is, from 0.
+    pub element: usize,
+    /// How many pulses it has.
+    pub count: usize,
+    /// The time of its frame, that of the rise of its marker.
+    pub time: Time,
+}
+
+/// An element of a frame whose time is known.
+#[derive(Clone, Copy)]
+pub struct Place {
+    /// Its number in the frame, from 0.
+    pub element: usize,
+    /// The time of its frame.
+    pub time: Time,
+}
+
+/// How many parts begin with the pulse of a number, or before it.
+fn parts_up_to(parts: &[Part], format: Format, number: usize) -> usize
+    requires { (n : ℕ) × AreParts format 0 n parts.now }
+    ensures parted { PartsAt parts.now number result }
+    ensures within { result ≤ length parts.now }
+{
+    let mut low = 0;
+    let mut high = parts.len();
+    while low < high {
+        let middle = low + (high - low) / 2;
+        if parts[middle].number <= number {
+            low = middle + 1;
+        } else {
+            high = middle;
+        }
+    }
+    low
+}
+
+/// The element that the pulse of a number is, if the time of its frame is known.
+pub fn place_of(parts: &[Part], format: Format, number: usize) -> Option<Place>
+    requires { (n : ℕ) × AreParts format 0 n parts.now }
+    ensures { MatchOption result
+        ((e : ℕ) (t : Time) → IsPoint parts.now number e t → ⊥)
+        (λ p. IsPoint parts.now number p.element p.time) }
+{
+    let next = parts_up_to(parts, format, number);
+    if next == 0 {
+        return None;
+    }
+    let part = parts[next - 1];
+    let skipped = number - part.number;
+    if skipped >= part.count {
+        return None;
+    }
+    Some(Place {
+        element: part.element + skipped,
+        time: part.time,
+    })
+}
