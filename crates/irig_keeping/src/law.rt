@@ -1,0 +1,17 @@
+//! What a guarded repair leaves of the times of a recording.
+
+ghost use Rattle.irig_keeping.specs.Kept.{CountedTimesStay, TimesStay, ToldTimesStay};
+
+use irig_guarding::safe_states_are_kept_or_borne_out;
+use irig_times::times_are_exact;
+
+/// Does nothing. Its contract: a frame of a recording tells the same times after a safe repair, if it is
+/// still there; so moments keep their times if it is still believed, and by counting.
+pub fn kept_frames_keep_their_times()
+    ensures told { ToldTimesStay }
+    ensures has { TimesStay }
+    ensures counted { CountedTimesStay }
+{
+    times_are_exact();
+    safe_states_are_kept_or_borne_out();
+}
