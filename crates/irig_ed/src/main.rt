@@ -11,15 +11,13 @@ ghost use Rattle.irig_ed.specs.Ending.{Serves, ends, files};
 ghost use Rattle.irig_files.specs.{Puts.writes_on, Writes.GoesTo};
 
 use file_run::obey_words;
-use irig_disk::{SystemDir, SystemFolder};
-use irig_files::{FileSystem, Files};
+use irig_files::{FileSystem, Files, system_files};
 use irig_script::{NoWitness, Screen, Witness};
 use irig_settings::not_text;
 use statuses::{explain, report, tell};
-use std::alloc::AllocError;
 use std::io::{Read, Write};
 use std::process::ExitCode;
-use std::rt::{Files as FileRuntime, Runtime};
+use std::rt::Runtime;
 use std::{env, io};
 
 fn main(rt: HostRuntime) -> ExitCode {
@@ -36,15 +34,6 @@ fn main(rt: HostRuntime) -> ExitCode {
         ),
         Err(error) => tell_no_words(&rt, &error),
     }
-}
-
-/// The files of the system. The memory of their paths is taken here.
-fn system_files<R: FileRuntime + Print + AllocGlobal>(
-    rt: &R,
-) -> Result<Files<SystemFolder<'_, R>>, AllocError> {
-    let system = SystemFolder::new(rt.alloc(), rt)?;
-    let dir = SystemDir::new(rt.alloc())?;
-    Ok(Files::new(system, dir))
 }
 
 /// Says why there are no words.
