@@ -174,13 +174,18 @@ class Counting:
     def behind(self, place, most):
         return next((n for n in range(most) if not self.in_step(place - n)), most)
 
-    def parts(self, frames):
-        """The frames, and what is counted before, between and after them."""
+    def parts(self, fine, held):
+        """The frames that are believed, and what is counted from them, up to the next frame that has a time."""
         found = []
-        for place, frame in enumerate(frames):
-            found += self.between(frames[place - 1], frame) if place else self.before(frame)
+        for place, frame in enumerate(fine):
+            if frame not in held:
+                continue
+            if not place:
+                found += self.before(frame)
+            elif fine[place - 1] in held:
+                found += self.between(fine[place - 1], frame)
             found.append(Part(frame.marker, 0, 100, frame.time))
-        return found + (self.after(frames[-1]) if frames else [])
+        return found + (self.after(fine[-1]) if fine and fine[-1] in held else [])
 
     def head(self, frame, count, time):
         return Part(frame.marker + 100, 0, count, time)
@@ -233,7 +238,7 @@ class Counting:
         return self.borne_out(self.head(frame, self.ahead(frame.marker + 100, 100), next_time(self.kind, frame.time)))
 
     def borne_out(self, part):
-        """The part, if at most two of its pulses say another time."""
+        """The part, if none of its pulses says another time."""
         if part.time is None or not is_whole(self.kind, part.time):
             return []
         time, wrong, interval = part.time, 0, timecode.INTERVAL[self.kind]
@@ -246,7 +251,7 @@ class Counting:
             known, name = part.element + place < TIME_ELEMENTS[self.kind], wanted[part.element + place]
             found = timecode.class_of(interval, fall - rise)
             wrong += found not in ("bad", name) and (known or name == "position")
-        return [part] if wrong <= 2 else []
+        return [] if wrong else [part]
 
 
 class Track:
@@ -258,7 +263,7 @@ class Track:
         self.pulses = pulses
         self.fine = frames_of(options.kind, options.expression, pulses)
         self.frames = believed(options, self.fine)
-        parts = Counting(options.kind, options.expression, self.century, pulses).parts(self.frames)
+        parts = Counting(options.kind, options.expression, self.century, pulses).parts(self.fine, self.frames)
         self.points = {part.number + k: (part.element + k, part.time) for part in parts for k in range(part.count)}
 
     def time_at(self, moment):

@@ -12,7 +12,7 @@ use Rattle.irig_times.specs.Between.{at_micros, at_minute, between, day_micros, 
 use Rattle.irig_times.specs.Between.{kept, next_time, rounded, sides, sides_of, tail_of, time_before}
 use Rattle.irig_times.specs.Counted.{filled, sides_before, with_sides}
 use Rattle.irig_times.specs.Follows.{is_later}
-use Rattle.irig_times.specs.Parts.{AreParts, IsFrameTime, IsPart}
+use Rattle.irig_times.specs.Parts.{AreParts, IsFrameTime, IsPart, is_empty}
 use Rattle.irig_times.specs.Laws.{IsOfCalendar}
 use Rattle.irig_times.specs.Steps.{ahead, are_in_step, behind, is_in_step_at}
 use Rattle.irig_times.proofs.WholeSteps.{from-at}
@@ -211,9 +211,14 @@ module _ (f : FormatView) (century : ℕ) (ps : List Pulse) where
   before-fit : (before : Option Part) (from : ℕ) (b : Part) → Ends before from → from ≤ b.number → IsPart f b
       → IfSome (sides_before f century ps before b) (Fit f from b.number)
   before-fit None from b ends le is =
-      subst (λ k. IfSome (end_before f ps b) (Fit f k b.number)) (sym ends) (first-fits f ps b (time_before (frame_period_of f.kind) b.time) (before-is f century b.time is.time))
+      subst (λ k. IfSome (end_before f ps b) (Fit f k b.number)) (sym ends)
+      (cond-holds (λ o. IfSome o (Fit f 0 b.number)) (is_empty b) _ _ (λ none. tt)
+      (λ some. first-fits f ps b (time_before (frame_period_of f.kind) b.time) (before-is f century b.time is.time)))
   before-fit (Some a) from b ends le is =
-      subst (λ k. IfSome (between f century ps a b) (Fit f k b.number)) (sym ends.0) (between-fits f a b (omega (arith, ends.0, le)) ps century ends.1 is)
+      subst (λ k. IfSome (sides_before f century ps (Some a) b) (Fit f k b.number)) (sym ends.0)
+      (cond-holds (λ o. IfSome o (Fit f (a.number + a.count) b.number)) (is_empty a) _ _ (λ none. tt)
+      (λ first. cond-holds (λ o. IfSome o (Fit f (a.number + a.count) b.number)) (is_empty b) _ _ (λ none. tt)
+      (λ both. between-fits f a b (omega (arith, ends.0, le)) ps century ends.1 is)))
 
   with-fit : (s : Option (Part × Part)) (from : ℕ) (b : Part) (parts : List Part) → IfSome s (Fit f from b.number) → from ≤ b.number
       → IsPart f b → AreParts f (b.number + b.count) n parts → AreParts f from n (with_sides s (b ∷ parts))
@@ -224,7 +229,8 @@ module _ (f : FormatView) (century : ℕ) (ps : List Pulse) where
   after-fit None from ends le = tt
   after-fit (Some a) from ends le =
       subst (λ k. IfSome (end_after f ps (Some a)) (Fit f k n)) (sym ends.0)
-      (last-fits f ps a (next_time (frame_period_of f.kind) a.time) (omega (arith, ends.0, le)) (next-is f century a.time ends.1.time))
+      (cond-holds (λ o. IfSome o (Fit f (a.number + a.count) n)) (is_empty a) _ _ (λ none. tt)
+      (λ some. last-fits f ps a (next_time (frame_period_of f.kind) a.time) (omega (arith, ends.0, le)) (next-is f century a.time ends.1.time)))
 
   ended : (s : Option (Part × Part)) (from : ℕ) → IfSome s (Fit f from n) → from ≤ n → AreParts f from n (with_sides s [])
   ended None from fits le = le

@@ -27,10 +27,10 @@ module _ (f : FormatView) (alone : Bool) (century : ℕ) (ps : List Pulse) where
       → IsPoint (timed_parts f alone century ps) number element (time_in g 0)
   held-point number element g (is, on) =
       let there = whole-there f (frames f ps) (believed f alone ps) is.at is.one g is.there on is.tells in
-      let stays = filled-stays f century ps _ _ there.0 (whole is.one.marker g) there.1 in
+      let stays = filled-stays f century ps _ _ there.0 (whole is.one.marker true g) there.1 in
       record {
         at = stays.0;
-        one = whole is.one.marker g;
+        one = whole is.one.marker true g;
         there = stays.1;
         from = omega (arith, is.place);
         few = omega (arith, is.place, is.few);

@@ -8,7 +8,7 @@ use Rattle.irig_codes.specs.{Format.FormatView, Format.frame_period_of, declared
 use Rattle.irig_recording.specs.declared.pulse.Pulse.{Pulse}
 use Rattle.irig_index.specs.{Frames.frames, declared.record.Record.Record}
 use Rattle.irig_times.specs.{declared.missing.Missing.Missing, declared.part.Part.Part, declared.time.Time.Time}
-use Rattle.irig_times.specs.{Follows.is_later, Parts.IsFrameTime, Support.believed, Times.timed}
+use Rattle.irig_times.specs.{Follows.is_later, Parts.IsFrameTime, Parts.is_empty, Support.believed, Times.timed}
 use Rattle.irig_times.specs.Between.{between, gap, head_of, kept, sides, sides_of, tail_of}
 use Rattle.irig_times.specs.Counted.{filled, sides_before, with_sides}
 use Rattle.irig_times.specs.Ends.{after_last, alone, before_first, end_after, is_borne_out}
@@ -75,7 +75,7 @@ module _ (f : FormatView) (alone_frames : Bool) (century : ℕ) (ps : List Pulse
   -- a part is a whole frame that is believed
   record IsWhole (a : Part) : Type 0 where
     fields : Fields
-    is : a ≡ whole a.number fields
+    is : a ≡ whole a.number true fields
     frame : IsBelieved f alone_frames ps a.number fields
     time : IsFrameTime f a.time
 
@@ -91,6 +91,16 @@ module _ (f : FormatView) (alone_frames : Bool) (century : ℕ) (ps : List Pulse
         few = omega (arith, lt, count, first);
         is = ap (λ (p : Part). p.time) h.is;
       })
+
+  -- a frame that has a time; if it has pulses, it is believed
+  abbrev IsSeen : Part → Type 0
+  IsSeen a = is_empty a ≡ false → IsWhole a
+
+  seen-counted : (a : Part) → IsSeen a → EachCounted a
+  seen-counted a h skip lt = elim (cases_Bool (is_empty a)) [
+    | inl none ↦ absurd (omega (arith, lt, eqb-true a.count 0 none))
+    | inr some ↦ whole-counted a (h some) skip lt
+  ]
 
   -- the pulses in step after a frame
   on-counted : (a : Part) → IsWhole a → (n skip : ℕ) (x : Time) → is_later century (frame_period_of f.kind) a.time x ≡ true
@@ -199,13 +209,16 @@ module _ (f : FormatView) (alone_frames : Bool) (century : ℕ) (ps : List Pulse
   first-counted b hb (Some x) h =
       alone-counted (tail_of b (behind f ps b.number (min b.number 100)) x) (tail-counted b hb (min b.number 100) _ x h (at-most b.number 100).0 (at-most b.number 100).1 (omega arith))
 
-  before-counted : (before : Option Part) (b : Part) → IfSome before IsWhole → IsWhole b → IfSome (sides_before f century ps before b) BothCounted
-  before-counted None b ha hb = first-counted b hb _ (before-later f century b.time hb.time)
-  before-counted (Some a) b ha hb = between-counted a b ha hb
+  before-counted : (before : Option Part) (b : Part) → IfSome before IsSeen → IsSeen b → IfSome (sides_before f century ps before b) BothCounted
+  before-counted None b ha hb = cond-holds (λ o. IfSome o BothCounted) (is_empty b) _ _ (λ none. tt)
+      (λ some. first-counted b (hb some) _ (before-later f century b.time (hb some).time))
+  before-counted (Some a) b ha hb = cond-holds (λ o. IfSome o BothCounted) (is_empty a) _ _ (λ none. tt)
+      (λ first. cond-holds (λ o. IfSome o BothCounted) (is_empty b) _ _ (λ none. tt) (λ last. between-counted a b (ha first) (hb last)))
 
-  after-counted : (before : Option Part) → IfSome before IsWhole → IfSome (end_after f ps before) BothCounted
+  after-counted : (before : Option Part) → IfSome before IsSeen → IfSome (end_after f ps before) BothCounted
   after-counted None h = tt
-  after-counted (Some a) h = last-counted a h _ (next-later f century a.time h.time)
+  after-counted (Some a) h = cond-holds (λ o. IfSome o BothCounted) (is_empty a) _ _ (λ none. tt)
+      (λ some. last-counted a (h some) _ (next-later f century a.time (h some).time))
 
   abbrev AllCounted : List Part → Type 0
   AllCounted parts = (k : ℕ) (p : Part) → slice_get parts k ≡ Some p → EachCounted p
@@ -223,13 +236,13 @@ module _ (f : FormatView) (alone_frames : Bool) (century : ℕ) (ps : List Pulse
   one-there b rest h all zero p here = subst EachCounted (same_Some b p here) h
   one-there b rest h all (suc k) p here = all k p here
 
-  filled-counted : (before : Option Part) (parts : List Part) → IfSome before IsWhole → ((k : ℕ) (p : Part) → slice_get parts k ≡ Some p → IsWhole p)
+  filled-counted : (before : Option Part) (parts : List Part) → IfSome before IsSeen → ((k : ℕ) (p : Part) → slice_get parts k ≡ Some p → IsSeen p)
       → AllCounted (filled f century ps before parts)
   filled-counted before [] h all = with-counted (end_after f ps before) [] (after-counted before h) none-there
   filled-counted before (b ∷ parts) h all =
       let hb = all 0 b refl in
       with-counted (sides_before f century ps before b) (b ∷ filled f century ps (Some b) parts) (before-counted before b h hb)
-      (one-there b (filled f century ps (Some b) parts) (whole-counted b hb) (filled-counted (Some b) parts hb (λ k p here. all (suc k) p here)))
+      (one-there b (filled f century ps (Some b) parts) (seen-counted b hb) (filled-counted (Some b) parts hb (λ k p here. all (suc k) p here)))
 
 -- a whole part is of a record
 record OfRecord (f : FormatView) (rs : List Record) (held : List Bool) (p : Part) : Type 0 where
@@ -237,39 +250,44 @@ record OfRecord (f : FormatView) (rs : List Record) (held : List Bool) (p : Part
   one : Record
   fields : Fields
   there : slice_get rs at ≡ Some one
-  on : slice_get held at ≡ Some true
+  is_held : Bool
+  on : slice_get held at ≡ Some is_held
   tells : timed f one.verdict ≡ Some fields
-  is : p ≡ whole one.marker fields
+  is : p ≡ whole one.marker is_held fields
 
 module _ (f : FormatView) where
   later-record : (r : Record) (rs : List Record) (b : Bool) (held : List Bool) (p : Part) → OfRecord f rs held p → OfRecord f (r ∷ rs) (b ∷ held) p
-  later-record r rs b held p h = record { at = suc h.at; one = h.one; fields = h.fields; there = h.there; on = h.on; tells = h.tells; is = h.is }
+  later-record r rs b held p h = record { at = suc h.at; one = h.one; fields = h.fields; there = h.there; is_held = h.is_held; on = h.on; tells = h.tells; is = h.is }
 
-  with-record : (r : Record) (rs : List Record) (held : List Bool) (o : Option Fields) (i : ℕ) (p : Part) → timed f r.verdict ≡ o
+  with-record : (r : Record) (rs : List Record) (b : Bool) (held : List Bool) (o : Option Fields) (i : ℕ) (p : Part) → timed f r.verdict ≡ o
       → ((i : ℕ) → slice_get (whole_in f rs held) i ≡ Some p → OfRecord f rs held p)
-      → slice_get (with_part (option_map (whole r.marker) o) (whole_in f rs held)) i ≡ Some p → OfRecord f (r ∷ rs) (true ∷ held) p
-  with-record r rs held None i p tells more here = later-record r rs true held p (more i here)
-  with-record r rs held (Some g) zero p tells more here =
-      record { at = 0; one = r; fields = g; there = refl; on = refl; tells = tells; is = sym (same_Some (whole r.marker g) p here) }
-  with-record r rs held (Some g) (suc i) p tells more here = later-record r rs true held p (more i here)
+      → slice_get (with_part (option_map (whole r.marker b) o) (whole_in f rs held)) i ≡ Some p → OfRecord f (r ∷ rs) (b ∷ held) p
+  with-record r rs b held None i p tells more here = later-record r rs b held p (more i here)
+  with-record r rs b held (Some g) zero p tells more here =
+      record { at = 0; one = r; fields = g; there = refl; is_held = b; on = refl; tells = tells; is = sym (same_Some (whole r.marker b g) p here) }
+  with-record r rs b held (Some g) (suc i) p tells more here = later-record r rs b held p (more i here)
 
   whole-of-record : (rs : List Record) (held : List Bool) (i : ℕ) (p : Part) → slice_get (whole_in f rs held) i ≡ Some p → OfRecord f rs held p
   whole-of-record [] held i p here = absurd (none-some p here)
   whole-of-record (r ∷ rs) [] i p here = absurd (none-some p here)
-  whole-of-record (r ∷ rs) (false ∷ held) i p here = later-record r rs false held p (whole-of-record rs held i p here)
-  whole-of-record (r ∷ rs) (true ∷ held) i p here =
-      with-record r rs held (timed f r.verdict) i p refl (λ i. whole-of-record rs held i p) here
+  whole-of-record (r ∷ rs) (b ∷ held) i p here =
+      with-record r rs b held (timed f r.verdict) i p refl (λ i. whole-of-record rs held i p) here
+
+with-pulses : (b : Bool) (marker : ℕ) (g : Fields) → is_empty (whole marker b g) ≡ false → b ≡ true
+with-pulses true marker g some = refl
+with-pulses false marker g some = absurd (cc some)
 
 whole-is : (f : FormatView) (alone_frames : Bool) (century : ℕ) (ps : List Pulse) (k : ℕ) (p : Part)
-    → slice_get (whole_in f (frames f ps) (believed f alone_frames ps)) k ≡ Some p → IsWhole f alone_frames century ps p
-whole-is f alone_frames century ps k p here =
+    → slice_get (whole_in f (frames f ps) (believed f alone_frames ps)) k ≡ Some p → IsSeen f alone_frames century ps p
+whole-is f alone_frames century ps k p here some =
     let it = whole-of-record f (frames f ps) (believed f alone_frames ps) k p here in
     let marker : p.number ≡ it.one.marker = ap (λ (q : Part). q.number) it.is in
     let part = part-of f (length ps) 0 _ (whole-are f ps (believed f alone_frames ps)) k p here in
+    let on : it.is_held ≡ true = with-pulses it.is_held it.one.marker it.fields (ap is_empty (sym it.is) ∙ some) in
     record {
       fields = it.fields;
-      is = it.is ∙ ap (λ n. whole n it.fields) (sym marker);
-      frame = (record { at = it.at; one = it.one; there = it.there; tells = it.tells; place = omega (arith, marker); few = omega arith }, it.on);
+      is = it.is ∙ ((λ i. whole (sym marker i) (on i) it.fields));
+      frame = (record { at = it.at; one = it.one; there = it.there; tells = it.tells; place = omega (arith, marker); few = omega arith }, it.on ∙ ap Some on);
       time = part.2.time;
     }
 

@@ -1,21 +1,23 @@
 -- All pulses of a track that have a time: those of the frames that are believed, and those that are
--- counted from them. This project's own.
-use Rattle.std.specs.Prelude.{ℕ, Bool, false, List, [], ◌∷◌, Option, Some, None}
+-- counted from them. Over a frame that has a time and is not believed nothing is counted. This
+-- project's own.
+use Rattle.std.specs.Prelude.{ℕ, Bool, if◌then◌else◌, List, [], ◌∷◌, Option, Some, None}
 use Rattle.irig_codes.specs.Format.{FormatView}
 use Rattle.irig_recording.specs.declared.pulse.Pulse.{Pulse}
 use Rattle.irig_times.specs.{declared.part.Part.Part, Between.between, Whole.whole_parts}
 use Rattle.irig_times.specs.Ends.{end_after, end_before}
-use Rattle.irig_times.specs.{declared.time.Time.Time, Parts.TellsByParts}
+use Rattle.irig_times.specs.{declared.time.Time.Time, Parts.TellsByParts, Parts.is_empty}
 
 -- two parts more before others, if there are two
 abbrev pub with_sides : Option (Part × Part) → List Part → List Part
 with_sides None parts = parts
 with_sides (Some s) parts = s.0 ∷ s.1 ∷ parts
 
--- what is counted between a frame and the one before it, or before the first one
+-- what is counted between a frame and the one before it, if both are believed, or before the first
 abbrev pub sides_before : FormatView → ℕ → List Pulse → Option Part → Part → Option (Part × Part)
 sides_before f century ps None b = end_before f ps b
-sides_before f century ps (Some a) b = between f century ps a b
+sides_before f century ps (Some a) b =
+    if is_empty a then None else (if is_empty b then None else between f century ps a b)
 
 -- the parts from a frame on, and what is counted before, between and after them
 abbrev pub filled : FormatView → ℕ → List Pulse → Option Part → List Part → List Part

@@ -1,6 +1,6 @@
 -- Which pulses at the two ends of a track have a time: those that are in step with the first frame,
 -- or with the last one, and say no other time. This project's own.
-use Rattle.std.specs.Prelude.{ℕ, zero, suc, ◌+◌, ◌/◌, ◌%◌, ◌&&◌, ◌||◌, nat_lt, nat_le, min}
+use Rattle.std.specs.Prelude.{ℕ, zero, suc, ◌+◌, ◌/◌, ◌%◌, ◌==◌, ◌&&◌, ◌||◌, nat_lt, min}
 use Rattle.std.specs.Prelude.{Bool, true, false, List, Option, Some, None, if◌then◌else◌}
 use Rattle.std.specs.Prelude.{slice_get}
 use Rattle.irig_codes.specs.Format.{FormatView, carries_sbs, frame_period_of, has_control}
@@ -14,7 +14,7 @@ use Rattle.irig_recording.specs.declared.pulse.Pulse.{Pulse}
 use Rattle.irig_index.specs.Marker.{class_at}
 use Rattle.irig_times.specs.{declared.part.Part.Part, declared.time.Time.Time}
 use Rattle.irig_times.specs.Between.{head_of, is_whole, next_time, tail_of, time_before}
-use Rattle.irig_times.specs.Steps.{ahead, behind}
+use Rattle.irig_times.specs.{Parts.is_empty, Steps.ahead, Steps.behind}
 
 -- the fields of a frame of a time; those that are no part of it are 0
 abbrev pub fields_at : FormatView → Time → Fields
@@ -70,18 +70,18 @@ contradictions f ps wanted number element (suc n) =
     then suc (contradictions f ps wanted (number + 1) (element + 1) n)
     else contradictions f ps wanted (number + 1) (element + 1) n
 
--- whether a part says no other time than its own: at most two of its pulses do
+-- whether a part says no other time than its own: none of its pulses does
 abbrev pub is_borne_out : FormatView → List Pulse → Part → Bool
 is_borne_out f ps p =
     is_whole (frame_period_of f.kind) p.time
     && (fits_in f (fields_at f p.time)
-    && nat_le (contradictions f ps (encoded f (fields_at f p.time)) p.number p.element p.count) 2)
+    && (contradictions f ps (encoded f (fields_at f p.time)) p.number p.element p.count == 0))
 
 -- the part, with an empty one after it
 abbrev pub alone : FormatView → List Pulse → Part → Option (Part × Part)
 alone f ps p = if is_borne_out f ps p then Some (p, head_of p 0 p.time) else None
 
--- the pulses after the last frame that have a time
+-- the pulses after the last frame that have a time, if it is believed
 abbrev pub after_last : FormatView → List Pulse → Part → Option Time → Option (Part × Part)
 after_last f ps a None = None
 after_last f ps a (Some x) =
@@ -89,12 +89,14 @@ after_last f ps a (Some x) =
 
 abbrev pub end_after : FormatView → List Pulse → Option Part → Option (Part × Part)
 end_after f ps None = None
-end_after f ps (Some a) = after_last f ps a (next_time (frame_period_of f.kind) a.time)
+end_after f ps (Some a) =
+    if is_empty a then None else after_last f ps a (next_time (frame_period_of f.kind) a.time)
 
--- the pulses before the first frame that have a time
+-- the pulses before the first frame that have a time, if it is believed
 abbrev pub before_first : FormatView → List Pulse → Part → Option Time → Option (Part × Part)
 before_first f ps b None = None
 before_first f ps b (Some x) = alone f ps (tail_of b (behind f ps b.number (min b.number 100)) x)
 
 abbrev pub end_before : FormatView → List Pulse → Part → Option (Part × Part)
-end_before f ps b = before_first f ps b (time_before (frame_period_of f.kind) b.time)
+end_before f ps b =
+    if is_empty b then None else before_first f ps b (time_before (frame_period_of f.kind) b.time)

@@ -1,6 +1,6 @@
 -- Pulses whose time is known, and the time of a microsecond by them. This project's own.
-use Rattle.std.specs.Prelude.{◌≡◌, ◌⊎◌, ℕ, ◌+◌, ◌-◌, ◌*◌, ◌/◌, ◌<◌, ◌≤◌, true, List, [], ◌∷◌}
-use Rattle.std.specs.Prelude.{is_some, slice_get, Some}
+use Rattle.std.specs.Prelude.{◌≡◌, ◌⊎◌, ℕ, ◌+◌, ◌-◌, ◌*◌, ◌/◌, ◌<◌, ◌≤◌, ◌==◌, Bool, true, List, []}
+use Rattle.std.specs.Prelude.{◌∷◌, is_some, slice_get, Some}
 use Rattle.irig_codes.specs.Format.{FormatView, frame_period_of, has_year, interval_of}
 use Rattle.irig_recording.specs.declared.pulse.Pulse.{Pulse}
 use Rattle.irig_track.specs.Splices.{risen_by}
@@ -28,6 +28,10 @@ pub record IsFrameTime (f : FormatView) (t : Time) : Type 0 where
 pub record IsPart (f : FormatView) (p : Part) : Type 0 where
   pub few : p.element + p.count ≤ 100
   pub time : IsFrameTime f p.time
+
+-- a part without pulses
+abbrev pub is_empty : Part → Bool
+is_empty p = p.count == 0
 
 -- parts of a track of n pulses, from the pulse with a number on: no pulse is in two of them
 abbrev pub AreParts : FormatView → ℕ → ℕ → List Part → Type 0

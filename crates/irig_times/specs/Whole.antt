@@ -1,25 +1,29 @@
--- The frames of a track that are believed, as parts. This project's own.
-use Rattle.std.specs.Prelude.{ℕ, Bool, true, false, List, [], ◌∷◌, Option, Some, None, option_map}
+-- The frames of a track that have a time, as parts. This project's own.
+use Rattle.std.specs.Prelude.{ℕ, Bool, if◌then◌else◌, List, [], ◌∷◌, Option, Some, None, option_map}
 use Rattle.irig_codes.specs.{Format.FormatView, declared.fields.Fields.Fields}
 use Rattle.irig_recording.specs.declared.pulse.Pulse.{Pulse}
 use Rattle.irig_index.specs.{Frames.frames, declared.record.Record.Record}
 use Rattle.irig_times.specs.{declared.part.Part.Part, Support.believed, Times.time_in, Times.timed}
 
--- a whole frame
-abbrev pub whole : ℕ → Fields → Part
-whole marker g = record { number = marker; element = 0; count = 100; time = time_in g 0 }
+-- a frame: its hundred pulses if it is believed, else none
+abbrev pub whole : ℕ → Bool → Fields → Part
+whole marker is_held g = record {
+  number = marker;
+  element = 0;
+  count = if is_held then 100 else 0;
+  time = time_in g 0;
+}
 
--- the frame of a record, if it has a time and is believed
+-- the frame of a record, if it has a time
 abbrev pub whole_of : FormatView → Record → Bool → Option Part
-whole_of f r false = None
-whole_of f r true = option_map (whole r.marker) (timed f r.verdict)
+whole_of f r is_held = option_map (whole r.marker is_held) (timed f r.verdict)
 
 -- one more part before others, if there is one
 abbrev pub with_part : Option Part → List Part → List Part
 with_part None parts = parts
 with_part (Some p) parts = p ∷ parts
 
--- the frames of some records that are believed
+-- the frames of some records that have a time: of each record `held` says whether it is believed
 abbrev pub whole_in : FormatView → List Record → List Bool → List Part
 whole_in f [] held = []
 whole_in f (r ∷ rs) [] = []

@@ -156,7 +156,7 @@ pub fn min(one: usize, other: usize) -> usize
     if one <= other { one } else { other }
 }
 
-/// What is counted between a frame and the one before it, or before the first one.
+/// What is counted between a frame and the one before it, if both are believed, or before the first.
 pub fn sides_before(
     pulses: &mut Lens<'_>,
     format: Format,
@@ -172,6 +172,7 @@ pub fn sides_before(
     ensures pulses { pulses.new.track ≡ pulses.old.track }
 {
     match from {
+        Some(from) if from.is_empty() || to.is_empty() => None,
         Some(from) => between(pulses, format, century, &from, to),
         None => end_before(pulses, format, to),
     }

@@ -137,7 +137,7 @@ fn more(count: usize, is_so: bool) -> usize
     if is_so { count + 1 } else { count }
 }
 
-/// Whether a part says no other time than its own: at most two of its pulses do.
+/// Whether a part says no other time than its own: none of its pulses does.
 fn is_borne_out(pulses: &mut Lens<'_>, format: Format, part: &Part) -> bool
     requires few { part.now.element + part.now.count ≤ 100 }
     requires small { (part.now.number < 2 ^ 32) × (part.now.time.micros < 2 ^ 60) }
@@ -152,7 +152,7 @@ fn is_borne_out(pulses: &mut Lens<'_>, format: Format, part: &Part) -> bool
         return false;
     }
     let wanted = encode(format, &fields);
-    contradictions(pulses, format, &wanted, part) <= 2
+    contradictions(pulses, format, &wanted, part) == 0
 }
 
 /// The part, with an empty one after it, if it says no other time than its own.
@@ -169,7 +169,7 @@ fn alone(pulses: &mut Lens<'_>, format: Format, part: Part) -> Option<(Part, Par
     }
 }
 
-/// The pulses after the last frame that have a time.
+/// The pulses after the last frame that have a time, if it is believed.
 pub fn end_after(pulses: &mut Lens<'_>, format: Format, from: Option<Part>) -> Option<(Part, Part)>
     requires { IfSome from (λ a. (a.time.micros < 2 ^ 59) × (a.number + a.count < 2 ^ 30)) }
     ensures end { result ≡ end_after format pulses.old.track.pulses from }
@@ -178,6 +178,9 @@ pub fn end_after(pulses: &mut Lens<'_>, format: Format, from: Option<Part>) -> O
     let Some(from) = from else {
         return None;
     };
+    if from.is_empty() {
+        return None;
+    }
     let Some(time) = next_time(format.frame_period(), &from.time) else {
         return None;
     };
@@ -185,12 +188,15 @@ pub fn end_after(pulses: &mut Lens<'_>, format: Format, from: Option<Part>) -> O
     alone(pulses, format, head_of(&from, count, time))
 }
 
-/// The pulses before the first frame that have a time.
+/// The pulses before the first frame that have a time, if it is believed.
 pub fn end_before(pulses: &mut Lens<'_>, format: Format, to: &Part) -> Option<(Part, Part)>
     requires { (to.now.time.micros < 2 ^ 59) × (to.now.number < 2 ^ 30) }
     ensures end { result ≡ end_before format pulses.old.track.pulses to.now }
     ensures pulses { pulses.new.track ≡ pulses.old.track }
 {
+    if to.is_empty() {
+        return None;
+    }
     let Some(time) = time_before(format.frame_period(), &to.time) else {
         return None;
     };

@@ -3,7 +3,7 @@
 ghost use Rattle.std.specs.Prelude.{◌≡◌, ◌↔◌, ◌<◌, ◌≤◌, ◌^◌, ℕ, MatchOption, length};
 ghost use Rattle.irig_codes.specs.Format.{FormatView};
 ghost use Rattle.irig_times.specs.declared.time.Time.{Time};
-ghost use Rattle.irig_times.specs.Parts.{AreParts, IsPoint, PartsAt};
+ghost use Rattle.irig_times.specs.Parts.{AreParts, IsPoint, PartsAt, is_empty};
 
 use crate::time::Time;
 use irig_codes::Format;
@@ -19,6 +19,15 @@ pub struct Part {
     pub count: usize,
     /// The time of its frame, that of the rise of its marker.
     pub time: Time,
+}
+
+impl Part {
+    /// Whether it has no pulse.
+    pub fn is_empty(&self) -> bool
+        ensures { result ≡ is_empty self.now }
+    {
+        self.count == 0
+    }
 }
 
 /// An element of a frame whose time is known.

@@ -1,17 +1,17 @@
-//! The frames of a track that are believed, as parts.
+//! The frames of a track that have a time, as parts.
 
 ghost use Rattle.std.specs.Prelude.{◌≡◌, ◌<◌, IfOk, Some, length, slice_get};
 ghost use Rattle.irig_index.specs.{Frames.frames, declared.record.Record.Record};
 ghost use Rattle.irig_times.specs.Support.{believed};
-ghost use Rattle.irig_times.specs.Whole.{whole_in, whole_of, whole_parts};
+ghost use Rattle.irig_times.specs.Whole.{whole, whole_in, whole_of, whole_parts};
 
 use crate::frame_lens::FrameLens;
 use crate::part::Part;
 use crate::time::{time_in, timed};
-use irig_codes::Format;
+use irig_codes::{Fields, Format};
 use std::alloc::{AllocError, Global};
 
-/// The frames of a track that are believed: of each record `held` says whether its frame is.
+/// The frames of a track that have a time: of each record `held` says whether its frame is believed.
 pub fn whole_parts(
     alloc: Global,
     records: &mut FrameLens<'_>,
@@ -32,7 +32,7 @@ pub fn whole_parts(
     Ok(list)
 }
 
-/// The frame of the record at a place, if it is believed and has a time.
+/// The frame of the record at a place, if it has a time: without pulses, if it is not believed.
 fn whole_at(
     records: &mut FrameLens<'_>,
     format: Format,
@@ -44,17 +44,21 @@ fn whole_at(
         → result ≡ whole_of format r is_held }
     ensures same { records.new.records ≡ records.old.records }
 {
-    if !is_held {
-        return None;
-    }
     let record = records.record(place);
     match timed(format, record.verdict) {
-        Some(fields) => Some(Part {
-            number: record.marker,
-            element: 0,
-            count: 100,
-            time: time_in(&fields, 0),
-        }),
+        Some(fields) => Some(whole(record.marker, is_held, &fields)),
         None => None,
+    }
+}
+
+/// A frame: its hundred pulses if it is believed, else none.
+fn whole(marker: usize, is_held: bool, fields: &Fields) -> Part
+    ensures { result ≡ whole marker is_held fields.now }
+{
+    Part {
+        number: marker,
+        element: 0,
+        count: if is_held { 100 } else { 0 },
+        time: time_in(fields, 0),
     }
 }

@@ -1,4 +1,4 @@
-use Rattle.std.proofs.Common.{◌≡◌, ◌&&◌, nat_le, true, ap, sym, ◌∙◌}
+use Rattle.std.proofs.Common.{◌≡◌, ◌==◌, ◌&&◌, true, ap, sym, ◌∙◌}
 use Rattle.irig_codes.specs.Format.{frame_period_of}
 use Rattle.irig_codes.specs.{Encoding.encoded, Fields.fits_in}
 use Rattle.irig_times.specs.Between.{is_whole}
@@ -16,4 +16,4 @@ returns-clause-answer c =
     let count : contradictions f ps (encoded f (fields_at f p.time)) p.number p.element p.count ≡ c.contradictions.result =
     ap (λ w. contradictions f ps w p.number p.element p.count) (sym (c.encode-wanted.ensures.frame ∙ ap (encoded f) c.fields_at-fields.ensures))
     ∙ sym c.contradictions.ensures.count in
-    sym (λ i. ends i && (fit i && nat_le (count i) 2))
+    sym (λ i. ends i && (fit i && (count i == 0)))
