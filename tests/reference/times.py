@@ -180,11 +180,15 @@ class Counting:
         for place, frame in enumerate(fine):
             if frame not in held:
                 continue
+            earlier = fine[place - 1] if place and fine[place - 1] in held else None
+            later = fine[place + 1] if place + 1 < len(fine) and fine[place + 1] in held else None
+            first = TIME_ELEMENTS[self.kind] if earlier and self.jumps(earlier, frame) else 0
+            end = 1 if later and self.jumps(frame, later) else 100
             if not place:
                 found += self.before(frame)
-            elif fine[place - 1] in held:
-                found += self.between(fine[place - 1], frame)
-            found.append(Part(frame.marker, 0, 100, frame.time))
+            elif earlier and not first:
+                found += self.between(earlier, frame)
+            found.append(Part(frame.marker + first, first, max(0, end - first), frame.time))
         return found + (self.after(fine[-1]) if fine and fine[-1] in held else [])
 
     def head(self, frame, count, time):
@@ -202,10 +206,23 @@ class Counting:
                 return time
         return None
 
+    def jumps(self, one, other):
+        """Whether the pulses from one frame to the other are in step, whole hundreds, and the times are not as many periods apart."""
+        many, rest = divmod(other.marker - one.marker, 100)
+        if rest or not all(self.in_step(place) for place in range(one.marker + 100, other.marker + 1)):
+            return False
+        if many == 1:
+            return not follows(self.kind, self.century, one.time, other.time)
+        return self.missing_of(many, one, other)[1] is None
+
     def missing(self, one, other):
         """How many frames are missing between two, and the time of the first and of the last."""
         period = PERIOD[self.kind]
-        many = (2 * (other.rise - one.rise) + period) // (2 * period)
+        return self.missing_of((2 * (other.rise - one.rise) + period) // (2 * period), one, other)
+
+    def missing_of(self, many, one, other):
+        """The same of two that are some periods apart."""
+        period = PERIOD[self.kind]
         if many < 2:
             return 0, None, None
         if many == 2:

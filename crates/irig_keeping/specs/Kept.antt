@@ -6,7 +6,8 @@ use Rattle.irig_recording.specs.declared.pulse.Pulse.{Pulse}
 use Rattle.irig_track.specs.Track.{IsTrack}
 use Rattle.irig_index.specs.Frames.{frames}
 use Rattle.irig_times.specs.{Elements.IsElement, Elements.IsFollowed, Elements.TellsTime, Held.HasTime}
-use Rattle.irig_times.specs.{Counted.IsTimed, PartLaws.HeldGoesOn, Support.believed}
+use Rattle.irig_times.specs.{Counted.IsTimed, PartLaws.HeldGoesOn, PartLaws.IsSteady}
+use Rattle.irig_times.specs.Support.{believed}
 use Rattle.irig_times.specs.declared.time.Time.{Time}
 use Rattle.irig_edit.specs.State.State.{State}
 use Rattle.irig_safety.specs.Rises.{rise_in}
@@ -56,8 +57,8 @@ TimesStay = (old new : State) → IsTrack old.micros old.pulses → IsTrack new.
     → HasTime old.format century new.pulses after d n x
 
 -- so by counting: a moment that has a time by a frame that is believed is timed after the repair, and
--- at the same time, if the frame is believed then, and so is the one that follows it if the moment is
--- in its last element
+-- at the same time, if the frame is believed then and the time does not jump next to it, and so is the
+-- one that follows it if the moment is in its last element
 abbrev pub CountedTimesStay : Type 0
 CountedTimesStay = (old new : State) → IsTrack old.micros old.pulses → IsTrack new.micros new.pulses
     → IsSafeAfter false old new
@@ -68,6 +69,7 @@ CountedTimesStay = (old new : State) → IsTrack old.micros old.pulses → IsTra
     → (has.told.element < 99)
     ⊎ ((has.told.element ≡ 99)
     × IsFollowedStill old.format century old.pulses new.pulses has.told.number still.marker has.told.fields)
-    → HeldGoesOn old.format century new.pulses (believed old.format alone new.pulses)
-    (still.marker + has.told.element) has.told.element has.told.fields
+    → IsSteady old.format alone century new.pulses still.begins.one.marker
+    → HeldGoesOn old.format alone century new.pulses (still.marker + has.told.element)
+    has.told.element has.told.fields
     → IsTimed old.format alone century new.pulses d n x

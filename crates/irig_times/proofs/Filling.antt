@@ -2,15 +2,16 @@
 use Rattle.std.proofs.Common.{◌*◌, ◌≡◌, ◌<◌, ◌≤◌, ◌+◌, ◌-◌, ◌++◌, ◌∷◌, [], ℕ, suc, zero, ◌==◌, ◌&&◌, nat_le, nat_lt, Bool, true, false, cond, List, Option, Some, None, drop, length, slice_get}
 use Rattle.std.proofs.Common.{refl, sym, ap, ◌∙◌, subst, append_assoc, arith}
 use Rattle.std.specs.Prelude.{IfSome, is_some, min}
-use Rattle.std.proofs.lemmas.Option.{none-some, slice_get_within}
-use Rattle.irig_times.specs.Ends.{after_last, alone, before_first, end_after, end_before, is_borne_out}
+use Rattle.std.proofs.lemmas.Option.{none-some, same_Some, slice_get_within}
+use Rattle.irig_times.specs.Ends.{after_last, alone, before_first, end_after, end_before, is_borne_out, time_elements}
 use Rattle.std.proofs.lemmas.Bool.{and_parts, eqb-true, leb-true, ltb-true}
 use Rattle.irig_codes.specs.Format.{FormatView, frame_period_of, has_year}
 use Rattle.irig_recording.specs.declared.pulse.Pulse.{Pulse}
 use Rattle.irig_times.specs.{declared.missing.Missing.Missing, declared.part.Part.Part, declared.time.Time.Time, Follows.same_day}
 use Rattle.irig_times.specs.Between.{at_micros, at_minute, between, day_micros, gap, head_of, is_middle, is_whole, middle, missing_by, missing_in, missing_more, missing_one}
 use Rattle.irig_times.specs.Between.{kept, next_time, rounded, sides, sides_of, tail_of, time_before}
-use Rattle.irig_times.specs.Counted.{filled, sides_before, with_sides}
+use Rattle.irig_times.specs.Counted.{filled, kept_at, sides_before, sides_without, with_frame, with_sides}
+use Rattle.irig_times.specs.Jumps.{after_jump, before_jump, is_jump_between}
 use Rattle.irig_times.specs.Follows.{is_later}
 use Rattle.irig_times.specs.Parts.{AreParts, IsFrameTime, IsPart, is_empty}
 use Rattle.irig_times.specs.Laws.{IsOfCalendar}
@@ -20,6 +21,13 @@ use Rattle.irig_times.proofs.WholeSteps.{from-at}
 pub cond-holds : {X : Type 0} (P : X → Type 0) (b : Bool) (x y : X) → (b ≡ true → P x) → (b ≡ false → P y) → P (cond b x y)
 cond-holds P true x y p q = p refl
 cond-holds P false x y p q = q refl
+
+-- the first of a list from a place on
+first-of : {X : Type 0} (xs : List X) (k : ℕ) → slice_get (drop k xs) 0 ≡ slice_get xs k
+first-of [] zero = refl
+first-of [] (suc k) = refl
+first-of (x ∷ xs) zero = refl
+first-of (x ∷ xs) (suc k) = first-of xs k
 
 module _ (f : FormatView) (ps : List Pulse) where
   pub ahead-few : (n k : ℕ) → ahead f ps k n ≤ n
@@ -199,6 +207,42 @@ module _ (f : FormatView) (ps : List Pulse) where
       let few = behind-few f ps (min b.number 100) b.number in
       alone-fits 0 b.number (tail_of b (behind f ps b.number (min b.number 100)) x) (omega arith) (grind (arith, few)) (grind (arith, few)) cal
 
+-- a part of a part of a frame
+min-few : (k m : ℕ) → min k m ≤ k
+min-few k m = grind arith
+
+pub record Cut (f : FormatView) (b q : Part) : Type 0 where
+  pub low : b.number ≤ q.number
+  pub high : q.number + q.count ≤ b.number + b.count
+  pub place : b.number + q.element ≡ b.element + q.number
+  pub same : q.time ≡ b.time
+  pub is : IsPart f q
+
+module _ (f : FormatView) where
+  before-cut : (jumps : Bool) (b : Part) → IsPart f b → Cut f b (before_jump jumps b)
+  before-cut false b is = record { low = omega arith; high = omega arith; place = omega arith; same = refl; is = is }
+  before-cut true b is =
+      let few : min b.count 1 ≤ b.count = grind arith in
+      record { low = omega arith; high = omega (arith, few); place = omega arith; same = refl; is = record { few = omega (arith, few, is.few); time = is.time } }
+
+  after-cut : (jumps : Bool) (b : Part) → IsPart f b → Cut f b (after_jump f.kind jumps b)
+  after-cut false b is = record { low = omega arith; high = omega arith; place = omega arith; same = refl; is = is }
+  after-cut true b is =
+      let few = min-few b.count (time_elements f.kind) in
+      record { low = omega arith; high = omega (arith, few); place = omega arith; same = refl; is = record { few = omega (arith, few, is.few); time = is.time } }
+
+  pub kept-cut : (century : ℕ) (ps : List Pulse) (before : Option Part) (b : Part) (next : Option Part) → IsPart f b → Cut f b (kept_at f century ps before b next)
+  kept-cut century ps before b next is =
+      let one = before-cut (is_jump_between f century ps (Some b) next) b is in
+      let two = after-cut (is_jump_between f century ps before (Some b)) (before_jump (is_jump_between f century ps (Some b) next) b) one.is in
+      record {
+        low = omega (arith, one.low, two.low);
+        high = omega (arith, one.high, two.high);
+        place = omega (arith, one.place, two.place);
+        same = two.same ∙ one.same;
+        is = two.is;
+      }
+
 module _ (f : FormatView) (century : ℕ) (ps : List Pulse) where
   abbrev n : ℕ
   n = length ps
@@ -220,10 +264,20 @@ module _ (f : FormatView) (century : ℕ) (ps : List Pulse) where
       (λ first. cond-holds (λ o. IfSome o (Fit f (a.number + a.count) b.number)) (is_empty b) _ _ (λ none. tt)
       (λ both. between-fits f a b (omega (arith, ends.0, le)) ps century ends.1 is)))
 
-  with-fit : (s : Option (Part × Part)) (from : ℕ) (b : Part) (parts : List Part) → IfSome s (Fit f from b.number) → from ≤ b.number
-      → IsPart f b → AreParts f (b.number + b.count) n parts → AreParts f from n (with_sides s (b ∷ parts))
-  with-fit None from b parts fits le is are = (le, is, are)
-  with-fit (Some s) from b parts fits le is are = (fits.first, fits.one, (fits.middle, fits.two, (fits.last, is, are)))
+  from-less : (from less : ℕ) (parts : List Part) → less ≤ from → AreParts f from n parts → AreParts f less n parts
+  from-less from less [] le are = omega (arith, le, are)
+  from-less from less (p ∷ parts) le are = (omega (arith, le, are.0), are.1, are.2)
+
+  with-fit : (s : Option (Part × Part)) (from : ℕ) (b q : Part) (parts : List Part) → IfSome s (Fit f from b.number) → from ≤ b.number
+      → Cut f b q → AreParts f (b.number + b.count) n parts → AreParts f from n (with_sides s (q ∷ parts))
+  with-fit None from b q parts fits le cut are = (omega (arith, le, cut.low), cut.is, from-less (b.number + b.count) (q.number + q.count) parts cut.high are)
+  with-fit (Some s) from b q parts fits le cut are =
+      (fits.first, fits.one, (fits.middle, fits.two, (omega (arith, fits.last, cut.low), cut.is, from-less (b.number + b.count) (q.number + q.count) parts cut.high are)))
+
+  without-fit : (jumps : Bool) (before : Option Part) (from : ℕ) (b : Part) → Ends before from → from ≤ b.number → IsPart f b
+      → IfSome (sides_without jumps f century ps before b) (Fit f from b.number)
+  without-fit true before from b ends le is = tt
+  without-fit false before from b ends le is = before-fit before from b ends le is
 
   after-fit : (before : Option Part) (from : ℕ) → Ends before from → from ≤ n → IfSome (end_after f ps before) (Fit f from n)
   after-fit None from ends le = tt
@@ -239,42 +293,73 @@ module _ (f : FormatView) (century : ℕ) (ps : List Pulse) where
   filled-from : (before : Option Part) (from : ℕ) (parts : List Part) → Ends before from → AreParts f from n parts → AreParts f from n (filled f century ps before parts)
   filled-from before from [] ends are = ended (end_after f ps before) from (after-fit before from ends are) are
   filled-from before from (b ∷ parts) ends are =
-      with-fit (sides_before f century ps before b) from b (filled f century ps (Some b) parts) (before-fit before from b ends are.0 are.1) are.0 are.1
+      with-fit (sides_without (is_jump_between f century ps before (Some b)) f century ps before b) from b (kept_at f century ps before b (slice_get parts 0))
+      (filled f century ps (Some b) parts) (without-fit (is_jump_between f century ps before (Some b)) before from b ends are.0 are.1) are.0
+      (kept-cut f century ps before b (slice_get parts 0) are.1)
       (filled-from (Some b) (b.number + b.count) parts (refl, are.1) are.2)
 
   -- with what is counted they are parts of the track
   pub filled-are : (parts : List Part) → AreParts f 0 n parts → AreParts f 0 n (filled f century ps None parts)
   filled-are parts are = filled-from None 0 parts refl are
 
-  -- each frame that is believed stays
+  -- each frame next to which the time does not jump stays
   with-stays : (s : Option (Part × Part)) (b : Part) (parts : List Part) (j : ℕ) (p : Part) → slice_get (b ∷ parts) j ≡ Some p
       → (i : ℕ) × (slice_get (with_sides s (b ∷ parts)) i ≡ Some p)
   with-stays None b parts j p here = (j, here)
   with-stays (Some s) b parts j p here = (suc (suc j), here)
 
+  -- the frame before the one at a place
+  abbrev pub earlier : Option Part → List Part → ℕ → Option Part
+  earlier before parts zero = before
+  earlier before parts (suc k) = slice_get parts k
+
+  kept-whole : (before : Option Part) (b : Part) (next : Option Part) → is_jump_between f century ps before (Some b) ≡ false
+      → is_jump_between f century ps (Some b) next ≡ false → kept_at f century ps before b next ≡ b
+  kept-whole before b next first last = λ i. after_jump f.kind (first i) (before_jump (last i) b)
+
   pub filled-stays : (before : Option Part) (parts : List Part) (k : ℕ) (p : Part) → slice_get parts k ≡ Some p
+      → is_jump_between f century ps (earlier before parts k) (Some p) ≡ false → is_jump_between f century ps (Some p) (slice_get parts (k + 1)) ≡ false
       → (i : ℕ) × (slice_get (filled f century ps before parts) i ≡ Some p)
-  filled-stays before [] k p here = absurd (none-some p here)
-  filled-stays before (b ∷ parts) zero p here = with-stays (sides_before f century ps before b) b (filled f century ps (Some b) parts) zero p here
-  filled-stays before (b ∷ parts) (suc k) p here =
-      let it = filled-stays (Some b) parts k p here in
-      with-stays (sides_before f century ps before b) b (filled f century ps (Some b) parts) (suc it.0) p it.1
+  filled-stays before [] k p here first last = absurd (none-some p here)
+  filled-stays before (b ∷ parts) zero p here first last =
+      let same : b ≡ p = same_Some b p here in
+      let whole : kept_at f century ps before b (slice_get parts 0) ≡ p =
+      ap (λ q. kept_at f century ps before q (slice_get parts 0)) same ∙ kept-whole before p (slice_get parts 0) first last in
+      with-stays (sides_without (is_jump_between f century ps before (Some b)) f century ps before b) (kept_at f century ps before b (slice_get parts 0))
+      (filled f century ps (Some b) parts) zero p (ap Some whole)
+  filled-stays before (b ∷ parts) (suc k) p here first last =
+      let e : suc k + 1 ≡ suc (k + 1) = omega arith in
+      let end = subst (λ i. is_jump_between f century ps (Some p) (slice_get (b ∷ parts) i) ≡ false) e last in
+      let it = filled-stays (Some b) parts k p here (earlier-same before b parts k p first) end in
+      with-stays (sides_without (is_jump_between f century ps before (Some b)) f century ps before b) (kept_at f century ps before b (slice_get parts 0))
+      (filled f century ps (Some b) parts) (suc it.0) p it.1
+    where
+      earlier-same : (before : Option Part) (b : Part) (parts : List Part) (k : ℕ) (p : Part) → is_jump_between f century ps (slice_get (b ∷ parts) k) (Some p) ≡ false
+          → is_jump_between f century ps (earlier (Some b) parts k) (Some p) ≡ false
+      earlier-same before b parts zero p first = first
+      earlier-same before b parts (suc k) p first = first
 
   with-more : (s : Option (Part × Part)) (xs : List Part) → with_sides s xs ≡ with_sides s [] ++ xs
   with-more None xs = refl
   with-more (Some s) xs = refl
 
   -- one more frame
-  pub filled-more : (whole : List Part) (before : Option Part) (k : ℕ) (part : Part) (s : Option (Part × Part)) (list mid new all : List Part)
-      → slice_get whole k ≡ Some part → s ≡ sides_before f century ps before part → mid ≡ list ++ with_sides s [] → new ≡ mid ++ part ∷ []
+  frame-more : (before : Option Part) (b : Part) (next : Option Part) (xs : List Part) → with_frame f century ps before b next xs ≡ with_frame f century ps before b next [] ++ xs
+  frame-more before b next xs =
+      let s = sides_without (is_jump_between f century ps before (Some b)) f century ps before b in
+      let kept = kept_at f century ps before b next in
+      with-more s (kept ∷ xs)
+      ∙ (sym (append_assoc (with_sides s []) (kept ∷ []) xs) ∙ ap (λ l. l ++ xs) (sym (with-more s (kept ∷ []))))
+
+  pub filled-more : (whole : List Part) (before : Option Part) (k : ℕ) (part : Part) (list new all : List Part)
+      → slice_get whole k ≡ Some part → new ≡ list ++ with_frame f century ps before part (slice_get whole (k + 1)) []
       → list ++ filled f century ps before (drop k whole) ≡ all → new ++ filled f century ps (Some part) (drop (k + 1) whole) ≡ all
-  filled-more whole before k part s list mid new all here is puts grows so_far =
+  filled-more whole before k part list new all here grows so_far =
       let rest = filled f century ps (Some part) (drop (k + 1) whole) in
-      let step : filled f century ps before (drop k whole) ≡ with_sides s [] ++ part ∷ rest =
+      let next : slice_get (drop (k + 1) whole) 0 ≡ slice_get whole (k + 1) = first-of whole (k + 1) in
+      let step : filled f century ps before (drop k whole) ≡ with_frame f century ps before part (slice_get whole (k + 1)) [] ++ rest =
       ap (filled f century ps before) (from-at whole k part here)
-      ∙ (ap (λ (o : Option (Part × Part)). with_sides o (part ∷ rest)) (sym is) ∙ with-more s (part ∷ rest)) in
+      ∙ (ap (λ o. with_frame f century ps before part o rest) next ∙ frame-more before part (slice_get whole (k + 1)) rest) in
       ap (λ l. l ++ rest) grows
-      ∙ (ap (λ l. (l ++ part ∷ []) ++ rest) puts
-      ∙ (append_assoc (list ++ with_sides s []) (part ∷ []) rest
-      ∙ (append_assoc list (with_sides s []) (part ∷ rest)
-      ∙ (ap (λ l. list ++ l) (sym step) ∙ so_far))))
+      ∙ (append_assoc list (with_frame f century ps before part (slice_get whole (k + 1)) []) rest
+      ∙ (ap (λ l. list ++ l) (sym step) ∙ so_far))

@@ -1,5 +1,5 @@
 -- A moment that has a time by a frame that is believed has it by the parts.
-use Rattle.std.proofs.Common.{◌≡◌, ◌⊎◌, inl, inr, ◌<◌, ◌≤◌, ◌+◌, ◌-◌, ◌*◌, ℕ, Bool, true, List, Some, length, slice_get, refl, sym, ap, ◌∙◌, subst, arith}
+use Rattle.std.proofs.Common.{◌≡◌, ◌⊎◌, inl, inr, ◌<◌, ◌≤◌, ◌+◌, ◌-◌, ◌*◌, ℕ, Bool, true, List, Option, Some, None, false, suc, zero, length, slice_get, refl, sym, ap, ◌∙◌, subst, arith}
 use Rattle.std.specs.Prelude.{is_some}
 use Rattle.std.proofs.lemmas.{Bool.cases_lt}
 use Rattle.irig_track.specs.Track.{IsTrack}
@@ -9,9 +9,10 @@ use Rattle.irig_codes.specs.{Format.FormatView, Format.has_year, Format.interval
 use Rattle.irig_recording.specs.declared.pulse.Pulse.{Pulse}
 use Rattle.irig_index.specs.{Frames.frames}
 use Rattle.irig_times.specs.{Counted.timed_parts, Elements.IntervalEnds, Elements.NextRises, Elements.share, Held.IsHeldElement}
-use Rattle.irig_times.specs.{Parts.GoesOn, Parts.IsPoint, Parts.plus, PartLaws.HeldGoesOn, PartLaws.KeepsTimes, PartLaws.TimedPartsAreParts, Support.believed, Times.minute_micros, Times.time_in, Whole.whole}
+use Rattle.irig_times.specs.{Parts.GoesOn, Parts.IsPoint, Parts.plus, PartLaws.HeldGoesOn, PartLaws.IsSteady, PartLaws.KeepsTimes, PartLaws.TimedPartsAreParts, Support.believed, Times.minute_micros, Times.time_in, Whole.whole, Whole.whole_parts}
+use Rattle.irig_times.specs.{Jumps.is_jump_between, declared.part.Part.Part}
 use Rattle.irig_times.specs.declared.time.Time.{Time}
-use Rattle.irig_times.proofs.{Filling.filled-are, Filling.filled-stays, WholeFrames.whole-are, WholeFrames.whole-there}
+use Rattle.irig_times.proofs.{Filling.earlier, Filling.filled-are, Filling.filled-stays, WholeFrames.whole-are, WholeFrames.whole-there}
 
 pub timed_parts_are : TimedPartsAreParts
 timed_parts_are f alone century ps = filled-are f century ps _ (whole-are f ps (believed f alone ps))
@@ -22,15 +23,37 @@ plus-none g n =
     λ i. record { year = g.year; days = g.days; hours = g.hours; minutes = g.minutes; micros = e i }
 
 module _ (f : FormatView) (alone : Bool) (century : ℕ) (ps : List Pulse) where
-  -- each element of a frame that is believed has its time
-  held-point : (number element : ℕ) (g : Fields) → IsHeldElement f (frames f ps) (believed f alone ps) number element g
-      → IsPoint (timed_parts f alone century ps) number element (time_in g 0)
-  held-point number element g (is, on) =
+  -- the time does not jump between a frame and the one before it, if it is steady
+  steady-before : (i : ℕ) (p : Part) → slice_get (whole_parts f alone ps) i ≡ Some p → IsSteady f alone century ps p.number
+      → is_jump_between f century ps (earlier f century ps None (whole_parts f alone ps) i) (Some p) ≡ false
+  steady-before zero p here steady = refl
+  steady-before (suc k) p here steady = by (slice_get (whole_parts f alone ps) k) refl
+    where
+      by : (o : Option Part) → slice_get (whole_parts f alone ps) k ≡ o → is_jump_between f century ps o (Some p) ≡ false
+      by None e = refl
+      by (Some a) e =
+          let next : k + 1 ≡ suc k = omega arith in
+          steady k a p e (ap (slice_get (whole_parts f alone ps)) next ∙ here) (inr refl)
+
+  -- nor between it and the next one
+  steady-after : (i : ℕ) (p : Part) → slice_get (whole_parts f alone ps) i ≡ Some p → IsSteady f alone century ps p.number
+      → is_jump_between f century ps (Some p) (slice_get (whole_parts f alone ps) (i + 1)) ≡ false
+  steady-after i p here steady = by (slice_get (whole_parts f alone ps) (i + 1)) refl
+    where
+      by : (o : Option Part) → slice_get (whole_parts f alone ps) (i + 1) ≡ o → is_jump_between f century ps (Some p) o ≡ false
+      by None e = refl
+      by (Some b) e = steady i p b here e (inl refl)
+
+  -- each element of a frame that is believed has its time, if the time does not jump next to it
+  held-point : (number element : ℕ) (g : Fields) → (is : IsHeldElement f (frames f ps) (believed f alone ps) number element g)
+      → IsSteady f alone century ps is.0.one.marker → IsPoint (timed_parts f alone century ps) number element (time_in g 0)
+  held-point number element g (is, on) steady =
       let there = whole-there f (frames f ps) (believed f alone ps) is.at is.one g is.there on is.tells in
-      let stays = filled-stays f century ps _ _ there.0 (whole is.one.marker true g) there.1 in
+      let p = whole is.one.marker true g in
+      let stays = filled-stays f century ps None (whole_parts f alone ps) there.0 p there.1 (steady-before there.0 p there.1 steady) (steady-after there.0 p there.1 steady) in
       record {
         at = stays.0;
-        one = whole is.one.marker true g;
+        one = p;
         there = stays.1;
         from = omega (arith, is.place);
         few = omega (arith, is.place, is.few);
@@ -44,19 +67,28 @@ module _ (f : FormatView) (alone : Bool) (century : ℕ) (ps : List Pulse) where
   held-next number element g lt (is, on) =
       (record { at = is.at; one = is.one; there = is.there; tells = is.tells; place = omega (arith, is.place); few = omega (arith, lt) }, on)
 
-  held-goes-on : (number element : ℕ) (g : Fields) → IsHeldElement f (frames f ps) (believed f alone ps) number element g
-      → HeldGoesOn f century ps (believed f alone ps) number element g → GoesOn f century (timed_parts f alone century ps) number element (time_in g 0)
-  held-goes-on number element g is h = elim (cases_lt element 99) [
-    | inl less ↦ inl (held-point (number + 1) (element + 1) g (held-next number element g less is))
+  held-goes-on : (number element : ℕ) (g : Fields) → (is : IsHeldElement f (frames f ps) (believed f alone ps) number element g)
+      → IsSteady f alone century ps is.0.one.marker
+      → HeldGoesOn f alone century ps number element g → GoesOn f century (timed_parts f alone century ps) number element (time_in g 0)
+  unfolding held-next
+  held-goes-on number element g is steady h = elim (cases_lt element 99) [
+    | inl less ↦ inl (held-point (number + 1) (element + 1) g (held-next number element g less is) steady)
     | inr most ↦ last most h
   ]
     where
-      last : 99 ≤ element → HeldGoesOn f century ps (believed f alone ps) number element g → GoesOn f century (timed_parts f alone century ps) number element (time_in g 0)
+      last : 99 ≤ element → HeldGoesOn f alone century ps number element g → GoesOn f century (timed_parts f alone century ps) number element (time_in g 0)
       last most (inl less) = absurd (omega (arith, less, most))
-      last most (inr next) = inr (omega (arith, most, is.0.few), time_in next.0 0, held-point (number + 1) 0 next.0 next.1, next.2)
+      last most (inr next) =
+          let marker : number + 1 ≡ next.1.0.one.marker = omega (arith, next.1.0.place) in
+          inr (
+            omega (arith, most, is.0.few),
+            time_in next.0 0,
+            held-point (number + 1) 0 next.0 next.1 (subst (IsSteady f alone century ps) marker next.3),
+            next.2,
+          )
 
   -- the interval ends at the next rise
-  next-rises : (number element : ℕ) (g : Fields) (from to : ℕ) → HeldGoesOn f century ps (believed f alone ps) number element g
+  next-rises : (number element : ℕ) (g : Fields) (from to : ℕ) → HeldGoesOn f alone century ps number element g
       → IntervalEnds f century ps number element g from to → NextRises ps number to
   next-rises number element g from to h (inl a) = a.1
   next-rises number element g from to h (inr (inl a)) = a.1.1
@@ -64,7 +96,7 @@ module _ (f : FormatView) (alone : Bool) (century : ℕ) (ps : List Pulse) where
   next-rises number element g from to (inr next) (inr (inr a)) = absurd (a.1.0 (record { next = next.0; begins = next.1.0; later = next.2 }))
 
 pub keeps_times : KeepsTimes
-keeps_times f alone century ps d n x a h =
+keeps_times f alone century ps d n x a steady h =
     let t = a.told in
     let held : IsHeldElement f (frames f ps) (believed f alone ps) t.number t.element t.fields = (t.is_element, a.is_held) in
     let next = next-rises f alone century ps t.number t.element t.fields t.point.rise t.to h t.ends in
@@ -77,8 +109,8 @@ keeps_times f alone century ps d n x a h =
       last = t.last;
       stands = t.stands;
       stands_next = next.stands;
-      is_point = held-point f alone century ps t.number t.element t.fields held;
-      goes_on = held-goes-on f alone century ps t.number t.element t.fields held h;
+      is_point = held-point f alone century ps t.number t.element t.fields held steady;
+      goes_on = held-goes-on f alone century ps t.number t.element t.fields held steady h;
       is = t.is ∙ (plus-none t.fields _ ∙ ap (λ k. plus (time_in t.fields 0) (t.element * interval_of f.kind
           + share (interval_of f.kind) (n - d * t.point.rise) (d * (k - t.point.rise)))) next.is);
     }

@@ -8,14 +8,14 @@ use Rattle.irig_codes.specs.{Format.FormatView, Format.frame_period_of, declared
 use Rattle.irig_recording.specs.declared.pulse.Pulse.{Pulse}
 use Rattle.irig_index.specs.{Frames.frames, declared.record.Record.Record}
 use Rattle.irig_times.specs.{declared.missing.Missing.Missing, declared.part.Part.Part, declared.time.Time.Time}
-use Rattle.irig_times.specs.{Follows.is_later, Parts.IsFrameTime, Parts.is_empty, Support.believed, Times.timed}
+use Rattle.irig_times.specs.{Follows.is_later, Parts.IsFrameTime, Parts.IsPart, Parts.is_empty, Support.believed, Times.timed}
 use Rattle.irig_times.specs.Between.{between, gap, head_of, kept, sides, sides_of, tail_of}
-use Rattle.irig_times.specs.Counted.{filled, sides_before, with_sides}
+use Rattle.irig_times.specs.{Counted.filled, Counted.kept_at, Counted.sides_before, Counted.sides_without, Counted.with_sides, Jumps.is_jump_between}
 use Rattle.irig_times.specs.Ends.{after_last, alone, before_first, end_after, is_borne_out}
 use Rattle.irig_times.specs.Origins.{CountedBack, CountedOn, InFrame, IsBelieved, TimesAreCounted}
 use Rattle.irig_times.specs.Steps.{ahead, behind, is_in_step_at}
 use Rattle.irig_times.specs.Whole.{whole, whole_in, with_part}
-use Rattle.irig_times.proofs.Filling.{ahead-few, behind-few, cond-holds, kept-few}
+use Rattle.irig_times.proofs.Filling.{Cut, ahead-few, behind-few, cond-holds, kept-cut, kept-few}
 use Rattle.irig_times.proofs.NextTimes.{before-later, missing-by-later, next-later}
 use Rattle.irig_times.proofs.{PartPlaces.part-of, WholeFrames.whole-are}
 
@@ -236,13 +236,32 @@ module _ (f : FormatView) (alone_frames : Bool) (century : ℕ) (ps : List Pulse
   one-there b rest h all zero p here = subst EachCounted (same_Some b p here) h
   one-there b rest h all (suc k) p here = all k p here
 
+  -- each pulse of a part of a frame
+  cut-counted : (b q : Part) → Cut f b q → EachCounted b → EachCounted q
+  cut-counted b q cut h skip lt =
+      let more = q.number - b.number in
+      let it = h (more + skip) (omega (arith, lt, cut.low, cut.high)) in
+      let here : b.number + (more + skip) ≡ q.number + skip = omega (arith, cut.low) in
+      let there : b.element + (more + skip) ≡ q.element + skip = omega (arith, cut.low, cut.place) in
+      subst (λ t. Counted (q.number + skip) (q.element + skip) t) (sym cut.same)
+      (subst (λ e. Counted (q.number + skip) e b.time) there (subst (λ n. Counted n (b.element + (more + skip)) b.time) here it))
+
+  without-counted : (jumps : Bool) (before : Option Part) (b : Part) → IfSome before IsSeen → IsSeen b
+      → IfSome (sides_without jumps f century ps before b) BothCounted
+  without-counted true before b ha hb = tt
+  without-counted false before b ha hb = before-counted before b ha hb
+
   filled-counted : (before : Option Part) (parts : List Part) → IfSome before IsSeen → ((k : ℕ) (p : Part) → slice_get parts k ≡ Some p → IsSeen p)
+      → ((k : ℕ) (p : Part) → slice_get parts k ≡ Some p → IsPart f p)
       → AllCounted (filled f century ps before parts)
-  filled-counted before [] h all = with-counted (end_after f ps before) [] (after-counted before h) none-there
-  filled-counted before (b ∷ parts) h all =
+  filled-counted before [] h all are = with-counted (end_after f ps before) [] (after-counted before h) none-there
+  filled-counted before (b ∷ parts) h all are =
       let hb = all 0 b refl in
-      with-counted (sides_before f century ps before b) (b ∷ filled f century ps (Some b) parts) (before-counted before b h hb)
-      (one-there b (filled f century ps (Some b) parts) (seen-counted b hb) (filled-counted (Some b) parts hb (λ k p here. all (suc k) p here)))
+      let kept = kept_at f century ps before b (slice_get parts 0) in
+      with-counted (sides_without (is_jump_between f century ps before (Some b)) f century ps before b) (kept ∷ filled f century ps (Some b) parts)
+      (without-counted (is_jump_between f century ps before (Some b)) before b h hb)
+      (one-there kept (filled f century ps (Some b) parts) (cut-counted b kept (kept-cut f century ps before b (slice_get parts 0) (are 0 b refl)) (seen-counted b hb))
+      (filled-counted (Some b) parts hb (λ k p here. all (suc k) p here) (λ k p here. are (suc k) p here)))
 
 -- a whole part is of a record
 record OfRecord (f : FormatView) (rs : List Record) (held : List Bool) (p : Part) : Type 0 where
@@ -294,7 +313,8 @@ whole-is f alone_frames century ps k p here some =
 pub times_are_counted : TimesAreCounted
 times_are_counted f alone_frames century ps number element time is =
     let skip = number - is.one.number in
-    let all = filled-counted f alone_frames century ps None (whole_in f (frames f ps) (believed f alone_frames ps)) tt (whole-is f alone_frames century ps) in
+    let all = filled-counted f alone_frames century ps None (whole_in f (frames f ps) (believed f alone_frames ps)) tt (whole-is f alone_frames century ps)
+    (λ k p here. (part-of f (length ps) 0 _ (whole-are f ps (believed f alone_frames ps)) k p here).2) in
     let it = all is.at is.one is.there skip (omega (arith, is.few, is.from)) in
     let here : is.one.number + skip ≡ number = omega (arith, is.from) in
     let there : is.one.element + skip ≡ element = omega (arith, is.from, is.place) in

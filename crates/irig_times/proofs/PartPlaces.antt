@@ -132,3 +132,12 @@ low f n parts are few j None h = tt
 low f n parts are few j (Some a) h =
     let it = part-of f n 0 parts are h.0 a h.2 in
     (omega (arith, it.2.time.minute), omega (arith, it.1, few))
+
+-- what is known of a part after another
+pub known-next : (f : FormatView) (n : ℕ) (parts : List Part) → AreParts f 0 n parts → n ≤ 2 ^ 22 → (j : ℕ) (q : Part) → slice_get parts j ≡ Some q
+    → (o : Option Part) → o ≡ slice_get parts (j + 1)
+    → IfSome o (λ (b : Part). (b.time.micros < 2 ^ 59) × (b.number < 2 ^ 30) × (q.number + q.count ≤ b.number))
+known-next f n parts are few j q here None e = tt
+known-next f n parts are few j q here (Some b) e =
+    let it = part-of f n 0 parts are (j + 1) b (sym e) in
+    (omega (arith, it.2.time.minute), omega (arith, it.1, few), parts-apart f n 0 parts are j (j + 1) q b here (sym e) (omega arith))

@@ -1,12 +1,14 @@
 -- All pulses of a track that have a time: those of the frames that are believed, and those that are
--- counted from them. Over a frame that has a time and is not believed nothing is counted. This
--- project's own.
-use Rattle.std.specs.Prelude.{ℕ, Bool, if◌then◌else◌, List, [], ◌∷◌, Option, Some, None}
+-- counted from them. Over a frame that has a time and is not believed nothing is counted, nor where
+-- the time jumps. This project's own.
+use Rattle.std.specs.Prelude.{ℕ, Bool, true, false, if◌then◌else◌, List, [], ◌∷◌, Option, Some}
+use Rattle.std.specs.Prelude.{None, slice_get}
 use Rattle.irig_codes.specs.Format.{FormatView}
 use Rattle.irig_recording.specs.declared.pulse.Pulse.{Pulse}
 use Rattle.irig_times.specs.{declared.part.Part.Part, Between.between, Whole.whole_parts}
-use Rattle.irig_times.specs.Ends.{end_after, end_before}
-use Rattle.irig_times.specs.{declared.time.Time.Time, Parts.TellsByParts, Parts.is_empty}
+use Rattle.irig_times.specs.{Ends.end_after, Ends.end_before, Jumps.after_jump, Jumps.before_jump}
+use Rattle.irig_times.specs.{Jumps.is_jump_between, declared.time.Time.Time}
+use Rattle.irig_times.specs.Parts.{TellsByParts, is_empty}
 
 -- two parts more before others, if there are two
 abbrev pub with_sides : Option (Part × Part) → List Part → List Part
@@ -19,11 +21,30 @@ sides_before f century ps None b = end_before f ps b
 sides_before f century ps (Some a) b =
     if is_empty a then None else (if is_empty b then None else between f century ps a b)
 
+-- the same, if the time does not jump there
+abbrev pub sides_without : Bool → FormatView → ℕ → List Pulse → Option Part → Part
+    → Option (Part × Part)
+sides_without true f century ps before b = None
+sides_without false f century ps before b = sides_before f century ps before b
+
+-- of a frame between two others, the pulses that have its time
+abbrev pub kept_at : FormatView → ℕ → List Pulse → Option Part → Part → Option Part → Part
+kept_at f century ps before b next =
+    after_jump f.kind (is_jump_between f century ps before (Some b))
+    (before_jump (is_jump_between f century ps (Some b) next) b)
+
+-- the same, and what is counted before them, before other parts
+abbrev pub with_frame : FormatView → ℕ → List Pulse → Option Part → Part → Option Part → List Part
+    → List Part
+with_frame f century ps before b next parts =
+    with_sides (sides_without (is_jump_between f century ps before (Some b)) f century ps before b)
+    (kept_at f century ps before b next ∷ parts)
+
 -- the parts from a frame on, and what is counted before, between and after them
 abbrev pub filled : FormatView → ℕ → List Pulse → Option Part → List Part → List Part
 filled f century ps before [] = with_sides (end_after f ps before) []
 filled f century ps before (b ∷ parts) =
-    with_sides (sides_before f century ps before b) (b ∷ filled f century ps (Some b) parts)
+    with_frame f century ps before b (slice_get parts 0) (filled f century ps (Some b) parts)
 
 -- all parts of a track that have a time
 abbrev pub timed_parts : FormatView → Bool → ℕ → List Pulse → List Part

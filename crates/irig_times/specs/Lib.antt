@@ -6,6 +6,7 @@ pub mod Ends
 pub mod Follows
 pub mod FrameLooks
 pub mod Held
+pub mod Jumps
 pub mod Laws
 pub mod Origins
 pub mod PartLaws

@@ -1,6 +1,6 @@
 -- What holds of the times by the pulses that have one, in the words of the subject. This project's
 -- own.
-use Rattle.std.specs.Prelude.{◌⊎◌, is_some, Bool, true, ◌≡◌, ◌↔◌, ℕ, ◌+◌, ◌-◌, ◌*◌, ◌/◌, ◌<◌, ◌≤◌, List, length, slice_get, Some}
+use Rattle.std.specs.Prelude.{◌⊎◌, is_some, Bool, true, false, ◌≡◌, ◌↔◌, ℕ, ◌+◌, ◌-◌, ◌*◌, ◌/◌, ◌<◌, ◌≤◌, List, length, slice_get, Some}
 use Rattle.irig_codes.specs.Format.{FormatView, frame_period_of, has_year, interval_of}
 use Rattle.irig_codes.specs.declared.fields.Fields.{Fields}
 use Rattle.irig_index.specs.Frames.{frames}
@@ -8,7 +8,7 @@ use Rattle.irig_recording.specs.declared.pulse.Pulse.{Pulse}
 use Rattle.irig_track.specs.Track.{IsTrack}
 use Rattle.irig_times.specs.{Chains.IsAfter, Laws.IsOfCalendar, Laws.NotBefore, declared.part.Part.Part, declared.time.Time.Time}
 use Rattle.irig_times.specs.{Counted.timed_parts, Follows.is_later, Held.HasTime, Held.IsHeldElement}
-use Rattle.irig_times.specs.{Support.believed, Times.time_in}
+use Rattle.irig_times.specs.{Jumps.is_jump, Support.believed, Times.time_in, Whole.whole_parts}
 use Rattle.irig_times.specs.Parts.{AreParts, GoesOn, IsPoint, TellsByParts, plus}
 
 -- n / d microseconds after the start there is one time at most
@@ -64,19 +64,30 @@ abbrev pub TimedPartsAreParts : Type 0
 TimedPartsAreParts = (f : FormatView) (alone : Bool) (century : ℕ) (ps : List Pulse)
     → AreParts f 0 (length ps) (timed_parts f alone century ps)
 
+-- the time does not jump next to the frame with this marker: neither between the frame with a time
+-- before it and this one, nor between this one and the next
+abbrev pub IsSteady : FormatView → Bool → ℕ → List Pulse → ℕ → Type 0
+IsSteady f alone century ps marker = (k : ℕ) (a b : Part)
+    → slice_get (whole_parts f alone ps) k ≡ Some a
+    → slice_get (whole_parts f alone ps) (k + 1) ≡ Some b
+    → (a.number ≡ marker) ⊎ (b.number ≡ marker) → is_jump f century ps a b ≡ false
+
 -- the time of an element of a frame that is believed goes on there, or in the next frame that is
-abbrev pub HeldGoesOn : FormatView → ℕ → List Pulse → List Bool → ℕ → ℕ → Fields → Type 0
-HeldGoesOn f century ps held number element g =
+abbrev pub HeldGoesOn : FormatView → Bool → ℕ → List Pulse → ℕ → ℕ → Fields → Type 0
+HeldGoesOn f alone century ps number element g =
     (element < 99)
-    ⊎ ((next : Fields) × IsHeldElement f (frames f ps) held (number + 1) 0 next
-    × (is_later century (frame_period_of f.kind) (time_in g 0) (time_in next 0) ≡ true))
+    ⊎ ((next : Fields) × IsHeldElement f (frames f ps) (believed f alone ps) (number + 1) 0 next
+    × (is_later century (frame_period_of f.kind) (time_in g 0) (time_in next 0) ≡ true)
+    × IsSteady f alone century ps (number + 1))
 
 -- a moment that has a time by a frame that is believed has the same time by the parts, but for the
--- last element of a frame that no other one that is believed follows
+-- last element of a frame that no other one that is believed follows, and for frames next to which
+-- the time jumps
 abbrev pub KeepsTimes : Type 0
 KeepsTimes = (f : FormatView) (alone : Bool) (century : ℕ) (ps : List Pulse) (d n : ℕ) (x : Time)
     → (a : HasTime f century ps (believed f alone ps) d n x)
-    → HeldGoesOn f century ps (believed f alone ps) a.told.number a.told.element a.told.fields
+    → IsSteady f alone century ps a.told.is_element.one.marker
+    → HeldGoesOn f alone century ps a.told.number a.told.element a.told.fields
     → TellsByParts f century ps (timed_parts f alone century ps) d n x
 
 -- where each pulse between two moments has a time that goes on, the time never falls: it is later by

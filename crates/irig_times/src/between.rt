@@ -41,7 +41,7 @@ pub fn tail_of(part: &Part, count: usize, time: Time) -> Part
 }
 
 /// How many pulses are between two parts.
-fn gap(from: &Part, to: &Part) -> usize
+pub fn gap(from: &Part, to: &Part) -> usize
     requires order { from.now.number + from.now.count ≤ to.now.number }
     requires small { to.now.number < 2 ^ 32 }
     ensures { result ≡ gap from.now to.now }

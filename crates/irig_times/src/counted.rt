@@ -2,12 +2,15 @@
 
 ghost use Rattle.std.specs.Prelude.{[], ◌≡◌, ◌≤◌, ◌<◌, ◌++◌, ◌∷◌, IfOk, None, OnOk, Some, length};
 ghost use Rattle.irig_index.specs.Frames.{frames};
-ghost use Rattle.irig_times.specs.Counted.{filled, timed_parts, with_sides};
+ghost use Rattle.std.specs.Prelude.{IfSome, ◌^◌, ◌+◌, slice_get};
+ghost use Rattle.irig_times.specs.Counted.{filled, sides_without, timed_parts, with_frame};
+ghost use Rattle.irig_times.specs.Counted.{with_sides};
 ghost use Rattle.irig_times.specs.Parts.{AreParts};
 
 use crate::between::sides_before;
 use crate::ends::end_after;
 use crate::frame_lens::FrameLens;
+use crate::jumps::{after_jump, before_jump, is_jump_between};
 use crate::part::Part;
 use crate::support::held_frames;
 use crate::whole::whole_parts;
@@ -59,14 +62,77 @@ fn counted_parts(
     let mut before = None;
     for place in 0..whole.len() {
         let part = whole[place];
-        let sides = sides_before(pulses, format, century, before, &part);
-        put_sides(&mut list, sides)?;
-        list.push(part)?;
+        let next = part_at(whole, place + 1);
+        put_frame(&mut list, pulses, format, century, before, part, next)?;
         before = Some(part);
     }
     let sides = end_after(pulses, format, before);
     put_sides(&mut list, sides)?;
     Ok(list)
+}
+
+/// The part at a place, if there is one.
+fn part_at(parts: &[Part], place: usize) -> Option<Part>
+    ensures { result ≡ slice_get parts.now place }
+{
+    if place < parts.len() {
+        Some(parts[place])
+    } else {
+        None
+    }
+}
+
+/// Adds what is known of a frame to a list, and what is counted before it.
+fn put_frame(
+    list: &mut Vec<Part>,
+    pulses: &mut Lens<'_>,
+    format: Format,
+    century: u32,
+    before: Option<Part>,
+    part: Part,
+    next: Option<Part>,
+) -> Result<(), AllocError>
+    requires century { century ≤ 99 }
+    requires before { IfSome before (λ a. (a.time.micros < 2 ^ 59)
+        × (a.number + a.count ≤ part.number)) }
+    requires part { (part.time.micros < 2 ^ 59) × (part.number < 2 ^ 30)
+        × (part.element < 2 ^ 30) }
+    requires next { IfSome next (λ b. (b.time.micros < 2 ^ 59) × (b.number < 2 ^ 30)
+        × (part.number + part.count ≤ b.number)) }
+    ensures parts { OnOk result (list.new.items ≡ list.old.items
+        ++ with_frame format century pulses.old.track.pulses before part next []) }
+    ensures pulses { pulses.new.track ≡ pulses.old.track }
+{
+    let follows_jump = is_jump_between(pulses, format, century, before, Some(part));
+    let sides = sides_without(pulses, format, century, follows_jump, before, &part);
+    let ends_in_jump = is_jump_between(pulses, format, century, Some(part), next);
+    put_sides(list, sides)?;
+    list.push(after_jump(format, follows_jump, before_jump(ends_in_jump, part)))?;
+    Ok(())
+}
+
+/// What is counted before a frame, if the time does not jump there.
+fn sides_without(
+    pulses: &mut Lens<'_>,
+    format: Format,
+    century: u32,
+    jumps: bool,
+    before: Option<Part>,
+    part: &Part,
+) -> Option<(Part, Part)>
+    requires century { century ≤ 99 }
+    requires before { IfSome before (λ a. (a.time.micros < 2 ^ 59)
+        × (a.number + a.count ≤ part.now.number)) }
+    requires part { (part.now.time.micros < 2 ^ 59) × (part.now.number < 2 ^ 30) }
+    ensures sides { result
+        ≡ sides_without jumps format century pulses.old.track.pulses before part.now }
+    ensures pulses { pulses.new.track ≡ pulses.old.track }
+{
+    if jumps {
+        None
+    } else {
+        sides_before(pulses, format, century, before, part)
+    }
 }
 
 /// Adds two parts to a list, if there are two.

@@ -41,7 +41,7 @@ fn part(there: bool, value: u32) -> Option<u32>
 }
 
 /// How many elements carry the day, the hour, the minute and the second.
-fn time_elements(format: Format) -> usize
+pub fn time_elements(format: Format) -> usize
     ensures { result ≡ time_elements format.kind }
 {
     match format.kind() {

@@ -7,6 +7,7 @@ mod counted;
 mod ends;
 mod follows;
 mod frame_lens;
+mod jumps;
 mod law;
 mod missing;
 mod part;

@@ -1,34 +1,43 @@
-use Rattle.std.proofs.Common.{length, get_or, ap, ◌∙◌, arith}
+use Rattle.std.proofs.Common.{[], ◌++◌, length, get_or, ◌∙◌, arith}
 use Rattle.std.proofs.lemmas.Option.{slice_get-get_or}
-use Rattle.irig_times.specs.Counted.{sides_before}
-use Rattle.irig_times.proofs.{Filling.filled-more, PartPlaces.known, PartPlaces.low}
+use Rattle.irig_times.specs.Counted.{with_frame}
+use Rattle.irig_times.proofs.{Filling.filled-more, PartPlaces.known, PartPlaces.known-next, PartPlaces.low}
 use Rattle.irig_times.proofs.PartPlaces.{none-part, part-of}
 use Rattle.irig_times.proofs.counted.counted_parts.Goals as goal
 
-pub sides_before-sides-requires-clause-from : goal.sides_before-sides-requires-clause-from
-sides_before-sides-requires-clause-from c =
+pub put_frame-requires-clause-before : goal.put_frame-requires-clause-before
+put_frame-requires-clause-before c =
     let whole = c.args.whole.now in
     let n = length c.args.pulses.now.track.pulses in
     let here = slice_get-get_or whole c.loop-place.place none-part c.loop-place-test.true in
     known c.args.format n whole c.requires.whole c.loop-place.place _ here c.loop-place.before c.loop-place.invariant.before
 
-pub sides_before-sides-requires-clause-to : goal.sides_before-sides-requires-clause-to
-sides_before-sides-requires-clause-to c =
+pub put_frame-requires-clause-part : goal.put_frame-requires-clause-part
+put_frame-requires-clause-part c =
     let here = slice_get-get_or c.args.whole.now c.loop-place.place none-part c.loop-place-test.true in
     let it = part-of c.args.format _ 0 c.args.whole.now c.requires.whole c.loop-place.place _ here in
-    (omega (arith, it.2.time.minute), omega (arith, it.1, c.len-count.ensures.track.few))
+    (omega (arith, it.2.time.minute), omega (arith, it.1, c.len-count.ensures.track.few), omega (arith, it.2.few))
+
+pub put_frame-requires-clause-next : goal.put_frame-requires-clause-next
+put_frame-requires-clause-next c =
+    let whole = c.args.whole.now in
+    let here = slice_get-get_or whole c.loop-place.place none-part c.loop-place-test.true in
+    known-next c.args.format (length c.args.pulses.now.track.pulses) whole c.requires.whole c.len-count.ensures.track.few c.loop-place.place _ here c.part_at-next.result
+    c.part_at-next.ensures
 
 pub loop-place-preserved : goal.loop-place-preserved
 loop-place-preserved c =
     let before = c.loop-place.invariant in
     let here = slice_get-get_or c.args.whole.now c.loop-place.place none-part c.loop-place-test.true in
     record {
-      track = c.sides_before-sides.ensures.pulses ∙ before.track;
+      track = c.in_ok-put_frame.ensures.pulses ∙ before.track;
       before = (c.loop-place.place, omega arith, here);
       left = filled-more c.args.format c.args.century c.args.pulses.now.track.pulses c.args.whole.now c.loop-place.before c.loop-place.place _
-          c.sides_before-sides.result c.loop-place.list.items _ _ _ here
-          (c.sides_before-sides.ensures.sides ∙ ap (λ t. sides_before c.args.format c.args.century t.pulses c.loop-place.before (get_or c.args.whole.now c.loop-place.place none-part)) before.track)
-          c.in_ok-put_sides.ensures c.in_ok-push.ensures.items before.left;
+          c.loop-place.list.items _ _ here
+          (c.in_ok-put_frame.ensures.parts
+          ∙ λ i. c.loop-place.list.items ++ with_frame c.args.format c.args.century (before.track i).pulses c.loop-place.before
+          (get_or c.args.whole.now c.loop-place.place none-part) (c.part_at-next.ensures i) [])
+          before.left;
     }
 
 pub end_after-sides-requires : goal.end_after-sides-requires

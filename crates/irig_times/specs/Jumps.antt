@@ -1,0 +1,53 @@
+-- Where the time jumps between two frames though all pulses from the one to the other are in step: a
+-- clock was set, or a recorder lost whole frames. Nobody knows at which element. This project's own.
+use Rattle.std.specs.Prelude.{ℕ, ◌+◌, ◌-◌, ◌/◌, ◌%◌, ◌==◌, Bool, false, true, not, is_some, min}
+use Rattle.std.specs.Prelude.{if◌then◌else◌, List, Option, Some, None}
+use Rattle.irig_codes.specs.Format.{FormatView, frame_period_of}
+use Rattle.irig_codes.specs.declared.format.Kind.{Kind}
+use Rattle.irig_recording.specs.declared.pulse.Pulse.{Pulse}
+use Rattle.irig_times.specs.{declared.part.Part.Part, Between.gap, Between.missing_in}
+use Rattle.irig_times.specs.{Ends.time_elements, Follows.is_later, Parts.is_empty, Steps.ahead}
+
+-- each pulse after a frame, up to the first one of another, is in step with the one before it
+abbrev pub are_joined : FormatView → List Pulse → Part → Part → Bool
+are_joined f ps a b = ahead f ps (a.number + a.count) (gap a b + 1) == gap a b + 1
+
+-- the second time is as many periods after the first as there are hundreds of pulses
+abbrev pub runs_on : FormatView → ℕ → Part → Part → Bool
+runs_on f century a b =
+    if gap a b == 0 then is_later century (frame_period_of f.kind) a.time b.time
+    else is_some (missing_in century (frame_period_of f.kind) (gap a b / 100 + 1) a.time b.time)
+
+-- the time jumps between two frames that are believed
+abbrev pub is_jump : FormatView → ℕ → List Pulse → Part → Part → Bool
+is_jump f century ps a b =
+    if is_empty a then false
+    else (if is_empty b then false
+    else (if runs_on f century a b then false
+    else (if gap a b % 100 == 0 then are_joined f ps a b else false)))
+
+-- the same, if both are there
+abbrev pub is_jump_between : FormatView → ℕ → List Pulse → Option Part → Option Part → Bool
+is_jump_between f century ps None b = false
+is_jump_between f century ps (Some a) None = false
+is_jump_between f century ps (Some a) (Some b) = is_jump f century ps a b
+
+-- of a frame before a jump the marker alone has its time
+abbrev pub before_jump : Bool → Part → Part
+before_jump false p = p
+before_jump true p = record {
+  number = p.number;
+  element = p.element;
+  count = min p.count 1;
+  time = p.time;
+}
+
+-- of a frame after a jump the pulses after those that carry the day, hour, minute and second
+abbrev pub after_jump : Kind → Bool → Part → Part
+after_jump kind false p = p
+after_jump kind true p = record {
+  number = p.number + min p.count (time_elements kind);
+  element = p.element + min p.count (time_elements kind);
+  count = p.count - min p.count (time_elements kind);
+  time = p.time;
+}
