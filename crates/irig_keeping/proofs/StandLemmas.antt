@@ -1,4 +1,4 @@
--- Frames whose pulses stand, one by one.
+-- Frames whose pulses are there, one by one.
 use Rattle.std.proofs.Common.{◌≡◌, ◌+◌, ◌-◌, ◌<◌, ◌≤◌, ◌++◌, ℕ, zero, suc, Bool, false, List, [], ◌∷◌, Option, Some, None, get_or, map, slice_get}
 use Rattle.std.proofs.Common.{inl, inr, refl, ap, sym, ◌∙◌, subst, arith}
 use Rattle.std.specs.List.{AllByRecursion, flat_map}
@@ -51,7 +51,7 @@ of_all least (x ∷ ys) zero y all here =
     subst (λ (z : Seen). least < z.shown.rise) same all.0
 of_all least (x ∷ ys) (suc k) y all here = of_all least ys k y all.1 here
 
--- frames at the same time stand as each other
+-- frames at the same time are there alike
 pub stand_as : (o : OriginalView) (s : State) (a2 a : Option Shown) (old new : List Seen)
     → StandFrom o s (map (λ y. y.marker) old) a2 a (shown_all old) new → AreRising (shown_all old) → AreRising (shown_all new)
     → (k l : ℕ) (x y : Seen) → slice_get old k ≡ Some x → slice_get new l ≡ Some y → x.shown.rise ≡ y.shown.rise

@@ -28,8 +28,8 @@ pub record IsFollowedStill (f : FormatView) (century : ℕ) (old new : List Puls
   pub after : IsFollowed f century (frames f new) (marker + 99) g
   pub rise : rise_in new marker 100 ≡ rise_in old number 1
 
--- the frame around a moment of a recording tells a time. The recording is repaired, the result is
--- safe, no frame may move, and the frame is still there. Then it tells the same time after the repair;
+-- a moment of a recording has a time by the frame around it. The recording is repaired, the result is
+-- safe, no frame may move, and the frame is still there. Then it has the same time after the repair;
 -- in the last element of the frame, if the frame that follows it is still there too
 abbrev pub ToldTimesStay : Type 0
 ToldTimesStay = (old new : State) → IsTrack old.micros old.pulses → IsTrack new.micros new.pulses

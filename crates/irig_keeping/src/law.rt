@@ -5,7 +5,7 @@ ghost use Rattle.irig_keeping.specs.Kept.{CountedTimesStay, TimesStay, ToldTimes
 use irig_guarding::safe_states_are_kept_or_borne_out;
 use irig_times::times_are_exact;
 
-/// Does nothing. Its contract: a frame of a recording tells the same times after a safe repair, if it is
+/// Does nothing. Its contract: a frame of a recording gives the same times after a safe repair, if it is
 /// still there; so moments keep their times if it is still believed, and by counting.
 pub fn kept_frames_keep_their_times()
     ensures told { ToldTimesStay }
