@@ -5,5 +5,6 @@ pub mod Blocks
 pub mod Passed
 pub mod PutsAt
 pub mod Replacing
+pub mod Taking
 -- The place that is written, and others.
 pub mod Apart

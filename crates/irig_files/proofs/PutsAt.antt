@@ -6,7 +6,7 @@ use Rattle.std.specs.Str.{bytes_eq}
 use Rattle.irig_text.specs.Shelved.{GrowsBy}
 use Rattle.irig_disk.specs.{Disk.Disk, Disk.IsPlace, Held.Held, Put.IsKept, Put.TriesOne, Trail.Moved, Trail.NotMoved, Trail.Synced}
 use Rattle.irig_files.specs.Puts.{with_text, texts_of, texts_at, writes_on}
-use Rattle.irig_files.specs.{Once.FailsToPut, Once.PutsOnce, Writes.Write, Writes.write, Writes.writes_in, Going.writes_more}
+use Rattle.irig_files.specs.{Once.FailsToPut, Once.PutsOnce, Once.PutsText, Taken.mode_at, Writes.Write, Writes.write, Writes.writes_in, Going.writes_more}
 
 -- a text at the end of others, whose first is at the path or is not, and was kept or was not
 behind : (here is_kept : Bool) (first text : List ℕ) (xs ys : Option (List (List ℕ))) → ys ≡ option_map (λ ts. ts ++ text ∷ []) xs
@@ -81,11 +81,11 @@ untold (Some place) new more = tt
 
 -- a text written at what the path leads to, or none
 pub texts_at-put : {T E : Type 0} (told : Bool) (old new : Disk) (path text : List ℕ) (result : Result T E)
-    → (IsTrue told → (mode : ℕ) × PutsOnce old new (old.paths path) (record { bytes = text; mode = mode }) result)
+    → (usual : ℕ) → (IsTrue told → PutsText usual old new (old.paths path) text result)
     → GrowsBy (texts_at (old.paths path) (writes_on told old)) (texts_at (new.paths path) (writes_on told new)) (texts_put text result)
-texts_at-put false old new path text result once = untold (old.paths path) _ _
-texts_at-put true old new path text result once =
-    let done = once refl in put_on old new path (record { bytes = text; mode = done.0 }) (old.paths path) result refl done.1
+texts_at-put false old new path text result usual once = untold (old.paths path) _ _
+texts_at-put true old new path text result usual once =
+    put_on old new path (record { bytes = text; mode = mode_at usual old (old.paths path) }) (old.paths path) result refl (once refl)
 
 -- the texts at a place, by a path that leads there still
 pub texts_where : (told : Bool) (old new : Disk) (path path' : List ℕ) → path' ≡ path → (IsTrue told → new.paths ≡ old.paths)

@@ -4,6 +4,7 @@ pub mod Once
 pub mod Paths
 pub mod Puts
 pub mod Reads
+pub mod Taken
 pub mod Tracks
 pub mod Ways
 pub mod Writes

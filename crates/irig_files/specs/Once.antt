@@ -3,6 +3,7 @@ use Rattle.std.specs.Prelude.{◌≡◌, ◌⊎◌, ℕ, List, Option, Some, Non
 use Rattle.irig_disk.specs.Disk.{Disk, IsPlace, LeavesOnly}
 use Rattle.irig_disk.specs.Put.{IsKept, IsPut, OldOrNewIfThere, SeenSameIfThere, TriesOne}
 use Rattle.irig_disk.specs.{Held.Held, Writing.IsUnchanged}
+use Rattle.irig_files.specs.Taken.{mode_at}
 
 -- what a write that does not succeed leaves at its place
 pub record FailsToPut (old new : Disk) (place : List ℕ) (held : Held) : Type 0 where
@@ -22,3 +23,9 @@ pub record Replaces {T E : Type 0} (old new : Disk) (place : List ℕ) (held : H
 abbrev pub PutsOnce : {T E : Type 0} → Disk → Disk → Option (List ℕ) → Held → Result T E → Type 0
 PutsOnce old new None held result = IsUnchanged old new
 PutsOnce old new (Some place) held result = Replaces old new place held result
+
+-- that of a text with the mode of the file that is there, or with the usual one
+abbrev pub PutsText : {T E : Type 0} → ℕ → Disk → Disk → Option (List ℕ) → List ℕ → Result T E
+    → Type 0
+PutsText usual old new target text result =
+    PutsOnce old new target (record { bytes = text; mode = mode_at usual old target }) result

@@ -1,11 +1,11 @@
 //! What the program asks of files.
 
 ghost use Rattle.std.specs.Prelude.{◌≡◌, ◌<◌, ◌≤◌, ◌^◌, Bool, ℕ, List, Option, IfOk, IfSome};
-ghost use Rattle.std.specs.Prelude.{IsErrOf, IsTrue, false, length, true};
+ghost use Rattle.std.specs.Prelude.{IsErr, IsErrOf, IsTrue, false, length, true};
 ghost use Rattle.irig_vcd.specs.Answer.{name_of};
-ghost use Rattle.irig_disk.specs.{Disk.Disk, Disk.MayLeave, Held.Held};
-ghost use Rattle.irig_files.specs.{Once.PutsOnce, Puts.count_of, Reads.IsReadOf};
-ghost use Rattle.irig_files.specs.{Apart.AreApart, Apart.LeadToOneFile};
+ghost use Rattle.irig_disk.specs.{Disk.Disk, Disk.MayLeave, Held.Held, Writing.IsUnchanged};
+ghost use Rattle.irig_files.specs.{Once.PutsText, Puts.count_of, Reads.IsReadOf};
+ghost use Rattle.irig_files.specs.{Apart.AreApart, Apart.LeadToOneFile, Taken.HasFile};
 
 use crate::dump_file::DumpFileFault;
 use crate::intake::Parts;
@@ -26,6 +26,12 @@ pub trait Disk {
     /// What is seen, what a crash may leave, where paths lead, and what was written.
     ghost disk: { Self → Disk };
 
+    /// The mode of a new file where none was.
+    ghost usual_mode: { ℕ };
+
+    /// A file is not replaced: it must not be written.
+    ghost is_barred: { Self → ℕ → Type 0 };
+
     /// Reads the dump in the file at a path, of the wire of a name, or of the one wire of one bit.
     /// At most one more byte than 2^28 is read.
     fn read(
@@ -39,7 +45,7 @@ pub trait Disk {
             → IfSome (held self.now path.now) (λ all. 2 ^ 28 < length all) };
 
     /// Writes a text to the file that a path leads to: a regular one, or none yet, is replaced
-    /// whole. What the room holds before is lost.
+    /// whole, by a file of its mode. One that is barred is not. What the room holds before is lost.
     fn put<T: Text>(
         &mut self,
         path: &str,
@@ -47,9 +53,11 @@ pub trait Disk {
         room: &mut Room,
     ) -> Result<Written, ShelfFault>
         ensures count { IfOk result (λ written. count_of written ≡ length (T.rest text.old)) }
-        ensures put { IsTrue is_told → (mode : ℕ) × PutsOnce (disk self.old) (disk self.new)
+        ensures put { IsTrue is_told → PutsText usual_mode (disk self.old) (disk self.new)
+            ((disk self.old).paths path.now) (T.rest text.old) result }
+        ensures barred { IsTrue is_told → HasFile (is_barred self.old) (disk self.old)
             ((disk self.old).paths path.now)
-            (record { bytes = T.rest text.old; mode = mode }) result };
+            → IsErr result × IsUnchanged (disk self.old) (disk self.new) };
 
     /// Whether two paths lead to one regular file.
     fn is_same(&self, one: &str, other: &str) -> Result<bool, ShelfFault>

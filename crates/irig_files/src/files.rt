@@ -1,6 +1,7 @@
 //! The files of a file system.
 
 ghost use Rattle.std.specs.Prelude.{◌≡◌};
+ghost use Rattle.irig_files.specs.Taken.{IsLocked};
 
 use crate::disk::Disk;
 use crate::dump_file::DumpFileFault;
@@ -43,6 +44,10 @@ impl<C: FileSystem> Disk for Files<C> {
     ghost is_told = { C.is_told };
 
     ghost disk = { λ f. C.disk f.system };
+
+    ghost usual_mode = { C.usual_mode };
+
+    ghost is_barred = { λ f. IsLocked (C.may_write f.system) };
 
     ghost counts_now = { λ f. C.counts_now f.system };
 

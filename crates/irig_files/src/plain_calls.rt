@@ -1,6 +1,7 @@
-//! Single calls on paths, of which no contract says what they give.
+//! Single calls on paths, of which no contract says which bytes they give or take.
 
-ghost use Rattle.std.specs.Prelude.{◌≡◌, None, IsTrue};
+ghost use Rattle.std.specs.Prelude.{◌≡◌, ℕ, None, IfOk, IsTrue, true};
+ghost use Rattle.irig_files.specs.Taken.{HasMode, IsFileAt};
 
 use crate::described::Described;
 use irig_disk::Folder;
@@ -9,11 +10,17 @@ use std::io::Write;
 /// Files by their paths. Each method is one call. What is no regular file holds nothing that a
 /// contract can name.
 pub trait PlainCalls: Folder {
-    /// A regular file, open to be described.
+    /// A file, open to be described.
     type Seen: Drop;
 
     /// What is no regular file, open to be written.
     type Other: Write + Drop;
+
+    /// The number of a file that is open to be described.
+    ghost seen_number: { Self.Seen → ℕ };
+
+    /// A file may be written.
+    ghost may_write: { Self → ℕ → Type 0 };
 
     /// Writes to where the program's answers go.
     fn write_output(&self, bytes: &[u8]) -> Result<(), Self::Fault>;
@@ -23,8 +30,14 @@ pub trait PlainCalls: Folder {
         requires { IsTrue Self.is_told → (Self.disk self.now).paths path.now ≡ None };
 
     /// Opens a file as if to write to it. It fails if it must not be written.
-    fn open_seen(&self, path: &str) -> Result<Self::Seen, Self::Fault>;
+    fn open_seen(&self, path: &str) -> Result<Self::Seen, Self::Fault>
+        ensures there { IsTrue Self.is_told → IfOk result
+            (λ file. IsFileAt (Self.disk self.now) path.now (seen_number file)) }
+        ensures allowed { IsTrue Self.is_told → IfOk result
+            (λ file. may_write self.now (seen_number file)) };
 
     /// What an open file is.
-    fn seen(&self, file: &Self::Seen) -> Result<Described, Self::Fault>;
+    fn seen(&self, file: &Self::Seen) -> Result<Described, Self::Fault>
+        ensures { IsTrue Self.is_told → IfOk result (λ d. d.is_file ≡ true
+            → HasMode (Self.disk self.now) (seen_number file.now) d.mode) };
 }

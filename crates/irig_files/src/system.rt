@@ -1,6 +1,6 @@
 //! The files of the system: each method is one call. Nothing is known of them.
 
-ghost use Rattle.std.specs.Prelude.{None};
+ghost use Rattle.std.specs.Prelude.{None, ⊤};
 ghost use Rattle.std.proofs.Common.{ap};
 
 use crate::described::Described;
@@ -26,6 +26,10 @@ impl<R: Files + Print + AllocGlobal> PlainCalls for SystemFolder<'_, R> {
     type Seen = SystemSeen<R::File>;
 
     type Other = R::File;
+
+    ghost seen_number = { λ _. 0 };
+
+    ghost may_write = { λ _ _. ⊤ };
 
     fn write_output(&self, bytes: &[u8]) -> Result<(), SystemFault> {
         match io::writer(self.runtime()).write_all(bytes) {

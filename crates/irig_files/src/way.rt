@@ -1,4 +1,14 @@
-//! How a text is written to what a path leads to.
+//! How a text is written to what a path leads to: replaced whole, or in place.
+
+ghost use Rattle.std.specs.Prelude.{◌≡◌, ◌≢◌, None, Some, IfOk, IsTrue, MatchOption, false, true};
+ghost use Rattle.std.specs.Path.{path_buf_bytes};
+ghost use Rattle.irig_files.specs.{Taken.IsFree, Taken.MayTake, Ways.IsWay};
+
+use crate::described::Described;
+use crate::file_system::FileSystem;
+use crate::links::follow_links;
+use irig_text::ShelfFault;
+use std::path::PathBuf;
 
 /// How a text is written to what a path leads to.
 #[derive(Drop)]
@@ -9,4 +19,90 @@ pub enum Way {
     Output,
     /// It is no regular file.
     Other,
+}
+
+/// How a text is written to a path. Of a file that is to be replaced, the target gets its path.
+pub fn way_to<C: FileSystem>(
+    system: &C,
+    path: &str,
+    target: &mut PathBuf,
+) -> Result<Way, ShelfFault>
+    ensures { IsTrue C.is_told → IfOk result (IsWay (C.link_at system.now)
+        (C.is_other system.now) (C.may_write system.now) (C.disk system.now) path.now
+        (path_buf_bytes target.new)) }
+{
+    match system.describe(path) {
+        Ok(None) => replaced(system, path, false, target),
+        Ok(Some(old)) => way_over(system, path, old, target),
+        Err(_) => Err(ShelfFault),
+    }
+}
+
+/// How a text is written to a path that leads to what is so described.
+fn way_over<C: FileSystem>(
+    system: &C,
+    path: &str,
+    old: Described,
+    target: &mut PathBuf,
+) -> Result<Way, ShelfFault>
+    requires file { IsTrue C.is_told → old.is_file ≡ true → Some old.id ≢ C.output_id system.now
+        → C.is_other system.now path.now → ⊥ }
+    requires other { IsTrue C.is_told → old.is_file ≡ false
+        → (C.disk system.now).paths path.now ≡ None }
+    requires output { IsTrue C.is_told → Some old.id ≡ C.output_id system.now
+        → (C.disk system.now).paths path.now ≡ None }
+    ensures { IsTrue C.is_told → IfOk result (IsWay (C.link_at system.now)
+        (C.is_other system.now) (C.may_write system.now) (C.disk system.now) path.now
+        (path_buf_bytes target.new)) }
+{
+    match system.output() {
+        Ok(output) if output == Some(old.id) => Ok(Way::Output),
+        Ok(_) if old.is_file => replaced(system, path, true, target),
+        Ok(_) => Ok(Way::Other),
+        Err(_) => Err(ShelfFault),
+    }
+}
+
+/// The regular file that a path leads to, if one is there, is replaced.
+fn replaced<C: FileSystem>(
+    system: &C,
+    path: &str,
+    is_there: bool,
+    target: &mut PathBuf,
+) -> Result<Way, ShelfFault>
+    requires regular { IsTrue C.is_told → C.is_other system.now path.now → ⊥ }
+    requires free { IsTrue C.is_told → is_there ≡ false → IsFree (C.disk system.now) path.now }
+    ensures { IsTrue C.is_told → IfOk result (IsWay (C.link_at system.now)
+        (C.is_other system.now) (C.may_write system.now) (C.disk system.now) path.now
+        (path_buf_bytes target.new)) }
+{
+    let Ok(()) = follow_links(system, path, target) else {
+        return Err(ShelfFault);
+    };
+    match mode_to_take(system, is_there, target.as_str()) {
+        Ok(mode) => Ok(Way::Replaced(mode)),
+        Err(fault) => Err(fault),
+    }
+}
+
+/// The mode of the regular file at the target, which may be written; none if no file is there. A
+/// file that must not be written is not replaced either.
+fn mode_to_take<C: FileSystem>(
+    system: &C,
+    is_there: bool,
+    target: &str,
+) -> Result<Option<u32>, ShelfFault>
+    ensures { IsTrue C.is_told → IfOk result (λ mode. MatchOption mode (is_there ≡ false)
+        (MayTake (C.disk system.now) (C.may_write system.now) target.now)) }
+{
+    if !is_there {
+        return Ok(None);
+    }
+    let Ok(there) = system.open_seen(target) else {
+        return Err(ShelfFault);
+    };
+    match system.seen(&there) {
+        Ok(old) if old.is_file => Ok(Some(old.mode)),
+        _ => Err(ShelfFault),
+    }
 }

@@ -1,5 +1,5 @@
 -- Folders in memory, and where paths lead in them. This project's own.
-use Rattle.std.specs.Prelude.{◌≡◌, ◌++◌, ℕ, zero, suc, nat_eq, List, [], ◌∷◌, Option, Some, None}
+use Rattle.std.specs.Prelude.{◌≡◌, ◌++◌, ◌/◌, ◌%◌, ℕ, zero, suc, nat_eq, List, [], ◌∷◌, Option, Some, None}
 use Rattle.std.specs.Prelude.{cond, option_map, string_bytes}
 use Rattle.std.specs.{Path.path_file_name, Str.bytes_eq}
 use Rattle.irig_disk.specs.Disk.{Disk}
@@ -101,6 +101,10 @@ link_by (Some end) text = text
 -- the text of the link at a path that leads somewhere
 abbrev pub link_at : Layout → (List ℕ → Option Other) → List ℕ → Option (List ℕ)
 link_at w others path = link_by (ends w others path) (text_at w.folders.items others path)
+
+-- the mode lets a file's owner write it
+abbrev pub IsWritable : ℕ → Type 0
+IsWritable mode = mode / 0o200 % 2 ≡ 1
 
 -- what the links from a path lead to: the file there, if there is one
 pub record IsFound (w : Layout) (leads : List ℕ → Option ℕ) (path : List ℕ) (found : Option ℕ)

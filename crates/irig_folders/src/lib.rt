@@ -7,6 +7,7 @@ mod left;
 mod memory;
 mod memory_fault;
 mod memory_system;
+mod seen_file;
 mod tree;
 mod tree_paths;
 mod tree_system;

@@ -1,6 +1,6 @@
 //! The files of one folder in memory, for tests. It is the folder `.`, and has no links.
 
-ghost use Rattle.std.specs.Prelude.{◌≡◌, None};
+ghost use Rattle.std.specs.Prelude.{◌≡◌, None, ⊤};
 ghost use Rattle.std.proofs.Common.{ap};
 ghost use Rattle.irig_folders.specs.Log.{own_place};
 ghost use Rattle.irig_folders.specs.InMemory.{holds_at, no_links};
@@ -8,6 +8,7 @@ ghost use Rattle.irig_folders.specs.InMemory.{holds_at, no_links};
 use crate::left::{bytes_of, mode_of};
 use crate::memory::{Memory, file_at};
 use crate::memory_fault::MemoryFault;
+use crate::seen_file::SeenFile;
 use irig_disk::is_name;
 use irig_files::{Described, DumpFileFault, FileSystem, Parts, PlainCalls, read_whole};
 use irig_vcd::VcdFault;
@@ -31,9 +32,13 @@ impl Write for Nothing {
 }
 
 impl PlainCalls for Memory {
-    type Seen = Described;
+    type Seen = SeenFile;
 
     type Other = Nothing;
+
+    ghost seen_number = { λ file. file.number };
+
+    ghost may_write = { λ _ _. ⊤ };
 
     fn write_output(&self, _: &[u8]) -> Result<(), MemoryFault> {
         Err(MemoryFault::NoSuchName)
@@ -43,15 +48,19 @@ impl PlainCalls for Memory {
         Ok(Nothing)
     }
 
-    fn open_seen(&self, path: &str) -> Result<Described, MemoryFault> {
-        match self.describe(path) {
-            Ok(Some(found)) => Ok(found),
-            _ => Err(MemoryFault::NoSuchName),
+    fn open_seen(&self, path: &str) -> Result<SeenFile, MemoryFault> {
+        match file_at(self.calls(), path.as_bytes()) {
+            Some(number) => Ok(SeenFile { number }),
+            None => Err(MemoryFault::NoSuchName),
         }
     }
 
-    fn seen(&self, file: &Described) -> Result<Described, MemoryFault> {
-        Ok(*file)
+    fn seen(&self, file: &SeenFile) -> Result<Described, MemoryFault> {
+        Ok(Described {
+            is_file: true,
+            mode: mode_of(self.calls(), file.number),
+            id: (0, file.number as u64),
+        })
     }
 }
 

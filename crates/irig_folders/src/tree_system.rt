@@ -1,14 +1,15 @@
 //! The single calls on paths of folders in memory, for tests.
 
-ghost use Rattle.std.specs.Prelude.{◌≡◌, IfOk, None, is_none, option_copied};
+ghost use Rattle.std.specs.Prelude.{◌≡◌, ◌↔◌, IfOk, IsTrue, None, is_none, option_copied};
 ghost use Rattle.std.proofs.Common.{ap};
-ghost use Rattle.irig_folders.specs.Log.{leads_in};
-ghost use Rattle.irig_folders.specs.Tree.{IsOther, link_at, other_in, over};
+ghost use Rattle.irig_folders.specs.Log.{holds_in, leads_in};
+ghost use Rattle.irig_folders.specs.Tree.{IsOther, IsWritable, link_at, other_in, over};
 ghost use Rattle.irig_folders.specs.TreeLaws.{follows_link};
 
 use crate::layout::{front_at, is_regular};
 use crate::left::mode_of;
 use crate::memory_fault::MemoryFault;
+use crate::seen_file::SeenFile;
 use crate::tree::{Plain, Tree, TreeDir};
 use crate::tree_paths::{end_at, find, link_text, path_of};
 use irig_files::{Described, DumpFileFault, FileSystem, Parts, PlainCalls};
@@ -32,9 +33,13 @@ impl Write for Pipe {
 }
 
 impl PlainCalls for Tree {
-    type Seen = Described;
+    type Seen = SeenFile;
 
     type Other = Pipe;
+
+    ghost seen_number = { λ file. file.number };
+
+    ghost may_write = { λ t i. IsWritable (holds_in t.memory.calls.items i).mode };
 
     fn write_output(&self, _: &[u8]) -> Result<(), MemoryFault> {
         Err(MemoryFault::NoSuchName)
@@ -47,27 +52,37 @@ impl PlainCalls for Tree {
         }
     }
 
-    fn open_seen(&self, path: &str) -> Result<Described, MemoryFault> {
+    fn open_seen(&self, path: &str) -> Result<SeenFile, MemoryFault> {
         if self.blind == Some(Plain::OpenSeen) {
             return Err(MemoryFault::Planned);
         }
-        match self.describe(path) {
-            Ok(Some(found)) if found.mode & 0o200 != 0 => Ok(found),
+        match find(self, path) {
+            Ok(Some(number)) if is_writable(mode_of(self.memory.calls(), number)) => {
+                Ok(SeenFile { number })
+            }
             _ => Err(MemoryFault::NoSuchName),
         }
     }
 
-    fn seen(&self, file: &Described) -> Result<Described, MemoryFault> {
+    fn seen(&self, file: &SeenFile) -> Result<Described, MemoryFault> {
         match self.blind {
             Some(Plain::Seen) => Err(MemoryFault::Planned),
-            _ => Ok(*file),
+            _ => Ok(described(self, file.number)),
         }
     }
+}
+
+/// Whether its owner may write a file of this mode.
+fn is_writable(mode: u32) -> bool
+    ensures { IsTrue result ↔ IsWritable mode }
+{
+    mode / 0o200 % 2 == 1
 }
 
 /// What a file is.
 fn described(tree: &Tree, file: usize) -> Described
     ensures file { result.is_file ≡ is_none (other_in tree.now.layout.others.items file) }
+    ensures mode { result.mode ≡ (holds_in tree.now.memory.calls.items file).mode }
     ensures id { result.id ≡ (0, file) }
 {
     Described {
