@@ -8,7 +8,7 @@ use Rattle.irig_script.specs.declared.obey.dump_run.DumpRunFault.{DumpRunFault}
 use Rattle.irig_script.specs.{Obey.Desk.desk_at, Obey.DumpRun.RunsOnDump, Print.Screen.Shown}
 use Rattle.irig_text.specs.Shelved.{shelved}
 use Rattle.irig_settings.specs.{Settings.Reads, declared.chosen.Settings.Settings}
-use Rattle.irig_files.specs.declared.dump_file.DumpFileFault.TheVariants.{TooLong}
+use Rattle.irig_files.specs.declared.dump_file.DumpFileFault.TheVariants.{CannotBeRead, TooLong}
 use Rattle.irig_files.specs.{Puts.texts_at, Writes.Write}
 use Rattle.irig_ed.specs.declared.ending.Ending.TheVariants.{Usage, Unread, Ran}
 use Rattle.irig_ed.specs.{Shortage.IsShortOnly, Statuses.HasStatus, declared.ending.Ending.Ending}
@@ -24,16 +24,19 @@ pub record Ends : Type 0 where
 abbrev pub ends : Shown → Option (List Write) → Option (List ℕ) → Ends
 ends screen writes script = record { screen = screen; writes = writes; script = script }
 
--- what else was given: what files hold, where paths lead, what a crash leaves of what is written
+-- what else was given: what files hold, which cannot be read, where paths lead, what a crash leaves
+-- of what is written
 pub record Files : Type 1 where
   pub held : List ℕ → Option (List ℕ)
+  pub unread : List ℕ → Type 0
   pub paths : List ℕ → Option (List ℕ)
   pub kept : List ℕ → Type 0
 
 -- the files with these
-abbrev pub files : (List ℕ → Option (List ℕ)) → (List ℕ → Option (List ℕ)) → (List ℕ → Type 0)
-    → Files
-files held paths kept = record { held = held; paths = paths; kept = kept }
+abbrev pub files : (List ℕ → Option (List ℕ)) → (List ℕ → Type 0) → (List ℕ → Option (List ℕ))
+    → (List ℕ → Type 0) → Files
+files held unread paths kept =
+    record { held = held; unread = unread; paths = paths; kept = kept }
 
 -- The script ran on the bytes, by the wire and the format of the settings, if its session was not
 -- out of memory; what was written is where their path to write leads, kept through each crash.
@@ -58,6 +61,7 @@ Obeys given old new chosen (Ran path result) =
 Obeys given old new chosen (Unread path fault) =
     (path ≡ chosen.track) × (new ≡ old) × ((to : List ℕ) → given.kept to)
     × (fault ≡ TooLong → IfSome (given.held chosen.track.now) (λ all. 2 ^ 28 < length all))
+    × (fault ≡ CannotBeRead → given.unread chosen.track.now)
 Obeys given old new chosen (Usage fault) = ⊥
 
 -- the settings are those of the words, and they were obeyed; or the words have none

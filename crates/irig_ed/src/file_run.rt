@@ -24,7 +24,7 @@ pub fn obey_words<'a, D: Disk, R: Read, W: Write, N: Witness>(
     screen: &mut Screen<W, N>,
 ) -> Ending<'a>
     ensures { EndsBy (map string_bytes words.entry.now)
-        (files (D.held disk.old) (D.disk disk.old).paths
+        (files (D.held disk.old) (D.unread disk.old) (D.disk disk.old).paths
         (GoesTo D.is_told (D.disk disk.old) (D.disk disk.new)))
         (ends screen.old (writes_on D.is_told (D.disk disk.old)) (R.remaining script.old))
         (ends screen.new (writes_on D.is_told (D.disk disk.new)) (R.remaining script.new)) result }
@@ -44,7 +44,7 @@ fn run_on_track<'a, D: Disk, R: Read, W: Write, N: Witness>(
     script: &mut R,
     screen: &mut Screen<W, N>,
 ) -> Ending<'a>
-    ensures { Obeys (files (D.held disk.old) (D.disk disk.old).paths
+    ensures { Obeys (files (D.held disk.old) (D.unread disk.old) (D.disk disk.old).paths
         (GoesTo D.is_told (D.disk disk.old) (D.disk disk.new)))
         (ends screen.old (writes_on D.is_told (D.disk disk.old)) (R.remaining script.old))
         (ends screen.new (writes_on D.is_told (D.disk disk.new)) (R.remaining script.new))
@@ -65,7 +65,7 @@ fn run_with_room<'a, D: Disk, R: Read, W: Write, N: Witness>(
     script: &mut R,
     screen: &mut Screen<W, N>,
 ) -> Ending<'a>
-    ensures { Obeys (files (D.held disk.old) (D.disk disk.old).paths
+    ensures { Obeys (files (D.held disk.old) (D.unread disk.old) (D.disk disk.old).paths
         (GoesTo D.is_told (D.disk disk.old) (D.disk disk.new)))
         (ends screen.old (writes_on D.is_told (D.disk disk.old)) (R.remaining script.old))
         (ends screen.new (writes_on D.is_told (D.disk disk.new)) (R.remaining script.new))
@@ -94,7 +94,7 @@ fn run_on_read<D: Disk, R: Read, W: Write, N: Witness>(
     requires { HasFewBytes read }
     ensures { (source : List ℕ)
         → Gives parts_of read (dump_parts (option_map (λ w. w.now) chosen.now.wire) source)
-        → RunsBy (files (D.held disk.old) (D.disk disk.old).paths
+        → RunsBy (files (D.held disk.old) (D.unread disk.old) (D.disk disk.old).paths
         (GoesTo D.is_told (D.disk disk.old) (D.disk disk.new)))
         chosen.now source
         (ends screen.old (writes_on D.is_told (D.disk disk.old)) (R.remaining script.old))

@@ -20,6 +20,9 @@ pub trait Disk {
     /// What the file at a path holds, if it is known.
     ghost held: { Self → List ℕ → Option (List ℕ) };
 
+    /// The file at a path cannot be read: a call that reads it fails.
+    ghost unread: { Self → List ℕ → Type 0 };
+
     /// Whether the contracts give the state below.
     ghost is_told: { Bool };
 
@@ -42,7 +45,8 @@ pub trait Disk {
     ) -> Result<Result<Parts, VcdFault>, DumpFileFault>
         ensures read { IfOk result (IsReadOf (held self.now path.now) (name_of wire.entry)) }
         ensures long { IsErrOf result DumpFileFault.TooLong
-            → IfSome (held self.now path.now) (λ all. 2 ^ 28 < length all) };
+            → IfSome (held self.now path.now) (λ all. 2 ^ 28 < length all) }
+        ensures unread { IsErrOf result DumpFileFault.CannotBeRead → unread self.now path.now };
 
     /// Writes a text to the file that a path leads to: a regular one, or none yet, is replaced
     /// whole, by a file of its mode. One that is barred is not. What the room holds before is lost.

@@ -32,6 +32,9 @@ pub trait FileSystem: PlainCalls {
     /// What the file at a path holds, if it is known.
     ghost held: { Self → List ℕ → Option (List ℕ) };
 
+    /// The file at a path cannot be read: a call that reads it fails.
+    ghost unread: { Self → List ℕ → Type 0 };
+
     /// Reads the dump in the file at a path, of the wire of a name, or of the one wire of one bit.
     fn read(
         &self,
@@ -41,7 +44,8 @@ pub trait FileSystem: PlainCalls {
     ) -> Result<Result<Parts, VcdFault>, DumpFileFault>
         ensures read { IfOk result (IsReadOf (held self.now path.now) (name_of wire.entry)) }
         ensures long { IsErrOf result DumpFileFault.TooLong
-            → IfSome (held self.now path.now) (λ all. 2 ^ 28 < length all) };
+            → IfSome (held self.now path.now) (λ all. 2 ^ 28 < length all) }
+        ensures unread { IsErrOf result DumpFileFault.CannotBeRead → unread self.now path.now };
 
     /// What a path leads to; none if nothing is there.
     fn describe(&self, path: &str) -> Result<Option<Described>, Self::Fault>

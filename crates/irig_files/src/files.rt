@@ -41,6 +41,8 @@ impl<C: FileSystem> Files<C> {
 impl<C: FileSystem> Disk for Files<C> {
     ghost held = { λ f. C.held f.system };
 
+    ghost unread = { λ f. C.unread f.system };
+
     ghost is_told = { C.is_told };
 
     ghost disk = { λ f. C.disk f.system };

@@ -71,6 +71,8 @@ impl<R: Files + Print + AllocGlobal> FileSystem for SystemFolder<'_, R> {
 
     ghost held = { λ _ _. None };
 
+    ghost unread = { λ _ _. ⊤ };
+
     ghost follows = { λ _ _ text link. absurd (cc link) };
 
     ghost ids_differ = { λ _ one other same. ap (λ id. id.1) same };

@@ -75,6 +75,8 @@ impl FileSystem for Memory {
 
     ghost held = { λ m path. holds_at m.calls.items path };
 
+    ghost unread = { λ _ _. ⊤ };
+
     ghost follows = { λ _ path text link. no_links path text link };
 
     ghost ids_differ = { λ _ one other same. ap (λ id. id.1) same };

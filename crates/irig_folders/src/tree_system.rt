@@ -1,6 +1,7 @@
 //! The single calls on paths of folders in memory, for tests.
 
 ghost use Rattle.std.specs.Prelude.{◌≡◌, ◌↔◌, IfOk, IsTrue, None, is_none, option_copied};
+ghost use Rattle.std.specs.Prelude.{⊤};
 ghost use Rattle.std.proofs.Common.{ap};
 ghost use Rattle.irig_folders.specs.Log.{holds_in, leads_in};
 ghost use Rattle.irig_folders.specs.Tree.{IsOther, IsWritable, link_at, other_in, over};
@@ -115,6 +116,8 @@ impl FileSystem for Tree {
     ghost link_at = { λ t. link_at t.layout (over t.layout (leads_in t.memory.calls.items)) };
 
     ghost held = { λ _ _. None };
+
+    ghost unread = { λ _ _. ⊤ };
 
     ghost follows = { λ t. follows_link t.layout
         (over t.layout (leads_in t.memory.calls.items)) };

@@ -19,7 +19,7 @@ returns g c = λ source is.
     let same_path = ap (λ (l : List ℕ). drop 1 l) c.run_on_parts.ensures.label ∙ c.new-shelf.ensures.path in
     let kept : GoesTo told (disk c.args.disk.now) (disk new.disk.now) chosen.out.now =
     rw (c.new-shelf.ensures.disk, c.new-shelf.ensures.path) at c.run_on_parts.ensures.since.1 in
-    let done = runs_by (files (g.D.Disk.held c.args.disk.now) (disk c.args.disk.now).paths (GoesTo told (disk c.args.disk.now) (disk new.disk.now)))
+    let done = runs_by (files (g.D.Disk.held c.args.disk.now) (g.D.Disk.unread c.args.disk.now) (disk c.args.disk.now).paths (GoesTo told (disk c.args.disk.now) (disk new.disk.now)))
     chosen source c.args.screen.now c.run_on_parts.new.screen
     (g.R.Read.remaining c.args.script.now) (g.R.Read.remaining c.run_on_parts.new.script)
     (texts_at ((disk old.disk.now).paths old.path.now) (writes_on told (disk old.disk.now)))
