@@ -284,7 +284,7 @@ def upside_down():
         wanted = [edge for pulse in recorded(tools.slow) for edge in pulse][2:-2]  # the ends were no pulses upside down
         for words, kept in (("", False), ("--save", True)):
             got, printed, _ = run("irig_mend", ["--expression=4", *words.split(), "--apply", "new.vcd", "rec.vcd"])
-            yield same("upside down " + words, (got, printed.decode().partition("; ")[2]), (1, "0 frames sound before, 6 after\n"))
+            yield same("upside down " + words, (got, printed.decode().partition("; ")[2]), (0, "0 frames sound before, 6 after\n"))
             track, _, journal = text_of("new.vcd").partition("$dumpvars")[2].partition("$comment")
             edges = [int(word[1:]) for word in track.split() if word[0] == "#"]
             yield same("the edges " + words, [edge for edge in edges if wanted[0] <= edge <= wanted[-1]], wanted)

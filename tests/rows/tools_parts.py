@@ -3,6 +3,7 @@
 The recordings are those of the reference encoder; costs, places and times are worked out by hand.
 """
 import glob
+import math
 import os
 import re
 
@@ -138,6 +139,63 @@ def of_clock():
     yield same("on one clock", hole.on_one_clock(*hole.runs), True)
 
 
+def wow(pulses, share, elements):
+    """Each pulse at the time that a tape with wow gives it: the interval is off by up to a share, with a period of some elements."""
+    turn = 2 * math.pi / (elements * 10000)
+    return [[int(time + share / turn * (math.sin(turn * time + 1) + 1)) for time in pulse] for pulse in pulses]
+
+
+def of_wander():
+    """A clock whose interval changes: no step where none is, the ends of runs where they are, and what follows over a hole."""
+    for share, elements in ((0.003, 100), (0.01, 200), (0.03, 200), (0.005, 50), (0.003, 8)):
+        name, sound = "wow of %s in %d elements, " % (share, elements), wow(tools.recording(12), share, elements)
+        clock = Clock(listing_of(sound), 10000)
+        yield same(name + "the runs", [(run.first, run.last) for run in clock.runs], [(0, 1199)])
+        run = clock.runs[0]
+        off = max(abs(run.begin - sound[0][0]), abs(run.end - sound[-1][0]))
+        yield same(name + "its ends", off < 400, True)
+        holed = Clock(listing_of(sound[:430] + sound[460:]), 10000)
+        track = Track(Layout("B", 4), holed, slots.link(holed, holed.runs, Layout("B", 4).unused).runs)
+        lost = [abs(track.rise_at(place) - sound[place][0]) for place in range(430, 460)]
+        yield same(name + "a hole of 30", (len(track.runs), track.zones[1].late, max(lost) < 700), (2, 0, True))
+        stepped = sound[:600] + [[rise + 3000, fall + 3000] for rise, fall in sound[600:]]
+        runs = Clock(listing_of(stepped), 10000).runs
+        yield same(name + "a step", [(run.first, run.last) for run in runs], [(0, 599), (600, 1199)])
+    slow = [[int(time * (0.95 + time / 2.4e8)) for time in pulse] for pulse in tools.recording(12)]
+    clock = Clock(listing_of(slow), 10000)
+    yield same("from fast to slow", (len(clock.runs), abs(clock.runs[0].begin - slow[0][0]) < 2, clock.margin), (1, True, 400))
+    yield same("a steady clock", Clock(listing_of(tools.recording(12)), 10000).wander, None)
+
+
+def of_other_code():
+    """What is in a hole, and is not of this code, is left and named; what is left of this code is mended."""
+    letters_of_a = letters(3)[:250]
+    spans = {"0": 2, "1": 5, "P": 8}
+
+    def frames_of(interval, begin, many):
+        return [[begin + at * interval, begin + at * interval + spans[letters_of_a[at]] * interval // 10] for at in range(many)]
+
+    for name, other, seen in (
+        ("of format A", frames_of(1000, 2331000, 230), "time code of format A, one in 1000 microseconds"),
+        ("of format E", frames_of(100000, 2320000, 30), "time code of format E, one in 100000 microseconds"),
+        ("a pulse in a second", [[2400000 + at * 1000000, 2420000 + at * 1000000] for at in range(6)], "pulses, one in a second"),
+        ("another signal", [[2331000 + at * 3300, 2332000 + at * 3300] for at in range(60)], "pulses, one in 3300 microseconds"),
+    ):
+        beyond = other[-1][1] // 10000 + 20
+        pulses = tools.recording(12)
+        holed = pulses[:230] + other + pulses[beyond:]
+        found = analysis.examine(listing_of(holed))
+        said = [remark.seen for part in found.parts for remark in part.remarks]
+        yield same(name + ", the remark", [seen in each and "is other code" in each for each in said], [True])
+        yield same(name + ", what is repaired", [dict(part.faults.wanted) for part in found.parts], [{}])
+        ended = analysis.examine(listing_of(pulses[:230] + other))
+        yield same(name + ", at the end", any(part.faults.wanted for part in ended.parts), False)
+    positions = [pulse for at, pulse in enumerate(tools.recording()) if not 230 <= at < 480 or at % 10 == 9 or at % 100 == 0]
+    found = analysis.examine(listing_of(positions))
+    lost = [at for at in range(230, 480) if at % 10 != 9 and at % 100]
+    yield same("position identifiers alone are no other code", [sorted(part.faults.wanted) for part in found.parts], [lost])
+
+
 # polarity
 
 
@@ -188,6 +246,20 @@ def of_slots():
         yield same(name + ", the cost", round(found.cost, 6), cost)
         yield same(name + ", the places", [run.place for run in found.runs], places)
         yield same(name + ", the lead", all(run.lead >= 3 for run in found.runs), True)
+
+
+def of_tenths():
+    """Costs are whole tenths, so a lead of two faults is two; a run that is left alone has a line."""
+    yield same("tenths", [slots.tenths(each) for each in (0.3, 0.5, 2, 0.1 + 0.2)], [3, 5, 20, 3])
+    unseen = []
+    for cut in range(0, 60, 3):
+        for lost in range(20, 200 - cut - 20, 9):
+            pulses = tools.recording(2)[cut:]
+            del pulses[lost]
+            found = analysis.examine(listing_of(pulses, expression=2))
+            if not found.remarks and not any(part.faults.wanted for part in found.parts):
+                unseen.append((cut, lost))
+    yield same("one pulse is missing in few", unseen, [])
 
 
 def of_parts():
@@ -392,6 +464,18 @@ def of_times():
     yield same("the clock was set", [(span.first, span.last, span.base - NOON) for span in found], [(0, 3, 0), (4, 7, -400)])
 
 
+def of_contrary():
+    """A frame between sound ones of which two elements of its time say otherwise is repaired, and of which three do is left."""
+    for many, wanted, left in ((1, [410], 0), (2, [410, 411], 0), (3, [], 1), (4, [], 1)):
+        pulses = tools.recording(9)
+        for at in (410, 411, 412, 413)[:many]:  # the minutes, of which each is another one
+            rise, fall = pulses[at]
+            pulses[at][1] = rise + (2000 if fall - rise == 5000 else 5000)
+        found = analysis.examine(listing_of(pulses)).parts[0].faults
+        said = sum("contradict" in remark.seen for remark in found.remarks)
+        yield same("%d elements of a frame contradict the others" % many, (sorted(found.wanted), said), (wanted, left))
+
+
 def of_steadiness():
     """How often an element may have changed: two changes need a chance below 1 in 1,000."""
     def rows(changes, frames):
@@ -499,8 +583,8 @@ def of_limits():
 def cases():
     """Each part by its name."""
     return [case("mend: part: " + name, holds) for name, holds in (
-        ("phases", of_phases), ("clock", of_clock), ("polarity", of_polarity), ("slots", of_slots), ("sure runs", of_parts),
-        ("places", of_places), ("votes", of_votes), ("spans", of_spans), ("pieces", of_pieces), ("leap seconds", of_leap),
-        ("moments", of_moments),
-        ("times", of_times), ("steadiness", of_steadiness), ("copies", of_copies), ("cuts", of_cuts), ("edits", of_edits),
-        ("checks", of_checks), ("threshold", of_threshold), ("limits", of_limits))]
+        ("phases", of_phases), ("clock", of_clock), ("a clock that wanders", of_wander), ("polarity", of_polarity), ("slots", of_slots),
+        ("sure runs", of_parts), ("tenths", of_tenths), ("other code", of_other_code), ("places", of_places), ("votes", of_votes),
+        ("spans", of_spans), ("pieces", of_pieces), ("leap seconds", of_leap), ("moments", of_moments), ("times", of_times),
+        ("contrary elements", of_contrary), ("steadiness", of_steadiness), ("copies", of_copies), ("cuts", of_cuts),
+        ("edits", of_edits), ("checks", of_checks), ("threshold", of_threshold), ("limits", of_limits))]

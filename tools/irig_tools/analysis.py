@@ -121,7 +121,7 @@ def _examine_parts(clock: Clock, findings: Findings, move: bool) -> None:
                 track = Track(findings.layout, clock, part)
                 findings.parts += _moved(track) if move else _kept(track)
             for run in linked:
-                if run.others:
+                if run.lead < limits.LEAST_LEAD:
                     _remark_unsure(findings, clock, run)
     if findings.parts and not any(part.times.read or part.times.spans for part in findings.parts):
         findings.remarks.append(of_no_frame(findings.parts[-1].track))

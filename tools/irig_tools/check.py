@@ -86,7 +86,8 @@ class Check:
     """What a script does to the frames of a track; `steps` are the times at which those of the repaired track step."""
 
     def __init__(self, layout: Layout, interval: float, steps: Sequence[Microseconds], listings: Tuple[Listing, Listing],
-                 moved: Moved) -> None:
+                 moved: Moved, most_off: float = 0) -> None:
+        self.drift = max(limits.CLOCK_DRIFT, limits.ABOVE_NINE_OF_TEN * most_off)
         self.layout, self.interval, self.steps, self.moved = layout, interval, sorted(steps), moved
         self.old, self.new = Frames(listings[0], layout, moved), Frames(listings[1], layout, Moved())
         self.kept = [frame for frame in self.old.all if self._stays(frame)]
@@ -146,6 +147,6 @@ class Check:
         elements = (high.at - low.at) / self.interval
         apart = high.moment - low.moment
         stepped = bisect_left(self.steps, low.at) != bisect_left(self.steps, high.at)
-        most = limits.AT_STEP if stepped else min(limits.AT_STEP, limits.ON_CLOCK + limits.CLOCK_DRIFT * elements)
+        most = limits.AT_STEP if stepped else min(limits.AT_STEP, limits.ON_CLOCK + self.drift * elements)
         years = (0,) if self.layout.with_year else (0, 365 * DAY, 366 * DAY)
         return any(abs(elements - 100 * (apart + year) / self.layout.period) <= most for year in years)

@@ -91,7 +91,7 @@ def _of_clock(clock: Clock) -> List[Damage]:
         said.append("rises tremble: half of all distances are off by more than %d microseconds, %.1f %% of the interval, and "
                     "a step of less than %d does not show" % (
                         clock.noise, 100 * clock.noise / clock.nominal, clock.least_step))
-    return [Damage(START, clock.rises[-1], THE_WHOLE, seen) for seen in said]
+    return [Damage(START, clock.rises[-1], THE_WHOLE, seen, is_remark=True) for seen in said]
 
 
 def _extremes(clock: Clock) -> str:

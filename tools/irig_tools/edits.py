@@ -8,7 +8,7 @@ from . import limits
 from .edit import Edit, inserted, of_pulse, of_pulses
 from .faults import Faults
 from .layout import NAMES
-from .units import Microseconds, PlaceNumber, PulseIndex, plus, through
+from .units import PlaceNumber, PulseIndex, plus, through
 
 
 @dataclass
@@ -73,13 +73,14 @@ def _is_unlike(faults: Faults, width: int, target: str) -> bool:
     return abs(width - faults.width(target)) > limits.UNLIKE * faults.layout.interval
 
 
-def _choose(faults: Faults, pulses: Sequence[PulseIndex], begin: Microseconds, target: str) -> Tuple[int, int, bool, bool]:
+def _choose(faults: Faults, pulses: Sequence[PulseIndex], place: PlaceNumber, target: str) -> Tuple[int, int, bool, bool]:
     """Which pulses are joined to the one that is wanted, and whether it is then off in time, and of a wrong class."""
     width, choices = faults.width(target), []
+    begin, stray = faults.track.rise_at(place), faults.track.stray_at(place)
     for first in range(len(pulses)):
         for last in range(first, len(pulses)):
             rise, fall = faults.rises[pulses[first]], faults.falls[pulses[last]]
-            off, wrong = abs(rise - begin) > faults.clock.stray, faults.layout.class_of(fall - rise) != target
+            off, wrong = abs(rise - begin) > stray, faults.layout.class_of(fall - rise) != target
             edits = (first > 0) + (last < len(pulses) - 1) + (last > first) + off + wrong
             choices.append((edits, abs(rise - begin) + abs(fall - rise - width), first, last, off, wrong))
     return min(choices)[2:]
@@ -88,7 +89,7 @@ def _choose(faults: Faults, pulses: Sequence[PulseIndex], begin: Microseconds, t
 def _reduce(faults: Faults, place: PlaceNumber, pulses: Sequence[PulseIndex], target: str) -> Item:
     """Of the pulses of a place the one that is wanted: some joined, others deleted."""
     begin = faults.track.rise_at(place)
-    first, last, off, wrong = _choose(faults, pulses, begin, target)
+    first, last, off, wrong = _choose(faults, pulses, place, target)
     edits: List[Edit] = []
     if last < len(pulses) - 1:
         edits.append(of_pulses("delete", pulses[last + 1], pulses[-1]))

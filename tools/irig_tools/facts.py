@@ -32,7 +32,7 @@ DAMAGE_KINDS: Tuple[Tuple[str, str], ...] = (
     ("rises tremble", "jitter"),
     ("control functions that no other", "control"),
     ("belong to no frame", "outside"),
-    ("is it another", "format"),
+    ("is it another|is other code", "format"),
 )
 STEPS = frozenset(("step", "cut", "twice", "times"))  # of the recorder's clock
 UNDECIDED = "undecided"  # the word in a comment, if nothing decides

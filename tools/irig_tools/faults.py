@@ -220,6 +220,6 @@ class Faults:
         name = self.track.classes[pulses[0]]
         words = "%d wide, %s" % (self.width_of(pulses[0]), "which is no class" if name == "b" else "a " + NAMES[name])
         off = self.rises[pulses[0]] - self.track.rise_at(place)
-        if abs(off) > self.clock.stray:
+        if abs(off) > self.track.stray_at(place):
             words += ", and %d %s" % (abs(off), "late" if off > 0 else "early")
         return words

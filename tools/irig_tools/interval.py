@@ -12,6 +12,7 @@ from .editor import Listing
 from .phases import Turn, turn_near, turns
 from .sampling import are_often_off, spacing_of_samples
 from .units import Microseconds, PlaceNumber, PulseIndex, plus
+from .wander import AS_STEADY, Sample, Sides, Wander, curve, is_curved
 
 
 @dataclass(frozen=True)
@@ -29,6 +30,7 @@ class Run:
     late: float = 0  # how much it came late
     glued: bool = False  # it follows the run before at once, but with another element
     gone: Optional[int] = None  # how many elements are missing before a glued run, if the times say so
+    fewest: int = limits.BESIDE  # pulses of it, or of the run before if that has fewer
     cost: float = 0  # of the cheapest way up to it, in faults
     lead: float = 0  # how much dearer it is to give it another phase
     others: Tuple[int, ...] = ()  # the elements that it may as well begin with
@@ -70,6 +72,12 @@ def breaks(apart: Sequence[int], interval: float, margin: float) -> List[PulseIn
     return [PulseIndex(each) for each in (*compress(count(1), map(odd.__contains__, apart)), len(apart) + 1)]
 
 
+def breaks_near(apart: Sequence[int], near: Sequence[float], margin: float) -> List[PulseIndex]:
+    """The same if each distance has an interval of its own."""
+    odd = [PulseIndex(at) for at, (each, own) in enumerate(zip(apart, near), 1) if not -margin <= each - own <= margin]
+    return [*odd, PulseIndex(len(apart) + 1)]
+
+
 def share_in_step(times: Sequence[Microseconds], interval: int) -> float:
     """How many of the neighbours are one interval apart: 0 to 1."""
     apart = distances(times)
@@ -98,15 +106,24 @@ class Clock:
         between = _in_step(apart, nominal)
         self.interval: float = statistics.median_low(between) if between else nominal
         self.noise: float = statistics.median([abs(each - self.interval) for each in between]) if between else 0
+        self.curve = self._find_curve(apart)  # the interval at each distance, if it changes so much that this shows at once
+        if self.curve:  # what is left of the distances if the interval were the same all over
+            between = [round(self.interval + off) for off in self._off(apart, self.curve)]
         self.grid = grid or spacing_of_samples(listing, between, nominal, self.interval, self.noise)
         rough = self.grid if are_often_off(between, self.interval, self.grid) else 0
         # what counts as in step, and how far one pulse may be off
         self.margin = self._within(limits.LEAST_MARGIN, limits.MARGIN_BY_NOISE, limits.MOST_MARGIN, rough)
         self.stray = self._within(limits.LEAST_STRAY, limits.STRAY_BY_NOISE, limits.MOST_STRAY, rough)
-        self.least_step = self._find_least_step(between)
-        ends = breaks(apart, self.interval, self.margin)
+        ends = breaks_near(apart, self.curve, self.margin) if self.curve else breaks(apart, self.interval, self.margin)
         found = [run_of(first, beyond) for first, beyond in zip([PulseIndex(0), *ends], ends)]
-        steady = [part for run in found for part in self._stepped(run, apart)]
+        self.wander: Optional[Wander] = None
+        self.least_step = self._find_least_step(between, apart)
+        # a step does not make a clock wander
+        steady = found if self.curve else [part for run in found for part in self._stepped(run, apart)]
+        self._find_wander(steady)
+        if self.curve or self.wander:
+            self.least_step = self._find_least_step(between, apart)
+            steady = [part for run in found for part in self._stepped(run, apart)]
         self.runs = [part for run in steady for part in self._parted(run)]
         within = [run for run in self.runs if run.count >= limits.SURE_RUN]
         # the first and the last pulse of a run can be where the level chatters
@@ -116,6 +133,50 @@ class Clock:
         self._measure([(run.count - 1, run.end - run.begin) for run in self.runs if run.count >= limits.SURE_RUN])
         self.runs = list(map(self.fit, self.runs))
         self.doubt = self._find_doubt()
+
+    def _find_curve(self, apart: Sequence[int]) -> List[float]:
+        """The interval near each distance, and by it the noise; nothing if the interval changes less than rises stray."""
+        least, most = (1 - limits.IN_STEP) * self.nominal, (1 + limits.IN_STEP) * self.nominal
+        if not is_curved(apart, least, most, self.noise):
+            return []
+        found = curve(apart, least, most)
+        self.noise = statistics.median([abs(off) for off in self._off(apart, found)])
+        return found
+
+    def _off(self, apart: Sequence[int], near: Sequence[float]) -> List[float]:
+        """By how much distances in step are off from the interval near each."""
+        least, most = (1 - limits.IN_STEP) * self.nominal, (1 + limits.IN_STEP) * self.nominal
+        return [each - own for each, own in zip(apart, near) if least <= each <= most]
+
+    def _find_wander(self, runs: Sequence[Run]) -> None:
+        """How the ends of runs say where what follows should rise, and how far that is off."""
+        stretches = [(run.first, run.last) for run in runs if run.count > 2 * limits.BESIDE]
+        many, usual = sum(last - first for first, last in stretches), self.interval
+        if many:  # half of the distances alone do not say it: each is rounded
+            self.interval = sum(self.rises[last] - self.rises[first] for first, last in stretches) / many
+        sample = Sample(self.rises, stretches, self.near)
+        by_chance = max(limits.ROUNDED + max(limits.ROUNDED, self.grid), limits.BY_TREMBLING * self.noise)
+        self.reach = sample.best_reach(by_chance, bool(self.curve))
+        self.wander = None if self.reach == AS_STEADY else Wander(sample, self.reach)
+        if not self.wander and not self.curve:
+            self.interval = usual
+
+    def over(self, steps: float, fewest: int = limits.BESIDE) -> float:
+        """How far a rest may be late after that many elements though it is on this clock, beside what rises stray. The shorter
+        one of both runs has `fewest` pulses."""
+        return self.wander.over(steps, fewest < limits.BESIDE) if self.wander else self.doubt * steps
+
+    def inside(self, steps: float) -> float:
+        """How far a pulse in a hole of that many elements can be off, beside what rises stray; of a clock that wanders alone."""
+        return self.wander.inside(steps) if self.wander else 0
+
+    @property
+    def most_off(self) -> float:
+        """By which share of it the interval is another one in places."""
+        if not self.wander:
+            return 0
+        local = [each for run in self.runs for each in (run.begin_interval, run.end_interval) if each]
+        return max((abs(each / self.interval - 1) for each in [*local, *self.curve]), default=0)
 
     def _within(self, least: float, by_noise: float, most: float, grid: float) -> float:
         """That many times the noise, or what is less than two samples, between two shares of the interval, in microseconds."""
@@ -131,12 +192,14 @@ class Clock:
             shown = sum(steps for steps, length in long if abs(length - steps * self.nominal) > ends)
             if self._is_near(self.interval) and shown <= limits.OTHER_CLOCK * many:
                 self.interval = self.nominal
-        self.exact = self.interval == self.nominal and self.noise == 0
+        self.exact = self.interval == self.nominal and self.noise == 0 and not self.wander
 
     def _find_doubt(self) -> float:
         """By how much the interval within a hole may differ from the one next to it."""
         if self.exact:
             return 0
+        if self.wander:
+            return self.wander.over(limits.LOCAL) / limits.LOCAL
         local = self._local_intervals(limits.FAR)
         if len(local) < limits.STRETCHES:
             local = self._local_intervals(limits.LOCAL)
@@ -155,21 +218,39 @@ class Clock:
         """Whether an interval is the nominal one up to what clocks of quartz are off."""
         return abs(interval - self.nominal) < limits.SAME_CLOCK * self.nominal
 
-    def _find_least_step(self, between: Sequence[int]) -> float:
+    def _find_least_step(self, between: Sequence[int], apart: Sequence[int]) -> float:
         """A step within a run shows from this many microseconds on, as the distances of the recording are spread."""
-        off = sorted(abs(each - self.interval) for each in between)
+        if self.curve:
+            off = sorted(each for each in (abs(each - near) for each, near in zip(apart, self.curve)) if each <= self.margin)
+        else:
+            off = sorted(abs(each - self.interval) for each in between)
         spread = max(self.noise, off[len(off) * 9 // 10] / limits.NINE_OF_TEN) if off else 0
-        return max(limits.LEAST_STEP, limits.SPREADS * spread, limits.BY_GRID * self.grid)
+        spread = max(spread, self.wander.spread.get(False, 0) if self.wander else 0)
+        return max(self._least_seen(), limits.SPREADS * spread, limits.BY_GRID * self.grid)
+
+    def _least_seen(self) -> float:
+        """The least step that a clock shows; what is inserted where it wanders can be off by a little."""
+        return limits.WANDER_STEP * self.nominal if self.wander else limits.LEAST_STEP
+
+    def _least_step_beside(self, fewest: int) -> float:
+        """The same with that many pulses on one side."""
+        if not self.wander or fewest >= limits.BESIDE:
+            return self.least_step
+        return max(self.least_step, self.margin, limits.SPREADS * self.wander.spread.get(True, 0))
+
+    def _is_odd(self, at: int, distance: int) -> bool:
+        """Whether a distance may be that of a step."""
+        return not -self.least_step < distance - (self.curve[at] if self.curve else self.interval) < self.least_step
 
     def _stepped(self, run: Run, apart: Sequence[int]) -> List[Run]:
         """The run, or its parts if all that follow a pulse come late or early by a step too small to end a run."""
         found: List[Run] = []
         first = run.first
-        low, high = self.interval - self.least_step, self.interval + self.least_step
-        odd = [PulseIndex(at) for at, each in enumerate(apart[run.first:run.last], run.first + 1) if not low < each < high]
+        odd = [PulseIndex(at + 1) for at, each in enumerate(apart[run.first:run.last], run.first) if self._is_odd(at, each)]
         for after in odd:
             if min(after - first, run.last - after + 1) >= limits.SIDE:
-                if abs(self._step_at(first, after, run.last)) >= self.least_step:
+                fewest = min(after - first, run.last - after + 1)
+                if abs(self._step_at(first, after, run.last)) >= self._least_step_beside(fewest):
                     found.append(run_of(first, after))
                     first = after
         return found + [run_of(first, plus(run.last, 1))]
@@ -192,6 +273,8 @@ class Clock:
 
     def _step_at(self, first: PulseIndex, after: PulseIndex, last: PulseIndex) -> float:
         """By how much the pulses from `after` on come late, by those near it on both sides."""
+        if self.wander:
+            return Sides(self.rises, self.near).late_by((first, last), after - 1, after, self.reach, self.wander.hop(1))
         rises, many = self.rises, min(after - first, last - after + 1, limits.NEAR)
         low, high = max(first, after - limits.FAR), min(last, after + limits.FAR - 1)
         interval = (rises[after - 1] - rises[low] + rises[high] - rises[after]) / (high - low - 1)
@@ -201,6 +284,8 @@ class Clock:
 
     def fit(self, run: Run) -> Run:
         """The run with when its ends should rise, and the interval there."""
+        if self.wander:
+            return self._fit_local(run)
         rises, near = self.rises, (min(run.count, limits.NEAR) - 1) // 2 * 2 + 1
         begin = statistics.median_low([rises[run.first + k] - k * self.interval for k in range(near)])
         end = statistics.median_low([rises[run.last - k] + k * self.interval for k in range(near)])
@@ -211,25 +296,55 @@ class Clock:
         first, last = (rises[run.first + far] - begin) / far, (end - rises[run.last - far]) / far
         return replace(found, begin_interval=first, end_interval=last)
 
+    def _fit_local(self, run: Run) -> Run:
+        """The same by the pulses of the run alone, if they are not too few."""
+        begin, begins = self.reach.end(self.rises, run.first, 1, run.count, self.near(run.first))
+        end, ends = self.reach.end(self.rises, run.last, -1, run.count, self.near(run.last))
+        if run.count < limits.LEAST_LOCAL and not self.curve:
+            return replace(run, begin=begin, end=end)
+        return replace(run, begin=begin, end=end, begin_interval=begins, end_interval=ends)
+
+    def near(self, pulse: int) -> float:
+        """The interval after a pulse, as far as all distances near it say it."""
+        return self.curve[max(0, min(pulse, len(self.curve) - 1))] if self.curve else self.interval
+
     def interval_between(self, left: Optional[Run], right: Optional[Run]) -> float:
         """The interval near these two runs."""
+        if self.wander and left and right:
+            hop = self.wander.hop((right.begin - left.end) / self.interval)
+            before = hop.end(self.rises, left.last, -1, left.count, self.near(left.last))[1]
+            return (before + hop.end(self.rises, right.first, 1, right.count, self.near(right.first))[1]) / 2
         known = [each for each in (left and left.end_interval, right and right.begin_interval) if each]
         found = sum(known) / len(known) if known else self.interval
+        if self.wander:
+            return found
         return self.nominal if self.interval == self.nominal and self._is_near(found) else found
 
-    def slack(self, steps: float) -> float:
+    def slack(self, steps: float, fewest: int = limits.BESIDE) -> float:
         """How far two runs on one clock may be off after that many steps."""
-        return min(limits.MOST_SLACK * self.nominal, self.margin + self.doubt * steps)
+        return min(self._most_slack(), self.margin + self.over(steps, fewest))
+
+    def _most_slack(self) -> float:
+        """How far they may be off at most: where a clock wanders more than an element may pass, or none, where one is lost."""
+        return (limits.MOST_WANDER if self.wander else limits.MOST_SLACK) * self.nominal
 
     def on_one_clock(self, left: Run, right: Run) -> bool:
         """Whether two runs, not far apart, are a whole number of intervals apart."""
         distance, interval = right.begin - left.end, self.interval_between(left, right)
         steps = round(distance / interval)
         off = abs(distance - steps * interval)
-        return 0 < steps <= limits.NEAR_RUNS and off <= self.slack(steps)
+        return 0 < steps <= limits.NEAR_RUNS and off <= self.slack(steps, min(left.count, right.count))
 
-    def least_late(self, steps: int) -> float:
+    def stray_over(self, steps: float) -> float:
+        """How far one rise may be off in a hole of that many elements."""
+        if not self.wander:
+            return self.stray
+        return max(self.stray, min(limits.LOCAL_STRAY * self.nominal, self.stray + self.wander.over(steps)))
+
+    def least_late(self, steps: int, fewest: int = limits.BESIDE) -> float:
         """A rest that is less late than this is left as it is."""
-        spread = max(limits.LEAST_STEP, limits.SPREADS * self.noise) + self.doubt * steps
-        least = 1 if self.exact else min(limits.MOST_SLACK * self.nominal, spread)
+        if self.wander and fewest < limits.BESIDE:  # few pulses do not show more than whether they are in step
+            return self.slack(steps, fewest)
+        spread = max(self._least_seen(), limits.SPREADS * self.noise) + self.over(steps, fewest)
+        least = 1 if self.exact else min(self._most_slack(), spread)
         return max(least, limits.BY_GRID * self.grid)

@@ -39,6 +39,28 @@ SOME_PULSES = 200  # pulses that are looked at for that, so that the search stay
 ON_SAMPLE = 0.8  # the share of their edges that has to be whole samples after the beginning: the others are damaged or repaired
 ON_GRID = 0.5  # the share of lengths, and of what distances are off, that has to be whole samples: what is repaired is not
 SIDE = 5  # pulses on each side of a step [0, 1]
+
+# a clock that wanders (wander, interval)
+REACHES = ((15, 100), (15, 48), (15, 24), (9, 16), (7, 12))  # pulses at an end that say its rise and its interval, if one of these is best
+LEAST_LOCAL = 12  # pulses that have an interval of their own
+BESIDE = 24  # pulses on each side of a hole that is tried where there is none
+HOLES_TRIED = (1, 12, 40)  # elements of the holes by which the reach is chosen
+HOLES_MEASURED = (1, 3, 6, 9, 12, 16, 20, 25, 32, 40, 50, 63, 80, 100, 126, 160, 200, 250, 320, 400)  # and of those that say how far a rest can be late
+LENGTHS = 4  # and up to a quarter longer, so that it does not count how many turns of a wow are in it
+PLACES_TRIED = 60  # of each, all over the recording: more change nothing, and take time
+FEWEST_TRIED = 8  # fewer say nothing
+BY_TREMBLING = 0.6  # of the noise: a steady clock is off by no more after a hole; of rises that tremble by chance it is a third
+HALF_SIDE = 2  # pulses on each side of one that say with it where it has to be
+CLEARLY_BETTER = 0.8  # of what a steady clock would be off: by chance another reach is better by a tenth
+ABOVE_NINE_OF_TEN = 1.5  # times what nine of ten holes are within: no more than one of a hundred is beyond if they are spread as by chance
+BLOCK = 8  # distances that have an interval of their own: of flutter a period is no shorter
+CURVE_SEEN, PARTS_SEEN = 400, 40  # distances of a part, and how many parts: does the interval change from block to block?
+CURVED = 0.7  # of the noise: a block of 8 alone is a tenth nearer
+WANDER_STEP = 0.01  # intervals: a smaller step is not seen on such a clock: a pulse that is inserted in a hole can be off by that
+MOST_WANDER = 12  # intervals: how far a rest may be off after a hole on a clock that wanders, if the others say the phase
+VAGUE = 0.1  # intervals: an element that can be more off in a hole is not put there: irig_ed would not read it either
+ALIASED = 0.4  # intervals: if all could be so much off, a pulse there can be that of the next element
+LOCAL_STRAY = 0.09  # intervals: how far one rise between runs may be off there
 LONG_RUN = 40  # pulses of a run that can have two phases, or whose position identifiers say its phase
 
 # phases
@@ -106,12 +128,15 @@ UNLIKE_IN_COPY = 25  # a copy has at most one element in that many that differs:
 ALIKE_IN_COPY = 2  # and at least one in that many that is the same: the rest can be damaged [3, 0]
 LEAST_COPY = 10  # elements; fewer are alike by chance
 
+# other code in a hole (other_code)
+STEADY_CODE = 0.8  # the share of its distances that are one interval: others are damaged, or the marker of a frame
+
 # what is wrong (faults, edits, wholes, repairs)
 LIKE = 0.08  # intervals: a level that differs from a class for less is this class: two classes are 0.3 apart [1, 0]
 LIKE_IN_BURST = 0.03  # intervals: the same in a burst of damage, which can look like a class by chance: a tenth of the way
 NOMINAL = 0.03  # intervals: a width that is no more off is the one of its class: a tenth of the way to the next class
 BURST = 2  # of the two places before and the two after one, at least that many are damaged in a burst: one is by chance
-MOST_CONTRARY = 3  # elements: a frame of which more say another time than its neighbours is no damage
+MOST_CONTRARY = 2  # elements: a frame of which more say another time than its neighbours is no damage: three are no accident
 CONTRARY_AT_END = 1  # the same if no frame before it, or none after it, has a time of its own: two are no accident, a clock can be set
 INTERVAL_SEEN = 0.95  # intervals of a place whose level is looked at: the rest can be an early pulse
 UNLIKE = 0.02  # intervals: a width that is more off is changed if the pulse is edited anyway [2, 0]

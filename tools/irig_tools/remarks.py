@@ -9,17 +9,22 @@ from . import limits
 from .copies import again_within, without_copy
 from .faults import Remark
 from .frames import Times
+from .other_code import OtherCode, named
 from .spans import Span
 from .track import Track
 from .units import place_in
 from .zones import Zone
 
 LEFT_CONTROL = "they are left; irig_mend --steady takes them for damage"
+LEFT_VAGUE = "they are left"
+LEFT_OTHER = "it is left, and so are the elements of this code that are missing there"
 OTHER_EXPRESSION = "is it another expression?"
 
 
 def remarks(track: Track, times: Times) -> List[Remark]:
     found = _of_expression(track, times) + _of_elsewhere(track)
+    found += [_of_other(track, zone.other) for zone in track.zones if zone.other]
+    found += [_of_vague(track, zone) for zone in track.zones if zone.vague]
     found += [_of_cut(track, zone) for zone in track.zones if zone.glued]
     for before, after in zip(times.spans, times.spans[1:]):
         if not track.is_glued(before.last, after.first):
@@ -54,6 +59,18 @@ def missing(zone: Zone, many: Optional[int]) -> str:
     else:
         said = "%d elements are missing by the times of the frames" % many
     return said + ", and the rest follows at once"
+
+
+def _of_other(track: Track, other: OtherCode) -> Remark:
+    """Pulses in a hole that are not of this code."""
+    return Remark(track.rises[other.first], named(other, track.falls[other.last]), LEFT_OTHER)
+
+
+def _of_vague(track: Track, zone: Zone) -> Remark:
+    """A long hole on a clock that wanders."""
+    places = zone.inner()
+    seen = "%d elements are lost or damaged from there to %d, and the clock wanders: they can be %.3g milliseconds off what both sides say"
+    return Remark(track.rise_at(places[0]), seen % (len(places), track.rise_at(zone.last), zone.vague / 1000), LEFT_VAGUE)
 
 
 def _of_cut(track: Track, zone: Zone) -> Remark:

@@ -13,7 +13,12 @@ from .phases import Marks, Usual, tells_phase
 from .units import PlaceNumber, plus
 
 # what a phase costs, the phase of the run before, the elements between, how late it comes
-Choice = Tuple[float, Optional[int], int, float]
+Choice = Tuple[int, Optional[int], int, float]
+
+
+def tenths(faults: float) -> int:
+    """A cost in tenths of a fault: whole numbers, so that costs which are equal add up to the same in any order."""
+    return round(10 * faults)
 
 
 def parts(clock: Clock) -> List[List[Run]]:
@@ -52,13 +57,13 @@ def _without_first(runs: Sequence[Run]) -> List[Run]:
     return [replace(runs[1], ends=runs[1].ends + "<"), *runs[2:]]
 
 
-def _hop(clock: Clock, distance: float, interval: float, step: int) -> Tuple[int, float, float]:
+def _hop(clock: Clock, distance: float, interval: float, step: int, fewest: int) -> Tuple[int, float, float]:
     """Elements to go on by (`step` modulo 100), how late what follows then is, and what it costs to believe that."""
     # of all whole frames those from which the run is the least late or early
     steps = step + 100 * max(0, round((distance / interval - step) / 100))
     late = distance - steps * interval
-    if abs(late) <= clock.slack(steps):
-        on_time = abs(late) <= clock.least_late(steps)
+    if abs(late) <= clock.slack(steps, fewest):
+        on_time = abs(late) <= clock.least_late(steps, fewest)
         return steps, late, 0 if steps == 1 else limits.HOLE if on_time else limits.BARELY
     if late < 0:
         return steps, late, limits.EARLY
@@ -83,7 +88,7 @@ class Linked(NamedTuple):
 class _Way(NamedTuple):
     """What is looked at to go on to a run: which steps from the run before, and which phases of its own."""
 
-    price: Callable[[int], float]  # what a phase costs
+    price: Callable[[int], int]  # what a phase costs
     distance: float
     interval: float
     steps: Sequence[int]
@@ -103,14 +108,14 @@ class _Linker:
             self.ways.append(self._way(before, run))
             self.table.append(self._choices())
 
-    def _marks(self, run: Run) -> Tuple[Marks, Callable[[int], float]]:
+    def _marks(self, run: Run) -> Tuple[Marks, Callable[[int], int]]:
         """The position identifiers of a run, and what each phase costs."""
         text = self.clock.text(run)
         marks = Marks(text)
         unlike = self.usual.unlike(text) if run.count < 100 else lambda phase: 0
-        return marks, lru_cache(None)(lambda phase: marks.faults(phase) + limits.UNUSUAL * unlike(phase))
+        return marks, lru_cache(None)(lambda phase: tenths(marks.faults(phase)) + tenths(limits.UNUSUAL) * unlike(phase))
 
-    def _onward(self, at: int, old: int) -> Iterator[Tuple[int, int, float, float]]:
+    def _onward(self, at: int, old: int) -> Iterator[Tuple[int, int, float, int]]:
         """From a phase of run `at` to the next run: each phase, the step, how late it is, and its price."""
         before, run, way = self.runs[at], self.runs[at + 1], self.ways[at]
         last = old + before.count - 1
@@ -119,9 +124,9 @@ class _Linker:
             step, late, cost = (
                 _jump(way.distance, way.interval, step)
                 if run.glued
-                else _hop(self.clock, way.distance, way.interval, step)
+                else _hop(self.clock, way.distance, way.interval, step, min(before.count, run.count))
             )
-            yield phase, step, late, cost + way.price(phase)
+            yield phase, step, late, tenths(cost) + way.price(phase)
 
     def _choices(self) -> Dict[int, Choice]:
         """The phases of the next run."""
@@ -130,7 +135,7 @@ class _Linker:
             for phase, step, late, cost in self._onward(len(self.table) - 1, old):
                 if phase not in choices or told[0] + cost < choices[phase][0]:
                     choices[phase] = told[0] + cost, old, step, late
-        most = limits.UNLIKELY + min(choice[0] for choice in choices.values())
+        most = tenths(limits.UNLIKELY) + min(choice[0] for choice in choices.values())
         return {phase: choice for phase, choice in choices.items() if choice[0] <= most}
 
     def _way(self, before: Run, run: Run) -> _Way:
@@ -138,7 +143,7 @@ class _Linker:
         marks, price = self._marks(run)
         distance, interval = run.begin - before.end, self.clock.interval_between(before, run)
         straight = round(distance / interval)
-        if not run.glued and abs(distance - straight * interval) <= self.clock.least_late(straight):
+        if not run.glued and abs(distance - straight * interval) <= self.clock.least_late(straight, min(before.count, run.count)):
             if self._follows(marks, before.count - 1 + straight):
                 return _Way(price, distance, interval, [straight], ())
         steps = {1, *range(max(1, straight - limits.MOST_LATE), straight + 1)}.union({0} if straight == 0 else ())
@@ -151,7 +156,7 @@ class _Linker:
         costs = sorted((told[0], old) for old, told in self.table[-1].items())
         faults = marks.faults((costs[0][1] + onward) % 100)
         if not faults:
-            alone = len(costs) == 1 or costs[1][0] > costs[0][0] + limits.UNLIKELY
+            alone = len(costs) == 1 or costs[1][0] > costs[0][0] + tenths(limits.UNLIKELY)
             return marks.count >= limits.LONG_RUN or alone
         most = 1 + min(marks.count // 100, marks.faults(marks.best(0, 1)[0]))
         return marks.count >= limits.LONG_RUN and faults <= most
@@ -160,7 +165,7 @@ class _Linker:
         """The cheapest way, from its end to its beginning: each run has its phase as its place."""
         phase: Optional[int] = min(self.table[-1], key=lambda each: self.table[-1][each][0])
         cost = self.table[-1][phase or 0][0]
-        rest = dict.fromkeys(self.table[-1], 0.0)
+        rest: Dict[int, float] = dict.fromkeys(self.table[-1], 0)
         runs: List[Run] = []
         for at in range(len(self.runs) - 1, -1, -1):
             choices, own = self.table[at], phase or 0
@@ -168,10 +173,12 @@ class _Linker:
                 rest = {old: self._least_rest(at, old, rest) for old in choices}
             others = {other: choices[other][0] + rest[other] for other in choices if other != own}
             so_far, phase, step, late = choices[own]
-            lead = min(others.values(), default=cost + limits.UNLIKELY) - cost
-            near = tuple(other for other, each in sorted(others.items()) if each < cost + limits.LEAST_LEAD)
-            runs.append(replace(self.runs[at], place=PlaceNumber(own), step=step, late=late, cost=so_far, lead=lead, others=near))
-        return Linked(cost, runs[::-1])
+            lead = min(others.values(), default=cost + tenths(limits.UNLIKELY)) - cost
+            near = tuple(other for other, each in sorted(others.items()) if each < cost + tenths(limits.LEAST_LEAD))
+            fewest = min(each.count for each in self.runs[max(0, at - 1):at + 1])
+            runs.append(replace(self.runs[at], fewest=fewest, place=PlaceNumber(own), step=step, late=late, cost=so_far / 10,
+                                lead=lead / 10, others=near))
+        return Linked(cost / 10, runs[::-1])
 
     def _least_rest(self, at: int, old: int, rest: Dict[int, float]) -> float:
         """What the cheapest way from a phase of run `at` to the last run costs; `rest` is that of the next run."""
@@ -190,7 +197,7 @@ def _without_stray(clock: Clock, runs: List[Run]) -> List[Run]:
 
 def _is_off(clock: Clock, run: Run) -> bool:
     """Whether a run is late or early after the one before it."""
-    return abs(run.late) > clock.least_late(run.step)
+    return abs(run.late) > clock.least_late(run.step, run.fewest)
 
 
 def _follow(clock: Clock, runs: List[Run], unused: Sequence[int]) -> Linked:

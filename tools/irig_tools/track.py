@@ -8,6 +8,7 @@ from . import limits
 from .grouping import grouped
 from .interval import Clock, Run
 from .layout import Layout
+from .other_code import OtherCode
 from .units import FrameNumber, Microseconds, PlaceNumber, PulseIndex, frame_of, plus, through
 from .zones import Zone
 
@@ -38,6 +39,9 @@ class Track:
             told[place - self.first] = ord(self._judge(place))
         if self.falls[-1] == self.listing.length and self.pulses_at(self.last)[-1:] == [len(self.falls) - 1]:
             told[-1] = ord("~")  # cut by the end of the recording
+        for zone in self.zones:
+            for place in self._of_other(zone, zone.other) if zone.other else zone.inner() if zone.vague else ():
+                told[place - self.first] = ord("~")
         all_told = told.decode()
         for zone in self.zones:
             if zone.glued:
@@ -45,11 +49,23 @@ class Track:
                 told[low:high] = b"~" * (high - low)
         return all_told, told.decode()
 
+    def _of_other(self, zone: Zone, other: OtherCode) -> List[PlaceNumber]:
+        """The places of a hole with other code in it, and those next to it that look as if they were of it, too."""
+        found = [place for place in through(zone.first, zone.last)
+                 if zone.first < place < zone.last or self._judge(place) not in "01P"]
+        for run, beyond, way in ((zone.left, other.first, -1), (zone.right, other.last, 1)):
+            pulse = plus(beyond, way)
+            while run and run.first <= pulse <= run.last and self.classes[pulse] == "b" and other.is_apart(
+                    abs(self.rises[pulse] - self.rises[plus(pulse, -way)])):
+                found.append(plus(run.place, pulse - run.first))
+                pulse = plus(pulse, way)
+        return found
+
     def _judge(self, place: PlaceNumber) -> str:
         pulses = self.pulses_at(place)
         if not pulses:
             return "-"
-        if len(pulses) > 1 or abs(self.rises[pulses[0]] - self.rise_at(place)) > self.clock.stray:
+        if len(pulses) > 1 or abs(self.rises[pulses[0]] - self.rise_at(place)) > self.stray_at(place):
             return "?"
         return self.classes[pulses[0]]
 
@@ -67,6 +83,11 @@ class Track:
         """When the pulse of a place should rise."""
         zone = self.zone_of.get(place)
         return zone.rise_at(place) if zone else self.rises[self.pulses_at(place)[0]]
+
+    def stray_at(self, place: PlaceNumber) -> float:
+        """How far the pulse of a place may be off."""
+        zone = self.zone_of.get(place)
+        return zone.stray if zone else self.clock.stray
 
     def within(self, place: PlaceNumber) -> PlaceNumber:
         """The place, or the end of the track that is nearest to it."""

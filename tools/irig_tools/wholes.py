@@ -64,7 +64,7 @@ def _control_of(faults: Faults, number: FrameNumber) -> int:
 def _can_generate(faults: Faults, number: FrameNumber) -> bool:
     """Whether `regen` of a frame takes away nothing but its damage."""
     track, own, moment = faults.track, through(place_in(number), place_in(number, 99)), faults.times.moment(number)
-    if own[0] < track.first or own[-1] > track.last or faults.clock.interval != faults.layout.interval:
+    if own[0] < track.first or own[-1] > track.last or faults.clock.interval != faults.layout.interval or faults.clock.wander:
         return False
     lost = sum(place in faults.wanted for place in own)
     if lost < limits.FEWEST_LOST or (lost < 100 and not faults.clock.exact) or moment is None:

@@ -6,8 +6,10 @@ from typing import Dict, List, Optional, Tuple
 
 from . import limits
 from .interval import Clock, Run
+from .other_code import OtherCode, other_code, survives
 from .phases import ONLY_P, faults_along
 from .units import Microseconds, PlaceNumber, PulseIndex, plus, through
+from .wander import on_curve
 
 
 def whole_steps(distance: float, interval: float) -> int:
@@ -22,24 +24,37 @@ class Zone:
         self.clock, self.left, self.right = clock, left, right
         self.interval = clock.interval_between(left, right)
         self.rises = clock.rises
+        self.stray = clock.stray_over(right.step if left and right else 1)
         self.late: float = 0
-        if left and right and abs(right.late) > clock.least_late(right.step):
+        if left and right and abs(right.late) > clock.least_late(right.step, right.fewest):
             self.late = right.late
         self.border: Optional[PulseIndex] = None  # the first pulse that came late
         self.border_place = PlaceNumber(0)
         if self.late and left and right:
             self.border = self._find_border(left, right)
             self.border_place = self.place_of(self.border)
+        self.other = self._find_other() if left and right else None
         pulses = self._find_pulses()
         self.first, self.last = self._ends(pulses)
         self.head, self.tail = self._unsure() if left and right and right.glued else (0, 0)
         self.pulses: Dict[PlaceNumber, List[PulseIndex]] = {place: [] for place in through(self.first, self.last)}
         for pulse in pulses:
             self.pulses[min(self.last, max(self.first, self.place_of(pulse)))].append(pulse)
+        self.vague = self._find_vague() if self.right and not self.other else 0.0
 
     @property
     def glued(self) -> bool:
         return bool(self.left and self.right and self.right.glued)
+
+    def _find_other(self) -> Optional[OtherCode]:
+        """What is between two runs, if it is no damaged part of this code."""
+        left, right = self.left, self.right
+        assert left and right
+        found = other_code(self.rises, self.clock.listing.falls, plus(left.last, 1), plus(right.first, -1), self.interval)
+        if not found:
+            return None
+        own = through(found.first, found.last)
+        return None if survives(list(map(self.place_of, own)), self.clock.classes[found.first:found.last + 1]) else found
 
     def _find_pulses(self) -> List[PulseIndex]:
         """The last of the left run, the first of the right one, and what is between; at an end all that belong to a frame."""
@@ -47,14 +62,18 @@ class Zone:
         first, last = left.last if left else PulseIndex(-1), right.first if right else PulseIndex(-1)
         if right and not left:
             first = right.first if {"<", "["} & set(right.ends) else self._reach(right.first, -1)
+            if other_code(self.rises, self.clock.listing.falls, first, plus(right.first, -1), self.interval):
+                first = right.first
         if left and not right:
             last = left.last if {">", "]"} & set(left.ends) else self._reach(left.last, 1)
+            if other_code(self.rises, self.clock.listing.falls, plus(left.last, 1), last, self.interval):
+                last = left.last
         return through(first, last)
 
     def _ends(self, pulses: List[PulseIndex]) -> Tuple[PlaceNumber, PlaceNumber]:
         """The first and the last place."""
         known = [(self.place_of(pulse), self.rises[pulse]) for pulse in pulses]
-        near = [place for place, rise in known if abs(rise - self.rise_at(place)) <= self.clock.stray]
+        near = [place for place, rise in known if abs(rise - self.rise_at(place)) <= self.stray]
         zero = PlaceNumber(0)
         low = self.left.last_place if self.left else min([self.right.place if self.right else zero, *near])
         high = self.right.place if self.right else max([self.left.last_place if self.left else zero, *near])
@@ -114,6 +133,8 @@ class Zone:
         if not self.left or (self.border is not None and pulse >= self.border):
             return self._place_by_right(pulse)
         place = plus(self.left.last_place, whole_steps(self.rises[pulse] - self.left.end, self._local_interval()))
+        if self._is_bent():
+            place = self._place_near(self.rises[pulse], place)
         if self.late and self.right and self.right.step > 0:
             place = min(place, plus(self.right.place, -1))
         return place
@@ -124,9 +145,58 @@ class Zone:
             return (self.right.begin - self.left.end) / self.right.step
         return self.interval
 
+    def _is_bent(self) -> bool:
+        """Whether both runs are on one clock that wanders, so that the interval changes from one to the other."""
+        return bool(self.clock.wander and self.left and self.right and not self.late and self.right.step > 1)
+
+    def _bent_rise(self, place: PlaceNumber) -> float:
+        """When the pulse of a place should rise if the interval at both ends is that of the runs there: a curve of third degree."""
+        left, right = self.left, self.right
+        assert left and right
+        intervals = left.end_interval or self.interval, right.begin_interval or self.interval
+        return on_curve((place - left.last_place) / right.step, right.step, (left.end, right.begin), intervals)
+
+    def _place_near(self, rise: Microseconds, place: PlaceNumber) -> PlaceNumber:
+        """The place of a pulse, near another one."""
+        early = limits.BEFORE_ITS_RISE * self.interval
+        while place > self.first_possible() and self._bent_rise(place) - early > rise:
+            place = plus(place, -1)
+        while self.right and place < self.right.place and self._bent_rise(plus(place, 1)) - early <= rise:
+            place = plus(place, 1)
+        return place
+
+    def inner(self) -> List[PlaceNumber]:
+        """The places between those of both runs."""
+        return through(plus(self.first, 1), plus(self.last, -1))
+
+    def _find_vague(self) -> float:
+        """By how much an element in the hole can be off if the clock wanders, and nothing says more than both ends do; 0 if that is
+        little, or if most of the pulses there are where the curve has them."""
+        if not self._is_bent() or not self.right:
+            return 0
+        off = self.clock.inside(self.right.step)
+        own = [place for place in self.pulses if self.first < place < self.last]
+        near = [place for place in own if self._has_single(place)]
+        if off < limits.ALIASED * self.interval and 2 * len(near) > sum(bool(self.pulses[place]) for place in own):
+            known = [self.first, *near, self.last]
+            off = self.clock.inside(max(after - before for before, after in zip(known, known[1:])))
+        return off if off > limits.VAGUE * self.interval else 0
+
+    def _has_single(self, place: PlaceNumber) -> bool:
+        """Whether a place has one pulse, of a class, about where it should be."""
+        pulses = self.pulses[place]
+        return len(pulses) == 1 and self.clock.classes[pulses[0]] != "b" and abs(
+            self.rises[pulses[0]] - self._bent_rise(place)) <= limits.VAGUE * self.interval
+
+    def first_possible(self) -> PlaceNumber:
+        assert self.left
+        return self.left.last_place
+
     def rise_at(self, place: PlaceNumber) -> Microseconds:
         """When the pulse of a place should rise, in the track as it is before a late rest is moved."""
         if self.right and (not self.left or (self.late and place >= self.border_place)):
             return Microseconds(round(self.right.begin - (self.right.place - place) * self.interval))
         assert self.left
+        if self._is_bent() and self.right and self.left.last_place <= place <= self.right.place:
+            return Microseconds(round(self._bent_rise(place)))
         return Microseconds(round(self.left.end + (place - self.left.last_place) * self._local_interval()))

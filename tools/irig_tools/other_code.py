@@ -1,0 +1,58 @@
+"""Other code in a hole: a recorder was switched to another signal for a while. Its pulses are steady by an interval of their own."""
+from __future__ import annotations
+
+from statistics import median_low
+from typing import NamedTuple, Optional, Sequence
+
+from . import limits
+from .layout import INTERVAL, POSITIONS, SHARE
+from .units import PlaceNumber, PulseIndex
+
+ONE_SECOND = 1000000
+
+
+class OtherCode(NamedTuple):
+    """Pulses that are not of this code: the first and the last one, and how far apart they are."""
+
+    first: PulseIndex
+    last: PulseIndex
+    interval: float
+    kind: str  # the format that has this interval, or an empty text
+
+    def is_apart(self, distance: float) -> bool:
+        """Whether pulses at a distance follow each other in it."""
+        return abs(distance - self.interval) <= limits.IN_STEP * self.interval
+
+
+def other_code(rises: Sequence[int], falls: Sequence[int], first: PulseIndex, last: PulseIndex, own: float) -> Optional[OtherCode]:
+    """What these pulses are, if most of them follow each other by one interval that is not the own one."""
+    if last - first + 1 < limits.SURE_RUN:
+        return None
+    apart = [rises[at + 1] - rises[at] for at in range(first, last)]
+    usual = median_low(apart)
+    steady = sum(abs(each - usual) <= limits.IN_STEP * usual for each in apart)
+    if abs(usual - own) <= limits.IN_STEP * own or steady < limits.STEADY_CODE * len(apart):
+        return None
+    return OtherCode(first, last, usual, _kind(usual, [falls[at] - rises[at] for at in range(first, last + 1)]))
+
+
+def _kind(interval: int, widths: Sequence[int]) -> str:
+    """The format of pulses that are so far apart, if their widths are those of its classes."""
+    for kind, nominal in INTERVAL.items():
+        alike = sum(min(abs(width / nominal - share) for share in SHARE.values()) <= limits.IN_STEP for width in widths)
+        if abs(interval - nominal) <= limits.IN_STEP * nominal and alike >= limits.STEADY_CODE * len(widths):
+            return kind
+    return ""
+
+
+def survives(places: Sequence[PlaceNumber], classes: str) -> bool:
+    """Whether most of these pulses are position identifiers in their places: the wide ones are seen where the signal is weak."""
+    own = sum(place % 100 in POSITIONS and name == "P" for place, name in zip(places, classes))
+    return own >= limits.STEADY_CODE * len(classes)
+
+
+def named(other: OtherCode, end: int) -> str:
+    """What is seen."""
+    often = "one in a second" if other.is_apart(ONE_SECOND) else "one in %d microseconds" % other.interval
+    said = "time code of format %s, " % other.kind if other.kind else "pulses, "
+    return "from there to %d is other code: %s%s, %d in all" % (end, said, often, other.last - other.first + 1)

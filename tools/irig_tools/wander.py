@@ -1,0 +1,236 @@
+"""A clock that wanders has another interval from place to place: wow, flutter, a tape that gets faster.
+
+How far it is off over a hole is measured where there is none: each sound stretch of the recording is looked at as if some of its
+pulses were missing, and what follows from both sides is compared with where the pulses are.
+"""
+from __future__ import annotations
+
+from statistics import median
+from typing import Callable, Dict, Iterator, List, NamedTuple, Optional, Sequence, Tuple
+
+from . import limits
+
+Near = Callable[[int], float]  # the interval near a pulse, if the run has too few
+Ends = Tuple[int, int]  # the first and the last pulse of a run
+Hole = Tuple[Ends, int, int]  # a run, and the pulses on both sides of a hole that is tried in it
+
+
+class Reach(NamedTuple):
+    """Which pulses at an end of a run say where it should rise, and which the interval there."""
+
+    near: int
+    far: int
+    local: bool = True  # the interval of these pulses, and not that of the recording
+    bent: bool = False  # it changes within them
+
+    def end(self, rises: Sequence[int], at: int, way: int, count: int, interval: float) -> Tuple[float, float]:
+        """When the pulse at an end should rise, and the interval there; `count` pulses of the run go on that way."""
+        many = min(count, self.far)
+        time = [way * (rises[at + way * k] - rises[at]) for k in range(many)]
+        near = (min(many, self.near) - 1) // 2 * 2 + 1
+        if not self.local or many < limits.LEAST_LOCAL:
+            slope, bend = interval, 0.0
+        elif self.bent:
+            here, there = _slope(time[:many // 2]), _slope(time[many // 2:])
+            bend = (there - here) / (many - many // 2)
+            slope = here - bend * (many // 2 - 1) / 2
+        else:
+            slope, bend = _slope(time), 0.0
+        begin = median([time[k] - k * slope - bend * k * k / 2 for k in range(near)])
+        if not self.local and many > 1:
+            slope = (time[-1] - begin) / (many - 1)
+        return rises[at] + way * begin, slope
+
+
+def _slope(time: Sequence[int]) -> float:
+    """The interval of some pulses; a few of them can stray."""
+    half = len(time) // 2
+    return median([(later - earlier) / half for earlier, later in zip(time, time[half:])])
+
+
+AS_STEADY = Reach(limits.NEAR, limits.FAR, local=False)
+ALL_REACHES = tuple(Reach(near, far, bent=bent) for near, far in limits.REACHES for bent in (False, True))
+
+
+class Sides:
+    """Both sides of a hole: when the pulse next to it should rise, and the interval there. Each is worked out once."""
+
+    def __init__(self, rises: Sequence[int], near: Near) -> None:
+        self.rises, self.near = rises, near
+        self._known: Dict[Tuple[int, int, int, Reach], Tuple[float, float]] = {}
+
+    def of(self, at: int, way: int, count: int, reach: Reach) -> Tuple[float, float]:
+        key = at, way, min(count, reach.far), reach
+        if key not in self._known:
+            self._known[key] = reach.end(self.rises, at, way, count, self.near(at))
+        return self._known[key]
+
+    def late_by(self, run: Ends, left: int, right: int, reach: Reach, hop: Reach) -> float:
+        """By how much what begins with a pulse of a run is late, as if nothing were known from another pulse up to it: one reach
+        says where the ends are, and the other the interval between them."""
+        before, after = left - run[0] + 1, run[1] - right + 1
+        end, begin = self.of(left, -1, before, reach)[0], self.of(right, 1, after, reach)[0]
+        first, last = self.of(left, -1, before, hop)[1], self.of(right, 1, after, hop)[1]
+        return begin - end - (right - left) * (first + last) / 2
+
+    def inside_by(self, run: Ends, left: int, right: int, reach: Reach) -> float:
+        """How far pulses between these two are off from the curve through both ends, at three places."""
+        end, first = self.of(left, -1, left - run[0] + 1, reach)
+        begin, last = self.of(right, 1, run[1] - right + 1, reach)
+        many, most = right - left, 0.0
+        for part in (1, 2, 3):
+            at = left + many * part // 4
+            near = range(max(left + 1, at - limits.HALF_SIDE), min(right - 1, at + limits.HALF_SIDE) + 1)
+            off = [self.rises[each] - on_curve((each - left) / many, many, (end, begin), (first, last)) for each in near]
+            most = max(most, abs(median(off)) if off else 0.0)
+        return most
+
+
+def on_curve(at: float, many: int, ends: Tuple[float, float], intervals: Tuple[float, float]) -> float:
+    """When a pulse should rise at a share of a hole of that many elements, if its interval is that of the runs at both ends: a curve
+    of third degree."""
+    whole = ends[1] - ends[0]
+    first, last = many * intervals[0] - whole, whole - many * intervals[1]
+    return ends[0] + at * whole + at * (1 - at) * (first * (1 - at) + last * at)
+
+
+class Sample:
+    """Places all over the recording at which a hole is tried where there is none."""
+
+    def __init__(self, rises: Sequence[int], runs: Sequence[Ends], near: Near) -> None:
+        self.sides, self.runs = Sides(rises, near), runs
+        self._holes: Dict[int, List[Hole]] = {}
+
+    def holes(self, steps: int) -> List[Hole]:
+        """Holes of that many elements."""
+        if steps not in self._holes:
+            self._holes[steps] = list(self._find_holes(steps))
+        return self._holes[steps]
+
+    def _find_holes(self, steps: int) -> Iterator[Hole]:
+        beside = limits.BESIDE
+        room = [(run, run[1] - run[0] - steps * 5 // 4 - 2 * beside + 1) for run in self.runs]
+        room = [(run, many) for run, many in room if many > 0]
+        room = room[::len(room) // limits.PLACES_TRIED + 1]
+        total = sum(many for _, many in room)
+        for run, many in room:
+            places = min(many, max(1, round(limits.PLACES_TRIED * many / total)))
+            for number in range(places):
+                left = run[0] + beside + number * many // places
+                yield run, left, left + steps + steps * (number % limits.LENGTHS) // limits.LENGTHS // 4
+
+    def lates(self, steps: int, reach: Reach, hop: Reach, short: bool = False) -> List[float]:
+        """By how much what follows after that many elements is off, without its sign, from the least to the most; if `short`,
+        there are few pulses before each hole."""
+        holes = self.holes(steps)
+        if short:
+            holes = [((left - limits.SIDE + 1, run[1]), left, right) for run, left, right in holes]
+        return sorted(abs(self.sides.late_by(run, left, right, reach, hop)) for run, left, right in holes)
+
+    def insides(self, steps: int, reach: Reach) -> List[float]:
+        """How far off pulses in holes of that many elements are, from the least to the most."""
+        return sorted(self.sides.inside_by(run, left, right, reach) for run, left, right in self.holes(steps))
+
+    def best_reach(self, by_chance: float, wanders: bool) -> Reach:
+        """The reach that says best where the ends are; that of a steady clock if no other is clearly better, unless it `wanders`
+        for sure. It is the best, too, if it is off by no more than `by_chance`."""
+        steady = {steps: self.lates(steps, AS_STEADY, AS_STEADY) for steps in limits.HOLES_TRIED}
+        usual = {steps: median(found) for steps, found in steady.items() if len(found) >= limits.FEWEST_TRIED}
+        if not usual or not wanders and all(each <= by_chance for each in usual.values()):
+            return AS_STEADY
+
+        def off(reach: Reach) -> float:
+            return sum(min(1.0, *(median(self.lates(steps, reach, hop)) / (each + limits.ROUNDED) for hop in (reach, AS_STEADY)))
+                       for steps, each in usual.items())
+
+        score, best = min((off(reach), reach) for reach in ALL_REACHES)
+        return best if wanders or score < limits.CLEARLY_BETTER * len(usual) else AS_STEADY
+
+
+class Wander:
+    """By how much a rest can be late after a hole, though it is on the same clock; which pulses say the interval within it; and how
+    far off pulses are that are put into it."""
+
+    def __init__(self, sample: Sample, reach: Reach) -> None:
+        self.reach = reach
+        self.hops: Dict[int, Reach] = {}
+        self.known: Dict[bool, Dict[int, float]] = {False: {}, True: {}}
+        self.spread: Dict[bool, float] = {}
+        self.inner: Dict[int, float] = {}  # how far off pulses in holes of so many elements are
+        for short, table in self.known.items():
+            most = 0.0
+            for steps in limits.HOLES_MEASURED:
+                hops = [self.hops[steps]] if steps in self.hops else [] if short else [reach, AS_STEADY, *ALL_REACHES]
+                tried = [(_nine_of_ten(found), hop) for hop in hops for found in [sample.lates(steps, reach, hop, short)] if found]
+                if not tried or len(sample.lates(steps, reach, reach, short)) < limits.FEWEST_TRIED:
+                    break
+                off, self.hops[steps] = min(tried)
+                if steps == 1:
+                    self.spread[short] = max(median(sample.lates(steps, reach, self.hops[1], short)), off / limits.NINE_OF_TEN)
+                most = max(most, limits.ABOVE_NINE_OF_TEN * off)
+                table[steps] = most
+        most = 0.0
+        for steps in self.known[False]:
+            most = self.inner[steps] = max(most, limits.ABOVE_NINE_OF_TEN * _nine_of_ten(sample.insides(steps, reach)))
+
+    def hop(self, steps: float) -> Reach:
+        """Which pulses say the interval in a hole of that many elements."""
+        return self.hops[max((each for each in self.hops if each <= steps), default=1)] if self.hops else self.reach
+
+    def over(self, steps: float, short: bool = False) -> float:
+        """In microseconds, over that many elements; if `short`, one of both sides has few pulses."""
+        return _between(self.known[short], steps, 1)
+
+    def inside(self, steps: float) -> float:
+        """In microseconds, how far off a pulse in a hole of that many elements can be; in a longer one than was tried it is more by
+        the square, as the interval changes meanwhile."""
+        return _between(self.inner, steps, 2)
+
+
+def _between(table: Dict[int, float], steps: float, power: int) -> float:
+    """What a table has for that many elements; beyond its end it grows with a power of them."""
+    before, low = 0, 0.0
+    for each, off in table.items():
+        if steps <= each:
+            return off if not before else low + (off - low) * (steps - before) / (each - before)
+        before, low = each, off
+    return low * (steps / before) ** power if before else 0.0
+
+
+def _nine_of_ten(found: Sequence[float]) -> float:
+    """What nine of ten are within."""
+    return found[len(found) * 9 // 10]
+
+
+def curve(apart: Sequence[int], least: float, most: float) -> List[float]:
+    """The interval near each distance: of each block of distances what half of those in step are above, and between them what
+    lies between."""
+    size = limits.BLOCK
+    blocks: List[Optional[float]] = []
+    for at in range(0, len(apart), size):
+        part = [each for each in apart[at:at + size] if least <= each <= most]
+        blocks.append(median(part) if 2 * len(part) >= size else None)
+    known = [(at, each) for at, each in enumerate(blocks) if each is not None]
+    if not known:
+        return []
+    smooth = [(at, median([each for _, each in known[max(0, number - 1):number + 2]])) for number, (at, _) in enumerate(known)]
+    if len(smooth) > 2:  # the first and the last have one neighbour
+        smooth[0], smooth[-1] = known[0], known[-1]
+    centre = [(at * size + (min(size, len(apart) - at * size) - 1) / 2, each) for at, each in smooth]
+    found: List[float] = [centre[0][1]] * (int(centre[0][0]) + 1)
+    for (low, left), (high, right) in zip(centre, centre[1:]):
+        rate = (right - left) / (high - low)
+        found += [left + (at - low) * rate for at in range(len(found), int(high) + 1)]
+    return found + [centre[-1][1]] * (len(apart) - len(found))
+
+
+def is_curved(apart: Sequence[int], least: float, most: float, noise: float) -> bool:
+    """Whether distances are much nearer to those beside them than to the usual one, in some parts of the recording."""
+    if not noise:
+        return False
+    size, parts = limits.CURVE_SEEN, limits.PARTS_SEEN
+    off: List[float] = []
+    for begin in range(0, max(1, len(apart) - size), max(size, len(apart) // parts)):
+        part = apart[begin:begin + size]
+        off += [abs(each - near) for each, near in zip(part, curve(part, least, most)) if least <= each <= most]
+    return bool(off) and median(off) < limits.CURVED * noise
