@@ -5,6 +5,7 @@ The recordings are those of the reference encoder; costs, places and times are w
 import glob
 import math
 import os
+import random
 import re
 
 from built import TOP
@@ -165,6 +166,89 @@ def of_wander():
     clock = Clock(listing_of(slow), 10000)
     yield same("from fast to slow", (len(clock.runs), abs(clock.runs[0].begin - slow[0][0]) < 2, clock.margin), (1, True, 400))
     yield same("a steady clock", Clock(listing_of(tools.recording(12)), 10000).wander, None)
+
+
+def of_vague():
+    """On a clock that wanders a long hole is left and named with how uncertain it is; a short one is filled where its pulses were."""
+    sound = wow(tools.recording(14), 0.03, 200)
+    for name, first, beyond, kept, wanted in (
+            ("12 elements", 530, 542, (), 12), ("150 elements", 530, 680, (), 0), ("two frames", 530, 730, (), 0),
+            ("70 elements, and four of seven are there", 530, 600, [at for at in range(530, 600) if at % 7 in (1, 3, 4, 6)], 30)):
+        pulses = [pulse for at, pulse in enumerate(sound) if not first <= at < beyond or at in kept]
+        found = analysis.examine(listing_of(pulses))
+        part = found.parts[0]
+        yield same(name + ", what is filled", (len(found.parts), len(part.faults.wanted)), (1, wanted))
+        far = [abs(part.track.rise_at(place) - sound[place][0]) for place in part.faults.wanted]
+        yield same(name + ", to a tenth of an interval", max(far, default=0) < 1000, True)
+        said = [remark for remark in part.remarks if "the clock wanders" in remark.seen]
+        yield same(name + ", what is said", len(said), 0 if wanted else 1)
+        for remark in said:
+            from_there = remark.seen.startswith("%d elements are lost or damaged from there to " % (beyond - first))
+            milliseconds = float(re.findall(r"be ([0-9.]+) milliseconds off", remark.seen)[0])
+            # the interval is off by 3 % over half a turn of 200 elements: the hole is off by up to 10 milliseconds or a multiple
+            yield same(name + ", how uncertain", (from_there, 1 < milliseconds < 100), (True, True))
+    steady = tools.recording(14)
+    yield same("a steady clock", len(analysis.examine(listing_of(steady[:530] + steady[730:])).parts[0].faults.wanted), 200)
+
+
+def of_undamaged():
+    """Recordings of clocks that wander, get faster, tremble, and all of that: nothing is damage, and no pulse would move."""
+    rng = random.Random(81)
+    for number in range(12):
+        pulses = tools.recording(10)
+        if number % 2:
+            pulses = wow(pulses, rng.uniform(0.001, 0.03), rng.choice((100, 150, 200, 400)))
+        if number % 3 == 0:
+            pulses = wow(pulses, rng.uniform(0.001, 0.005), rng.choice((8, 17, 40)))
+        if number % 4 == 0:
+            speed = rng.uniform(-0.03, 0.03)
+            pulses = [[int(time * (1 + speed * time / 1e7)) for time in pulse] for pulse in pulses]
+        if number % 5 == 0:
+            tremble = [rng.randint(0, 100) for _ in pulses]
+            pulses = [[rise + by, fall + by] for (rise, fall), by in zip(pulses, tremble)]
+        found = analysis.examine(listing_of(pulses))
+        said = [remark.seen for part in found.parts for remark in part.remarks + part.faults.remarks] + [each.seen for each in found.remarks]
+        yield same("undamaged %d" % number, (said, [part.faults.wanted for part in found.parts]), ([], [{}]))
+
+
+def of_strays():
+    """A rise that is off by more than eight times the spread and three samples is damage, though its pulse is in step."""
+    def trembling(pulses):
+        """Distances are off by 10, 40, -20, 50 and -80; nine of ten of their distances to 10010 are up to 90, so the spread is 36.9."""
+        for at, pulse in enumerate(pulses):
+            pulse[0] += (0, 10, 50, 30, 80)[at % 5]
+
+    def nothing(pulses):
+        pass
+
+    def dropout(pulses):
+        del pulses[417:430]
+
+    for name, jitter, damage, at, by, wanted in (
+            ("three microseconds on an exact clock", nothing, nothing, 430, 3, []),
+            ("four", nothing, nothing, 430, 4, [430]),
+            ("early", nothing, nothing, 430, -4, [430]),
+            ("at the end of a dropout", nothing, dropout, 430, 4, [*range(417, 431)]),
+            ("before a dropout", nothing, dropout, 416, 350, [*range(416, 430)]),
+            ("a marker", nothing, nothing, 500, 300, [500]),
+            ("the first one is cut by the begin", nothing, nothing, 0, 300, []),
+            # pulse 430 is 40 before where those next to it say
+            ("8.0 times the spread", trembling, nothing, 430, 325, []),
+            ("8.5 times the spread", trembling, nothing, 430, 355, [430]),
+    ):
+        pulses = tools.recording()
+        jitter(pulses)
+        pulses[at][0] += by
+        if not at:
+            pulses = [[max(0, rise - by), fall - by] for rise, fall in pulses]
+        damage(pulses)
+        found = analysis.examine(listing_of(pulses)).parts[0].faults
+        yield same(name, sorted(found.wanted), wanted)
+        if wanted == [430]:
+            edits, _ = script_of(pulses)
+            due = 4300000 + (40 if jitter is trembling else 0)
+            moved = [int(line.split()[2]) for line in edits if line.startswith("431 shift ")]
+            yield same(name + ", where it is moved to", [pulses[430][0] + each for each in moved], [due])
 
 
 def of_other_code():
@@ -476,6 +560,29 @@ def of_contrary():
         yield same("%d elements of a frame contradict the others" % many, (sorted(found.wanted), said), (wanted, left))
 
 
+def of_set():
+    """A clock that was set at the 16th frame, and what comes after it is damaged: no frame gets the time that is over."""
+    told, unseen = [], []
+    for seed in range(6):
+        rng = random.Random("set %d" % seed)
+        pulses = tools.recording(16, expression=2)
+        for rise, fall in tools.recording(16, begin=(tools.DAY, tools.NOON + 360000 * rng.randint(1, 9)), expression=2):
+            pulses.append([rise + 16000000, fall + 16000000])
+        true = listing_of(pulses, expression=2).classes
+        for at in sorted(rng.sample(range(1602, 3200), rng.randint(12, 30)), reverse=True):
+            if rng.random() < 0.5:
+                pulses[at][1] = pulses[at][0] + rng.choice((2000, 5000, 8000))
+            else:
+                del pulses[at]
+        for part in analysis.examine(listing_of(pulses, expression=2)).parts:
+            wrong = {place for place, target in part.faults.wanted.items() if 0 <= place < 3200 and true[place] != target}
+            # up to two elements of a frame are damage; more than that are no accident
+            most = max((sum(each // 100 == frame for each in wrong) for frame in {each // 100 for each in wrong}), default=0)
+            told.append(most)
+            unseen += sorted(wrong) if most > 2 else []
+    yield same("no frame is rewritten against more than two elements", (unseen, max(told) <= 2), ([], True))
+
+
 def of_steadiness():
     """How often an element may have changed: two changes need a chance below 1 in 1,000."""
     def rows(changes, frames):
@@ -584,7 +691,8 @@ def cases():
     """Each part by its name."""
     return [case("mend: part: " + name, holds) for name, holds in (
         ("phases", of_phases), ("clock", of_clock), ("a clock that wanders", of_wander), ("polarity", of_polarity), ("slots", of_slots),
-        ("sure runs", of_parts), ("tenths", of_tenths), ("other code", of_other_code), ("places", of_places), ("votes", of_votes),
+        ("sure runs", of_parts), ("tenths", of_tenths), ("other code", of_other_code), ("a long hole on a clock that wanders", of_vague),
+        ("undamaged", of_undamaged), ("a rise that is off", of_strays), ("a clock that was set", of_set), ("places", of_places), ("votes", of_votes),
         ("spans", of_spans), ("pieces", of_pieces), ("leap seconds", of_leap), ("moments", of_moments), ("times", of_times),
         ("contrary elements", of_contrary), ("steadiness", of_steadiness), ("copies", of_copies), ("cuts", of_cuts),
         ("edits", of_edits), ("checks", of_checks), ("threshold", of_threshold), ("limits", of_limits))]

@@ -39,7 +39,7 @@ def _item(faults: Faults, place: PlaceNumber) -> Optional[Item]:
     pulses, target = faults.track.pulses_at(place), faults.wanted[place]
     if not pulses:
         why = "%s: no pulse; %s" % (faults.where(place), faults.reason(place))
-        insert = inserted(faults.track.rise_at(place), faults.width(target))
+        insert = inserted(faults.track.rise_at(place), faults.width(target, place))
         return Item(place, place, [insert], why, place not in faults.guesses, True)
     many = faults.track.spans(place, pulses[-1])
     return _divide(faults, place, many, pulses) if many else _reduce(faults, place, pulses, target)
@@ -59,23 +59,23 @@ def _divide(faults: Faults, place: PlaceNumber, many: int, pulses: Sequence[Puls
         edits.append(of_pulses("join", pulses[0], pulses[-1]))
     parts = through(pulses[0], plus(pulses[0], many))
     for pulse, each, after in zip(parts, over, over[1:]):
-        fall = track.rise_at(each) + faults.width(faults.wanted[each])
+        fall = track.rise_at(each) + faults.width(faults.wanted[each], each)
         edits.append(of_pulse("split", pulse, fall, track.rise_at(after)))
-    if _is_unlike(faults, track.falls[pulses[-1]] - track.rise_at(last), faults.wanted[last]):
+    if _is_unlike(faults, last, track.falls[pulses[-1]] - track.rise_at(last), faults.wanted[last]):
         edits.append(of_pulse("force", parts[-1], NAMES[faults.wanted[last]]))
     reasons = ", then ".join(map(faults.reason, over))
     why = "%s: %s; %s" % (faults.where(place), faults.seen(place), reasons)
     return Item(place, last, edits, why, single=True)
 
 
-def _is_unlike(faults: Faults, width: int, target: str) -> bool:
+def _is_unlike(faults: Faults, place: PlaceNumber, width: int, target: str) -> bool:
     """Whether a pulse that is edited anyway gets its width, too."""
-    return abs(width - faults.width(target)) > limits.UNLIKE * faults.layout.interval
+    return abs(width - faults.width(target, place)) > limits.UNLIKE * faults.layout.interval
 
 
 def _choose(faults: Faults, pulses: Sequence[PulseIndex], place: PlaceNumber, target: str) -> Tuple[int, int, bool, bool]:
     """Which pulses are joined to the one that is wanted, and whether it is then off in time, and of a wrong class."""
-    width, choices = faults.width(target), []
+    width, choices = faults.width(target, place), []
     begin, stray = faults.track.rise_at(place), faults.track.stray_at(place)
     for first in range(len(pulses)):
         for last in range(first, len(pulses)):
@@ -100,7 +100,7 @@ def _reduce(faults: Faults, place: PlaceNumber, pulses: Sequence[PulseIndex], ta
     rise, fall = faults.rises[pulses[first]], faults.falls[pulses[last]]
     is_edited = bool(edits or off or wrong)
     off = off or (is_edited and abs(rise - begin) > faults.clock.least_late(1))
-    wrong = wrong or (is_edited and _is_unlike(faults, fall - rise, target))
+    wrong = wrong or (is_edited and _is_unlike(faults, place, fall - rise, target))
     force, shift = of_pulse("force", pulses[0], NAMES[target]), of_pulse("shift", pulses[0], begin - rise)
     change = [force] * wrong + [shift] * off
     edits += change if begin > rise else reversed(change)

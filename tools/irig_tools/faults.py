@@ -49,6 +49,10 @@ class Faults:
             self._compare_control(number, text)
             if number not in times.sound:
                 self._look_at(number, text, times.expected(number))
+        for place in track.strays:
+            told = track.told[place - track.first]
+            if told in SHARE and frame_of(place) in times.texts:
+                self.wanted.setdefault(place, told)
 
     def without(self, places: Container[PlaceNumber]) -> Faults:
         """The same, as if nothing were wrong at these places, and in frames that are to stay as they are."""
@@ -119,7 +123,7 @@ class Faults:
         near = self.times.neighbours(number, element) if control else None
         own = self.layout.class_of(self.width_of(pulses[0])) if len(pulses) == 1 else ""
         burst = control and self._in_burst(place)
-        if own in ("0", "1") and not burst and (not near or self._is_nominal(pulses[0], own)):
+        if own in ("0", "1") and not burst and (not near or self._is_nominal(place, pulses[0], own)):
             return own
         cost = {target: self.difference(place, target) for target in "01"}
         best = min("01", key=lambda target: cost[target])
@@ -145,8 +149,8 @@ class Faults:
     def width_of(self, pulse: PulseIndex) -> int:
         return self.falls[pulse] - self.rises[pulse]
 
-    def _is_nominal(self, pulse: PulseIndex, name: str) -> bool:
-        return abs(self.width_of(pulse) - self.width(name)) <= limits.NOMINAL * self.layout.interval
+    def _is_nominal(self, place: PlaceNumber, pulse: PulseIndex, name: str) -> bool:
+        return abs(self.width_of(pulse) - self.width(name, place)) <= limits.NOMINAL * self.layout.interval
 
     def _doubt_control(self, number: FrameNumber, text: str) -> None:
         """A control function next to damage that has no nominal width is damage, too, if its neighbours say otherwise."""
@@ -162,12 +166,12 @@ class Faults:
         """Whether a pulse next to damage has the width of its class, and in a burst its place, too."""
         if self._in_burst(place):
             return self.difference(place, told) < limits.LIKE_IN_BURST * self.layout.interval
-        return self._is_nominal(self.track.pulses_at(place)[0], told)
+        return self._is_nominal(place, self.track.pulses_at(place)[0], told)
 
     def difference(self, place: PlaceNumber, target: str) -> float:
         """For how many microseconds the level is not that of the target, within its interval."""
         begin = self.track.rise_at(place)
-        end, fall = begin + round(limits.INTERVAL_SEEN * self.clock.interval), begin + self.width(target)
+        end, fall = begin + round(limits.INTERVAL_SEEN * self.track.interval_at(place)), begin + self.width(target, place)
         nearby = through(self.track.within(plus(place, -3)), self.track.within(plus(place, 1)))
         high = both = 0
         for pulse in self.track.pulses_of(nearby):
@@ -176,9 +180,9 @@ class Faults:
             both += max(0, min(top, fall) - low)
         return high + fall - begin - 2 * both
 
-    def width(self, target: str) -> int:
-        """The width that a class has at the real interval."""
-        return round(SHARE[target] * self.clock.interval)
+    def width(self, target: str, place: PlaceNumber) -> int:
+        """The width that a class has at the real interval of a place."""
+        return round(SHARE[target] * self.track.interval_at(place))
 
     # in words
 

@@ -5,7 +5,7 @@ import statistics
 from dataclasses import dataclass, replace
 from itertools import compress, count, islice
 from operator import sub
-from typing import List, Optional, Sequence, Tuple
+from typing import Iterator, List, Optional, Sequence, Tuple
 
 from . import limits
 from .editor import Listing
@@ -133,6 +133,10 @@ class Clock:
         self._measure([(run.count - 1, run.end - run.begin) for run in self.runs if run.count >= limits.SURE_RUN])
         self.runs = list(map(self.fit, self.runs))
         self.doubt = self._find_doubt()
+        # a rise that is farther off than this is damage, though its pulse is in step; which these are, and when they should be
+        self.least_stray = max(limits.STRAY_SEEN * self.spread, limits.SAMPLES_OFF * max(limits.ROUNDED, self.grid), self._least_seen())
+        self.strays = {pulse: due for run in self.runs for pulse, due in self._strays_of(run)}
+        self.in_stray = sorted(self.strays)
 
     def _find_curve(self, apart: Sequence[int]) -> List[float]:
         """The interval near each distance, and by it the noise; nothing if the interval changes less than rises stray."""
@@ -225,8 +229,8 @@ class Clock:
         else:
             off = sorted(abs(each - self.interval) for each in between)
         spread = max(self.noise, off[len(off) * 9 // 10] / limits.NINE_OF_TEN) if off else 0
-        spread = max(spread, self.wander.spread.get(False, 0) if self.wander else 0)
-        return max(self._least_seen(), limits.SPREADS * spread, limits.BY_GRID * self.grid)
+        self.spread: float = max(spread, self.wander.spread.get(False, 0) if self.wander else 0)
+        return max(self._least_seen(), limits.SPREADS * self.spread, limits.BY_GRID * self.grid)
 
     def _least_seen(self) -> float:
         """The least step that a clock shows; what is inserted where it wanders can be off by a little."""
@@ -303,6 +307,23 @@ class Clock:
         if run.count < limits.LEAST_LOCAL and not self.curve:
             return replace(run, begin=begin, end=end)
         return replace(run, begin=begin, end=end, begin_interval=begins, end_interval=ends)
+
+    def _strays_of(self, run: Run) -> Iterator[Tuple[PulseIndex, Microseconds]]:
+        """The pulses of a run whose rise is off, by those on both sides of each, and when it should be. One that is cut by the begin
+        of the recording is not."""
+        rises, least, side = self.rises, self.least_stray, limits.SIDE // 2 + 1
+        if run.count < (limits.LEAST_LOCAL if self.wander else 2 * side + 1):
+            return
+        for first, way, begin, interval in ((run.first, 1, run.begin, run.begin_interval), (run.last, -1, run.end, run.end_interval)):
+            for far in range(side):
+                due = begin + way * far * (interval or self.near(first))
+                if abs(rises[first + way * far] - due) > least and rises[first + way * far] > 0:
+                    yield plus(first, way * far), Microseconds(round(due))
+        for at in range(run.first + side, run.last - side + 1):
+            if not -least <= rises[at - 1] - 2 * rises[at] + rises[at + 1] <= least:
+                due = statistics.median([(rises[at - far] + rises[at + far]) / 2 for far in range(1, side + 1)])
+                if abs(rises[at] - due) > least:
+                    yield PulseIndex(at), Microseconds(round(due))
 
     def near(self, pulse: int) -> float:
         """The interval after a pulse, as far as all distances near it say it."""

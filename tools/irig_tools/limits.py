@@ -39,6 +39,8 @@ SOME_PULSES = 200  # pulses that are looked at for that, so that the search stay
 ON_SAMPLE = 0.8  # the share of their edges that has to be whole samples after the beginning: the others are damaged or repaired
 ON_GRID = 0.5  # the share of lengths, and of what distances are off, that has to be whole samples: what is repaired is not
 SIDE = 5  # pulses on each side of a step [0, 1]
+STRAY_SEEN = 8  # a rise is damage if it is off by more than that many times the spread of the distances: no chance puts it there
+SAMPLES_OFF = 3  # and by more than that many samples of the recorder
 
 # a clock that wanders (wander, interval)
 REACHES = ((15, 100), (15, 48), (15, 24), (9, 16), (7, 12))  # pulses at an end that say its rise and its interval, if one of these is best

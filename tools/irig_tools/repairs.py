@@ -62,7 +62,7 @@ def _written_again(faults: Faults, group: List[Item]) -> List[Edit]:
         return []
     pulses = faults.track.pulses_of(written)
     edits = [of_pulses("delete", pulses[0], pulses[-1])] if pulses else []
-    return edits + [inserted(faults.track.rise_at(place), faults.width(targets[place])) for place in reversed(written)]
+    return edits + [inserted(faults.track.rise_at(place), faults.width(targets[place], place)) for place in reversed(written)]
 
 
 def _of_lost(faults: Faults, lost: List[Item]) -> List[str]:

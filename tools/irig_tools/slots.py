@@ -244,7 +244,8 @@ def link(clock: Clock, runs: List[Run], unused: Sequence[int]) -> Linked:
 def _glued(clock: Clock, run: Run) -> Run:
     """A run that is glued if elements are missing for which there is no time, and only then."""
     whole = 100 * clock.interval
-    if run.late < -limits.NO_TIME * clock.interval and not run.glued and tells_phase(clock.text(run)):
+    early = max(limits.NO_TIME * clock.interval, clock.slack(run.step, run.fewest))
+    if run.late < -early and not run.glued and tells_phase(clock.text(run)):
         return replace(run, glued=True, step=run.step + 100, late=run.late - whole)
     if run.glued and abs(run.late + whole) <= clock.slack(run.step):  # the phase is the same after all
         return replace(run, glued=False, step=run.step - 100, late=run.late + whole)

@@ -1,8 +1,8 @@
 """A part of a recording in which each pulse has a place: 100 times its frame, counted from a marker, and its element."""
 from __future__ import annotations
 
-from bisect import bisect_right
-from typing import List, Optional, Sequence, Tuple
+from bisect import bisect_left, bisect_right
+from typing import Dict, List, Optional, Sequence, Tuple
 
 from . import limits
 from .grouping import grouped
@@ -28,7 +28,9 @@ class Track:
         self.zone_of = {place: zone for zone in self.zones for place in zone.pulses}
         self.first, self.last = self.zones[0].first, self.zones[-1].last
         self.starts = [run.place for run in runs]
+        self.strays: Dict[PlaceNumber, Microseconds] = {}
         self.told, self.sure = self._letters()
+        self.strays = self._find_strays()  # places whose rise is off though all else is right, and when it should be
 
     def _letters(self) -> Tuple[str, str]:
         """A letter for each place, and the same without what may be of either side of a place with a glued run."""
@@ -48,6 +50,25 @@ class Track:
                 low, high = zone.first + 1 - zone.tail - self.first, zone.last + zone.head - self.first
                 told[low:high] = b"~" * (high - low)
         return all_told, told.decode()
+
+    def _find_strays(self) -> Dict[PlaceNumber, Microseconds]:
+        """Those in runs, and those of single pulses between two runs on one clock."""
+        found: Dict[PlaceNumber, Microseconds] = {}
+        for run in self.runs:
+            for pulse in self._straying(run):
+                found[plus(run.place, pulse - run.first)] = self.clock.strays[pulse]
+        for zone in self.zones:
+            if zone.left and zone.right and not (zone.late or zone.glued or zone.vague or zone.other):
+                most = self.clock.least_stray + max(self.clock.over(zone.right.step), self.clock.inside(zone.right.step))
+                for place in zone.inner():
+                    pulses = zone.pulses[place]
+                    if self.told[place - self.first] in "01P" and abs(self.rises[pulses[0]] - zone.rise_at(place)) > most:
+                        found[place] = zone.rise_at(place)
+        return found
+
+    def _straying(self, run: Run) -> Sequence[PulseIndex]:
+        low, high = (bisect_left(self.clock.in_stray, pulse) for pulse in (run.first, run.last + 1))
+        return self.clock.in_stray[low:high]
 
     def _of_other(self, zone: Zone, other: OtherCode) -> List[PlaceNumber]:
         """The places of a hole with other code in it, and those next to it that look as if they were of it, too."""
@@ -82,10 +103,25 @@ class Track:
     def rise_at(self, place: PlaceNumber) -> Microseconds:
         """When the pulse of a place should rise."""
         zone = self.zone_of.get(place)
-        return zone.rise_at(place) if zone else self.rises[self.pulses_at(place)[0]]
+        return self.strays[place] if place in self.strays else zone.rise_at(place) if zone else self.rises[self.pulses_at(place)[0]]
+
+    def interval_at(self, place: PlaceNumber) -> float:
+        """The interval near a place; on a clock that wanders as the pulses on both sides have it."""
+        zone = self.zone_of.get(place)
+        if not self.clock.wander:
+            return self.clock.interval
+        if zone and zone.left and zone.right:
+            return zone.local_interval()
+        run = zone.left or zone.right if zone else self.runs[bisect_right(self.starts, place) - 1]
+        assert run
+        pulse = run.first if place < run.place else run.first + min(place - run.place, run.count - 1)
+        low, high = max(run.first, pulse - limits.SIDE), min(run.last, pulse + limits.SIDE)
+        return (self.rises[high] - self.rises[low]) / (high - low) if high > low else self.clock.interval
 
     def stray_at(self, place: PlaceNumber) -> float:
         """How far the pulse of a place may be off."""
+        if place in self.strays:
+            return self.clock.least_stray
         zone = self.zone_of.get(place)
         return zone.stray if zone else self.clock.stray
 

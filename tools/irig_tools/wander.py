@@ -139,12 +139,17 @@ class Sample:
         if not usual or not wanders and all(each <= by_chance for each in usual.values()):
             return AS_STEADY
 
-        def off(reach: Reach) -> float:
+        def late(reach: Reach) -> float:
             return sum(min(1.0, *(median(self.lates(steps, reach, hop)) / (each + limits.ROUNDED) for hop in (reach, AS_STEADY)))
                        for steps, each in usual.items())
 
-        score, best = min((off(reach), reach) for reach in ALL_REACHES)
-        return best if wanders or score < limits.CLEARLY_BETTER * len(usual) else AS_STEADY
+        def inner(reach: Reach) -> float:
+            return sum(median(self.insides(steps, reach)) / (each + limits.ROUNDED) for steps, each in usual.items())
+
+        scores = {reach: late(reach) for reach in ALL_REACHES}
+        if not wanders and min(scores.values()) >= limits.CLEARLY_BETTER * len(usual):
+            return AS_STEADY
+        return min(scores, key=lambda reach: scores[reach] + inner(reach))
 
 
 class Wander:

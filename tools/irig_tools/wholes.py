@@ -98,7 +98,7 @@ def _as_generated(faults: Faults, place: PlaceNumber, begin: Microseconds) -> bo
     if place in faults.wanted:
         reaches_beyond = pulses and element + track.spans(place, pulses[-1]) > 99
         return not reaches_beyond and track.rise_at(place) == due
-    return faults.rises[pulses[0]] == due and faults.width_of(pulses[0]) == faults.width(told)
+    return faults.rises[pulses[0]] == due and faults.width_of(pulses[0]) == faults.width(told, place)
 
 
 class _Lost(NamedTuple):

@@ -132,14 +132,14 @@ class Zone:
     def place_of(self, pulse: PulseIndex) -> PlaceNumber:
         if not self.left or (self.border is not None and pulse >= self.border):
             return self._place_by_right(pulse)
-        place = plus(self.left.last_place, whole_steps(self.rises[pulse] - self.left.end, self._local_interval()))
+        place = plus(self.left.last_place, whole_steps(self.rises[pulse] - self.left.end, self.local_interval()))
         if self._is_bent():
             place = self._place_near(self.rises[pulse], place)
         if self.late and self.right and self.right.step > 0:
             place = min(place, plus(self.right.place, -1))
         return place
 
-    def _local_interval(self) -> float:
+    def local_interval(self) -> float:
         """Between two runs on one clock the distance is shared out."""
         if self.left and self.right and not self.late and self.right.step > 0:
             return (self.right.begin - self.left.end) / self.right.step
@@ -199,4 +199,4 @@ class Zone:
         assert self.left
         if self._is_bent() and self.right and self.left.last_place <= place <= self.right.place:
             return Microseconds(round(self._bent_rise(place)))
-        return Microseconds(round(self.left.end + (place - self.left.last_place) * self._local_interval()))
+        return Microseconds(round(self.left.end + (place - self.left.last_place) * self.local_interval()))
