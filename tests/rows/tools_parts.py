@@ -165,6 +165,12 @@ def of_wander():
     slow = [[int(time * (0.95 + time / 2.4e8)) for time in pulse] for pulse in tools.recording(12)]
     clock = Clock(listing_of(slow), 10000)
     yield same("from fast to slow", (len(clock.runs), abs(clock.runs[0].begin - slow[0][0]) < 2, clock.margin), (1, True, 400))
+    for first, share in ((150, 0.9633), (1000, 1.0342)):  # of the interval: 0.95, and a 12,000th more with each element
+        lost = range(first, first + 20)
+        found = analysis.examine(listing_of([pulse for at, pulse in enumerate(slow) if at not in lost])).parts[0].faults
+        nominal = {"0": 2000, "1": 5000, "P": 8000}
+        wide = [found.width(found.wanted[place], place) / nominal[found.wanted[place]] for place in lost]
+        yield same("widths from fast to slow", [round(each / share, 2) for each in (min(wide), max(wide))], [1, 1])
     yield same("a steady clock", Clock(listing_of(tools.recording(12)), 10000).wander, None)
 
 
@@ -181,12 +187,15 @@ def of_vague():
         far = [abs(part.track.rise_at(place) - sound[place][0]) for place in part.faults.wanted]
         yield same(name + ", to a tenth of an interval", max(far, default=0) < 1000, True)
         said = [remark for remark in part.remarks if "the clock wanders" in remark.seen]
-        yield same(name + ", what is said", len(said), 0 if wanted else 1)
+        yield same(name + ", what is said", (len(said), len(part.remarks + found.remarks)), (0, 0) if wanted else (1, 1))
         for remark in said:
             from_there = remark.seen.startswith("%d elements are lost or damaged from there to " % (beyond - first))
             milliseconds = float(re.findall(r"be ([0-9.]+) milliseconds off", remark.seen)[0])
             # the interval is off by 3 % over half a turn of 200 elements: the hole is off by up to 10 milliseconds or a multiple
             yield same(name + ", how uncertain", (from_there, 1 < milliseconds < 100), (True, True))
+    fast = wow(tools.recording(14), 0.03, 300)
+    part, = analysis.examine(listing_of(fast[:610] + fast[760:])).parts
+    yield same("the rest is early by more than an element", (part.track.zones[1].glued, len(part.remarks)), (False, 1))
     steady = tools.recording(14)
     yield same("a steady clock", len(analysis.examine(listing_of(steady[:530] + steady[730:])).parts[0].faults.wanted), 200)
 
@@ -207,7 +216,8 @@ def of_undamaged():
             tremble = [rng.randint(0, 100) for _ in pulses]
             pulses = [[rise + by, fall + by] for (rise, fall), by in zip(pulses, tremble)]
         found = analysis.examine(listing_of(pulses))
-        said = [remark.seen for part in found.parts for remark in part.remarks + part.faults.remarks] + [each.seen for each in found.remarks]
+        said = [remark.seen for part in found.parts for remark in part.remarks + part.faults.remarks]
+        said += [remark.seen for remark in found.remarks]
         yield same("undamaged %d" % number, (said, [part.faults.wanted for part in found.parts]), ([], [{}]))
 
 
@@ -692,7 +702,8 @@ def cases():
     return [case("mend: part: " + name, holds) for name, holds in (
         ("phases", of_phases), ("clock", of_clock), ("a clock that wanders", of_wander), ("polarity", of_polarity), ("slots", of_slots),
         ("sure runs", of_parts), ("tenths", of_tenths), ("other code", of_other_code), ("a long hole on a clock that wanders", of_vague),
-        ("undamaged", of_undamaged), ("a rise that is off", of_strays), ("a clock that was set", of_set), ("places", of_places), ("votes", of_votes),
+        ("undamaged", of_undamaged), ("a rise that is off", of_strays), ("a clock that was set", of_set), ("places", of_places),
+        ("votes", of_votes),
         ("spans", of_spans), ("pieces", of_pieces), ("leap seconds", of_leap), ("moments", of_moments), ("times", of_times),
         ("contrary elements", of_contrary), ("steadiness", of_steadiness), ("copies", of_copies), ("cuts", of_cuts),
         ("edits", of_edits), ("checks", of_checks), ("threshold", of_threshold), ("limits", of_limits))]

@@ -22,7 +22,7 @@ DAMAGE_KINDS: Tuple[Tuple[str, str], ...] = (
     ("from this frame on the times are", "times"),
     ("^no pulse (before|from there)", "silence"),
     (r"^no pulse\b|elements without a pulse", "missing"),
-    ("damaged elements|elements .* are lost or damaged|pulses are missing", "stretch"),
+    ("damaged elements|elements (.* )?are lost or damaged|pulses are missing", "stretch"),
     ("wide, which is no class", "width"),
     ("wide, an? .*, and [0-9]+ (late|early)", "late"),
     ("wide, an? ", "class"),

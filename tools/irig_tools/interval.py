@@ -109,7 +109,9 @@ class Clock:
         self.curve = self._find_curve(apart)  # the interval at each distance, if it changes so much that this shows at once
         if self.curve:  # what is left of the distances if the interval were the same all over
             between = [round(self.interval + off) for off in self._off(apart, self.curve)]
-        self.grid = grid or spacing_of_samples(listing, between, nominal, self.interval, self.noise)
+        # what is left of a distance is no number of samples, however little it is
+        noise = limits.MOST_MARGIN * nominal if self.curve else self.noise
+        self.grid = grid or spacing_of_samples(listing, between, nominal, self.interval, noise)
         rough = self.grid if are_often_off(between, self.interval, self.grid) else 0
         # what counts as in step, and how far one pulse may be off
         self.margin = self._within(limits.LEAST_MARGIN, limits.MARGIN_BY_NOISE, limits.MOST_MARGIN, rough)

@@ -123,8 +123,8 @@ def _together(script: Sequence[Repair]) -> List[Repair]:
 
 def propose(editor: Editor, progress: Progress, steady: bool = False, move: bool = False) -> List[Repair]:
     """The script that repairs what the editor's track has; no line of it is refused, and none makes a frame worse.
-    If control functions are `steady`, no frame has others than most. If not `move`, no pulse in step is moved, and neither
-    if only some of those could be that belong together.
+    If control functions are `steady`, no frame has others than most. If not `move`, no rest is moved, and neither if only
+    some of those could be that belong together.
 
     First are remarks: what is undecided when all repairs are made."""
     refused: Set[str] = set()

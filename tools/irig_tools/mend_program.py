@@ -43,10 +43,10 @@ INTO = Option("--into", "ORIGINAL", "with --apply: writes this file with the rep
 COMMAND = Command("irig_mend", ("TRACK",), """\
 Proposes a script that repairs a recording of IRIG 200-04 time code, or runs it.
 Before each repair a comment says what was seen and why this repair follows. What
-nothing decides is a comment with the choices. Times are kept: no pulse in step is
-moved. The track itself is not changed; - is standard input. Any dump that
-irig_wire reads is read; the wire, the format and the expression are found if they
-are not given:
+nothing decides is a comment with the choices. Times are kept: a pulse in step is
+moved only if its rise alone is clearly off. The track itself is not changed; - is
+standard input. Any dump that irig_wire reads is read; the wire, the format and the
+expression are found if they are not given:
 
   irig_mend --apply new.vcd track.vcd                 one command
   irig_mend --apply new.vcd --into all.vcd all.vcd    with all other wires

@@ -47,6 +47,8 @@ def _why_not(faults: Faults, zone: Zone) -> str:
     assert zone.left and zone.right
     if not has_room(faults.track, zone.late):
         return "the recording is too short to move the rest back"
+    if faults.clock.wander and faults.clock.over(zone.right.step, zone.right.fewest) > limits.VAGUE * zone.interval:
+        return "the clock wanders too much to say by how much"
     sure = min(zone.left.lead, zone.right.lead) >= limits.LEAD
     timed = any(place_in(number, 99) <= zone.first for number in faults.times.own)
     if abs(zone.late) > limits.MOST_LATE * zone.interval and zone.right.step > 1 and not (sure and timed):
