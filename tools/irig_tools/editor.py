@@ -119,9 +119,18 @@ class Editor:
 
     def __init__(self, options: Sequence[str]) -> None:
         self.command = [find_editor(), *options]
+        self._as_it_is: Optional[Listing] = None  # which is asked for again and again
 
     def ask(self, blocks: Sequence[Sequence[str]]) -> Listing:
         """The listing of the track after these blocks of lines."""
+        if not blocks and self._as_it_is:
+            return self._as_it_is
+        found = self._ask(blocks)
+        if not blocks:
+            self._as_it_is = found
+        return found
+
+    def _ask(self, blocks: Sequence[Sequence[str]]) -> Listing:
         lines = [line for block in blocks for line in (*block, "info")]
         with temporary_script("\n".join([*lines, "info", ",list", ""])) as script:
             return self._run(script, len(blocks))

@@ -81,7 +81,7 @@ def work(given: Given) -> int:
         if given.has(APPLY):
             target = Target(outputs, given.text(APPLY) or "", original, given.text(WIRE) or track.wire,
                             given.text(TIMESCALE), given.number(DUMP))
-            done, reasons = apply(given, track, script, progress, target)
+            done, reasons = apply(given, track, editor, script, progress, target)
         else:
             draw_proposal(given, editor, script, progress, outputs)
     if given.has(OUTPUT) or not given.has(APPLY):
@@ -157,14 +157,15 @@ def draw_proposal(given: Given, editor: Editor, script: List[Repair], progress: 
         outputs.enter_context(output(path)).write(drawn.encode("utf-8"))
 
 
-def apply(given: Given, track: Opened, script: List[Repair], progress: Progress, target: Target) -> Tuple[Summary, Sequence[str]]:
+def apply(given: Given, track: Opened, editor: Editor, script: List[Repair], progress: Progress,
+          target: Target) -> Tuple[Summary, Sequence[str]]:
     """Runs the script, writes what it gives, and counts what it did; why repairs are not kept."""
     with temporary_folder() as folder:
         repaired = os.path.join(folder, "repaired.vcd")
-        before = look(Editor(track.words), progress, given.has(STEADY))
+        before = look(editor, progress, given.has(STEADY))
         refused = run_script(track, script, given.has(SAVE), repaired, given.has(MOVE), before.listing.kind)
         if refused.drops_moves(script):  # what comes after them in the script counts on them
-            script[:] = propose(Editor(track.words), progress, given.has(STEADY))
+            script[:] = propose(editor, progress, given.has(STEADY))
             again_refused = run_script(track, script, given.has(SAVE), repaired, False, before.listing.kind)
             refused = replace(again_refused, reasons=[*refused.reasons, *again_refused.reasons])
         after = look(Editor([*track.code, repaired]), progress, given.has(STEADY), before.findings.grid)
