@@ -128,8 +128,8 @@ class Sample:
         return sorted(abs(self.sides.late_by(run, left, right, reach, hop)) for run, left, right in holes)
 
     def insides(self, steps: int, reach: Reach) -> List[float]:
-        """How far off pulses in holes of that many elements are, from the least to the most."""
-        return sorted(self.sides.inside_by(run, left, right, reach) for run, left, right in self.holes(steps))
+        """How far off pulses in holes of just that many elements are, from the least to the most."""
+        return sorted(self.sides.inside_by(run, left, left + steps, reach) for run, left, _ in self.holes(steps))
 
     def best_reach(self, by_chance: float, wanders: bool) -> Reach:
         """The reach that says best where the ends are; that of a steady clock if no other is clearly better, unless it `wanders`
