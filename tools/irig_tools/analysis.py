@@ -19,7 +19,7 @@ from .slots import link, parts, sure_parts
 from .steps import Step, apart, cut_by_a_step, step_zones, turned
 from .threshold import level
 from .track import Track
-from .units import Microseconds, number_of
+from .units import Hundredths, Microseconds, number_of
 
 START = Microseconds(0)
 OTHER_WIRE = "is it another wire?"
@@ -53,6 +53,11 @@ class Findings:
     def grid(self) -> float:
         """How far apart samples are; 0 if nothing shows it."""
         return self.clock.grid if self.clock else 0
+
+    @property
+    def leap(self) -> Optional[Hundredths]:
+        """When second 60 begins, if a part has one."""
+        return next((part.times.calendar.leap for part in self.parts if part.times.calendar.leap is not None), None)
 
     def remark(self, at: Microseconds, seen: str, choice: str) -> None:
         self.remarks.append(Remark(at, seen, choice))

@@ -16,7 +16,7 @@ from . import limits
 from .editor import Listing
 from .interval import breaks, distances
 from .layout import Layout
-from .moments import DAY, Calendar
+from .moments import CENTURY, DAY, Calendar
 from .script import Repair
 from .units import Hundredths, Microseconds, plus
 
@@ -58,8 +58,8 @@ class Frame(NamedTuple):
 class Frames:
     """The frames of a listing that are fine, where a script moves them, in the order of time."""
 
-    def __init__(self, listing: Listing, layout: Layout, moved: Moved) -> None:
-        calendar, interval = Calendar(layout), layout.interval
+    def __init__(self, listing: Listing, calendar: Calendar, moved: Moved) -> None:
+        layout, interval = calendar.layout, calendar.layout.interval
         broken_at = breaks(distances(listing.rises), interval, limits.IN_STEP * interval)
         found: Dict[Microseconds, Frame] = {}
         for match in MARKED.finditer(listing.classes):
@@ -86,10 +86,12 @@ class Check:
     """What a script does to the frames of a track; `steps` are the times at which those of the repaired track step."""
 
     def __init__(self, layout: Layout, interval: float, steps: Sequence[Microseconds], listings: Tuple[Listing, Listing],
-                 moved: Moved, most_off: float = 0) -> None:
+                 moved: Moved, most_off: float = 0, leap: Optional[Hundredths] = None) -> None:
+        """`leap` is when second 60 begins, if there is one."""
         self.drift = max(limits.CLOCK_DRIFT, limits.ABOVE_NINE_OF_TEN * most_off)
         self.layout, self.interval, self.steps, self.moved = layout, interval, sorted(steps), moved
-        self.old, self.new = Frames(listings[0], layout, moved), Frames(listings[1], layout, Moved())
+        calendar = Calendar(layout, leap=leap)
+        self.old, self.new = Frames(listings[0], calendar, moved), Frames(listings[1], calendar, Moved())
         self.kept = [frame for frame in self.old.all if self._stays(frame)]
 
     def harms(self) -> Iterator[Harm]:
@@ -148,5 +150,5 @@ class Check:
         apart = high.moment - low.moment
         stepped = bisect_left(self.steps, low.at) != bisect_left(self.steps, high.at)
         most = limits.AT_STEP if stepped else min(limits.AT_STEP, limits.ON_CLOCK + self.drift * elements)
-        years = (0,) if self.layout.with_year else (0, 365 * DAY, 366 * DAY)
+        years = (0, CENTURY) if self.layout.with_year else (0, 365 * DAY, 366 * DAY)
         return any(abs(elements - 100 * (apart + year) / self.layout.period) <= most for year in years)

@@ -51,7 +51,7 @@ def _late_frames(track: Track, times: Times) -> Dict[PulseIndex, int]:
     """By how many places the runs are moved on, by their first pulse, if whole frames were taken for lost."""
     found: Dict[PulseIndex, int] = {}
     for before, after in zip(times.spans, times.spans[1:]):
-        frames = (before.base - after.base) // track.layout.period
+        frames = times.calendar.apart(after.base, before.base) // track.layout.period
         between = [
             zone for zone in track.zones if before.last <= frame_of(zone.first) and frame_of(zone.last) <= after.first
         ]
@@ -91,9 +91,9 @@ def _copied(track: Track, zone: Zone, many: int) -> Optional[PulseIndex]:
     return plus(first, low + at) if is_copy else None
 
 
-def again_within(track: Track, before: Span, after: Span) -> Optional[Again]:
+def again_within(track: Track, times: Times, before: Span, after: Span) -> Optional[Again]:
     """Whether the times of two spans say that whole frames are there twice, and the elements do; None if they do not."""
-    many = 100 * (before.base - after.base) // track.layout.period
+    many = 100 * times.calendar.apart(after.base, before.base) // track.layout.period
     low = max(place_in(before.last), plus(track.first, many))
     high = min(place_in(after.first, 99), plus(track.last, -many))
     if many <= 0 or low >= high or max(many, high - low) > limits.LONGEST_CUT:
@@ -138,7 +138,7 @@ def copy_between(track: Track, times: Times, left: List[Run], right: List[Run]) 
 def take_out(track: Track, times: Times) -> List[Repair]:
     """The repairs that take out what is there twice, from the end to the beginning."""
     spans, stretches = zip(times.spans, times.spans[1:]), track.stretches()
-    found = [again_within(track, *pair) for pair in spans if not track.is_glued(pair[0].last, pair[1].first)]
+    found = [again_within(track, times, *pair) for pair in spans if not track.is_glued(pair[0].last, pair[1].first)]
     found += [copy_between(track, times, *pair) for pair in zip(stretches, stretches[1:])]
     repairs, done = [], len(track.rises)
     for again in sorted((each for each in found if each and each.within), reverse=True):

@@ -1,8 +1,9 @@
 """The fewest edits that give each place the pulse that it has to have."""
 from __future__ import annotations
 
+from bisect import bisect_left
 from dataclasses import dataclass, field
-from typing import Dict, List, Optional, Sequence, Tuple
+from typing import Dict, Iterator, List, Optional, Sequence, Tuple
 
 from . import limits
 from .edit import Edit, inserted, of_pulse, of_pulses
@@ -77,13 +78,21 @@ def _choose(faults: Faults, pulses: Sequence[PulseIndex], place: PlaceNumber, ta
     """Which pulses are joined to the one that is wanted, and whether it is then off in time, and of a wrong class."""
     width, choices = faults.width(target, place), []
     begin, stray = faults.track.rise_at(place), faults.track.stray_at(place)
-    for first in range(len(pulses)):
-        for last in range(first, len(pulses)):
-            rise, fall = faults.rises[pulses[first]], faults.falls[pulses[last]]
-            off, wrong = abs(rise - begin) > stray, faults.layout.class_of(fall - rise) != target
-            edits = (first > 0) + (last < len(pulses) - 1) + (last > first) + off + wrong
-            choices.append((edits, abs(rise - begin) + abs(fall - rise - width), first, last, off, wrong))
+    for first, last in _worth_a_look([faults.rises[each] + width for each in pulses], [faults.falls[each] for each in pulses]):
+        rise, fall = faults.rises[pulses[first]], faults.falls[pulses[last]]
+        off, wrong = abs(rise - begin) > stray, faults.layout.class_of(fall - rise) != target
+        edits = (first > 0) + (last < len(pulses) - 1) + (last > first) + off + wrong
+        choices.append((edits, abs(rise - begin) + abs(fall - rise - width), first, last, off, wrong))
     return min(choices)[2:]
+
+
+def _worth_a_look(due: Sequence[int], falls: Sequence[int]) -> Iterator[Tuple[int, int]]:
+    """With which pulses a join can begin and end; `due` is when it has to fall if it begins with a pulse. A class is one stretch of
+    widths, so none ends better than with the pulse itself, the last one, or those whose falls are next to when one is due."""
+    for first, fall in enumerate(due):
+        at = bisect_left(falls, fall, first)
+        for last in {first, max(first, at - 1), min(at, len(falls) - 1), len(falls) - 1}:
+            yield first, last
 
 
 def _reduce(faults: Faults, place: PlaceNumber, pulses: Sequence[PulseIndex], target: str) -> Item:

@@ -125,6 +125,8 @@ class Faults:
         burst = control and self._in_burst(place)
         if own in ("0", "1") and not burst and (not near or self._is_nominal(place, pulses[0], own)):
             return own
+        if near and self.times.never_changed(element):  # damage can look like the other class
+            return near
         cost = {target: self.difference(place, target) for target in "01"}
         best = min("01", key=lambda target: cost[target])
         if cost[best] < (limits.LIKE_IN_BURST if burst else limits.LIKE) * self.layout.interval:

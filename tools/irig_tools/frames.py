@@ -10,7 +10,6 @@ from . import limits
 from .grouping import grouped
 from .interval import Run
 from .layout import READABLE
-from .moments import DAY
 from .spans import Bases, Span, fit
 from .splices import spliced
 from .steadiness import Steadiness
@@ -96,9 +95,7 @@ class Times(Votes):
         before, after = self._agreed(self._read_within(left)[-3:]), self._agreed(self._read_within(right)[:3])
         if before is None or after is None:
             return None
-        year = self.calendar.days * DAY
-        apart = after - before if self.calendar.with_year else (after - before + year // 2) % year - year // 2
-        return apart // self.layout.period
+        return self.calendar.apart(before, after) // self.layout.period
 
     def moment(self, number: FrameNumber) -> Optional[Hundredths]:
         """The moment of a frame, or None if the frames near it do not agree."""
@@ -122,15 +119,21 @@ class Times(Votes):
         at = bisect_left(having, number)
         return having[max(0, at - 2):at], having[at + (having[at:at + 1] == [number]):][:2]
 
-    def neighbours(self, number: FrameNumber, element: int) -> Optional[str]:
-        """What an element has that no field decides: what the two nearest frames on both sides have, if all four agree
-        and the element is steady; else None."""
+    def around(self, number: FrameNumber, element: int) -> Optional[str]:
+        """What an element has in the two nearest frames on both sides that show it, if all four agree; else None."""
         before, after = self._nearest(number, element)
         near = {self.texts[each][element] for each in (*before, *after)}
-        if len(before) < 2 or len(after) < 2 or len(near) > 1:
-            return None
-        steady = self._steadiness.holds(element, number - before[-1], after[0] - number)
-        return near.pop() if steady else None
+        return None if len(before) < 2 or len(after) < 2 or len(near) > 1 else near.pop()
+
+    def neighbours(self, number: FrameNumber, element: int) -> Optional[str]:
+        """What an element has that no field decides: what the frames next to this one have, if they agree and the element is
+        steady; else None."""
+        near, (before, after) = self.around(number, element), self._nearest(number, element)
+        return near if near and self._steadiness.holds(element, number - before[-1], after[0] - number) else None
+
+    def never_changed(self, element: int) -> bool:
+        """Whether an element that no field decides is the same in all frames that show it, and these are enough."""
+        return self._steadiness.never_changed(element)
 
     def likely(self, number: FrameNumber, element: int) -> Optional[str]:
         """What most of the nearest frames have there; None if as many differ."""

@@ -79,9 +79,12 @@ def breaks_near(apart: Sequence[int], near: Sequence[float], margin: float) -> L
 
 
 def share_in_step(times: Sequence[Microseconds], interval: int) -> float:
-    """How many of the neighbours are one interval apart: 0 to 1."""
+    """In which share of the time neighbours are one interval apart: 0 to 1. A hole counts as one interval, since nothing in it is of
+    another code; noise counts for as long as it is, however many pulses it has."""
     apart = distances(times)
-    return len(_in_step(apart, interval)) / max(1, len(_sampled(apart)))
+    near = len(_in_step(apart, interval)) * interval
+    least, most = (1 - limits.IN_STEP) * interval, (1 + limits.IN_STEP) * interval
+    return near / max(1, near + sum([min(each, interval) for each in _sampled(apart) if not least <= each <= most]))
 
 
 def _sampled(apart: Sequence[int]) -> Sequence[int]:

@@ -106,7 +106,7 @@ OVERLAP = 0.02  # intervals: a pulse that reaches so far beyond the next rise co
 # the whole recording (analysis, threshold): pulses are 20, 50 or 80 hundredths wide, and classes end at 5, 35, 65 and 95
 UPSIDE_DOWN, MORE_THAN_UPRIGHT = 0.8, 0.1  # the share of falls in step, as of upright zeros; by how much more than rises
 TURNED_OVER = 20  # rises or falls out of step: what it costs that a wire is turned over; a frame that is upside down has more
-FIT = 0.5  # the share of rises in step without which it is no such recording: damage of half of them is not mended [0, 1]
+FIT = 0.5  # the share of the time in step without which it is no such recording: damage of half of it is not mended [0, 1]
 THRESHOLD_SHIFTS = range(-17, 28)  # hundredths of an interval by which all can be longer: a zero is left, a one no position [2, 0]
 WIDEST_PEAK = 98  # hundredths of an interval: no pulse gets as long as the interval
 PEAK = 6  # hundredths of an interval: what is nearer to a peak counts for it; the peaks are 30 apart
@@ -120,6 +120,7 @@ LONGEST_CUT = 3000  # elements: the end of a search; after more than that the pl
 STRAY_ONES, STRAY_SHARE = 2, 0.1  # frames with ones that are not used, and their share: more is another expression
 CHANGE = 3  # elements: what it costs that the time goes on elsewhere
 MOST_BASES = 12  # bases that are looked at in one gap: the end of a search
+MOST_TRIED = 100  # frames and bases by which these are chosen if there are more: the end of that search
 WITNESSES = 2  # frames that have to say a field or a base: one can be damaged [4, 0]
 
 # what is steady (steadiness)

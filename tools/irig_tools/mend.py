@@ -80,7 +80,8 @@ class _Mending:
         if clock is None or last.clock is None or not self.script[done:]:
             return []
         moved = Moved(self.script[done:])
-        return list(Check(first.layout, clock.interval, step_times(last), (before, self.after), moved, clock.most_off).harms())
+        return list(Check(first.layout, clock.interval, step_times(last), (before, self.after), moved, clock.most_off,
+                          first.leap or last.leap).harms())
 
 
 def step_times(findings: Findings) -> List[Microseconds]:

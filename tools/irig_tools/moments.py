@@ -10,6 +10,7 @@ from .units import Base, FrameNumber, Hundredths, plus
 
 DAY = 8640000  # hundredths of a second
 SECOND = 100
+CENTURY = 36525 * DAY  # of which a year of two digits says the year
 
 # of each year of two digits, counted since year 1
 FIRST_DAYS = [datetime.date(2000 + year, 1, 1).toordinal() for year in range(100)]
@@ -27,10 +28,25 @@ class Calendar:
     def with_year(self) -> bool:
         return self.layout.with_year
 
+    @property
+    def circle(self) -> int:
+        """After how long the times begin again: with a year from 99 to 00, else after the last day."""
+        return CENTURY if self.with_year else self.days * DAY
+
+    @property
+    def _begin(self) -> int:
+        return FIRST_DAYS[0] * DAY if self.with_year else DAY
+
     def base(self, number: FrameNumber, told: Fields) -> Base:
         """The time of frame 0, if frame `number` shows this one and the clock had run all along."""
-        base = self.moment_of(told) - number * self.layout.period
-        return Base(Hundredths(base if self.with_year else (base - DAY) % (self.days * DAY) + DAY))
+        return self.on_circle(self.moment_of(told) - number * self.layout.period)
+
+    def on_circle(self, base: int) -> Base:
+        return Base(Hundredths((base - self._begin) % self.circle + self._begin))
+
+    def apart(self, before: int, after: int) -> int:
+        """By how much a time is later than another one, or earlier if that is less."""
+        return (after - before + self.circle // 2) % self.circle - self.circle // 2
 
     def moment(self, number: FrameNumber, base: Base) -> Hundredths:
         """That of a frame, by a base."""
@@ -43,11 +59,8 @@ class Calendar:
         return plus(plain, SECOND * (self.leap is not None and plain >= self.leap and told["seconds"] != 60))
 
     def _near_leap(self, moment: Hundredths) -> Hundredths:
-        """Without a year the first day follows the last one."""
-        if self.with_year or self.leap is None:
-            return moment
-        year = self.days * DAY
-        return plus(self.leap, (moment - self.leap + year // 2) % year - year // 2)
+        """The first day follows the last one."""
+        return moment if self.leap is None else plus(self.leap, self.apart(self.leap, moment))
 
     def within_leap(self, moment: Hundredths) -> bool:
         """Whether this moment is in a second 60."""
@@ -67,7 +80,7 @@ class Calendar:
         told = {"hundredths": within % 100, "seconds": seconds % 60, "minutes": seconds // 60 % 60,
                 "hours": seconds // 3600, "binary": seconds}
         if self.with_year:
-            date = datetime.date.fromordinal(max(1, day))
+            date = datetime.date.fromordinal((day - FIRST_DAYS[0]) % (CENTURY // DAY) + FIRST_DAYS[0])
             told["year"], told["days"] = date.year % 100, date.timetuple().tm_yday
         else:
             told["days"] = (day - 1) % self.days + 1

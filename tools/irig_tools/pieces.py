@@ -6,7 +6,7 @@ from typing import Callable, Optional, Sequence
 
 from . import limits
 from .moments import DAY
-from .units import Base, FrameNumber, Hundredths
+from .units import Base, FrameNumber
 from .votes import Votes
 
 # each field with how many hundredths of a second one of it is, and after how many it begins again
@@ -60,7 +60,7 @@ class _Pieces:
             return self.votes.calendar.moment_of({**midnight, "days": value}) + (start + later) % DAY - later
 
         base = self._vote("days", means)
-        return None if base is None else Base(Hundredths(base))
+        return None if base is None else self.votes.calendar.on_circle(base)
 
 
 def pieced(votes: Votes, numbers: Sequence[FrameNumber]) -> Optional[Base]:

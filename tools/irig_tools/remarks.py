@@ -9,7 +9,8 @@ from . import limits
 from .copies import again_within, without_copy
 from .faults import Remark
 from .frames import Times
-from .other_code import OtherCode, named
+from .interval import Run
+from .other_code import ONE_SECOND, OtherCode, named
 from .spans import Span
 from .track import Track
 from .units import place_in
@@ -18,6 +19,8 @@ from .zones import Zone
 LEFT_CONTROL = "they are left; irig_mend --steady takes them for damage"
 LEFT_VAGUE = "they are left"
 LEFT_OTHER = "it is left, and so are the elements of this code that are missing there"
+LEFT_CUT = "that is left, as a track cannot be made longer"
+LEFT_SET = "that is left, and each side is mended by its own times"
 OTHER_EXPRESSION = "is it another expression?"
 
 
@@ -25,10 +28,11 @@ def remarks(track: Track, times: Times) -> List[Remark]:
     found = _of_expression(track, times) + _of_elsewhere(track)
     found += [_of_other(track, zone.other) for zone in track.zones if zone.other]
     found += [_of_vague(track, zone) for zone in track.zones if zone.vague]
-    found += [_of_cut(track, zone) for zone in track.zones if zone.glued]
+    stretches = track.stretches()
+    found += [_of_cut(track, times, *pair) for pair in zip(stretches, stretches[1:])]
     for before, after in zip(times.spans, times.spans[1:]):
         if not track.is_glued(before.last, after.first):
-            found.append(_of_times(track, before, after))
+            found.append(_of_times(track, times, before, after))
     return found + _of_control(track, times)
 
 
@@ -52,6 +56,12 @@ def _of_elsewhere(track: Track) -> List[Remark]:
     return [Remark(track.rises[pulse], seen % word, choice) for run, sign, word, pulse in ends if sign in run.ends]
 
 
+def clock_was_set(seconds: float) -> str:
+    """What is seen if the times of the frames go on far away."""
+    return "from this frame on the times are %.2f seconds %s than the frames before lead to: the clock was set" % (
+        abs(seconds), "later" if seconds > 0 else "earlier")
+
+
 def missing(zone: Zone, many: Optional[int]) -> str:
     """What is seen if a glued run follows; None if the times of the frames do not say how many elements are missing."""
     if many is None:
@@ -73,19 +83,22 @@ def _of_vague(track: Track, zone: Zone) -> Remark:
     return Remark(track.rise_at(places[0]), seen % (len(places), track.rise_at(zone.last), zone.vague / 1000), LEFT_VAGUE)
 
 
-def _of_cut(track: Track, zone: Zone) -> Remark:
-    assert zone.right
-    at, seen = track.rises[zone.right.first], missing(zone, zone.right.gone or None)
-    return Remark(at, seen, "that is left, as a track cannot be made longer")
+def _of_cut(track: Track, times: Times, left: List[Run], right: List[Run]) -> Remark:
+    """Between two stretches elements are missing, or the clock was set."""
+    zone, frames, at = track.zone_before(right[0]), times.frames_between(left, right), track.rises[right[0].first]
+    many = 0 if frames is None else zone.skipped() + 100 * frames
+    if abs(many) > limits.LONGEST_CUT:
+        return Remark(at, clock_was_set(many * zone.clock.nominal / ONE_SECOND), LEFT_SET)
+    return Remark(at, missing(zone, right[0].gone or None), LEFT_CUT)
 
 
-def _of_times(track: Track, before: Span, after: Span) -> Remark:
+def _of_times(track: Track, times: Times, before: Span, after: Span) -> Remark:
     """The times of the frames go on elsewhere."""
-    apart = (after.base - before.base) / 100
+    apart = times.calendar.apart(before.base, after.base) / 100
     way, cause = ("later", "was cut out and the rest moved") if apart > 0 else ("earlier", "is there twice")
     seen = "from this frame on the times are %.2f seconds %s than the frames before lead to" % (abs(apart), way)
     choice = "either a stretch %s, or the clock was set" % cause
-    repair = without_copy(track, again_within(track, before, after))
+    repair = without_copy(track, again_within(track, times, before, after))
     if repair:
         choice += "; if it is there twice, this takes the second out: " + "; ".join(repair.edits)
     return Remark(track.rise_at(place_in(after.first)), seen, choice)

@@ -1,7 +1,8 @@
 """Which base fits frames between two that are sure: each change of base costs as much as three elements that do not fit."""
 from __future__ import annotations
 
-from typing import Dict, List, NamedTuple, Optional, Sequence
+from collections import Counter
+from typing import Dict, List, NamedTuple, Optional, Sequence, Set
 
 from . import limits
 from .pieces import pieced
@@ -39,13 +40,23 @@ def _borne(votes: Votes, base: Base, gap: Sequence[FrameNumber], beside: bool) -
     return support >= limits.WITNESSES and votes.is_borne(gap, base)
 
 
+def _choices(votes: Votes, gap: Sequence[FrameNumber], sides: Set[Base]) -> List[Base]:
+    """The bases of the sides, and those that frames of the gap read: if these are too many, those that most of them read, and of
+    these the ones that have the fewest elements against them."""
+    often = Counter(votes.own[number] for number in gap if number in votes.own)
+    others = sorted(often.keys() - sides, key=lambda base: -often[base])
+    if len(sides) + len(others) > limits.MOST_BASES:
+        tried, some = others[:limits.MOST_TRIED], gap[::len(gap) // limits.MOST_TRIED + 1]
+        others = sorted(tried, key=lambda base: (-often[base], sum(votes.counted(number, base)[1] for number in some)))
+    return sorted([*sides, *others[:limits.MOST_BASES - len(sides)]])
+
+
 def fit(votes: Votes, gap: Sequence[FrameNumber], left: Optional[Base], right: Optional[Base]) -> Bases:
     """The base of each frame of a gap, or None if two are as good, between the bases `left` and `right`."""
     if not gap:
         return {}
     together = pieced(votes, gap) if left is right is None else None
-    known = {left, right, together, *(votes.own.get(number) for number in gap)}
-    choices = sorted(base for base in known if base is not None)[:limits.MOST_BASES]
+    choices = _choices(votes, gap, {base for base in (left, right, together) if base is not None})
     if len(choices) == 1 and (left or right):
         return {number: choices[0] for number in gap}
     faults = [[votes.counted(number, base)[1] for base in choices] for number in gap]

@@ -17,6 +17,10 @@ class Steadiness:
         self._did = {element: row.count("01") + row.count("10") for element, row in shown.items()}
         self._none_did = not any(self._did.values())
 
+    def never_changed(self, element: int) -> bool:
+        """Whether an element never changed, in so many frames that a change in one alone has a small chance."""
+        return not self._did[element] and self._could[element] >= limits.CHANCES
+
     def holds(self, element: int, before: int, after: int) -> bool:
         """Whether an element is as in the frames that far before and after, which agree: it never changed, or so seldom
         that two changes between them have a small chance."""

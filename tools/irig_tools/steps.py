@@ -11,7 +11,8 @@ from .edit import moved_from, script_lines
 from .faults import Faults, Remark
 from .frames import Times
 from .interval import Run
-from .remarks import missing
+from .other_code import ONE_SECOND
+from .remarks import LEFT_SET, clock_was_set, missing
 from .track import Track
 from .units import FrameNumber, Microseconds, PulseIndex, frame_of, number_of, plus, through
 from .zones import Zone
@@ -39,6 +40,8 @@ class Step:
         """What is said of it; `right` is what comes after it."""
         if self.copy:
             return Remark(self.copy.at, self.copy.comments[0].partition("; ")[0], _choice(self.copy.edits))
+        if self.known and abs(self.late) > limits.LONGEST_CUT * self.zone.interval:
+            return Remark(self.at, clock_was_set(-self.late / ONE_SECOND), LEFT_SET)
         if self.zone.glued and self._is_dense() and not (self.known and self.late > 0):
             many = self.elements - self.zone.straight() if self.known else None
             return Remark(self.at, missing(self.zone, many), _choice(self._edits()))

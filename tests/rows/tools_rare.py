@@ -1,0 +1,199 @@
+"""Rarer damage for irig_damage and irig_mend: noise in little time, clocks that were set, the end of a century, control functions
+that never change. docs/METHOD.md has the words.
+
+The recordings are those of the reference encoder, damaged by hand: what has to be repaired is what was damaged.
+"""
+import random
+
+from cases import case
+from irig_tools import analysis, edits, mend, spans
+from irig_tools.check import Check, Moved
+from irig_tools.editor import Listing
+from irig_tools.layout import Layout
+from reference import timecode
+from rows import tools
+from rows.tools_parts import Said, same
+
+WIDTHS = {"zero": 2, "one": 5, "position": 8}
+
+MIDDAY = 43200 * 100  # hundredths of a second
+LAST_OF_1999 = 730119  # day 365 of 1999
+LAST_OF_2016 = 736329
+
+
+def signal(frames, kind="B", expression=4, day=739000, begin=MIDDAY, control=lambda k: 0, parity=None):
+    """Frames of time code. `control` says the control functions of each; if `parity` is (element, odd), that element makes the ones
+    up to it odd in number, or even."""
+    interval, pulses = timecode.INTERVAL[kind], []
+    for k in range(frames):
+        names = timecode.encode(kind, expression, timecode.generated(kind, (day, begin), k, control(k)))
+        if parity:
+            names[parity[0]] = "one" if (names[:parity[0]].count("one") + parity[1]) % 2 else "zero"
+        for name in names:
+            rise = interval * len(pulses)
+            pulses.append([rise, rise + interval * WIDTHS[name] // 10])
+    return pulses
+
+
+def listed(pulses, kind="B", expression=4):
+    """What the editor would print of them."""
+    found, interval, layout = Listing(), timecode.INTERVAL[kind], Layout(kind, expression)
+    found.length, found.kind, found.expression = pulses[-1][0] + interval, kind, expression
+    found.rises, found.falls = [rise for rise, _ in pulses], [fall for _, fall in pulses]
+    found.classes = "".join(layout.class_of(fall - rise) for rise, fall in pulses)
+    return found
+
+
+def looked_at(pulses, kind="B", expression=4, **more):
+    return analysis.examine(listed(pulses, kind, expression), **more)
+
+
+def wanted(findings):
+    """What has to be where, in all parts."""
+    return {place: name for part in findings.parts for place, name in part.faults.wanted.items()}
+
+
+def said(findings):
+    """All remarks, in the order of time."""
+    found = findings.remarks + [each for part in findings.parts for each in part.remarks + part.faults.remarks]
+    return [each.seen for each in sorted(found, key=lambda each: each.at)]
+
+
+def flipped(pulses, *places):
+    """A zero for each one there, and a one for each zero."""
+    for place in places:
+        rise, fall = pulses[place]
+        pulses[place] = [rise, rise + (2000 if fall - rise == 5000 else 5000)]
+    return pulses
+
+
+def with_noise(rng, pulses, begin, long, many):
+    """For a while the level changes at random, so often."""
+    edges = [edge for pulse in pulses for edge in pulse if not begin <= edge < begin + long]
+    edges += rng.sample(range(begin, begin + long), 2 * many)
+    edges = sorted(edges)
+    return [list(pair) for pair in zip(edges[::2], edges[1::2])]
+
+
+# noise
+
+
+def slow_choice(faults, pulses, place, target):
+    """Each stretch of the pulses is joined in turn: that with the fewest edits is chosen, of these the one that is off least."""
+    due, width, stray = faults.track.rise_at(place), faults.width(target), faults.track.stray_at(place)
+    found = []
+    for first in range(len(pulses)):
+        for last in range(first, len(pulses)):
+            rise, fall = faults.rises[pulses[first]], faults.falls[pulses[last]]
+            off, wrong = abs(rise - due) > stray, faults.layout.class_of(fall - rise) != target
+            changes = (first > 0) + (last < len(pulses) - 1) + (first < last) + off + wrong
+            found.append((changes, abs(rise - due) + abs(fall - rise - width), first, last, off, wrong))
+    return min(found)[2:]
+
+
+def of_noise():
+    """Noise of 30 milliseconds: which pulses are kept, however many there are, and no other format."""
+    rng = random.Random(730)
+    for name, many in (("few", 6), ("some", 40), ("many", 90)):
+        unlike = []
+        for number in range(6):
+            faults = looked_at(with_noise(rng, signal(6), 2432000 + 777 * number, 30000, many)).parts[0].faults
+            for place, target in faults.wanted.items():
+                pulses = faults.track.pulses_at(place)
+                if pulses and edits._choose(faults, pulses, place, target) != slow_choice(faults, pulses, place, target):
+                    unlike.append((number, place))
+        yield same("%s pulses: as the slow choice" % name, unlike, [])
+    noisy = with_noise(rng, signal(12), 4235000, 30000, 6000)
+    found = looked_at(noisy)
+    yield same("6,000 pulses of noise in 12 seconds", (set(wanted(found)), said(found)), ({423, 424, 425, 426}, []))
+    script = [line for repair in mend.called_for(found) for line in repair.lines() if line[0] not in "#b" and line != "end"]
+    yield same("they are written again", [line.split()[-1 if line[0] != "i" else 0] for line in script], ["delete", *["insert"] * 4])
+    yield same("another format", said(looked_at(signal(40, "A", 0), "B", 4)),
+               ["most pulses do not follow each other by 10000"])
+
+
+# times
+
+
+def of_centuries():
+    """From 1999 to 2000 the year of two digits begins again, and time goes on."""
+    for kind, expression, frames in (("B", 4, 12), ("B", 5, 12), ("A", 6, 90), ("E", 6, 8), ("G", 5, 12)):
+        period = timecode.INTERVAL[kind] // 100
+        pulses = signal(frames, kind, expression, LAST_OF_1999, timecode.DAY - period * (frames // 2))
+        name = "format %s, expression %d" % (kind, expression)
+        found = looked_at(pulses, kind, expression)
+        yield same(name + ": nothing is wrong", (wanted(found), said(found)), ({}, []))
+        lost = frames // 2 * 100  # the first frame of 2000
+        found = looked_at(pulses[:lost] + pulses[lost + 100:], kind, expression)
+        letters = listed(pulses, kind, expression).classes[lost:lost + 100]
+        yield same(name + ": the first frame is lost", wanted(found), {lost + at: each for at, each in enumerate(letters)})
+    backward = signal(6, day=LAST_OF_1999 + 1, begin=0) + [[a + 6000000, b + 6000000] for a, b in
+                                                          signal(6, day=LAST_OF_1999, begin=timecode.DAY - 600)]
+    yield same("from 2000 to 1999", said(looked_at(backward)),
+               ["from this frame on the times are 12.00 seconds earlier than the frames before lead to"])
+
+
+def of_set_clocks():
+    """A generator that begins again elsewhere, with another time, was set; nothing is missing."""
+    for name, hours, way in (("later", 3, "later"), ("earlier", -2, "earlier")):
+        for move in (False, True):
+            before, after = signal(8)[:730], signal(8, begin=MIDDAY + hours * 360000)
+            pulses = before + [[a + 7300000, b + 7300000] for a, b in after]
+            # at 7.3 s the time is 12:00:07.3, and then 3600 seconds an hour are added to 12:00:00
+            apart = abs(3600 * hours - 7.3)
+            found = said(looked_at(pulses, move=move))
+            yield same("set to a time that is %s%s" % (name, ", --move" * move), found,
+                       ["from this frame on the times are %.2f seconds %s than the frames before lead to: the clock was set" % (
+                           apart, way)])
+    cut = signal(24)
+    cut = cut[:730] + [[a - 1450000, b - 1450000] for a, b in cut[875:]]
+    yield same("elements that are missing", said(looked_at(cut)),
+               ["145 elements are missing by the times of the frames, and the rest follows at once"])
+
+
+def of_bases():
+    """If frames read more times than are looked at, those that most of them read are."""
+    own = {number: 100 * number for number in range(1, 21)}
+    own.update(dict.fromkeys((5, 10, 15, 21, 22), 90000))
+    against = {(number, base): 0 if base == own[number] else 8 for number in own for base in {50, *own.values()}}
+    found = spans.fit(Said(own, against), sorted(own), 50, None)
+    yield same("five of 22 read the highest", [found[number] for number in (5, 21, 22)], [90000] * 3)
+    one = {number: 100 * number for number in range(1, 31)}
+    against = {(number, base): 0 if base == one[number] else 8 for number in one for base in (50, *one.values())}
+    against.update({(number, 2900): number not in (10, 29) for number in one})
+    found = spans.fit(Said(one, against), sorted(one), 50, None)
+    yield same("each reads another, and one has few against it", found[20], 2900)
+
+
+def of_leap_seconds():
+    """Second 60 is lost as a whole and generated again: the check of a script takes it for what it is."""
+    whole, damaged = tools.recording(12, leap=True), tools.recording(12, leap=True)
+    del damaged[400:500]
+    findings = looked_at(damaged)
+    yield same("what is lost", sorted(wanted(findings)), list(range(400, 500)))
+    yield same("when it is", findings.leap, LAST_OF_2016 * timecode.DAY + timecode.DAY)
+    both = tuple(map(listed, (damaged, whole)))
+    harms = Check(findings.layout, 10000, [], both, Moved(), leap=findings.leap).harms()
+    yield same("a frame that leads on", [harm.seen for harm in harms], [])
+
+
+# control functions
+
+
+def of_steady_control():
+    """A control function that all frames have stays, whatever the damage looks like."""
+    one = 1 << 3  # element 63
+    for control, letter, parts_of in ((one, "1", ((0, 2000), (4600, 5000))), (one, "1", ((0, 1900), (1950, 2100))),
+                                      (0, "0", ((0, 2000), (2100, 5000))), (0, "0", ((0, 2000), (2400, 4900)))):
+        pulses = signal(60, control=lambda k: control)
+        rise = pulses[3063][0]
+        pulses[3063:3064] = [[rise + begin, rise + end] for begin, end in parts_of]
+        yield same("%s in all frames, and %s" % (letter, parts_of), wanted(looked_at(pulses)), {3063: letter})
+
+
+def cases():
+    """Each kind by its name."""
+    return [case("mend: rare: " + name, holds) for name, holds in (
+        ("noise", of_noise), ("centuries", of_centuries), ("clocks that were set", of_set_clocks), ("bases", of_bases),
+        ("leap seconds", of_leap_seconds),
+        ("steady control functions", of_steady_control))]
