@@ -1,5 +1,5 @@
 """Rarer damage for irig_damage and irig_mend: noise in little time, clocks that were set, the end of a century, control functions
-that never change. docs/METHOD.md has the words.
+that never change or that have a rule. docs/METHOD.md has the words.
 
 The recordings are those of the reference encoder, damaged by hand: what has to be repaired is what was damaged.
 """
@@ -10,6 +10,8 @@ from irig_tools import analysis, edits, mend, spans
 from irig_tools.check import Check, Moved
 from irig_tools.editor import Listing
 from irig_tools.layout import Layout
+from irig_tools.parity import rule_of
+from irig_tools.script import Repair
 from reference import timecode
 from rows import tools
 from rows.tools_parts import Said, same
@@ -166,15 +168,16 @@ def of_bases():
 
 
 def of_leap_seconds():
-    """Second 60 is lost as a whole and generated again: the check of a script takes it for what it is."""
+    """Second 60 is lost as a whole: it is generated again. The check of a script knows it."""
     whole, damaged = tools.recording(12, leap=True), tools.recording(12, leap=True)
     del damaged[400:500]
     findings = looked_at(damaged)
     yield same("what is lost", sorted(wanted(findings)), list(range(400, 500)))
     yield same("when it is", findings.leap, LAST_OF_2016 * timecode.DAY + timecode.DAY)
-    both = tuple(map(listed, (damaged, whole)))
-    harms = Check(findings.layout, 10000, [], both, Moved(), leap=findings.leap).harms()
-    yield same("a frame that leads on", [harm.seen for harm in harms], [])
+    late = [*whole[:450], *([rise + 3300, fall + 3300] for rise, fall in whole[450:])]
+    moved = Moved([Repair(4503300, [], ["451,$ shift -3300"], moves=[(4503300, -3300, 0)])])
+    harms = Check(findings.layout, 10000, [], (listed(late), listed(whole)), moved, leap=findings.leap).harms()
+    yield same("a rest is moved within it", [harm.seen for harm in harms], [])
 
 
 # control functions
@@ -191,9 +194,46 @@ def of_steady_control():
         yield same("%s in all frames, and %s" % (letter, parts_of), wanted(looked_at(pulses)), {3063: letter})
 
 
+def quality(k):
+    """Control functions as IEEE 1344 has them: the quality of the time, elements 71 to 74, changes now and then."""
+    return (k // 7 % 3) << 10
+
+
+def of_rules():
+    """An element that is the parity of those before it is found, and says what is lost or damaged."""
+    for element, odd in ((75, True), (75, False), (78, True), (62, False)):
+        pulses = signal(40, control=quality, parity=(element, odd))
+        texts = [listed(pulses).classes[at:at + 100] for at in range(0, 4000, 100)]
+        control = Layout("B", 4).control
+        yield same("the rule, %d" % element, rule_of(control, texts), (element, odd))
+        yield same("in too few frames, %d" % element, rule_of(control, texts[:12]), None)
+        yield same("a sound recording, %d" % element, (wanted(looked_at(pulses)), said(looked_at(pulses))), ({}, []))
+        for name, damaged in (("lost", [element]), ("lost, and two of the time", [element, 11, 16])):
+            missing = [each for at, each in enumerate(pulses) if at - 2000 not in damaged]
+            letters = texts[20]
+            yield same("%s, %d" % (name, element), wanted(looked_at(missing)), {2000 + each: letters[each] for each in damaged})
+    plain = [listed(signal(60, control=lambda k: (k * 7 % 5 > 2) << 12)).classes[at:at + 100] for at in range(0, 6000, 100)]
+    yield same("an element that changes by itself", rule_of(Layout("B", 4).control, plain), None)
+    still = [listed(signal(1)).classes] * 40
+    yield same("frames that are all alike", rule_of(Layout("B", 4).control, still), None)
+    sent = signal(40, control=lambda k: (k == 20) << 3, parity=(75, True))
+    yield same("what one frame alone was sent with", (wanted(looked_at(sent)), said(looked_at(sent))), ({}, []))
+    there = [each for at, each in enumerate(sent) if at != 2063]
+    yield same("the same, and it is lost", wanted(looked_at(there)), {2063: "1"})
+    for element in (60, 63, 78):
+        turned = flipped(signal(40, control=quality, parity=(75, True)), 2000 + element)
+        found = looked_at(turned)
+        yield same("a fine frame with another element %d" % element, wanted(found), {2000 + element: "0"} if element < 75 else {})
+    turned = flipped(signal(40, control=quality, parity=(75, True)), 2075)
+    found = looked_at(turned)
+    yield same("the parity itself is another", len(wanted(found)) + sum("has to be a" in each for each in said(found)), 1)
+    ended = flipped(signal(40, control=quality, parity=(75, True)), 3906)
+    yield same("the last frame, one element of its time", wanted(looked_at(ended)), {3906: listed(signal(40)).classes[3906]})
+
+
 def cases():
     """Each kind by its name."""
     return [case("mend: rare: " + name, holds) for name, holds in (
         ("noise", of_noise), ("centuries", of_centuries), ("clocks that were set", of_set_clocks), ("bases", of_bases),
         ("leap seconds", of_leap_seconds),
-        ("steady control functions", of_steady_control))]
+        ("steady control functions", of_steady_control), ("control functions with a rule", of_rules))]

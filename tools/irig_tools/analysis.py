@@ -5,6 +5,7 @@ from dataclasses import dataclass, field
 from typing import Callable, Iterator, List, Optional, Sequence, Tuple
 
 from . import limits
+from .confirmed import faults_of
 from .copies import settled, take_out
 from .edit import Edit, repair_of
 from .editor import Listing, Progress
@@ -12,6 +13,7 @@ from .faults import Faults, Remark
 from .frames import Times
 from .interval import Clock, Run, share_in_step
 from .layout import Layout
+from .parity import Rule
 from .polarity import upside_down
 from .remarks import of_no_frame, remarks
 from .script import Repair
@@ -58,6 +60,11 @@ class Findings:
     def leap(self) -> Optional[Hundredths]:
         """When second 60 begins, if a part has one."""
         return next((part.times.calendar.leap for part in self.parts if part.times.calendar.leap is not None), None)
+
+    @property
+    def rule(self) -> Optional[Rule]:
+        """That of the control functions, if a part has one."""
+        return next((part.times.rule for part in self.parts if part.times.rule), None)
 
     def remark(self, at: Microseconds, seen: str, choice: str) -> None:
         self.remarks.append(Remark(at, seen, choice))
@@ -156,7 +163,7 @@ def _moved(track: Track) -> List[Part]:
         if again != track.runs:
             track = Track(track.layout, track.clock, again)
             times = Times(track)
-    return [Part(track, times, copies, Faults(track, times), remarks(track, times))]
+    return [Part(track, times, copies, faults_of(track, times), remarks(track, times))]
 
 
 def _kept(whole: Track) -> List[Part]:
@@ -174,4 +181,4 @@ def _kept(whole: Track) -> List[Part]:
 def _part(track: Track, times: Times) -> Part:
     """Frames that a step cuts, or near which the times go on elsewhere, stay as they are."""
     left = {*cut_by_a_step(track), *turned(times)}
-    return Part(track, times, [], Faults(track, times, left), remarks(track, times))
+    return Part(track, times, [], faults_of(track, times, left), remarks(track, times))

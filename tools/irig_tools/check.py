@@ -17,6 +17,7 @@ from .editor import Listing
 from .interval import breaks, distances
 from .layout import Layout
 from .moments import CENTURY, DAY, Calendar
+from .parity import Rule
 from .script import Repair
 from .units import Hundredths, Microseconds, plus
 
@@ -86,8 +87,9 @@ class Check:
     """What a script does to the frames of a track; `steps` are the times at which those of the repaired track step."""
 
     def __init__(self, layout: Layout, interval: float, steps: Sequence[Microseconds], listings: Tuple[Listing, Listing],
-                 moved: Moved, most_off: float = 0, leap: Optional[Hundredths] = None) -> None:
-        """`leap` is when second 60 begins, if there is one."""
+                 moved: Moved, most_off: float = 0, leap: Optional[Hundredths] = None, rule: Optional[Rule] = None) -> None:
+        """`leap` is when second 60 begins, if there is one, and `rule` that of the control functions."""
+        self.rule = rule
         self.drift = max(limits.CLOCK_DRIFT, limits.ABOVE_NINE_OF_TEN * most_off)
         self.layout, self.interval, self.steps, self.moved = layout, interval, sorted(steps), moved
         calendar = Calendar(layout, leap=leap)
@@ -111,12 +113,13 @@ class Check:
         return Harm(plus(frame.at, -round(self.interval)), plus(frame.at, round(100 * self.interval)), seen)
 
     def _stays(self, frame: Frame) -> bool:
-        """Whether it is there after the script, but for control functions that are said to be steady."""
+        """Whether it is there after the script, but for control functions that are said to be steady, or that their rule says."""
         new = self.new.near(frame.at, limits.MOVED * self.interval)
-        free = self.layout.control if self.layout.steady else ()
-        return new is not None and all(
-            a == b or element in free for element, (a, b) in enumerate(zip(frame.text, new.text))
-        )
+        if new is None:
+            return False
+        by_rule = self.rule is not None and self.rule.holds(new.text) and not self.rule.holds(frame.text)
+        free = self.layout.control if self.layout.steady or by_rule else ()
+        return all(a == b or element in free for element, (a, b) in enumerate(zip(frame.text, new.text)))
 
     def _is_trusted(self, frame: Frame) -> bool:
         """Whether it has the time of a frame next to it, or neither those next to it nor those of the result agree on

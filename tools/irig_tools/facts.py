@@ -30,7 +30,7 @@ DAMAGE_KINDS: Tuple[Tuple[str, str], ...] = (
     ("every pulse is|pulses that are (longer|shorter)", "threshold"),
     ("the clock is", "clock"),
     ("rises tremble", "jitter"),
-    ("control functions that no other", "control"),
+    ("control functions that no other|by the elements before it", "control"),
     ("belong to no frame", "outside"),
     ("is it another|is other code", "format"),
 )

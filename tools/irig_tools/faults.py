@@ -3,7 +3,7 @@ from __future__ import annotations
 
 import copy
 from dataclasses import dataclass
-from typing import Container, Dict, Iterable, List, Optional
+from typing import Container, Dict, Iterable, List, Optional, Set
 
 from . import limits
 from .frames import Times
@@ -43,6 +43,8 @@ class Faults:
         self.rises, self.falls = track.rises, track.falls
         self.wanted: Dict[PlaceNumber, str] = {}
         self.guesses: Dict[PlaceNumber, str] = {}  # places of control functions that nothing says
+        self.by_rule: Set[PlaceNumber] = set()  # places of control functions that a rule says
+        self.contrary: Set[FrameNumber] = set()  # frames that show another time, too clearly to be damage
         self.remarks: List[Remark] = []
         self.usual = times.usual() if self.layout.steady else {}
         for number, text in times.texts.items():
@@ -63,9 +65,10 @@ class Faults:
     def _look_at(self, number: FrameNumber, text: str, expected: str) -> None:
         """Compares a frame with what follows for it."""
         if number not in self.times.spliced and self._contradicts(number, text, expected):
+            self.contrary.add(number)
             return
         if self.times.moment(number) is None and READABLE.fullmatch(text) and number not in self.times.own:
-            self._remark(place_in(number), "a frame whose fields contradict each other", "nothing says which is right")
+            self.remark(place_in(number), "a frame whose fields contradict each other", "nothing says which is right")
         self._doubt_time(number)
         unknown = []
         for element, (told, follows) in enumerate(zip(text, expected)):
@@ -81,16 +84,16 @@ class Faults:
         if unknown and number not in self.left:
             elements = self.times.name(number), ", ".join(map(str, unknown))
             seen = "%s, element %s: neither its shape nor another frame says whether it is a zero or a one" % elements
-            self._remark(place_in(number, unknown[0]), seen, "force or insert the right one")
+            self.remark(place_in(number, unknown[0]), seen, "force or insert the right one")
 
     def _doubt_time(self, number: FrameNumber) -> None:
         """A frame alone that shows another time than the others, too clearly to be damage."""
         own = self.times.own.get(number)
         if own is not None and self.times.bases[number] is None and self.times.spans and number not in self.left:
             shown = self.times.calendar.name(self.times.calendar.moment(number, own))
-            self._remark(place_in(number), "a frame alone shows %s, to which no other frame leads" % shown, LEFT_FRAME)
+            self.remark(place_in(number), "a frame alone shows %s, to which no other frame leads" % shown, LEFT_FRAME)
 
-    def _remark(self, place: PlaceNumber, seen: str, choice: str) -> None:
+    def remark(self, place: PlaceNumber, seen: str, choice: str) -> None:
         self.remarks.append(Remark(self.track.rise_at(place), seen, choice))
 
     def _contradicts(self, number: FrameNumber, text: str, expected: str) -> bool:
@@ -101,16 +104,16 @@ class Faults:
         twice_told = number in self.times.own and not binary.isdisjoint(against)
         # a clock that was set shows another time in both fields that say it
         in_one = not binary.isdisjoint(told) and (binary.isdisjoint(against) or binary.issuperset(against))
-        most = limits.MOST_CONTRARY if in_one or self._is_between(number) else limits.CONTRARY_AT_END
+        most = limits.MOST_CONTRARY if in_one or self.is_between(number) else limits.CONTRARY_AT_END
         if len(against) <= (0 if twice_told or self.times.turns_at(number) else most):
             return False
         seen = "%s: %s contradict%s the time that the frames next to it lead to" % (
             self.times.name(number), counted(len(against), "element"), "" if against[1:] else "s")
         first = max(self.track.first, place_in(number))
-        self._remark(first, seen, LEFT_FRAME)
+        self.remark(first, seen, LEFT_FRAME)
         return True
 
-    def _is_between(self, number: FrameNumber) -> bool:
+    def is_between(self, number: FrameNumber) -> bool:
         """Whether frames before this one and after it have a time of their own."""
         return min(self.times.own, default=number) < number < max(self.times.own, default=number)
 
@@ -137,9 +140,9 @@ class Faults:
         return self.guesses[place]
 
     def _compare_control(self, number: FrameNumber, text: str) -> None:
-        """If control functions never change, one that most frames do not have is damage."""
+        """If control functions never change, one that most frames do not have is damage, unless their rule confirms it."""
         for element, usual in self.usual.items():
-            if text[element] in "01" and text[element] != usual:
+            if text[element] in "01" and text[element] != usual and not self.times.is_confirmed(number, element):
                 self.wanted[place_in(number, element)] = usual
 
     def _in_burst(self, place: PlaceNumber) -> bool:
@@ -205,6 +208,9 @@ class Faults:
             return "undecided whether zero or one: nothing says it, so this %s is a guess" % target
         if element in self.usual:
             return "a %s as in most frames" % target
+        if place in self.by_rule and self.times.rule:
+            parts = target, self.times.rule.element
+            return "a %s by the elements of its frame, of which element %d says whether the ones are odd in number" % parts
         if element in self.times.kept:
             return "a %s by its shape or the frames next to it" % target
         if element in POSITIONS or element in self.layout.unused:

@@ -10,6 +10,7 @@ from . import limits
 from .grouping import grouped
 from .interval import Run
 from .layout import READABLE
+from .parity import rule_of
 from .spans import Bases, Span, fit
 from .splices import spliced
 from .steadiness import Steadiness
@@ -36,6 +37,7 @@ class Times(Votes):
         stray = {number for number in self.own if "1" in unused(self.texts[number])}
         self.doubtful = len(stray) > limits.STRAY_ONES + len(self.read) * limits.STRAY_SHARE // 1  # the expression
         self.kept = set(self.layout.control) | set(self.layout.unused if self.doubtful else ())
+        self.rule = rule_of(self.layout.control, list(self.texts.values()))
         self._steadiness = Steadiness(sorted(self.kept), list(self.texts.values()))
         self.sound = {
             number
@@ -134,6 +136,16 @@ class Times(Votes):
     def never_changed(self, element: int) -> bool:
         """Whether an element that no field decides is the same in all frames that show it, and these are enough."""
         return self._steadiness.never_changed(element)
+
+    def is_confirmed(self, number: FrameNumber, element: int) -> bool:
+        """Whether the control functions have a rule, and by it this element of a frame is as it was sent."""
+        text, rule = self.texts[number], self.rule
+        return rule is not None and element <= rule.element and rule.shows(text) and rule.holds(text)
+
+    def is_beside(self, number: FrameNumber, element: int, told: str) -> bool:
+        """Whether the nearest frame on both sides has a class there."""
+        before, after = self._nearest(number, element)
+        return bool(before and after) and self.texts[before[-1]][element] == self.texts[after[0]][element] == told
 
     def likely(self, number: FrameNumber, element: int) -> Optional[str]:
         """What most of the nearest frames have there; None if as many differ."""

@@ -127,6 +127,11 @@ WITNESSES = 2  # frames that have to say a field or a base: one can be damaged [
 CHANCE = 0.001  # that an element differs from its neighbours, if it is said to be steady [0, 1]
 CHANCES = 24  # times that an element could have changed: if it never did, it differs by about CHANCE [2, 1]
 
+# control functions with a rule (parity)
+EACH_BY_RULE = 3  # frames that have a zero, and a one, as the element of the rule: one that hardly changes shows none
+LEAST_BY_RULE = 16  # frames in which it holds: of 27 elements at random one fits as many in less than one of 1,000 recordings
+FOR_EACH_AGAINST = 5  # more of them for each frame in which it does not hold
+
 # stretches that are there twice (copies, steps)
 UNLIKE_IN_COPY = 25  # a copy has at most one element in that many that differs: more is no copy, but frames alike [0, 1]
 ALIKE_IN_COPY = 2  # and at least one in that many that is the same: the rest can be damaged [3, 0]

@@ -81,7 +81,7 @@ class _Mending:
             return []
         moved = Moved(self.script[done:])
         return list(Check(first.layout, clock.interval, step_times(last), (before, self.after), moved, clock.most_off,
-                          first.leap or last.leap).harms())
+                          first.leap or last.leap, first.rule or last.rule).harms())
 
 
 def step_times(findings: Findings) -> List[Microseconds]:

@@ -106,9 +106,10 @@ def _of_times(track: Track, times: Times, before: Span, after: Span) -> Remark:
 
 def _of_control(track: Track, times: Times) -> List[Remark]:
     """Names the frames whose control functions are like those of no other frame, if most are alike."""
-    if not track.layout.control or not times.sound:
+    elements = [each for each in track.layout.control if not times.rule or each > times.rule.element]  # the others it confirms
+    if not elements or not times.sound:
         return []
-    control = itemgetter(*track.layout.control)
+    control = itemgetter(*elements)
     told = [(number, control(times.texts[number])) for number in sorted(times.sound)]
     often = Counter(value for _, value in told)
     usual, many = often.most_common(1)[0]
@@ -117,7 +118,7 @@ def _of_control(track: Track, times: Times) -> List[Remark]:
     found = []
     for number, value in told:
         if often[value] == 1 and value != usual:
-            unlike = [each for each, a, b in zip(track.layout.control, value, usual) if a != b]
+            unlike = [each for each, a, b in zip(elements, value, usual) if a != b]
             seen = "%s, element %s: control functions that no other frame has" % (
                 times.name(number), ", ".join(map(str, unlike)))
             found.append(Remark(track.rise_at(place_in(number, unlike[0])), seen, LEFT_CONTROL))

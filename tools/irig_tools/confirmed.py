@@ -1,0 +1,98 @@
+"""What the rule of the control functions says, if there is one: which are damaged in a frame that reads well, and what is lost."""
+from __future__ import annotations
+
+from typing import Iterable, List
+
+from .faults import LEFT_FRAME, Faults
+from .frames import Times
+from .layout import NAMES
+from .parity import Rule
+from .track import Track
+from .units import FrameNumber, PlaceNumber, place_in
+
+BY_HAND = "force the one that is wrong"
+OTHER = {"0": "1", "1": "0"}
+
+
+def faults_of(track: Track, times: Times, left: Iterable[FrameNumber] = ()) -> Faults:
+    """The faults of a track, with those that the rule shows; `left` are frames that are to stay as they are."""
+    faults = Faults(track, times, left)
+    if times.rule:
+        for number, text in times.texts.items():
+            is_known = times.moment(number) is not None and number not in times.spliced
+            if is_known and number not in faults.left and number not in faults.contrary:
+                _Frame(faults, times.rule, number, text).compare()
+    return faults
+
+
+class _Frame:
+    """A frame, with the classes that it gets as far as the rule goes."""
+
+    def __init__(self, faults: Faults, rule: Rule, number: FrameNumber, text: str) -> None:
+        self.faults, self.rule, self.number, self.old = faults, rule, number, text
+        self.place = place_in(number, rule.element)
+        wanted = faults.wanted
+        self.text = "".join([wanted.get(place_in(number, element), text[element]) for element in range(rule.element + 1)])
+        before = [place_in(number, element) for element in faults.times.kept if element < rule.element]
+        self.filled = [place for place in before if place in wanted]  # by their shape, or as the frames next to it have them
+
+    def compare(self) -> None:
+        """Gives the element of the rule what follows if it is lost; if it is there, it says what else is lost or damaged."""
+        if self.place in self.faults.wanted:
+            self._fill_in()
+        elif self.rule.shows(self.text):
+            self._confirm() if self.rule.holds(self.text) else self._contradict()
+
+    def _fill_in(self) -> None:
+        if not self.rule.shows(self.text):
+            return
+        target = self.faults.wanted[self.place] = self.rule.follows(self.text)
+        self.faults.guesses.pop(self.place, None)
+        if any(place in self.faults.guesses for place in self.filled):
+            self.faults.guesses[self.place] = target
+        else:
+            self.faults.by_rule.add(self.place)
+
+    def _confirm(self) -> None:
+        """One that was filled in alone is as the rule wants it."""
+        if len(self.filled) == 1:
+            self._take(self.filled[0], self.faults.wanted[self.filled[0]])
+
+    def _contradict(self) -> None:
+        """Something is not as it was sent."""
+        if len(self.filled) == 1:
+            self._take(self.filled[0], OTHER[self.faults.wanted[self.filled[0]]])
+        elif self.filled:
+            self.faults.guesses.update({place: self.faults.wanted[place] for place in self.filled})
+        elif not self.faults.is_between(self.number) and self.rule.holds(self.old):
+            self._leave("reads well by itself, and another time than the frames next to it lead to", LEFT_FRAME)
+        else:
+            self._repair(self._suspects())
+
+    def _repair(self, suspects: List[PlaceNumber]) -> None:
+        """The only one that is not as in the frames next to it is damage."""
+        if len(suspects) == 1:
+            self._take(suspects[0], OTHER[self.text[suspects[0] % 100]])
+        else:
+            told = NAMES[self.rule.follows(self.text)]
+            self._leave("element %d: by the elements before it this has to be a %s" % (self.rule.element, told), BY_HAND)
+
+    def _suspects(self) -> List[PlaceNumber]:
+        """Those that differ from the nearest frames, which agree; if none does, the element of the rule itself."""
+        times, number = self.faults.times, self.number
+        near = {element: times.around(number, element) for element in sorted(times.kept) if element < self.rule.element}
+        unlike = [element for element, told in near.items() if told and told != self.text[element]]
+        if not unlike and None not in near.values() and times.is_beside(number, self.rule.element, self.rule.follows(self.text)):
+            return [self.place]
+        return [place_in(number, element) for element in unlike]
+
+    def _take(self, place: PlaceNumber, target: str) -> None:
+        self.faults.wanted[place] = target
+        self.faults.guesses.pop(place, None)
+        self.faults.by_rule.add(place)
+
+    def _leave(self, seen: str, choice: str) -> None:
+        """Nothing of the frame is changed."""
+        faults, own = self.faults, range(place_in(self.number), place_in(self.number) + 100)
+        faults.wanted = {place: target for place, target in faults.wanted.items() if place not in own}
+        faults.remark(self.place, "%s, %s" % (faults.times.name(self.number), seen), choice)
