@@ -3,15 +3,20 @@ that never change or that have a rule. docs/METHOD.md has the words.
 
 The recordings are those of the reference encoder, damaged by hand: what has to be repaired is what was damaged.
 """
+import os
 import random
+import subprocess
+import tempfile
 
+from built import TOP
 from cases import case
-from irig_tools import analysis, edits, mend, spans
+from irig_tools import analysis, edits, mend, readings, search, spans
 from irig_tools.check import Check, Moved
 from irig_tools.editor import Listing
 from irig_tools.layout import Layout
 from irig_tools.parity import rule_of
 from irig_tools.script import Repair
+from random_input import damages
 from reference import timecode
 from rows import tools
 from rows.tools_parts import Said, same
@@ -231,9 +236,44 @@ def of_rules():
     yield same("the last frame, one element of its time", wanted(looked_at(ended)), {3906: listed(signal(40)).classes[3906]})
 
 
+# no frame is fine
+
+
+def damaged_everywhere(rng, pulses, many):
+    """Of each frame so many pulses are lost."""
+    lost = {100 * number + element for number in range(len(pulses) // 100) for element in rng.sample(range(100), many)}
+    return [pulse for at, pulse in enumerate(pulses) if at not in lost]
+
+
+def of_unread():
+    """The format and the expression of a wire on which no frame is fine, and what of a wire without time code."""
+    rng = random.Random(81)
+    for kind, expression, by, many in (("B", 2, 17, 0), ("B", 4, -17, 0), ("B", 0, 0, 3), ("A", 5, 16, 2), ("G", 6, 0, 4), ("E", 1, 17, 1)):
+        interval, name = timecode.INTERVAL[kind], "format %s, expression %d, longer by %d, %d lost" % (kind, expression, by, many)
+        whole = signal(10, kind, expression, begin=MIDDAY + 123000, control=lambda k: 5 + (k % 3 << 6))
+        pulses = damaged_everywhere(rng, [[rise, fall + by * interval // 100] for rise, fall in whole], many)
+        edges = [edge for pulse in pulses for edge in pulse]
+        found = search.kinds_of(edges[:search.WINDOW], True, timecode.INTERVAL)
+        yield same(name + ": the format", max(found, key=found.get, default=None), (kind, False))
+        with tempfile.TemporaryDirectory() as folder:
+            path = os.path.join(folder, "unread.vcd")
+            with open(path, "w", encoding="utf-8") as file:
+                file.write(damages.dump(pulses, whole[-1][0] + interval))
+            read = readings.read(path, kind)
+            yield same(name + ": the expression", (read.best.expression, read.best.fine, read.best.led >= 8), (expression, 0, True))
+            printed = subprocess.run([os.path.join(TOP, "tools", "irig_damage"), path], capture_output=True, text=True, check=False)
+            yield same(name + ": irig_damage", (printed.returncode, "format %s, expression %d: 0 of" % (kind, expression) in printed.stderr),
+                       (1, True))
+    steady = [[10000 * at, 10000 * at + rng.choice((1000, 3000, 6000, 9000))] for at in range(2000)]
+    read = readings.Readings([readings.Reading("B", expression) for expression in range(8)])
+    readings._choose_led(listed(steady), read)
+    yield same("no time code", [row.led for row in read.rows], [0] * 8)
+
+
 def cases():
     """Each kind by its name."""
     return [case("mend: rare: " + name, holds) for name, holds in (
         ("noise", of_noise), ("centuries", of_centuries), ("clocks that were set", of_set_clocks), ("bases", of_bases),
         ("leap seconds", of_leap_seconds),
-        ("steady control functions", of_steady_control), ("control functions with a rule", of_rules))]
+        ("steady control functions", of_steady_control), ("control functions with a rule", of_rules),
+        ("no frame is fine", of_unread))]

@@ -112,7 +112,10 @@ WIDEST_PEAK = 98  # hundredths of an interval: no pulse gets as long as the inte
 PEAK = 6  # hundredths of an interval: what is nearer to a peak counts for it; the peaks are 30 apart
 LEAST_SHIFT = 6  # hundredths of an interval: a smaller shift changes no class, as classes end 15 from their pulses
 AT_PEAK = 7  # hundredths of an interval: a width that is no farther from a peak has its class, half of the way to the end
+TEN_APART = 0.4  # the share of position identifiers with one ten pulses on, if no frame can be read: of nine of eleven some are lost
+SOME_TEN_APART = 0.2  # the same without which no expression is looked for: the end of a search
 SOME_BAD, MOST_BAD = 0.01, 0.3  # the share of bad pulses from which a threshold is looked for; a mended one has fewer
+MOST_UNREAD = 5000  # pulses by which the expression is found if no frame is fine: fifty frames
 MOST_EDITS = 10000  # edits in one group, which is undone at once
 
 # times of frames, and the second shortest path (frames, spans, pieces)

@@ -71,6 +71,7 @@ class Taken:
     expression: int = 2
     frames: int = 0
     fine: int = 0
+    led: int = 0
     pulses: int = 0
     refused: str = ""
 
@@ -83,8 +84,9 @@ class Taken:
         return ["%s=%s" % (FORMAT.name, self.probe.kind[0]), "%s=%d" % (EXPRESSION.name, self.expression)]
 
     def text(self) -> str:
-        return "wire %s, format %s, expression %d: %d of %d frames fine" % (
+        said = "wire %s, format %s, expression %d: %d of %d frames fine" % (
             self.probe.signal.text(), self.probe.kind[0], self.expression, self.fine, self.frames)
+        return said + (", but %d lead to a time together" % self.led if self.led else "")
 
 
 @contextmanager
@@ -160,7 +162,7 @@ def _take(path: str, name: str, given: Given, wire: Optional[str]) -> Taken:
     if given.has(FORMAT):
         probes = [probe for probe in probes if probe.kind[0] == given.text(FORMAT)]
     read_ones = [_read(path, found, probe, dump) for probe in probes[:MOST_READ]]
-    fine = [taken for taken in read_ones if taken.fine]
+    fine = [taken for taken in read_ones if taken.fine] or [taken for taken in read_ones if taken.led]
     if len(fine) == 1:
         return fine[0]
     raise _of_none([taken.refused for taken in read_ones if taken.refused], fine, name)
@@ -188,7 +190,7 @@ def _read(path: str, found: Found, probe: Probe, dump: int) -> Taken:
     row = readings.best
     if row is None:
         return Taken(found, probe, refused=readings.refused)
-    return Taken(found, probe, row.expression, row.frames, row.fine, readings.pulses)
+    return Taken(found, probe, row.expression, row.frames, row.fine, row.led, readings.pulses)
 
 
 def needed_name(header: Header, signal: Signal) -> Optional[str]:

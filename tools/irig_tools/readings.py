@@ -8,10 +8,12 @@ from bisect import bisect_right
 from dataclasses import dataclass, field
 from typing import Dict, List, Optional, Sequence, Set
 
+from . import limits
 from .editor import CUT_OFF, Editor, Listing, Problem, find_editor, info_of
 from .interval import distances
 from .layout import WITH_BINARY, WITH_CONTROL, WITH_YEAR, Layout
 from .temporary import temporary_script
+from .unread import led
 
 EXPRESSIONS = {"A": range(8), "B": range(8), "E": (1, 2, 5, 6), "G": (1, 2, 5, 6)}
 CONTROL_TOO = {2: 1, 3: 0, 6: 5, 7: 4}  # expressions without control functions, and those that have them besides
@@ -29,6 +31,7 @@ class Reading:
     last: str = ""
     years: Set[str] = field(default_factory=set)
     controls: Set[str] = field(default_factory=set)
+    led: int = 0  # if no frame is fine under any: those that fit the time to which all lead together
 
     def line(self, words: Sequence[str]) -> None:
         """Takes one line of `frames`."""
@@ -93,11 +96,26 @@ def read(track: str, kind: str) -> Readings:
 def _choose_careful(track: str, found: Readings) -> None:
     """The expression that fits best. If one with control functions fits as well, and a frame that is not fine has some, it is that
     one: with the other a repair would make zeros of them."""
+    if not any(row.fine for row in found.rows):
+        _choose_led(Editor(["--format", found.rows[0].kind, track]).ask([]), found)
+        return
     found.best = best(found.rows)
     kind, fine, number = found.best.kind, found.best.fine, CONTROL_TOO.get(found.best.expression)
     careful = next((row for row in found.rows if row.expression == number and 0 < row.fine == fine < row.frames), None)
     if careful and _has_control(Editor(["--format", kind, "--expression", str(number), track]).ask([])):
         found.best, found.has_events = careful, True
+
+
+def _choose_led(listing: Listing, found: Readings) -> None:
+    """The expression under which most frames fit, if none is fine."""
+    seen = [(row, led(listing, row.kind, row.expression)) for row in found.rows]
+    most = max((each.frames, -each.against) for _, each in seen)
+    if most[0] < limits.WITNESSES:
+        found.best = best(found.rows)
+        return
+    for row, each in seen:
+        row.led, row.years = each.frames, each.years
+    found.best = _plainest([row for row, each in seen if (each.frames, -each.against) == most])
 
 
 def _has_control(listing: Listing) -> bool:
@@ -135,7 +153,11 @@ def best(rows: Sequence[Reading]) -> Reading:
     most = max(row.fine for row in rows)
     if not most:
         return next(row for row in rows if row.expression == 2)
-    left = [row for row in rows if row.fine == most]
+    return _plainest([row for row in rows if row.fine == most])
+
+
+def _plainest(left: Sequence[Reading]) -> Reading:
+    """Of expressions under which as many frames can be read that which uses what is there, and no more."""
     with_seconds = [row for row in left if row.expression in WITH_BINARY]
     left = with_seconds or left
     dated = [row for row in left if 0 < len(row.years) < 3 and row.years != {"00"}]

@@ -18,6 +18,9 @@ from .layout import INTERVAL
 WINDOW = 1024  # edges that are judged together
 FEWEST_EDGES = 16  # edges that are judged
 HOPELESS = 16  # windows without time code, after which a wire is no longer looked at
+FEWEST_OF_CLASS = 0.04  # the share of pulses that are position identifiers, and of those that are none
+WIDER = 0.45  # intervals: by how much position identifiers are wider than zeros, at least; ones are by 0.3
+MOST_POSITIONS = 0.3  # their share is 0.11, and more if others have run together or are lost
 TRIED = ("1 us", "1 ns", "1 ps", "1 ms", "1 fs", "1 s")  # if the dump names no unit
 
 Kind = Tuple[str, bool]  # a format, and whether the wire is upside down
@@ -39,10 +42,16 @@ def kinds_of(edges: Sequence[int], rise_first: bool, steps: Dict[str, float]) ->
 
 def _has_classes(starts: Sequence[int], ends: Sequence[int], step: float) -> bool:
     """Whether there are position identifiers and others among the pulses."""
-    widths = [end - start for start, end in zip(starts, ends)]
+    widths = sorted(end - start for start, end in zip(starts, ends))
+    if not widths:
+        return False
     positions = sum(0.65 * step <= width < 0.95 * step for width in widths)
     others = sum(0.05 * step <= width < 0.65 * step for width in widths)
-    return positions > 0.04 * len(widths) and others > 0.04 * len(widths)
+    if min(positions, others) > FEWEST_OF_CLASS * len(widths):
+        return True
+    least = widths[int(FEWEST_OF_CLASS * len(widths))]  # of a threshold that is wrong all are longer, or all shorter
+    wide = sum(least + WIDER * step <= width for width in widths)
+    return FEWEST_OF_CLASS * len(widths) < wide < MOST_POSITIONS * len(widths)
 
 
 class Probe:

@@ -1,7 +1,9 @@
 """A threshold that makes every pulse longer, or every pulse shorter."""
 from __future__ import annotations
 
+import re
 from collections import Counter
+from dataclasses import replace
 from typing import Dict, List, Mapping, Tuple
 
 from . import limits
@@ -9,7 +11,15 @@ from .edit import Edit, of_pulse, repair_of
 from .editor import Listing
 from .layout import NAMES, READABLE, SHARE, Layout
 from .script import Repair
-from .units import Microseconds, PulseIndex
+from .units import Microseconds, PulseIndex, plus
+
+
+TEN_ON = re.compile("P(?=[^P]{9}P)")
+
+
+def ten_apart(classes: str) -> int:
+    """How many position identifiers have the next one ten pulses on."""
+    return len(TEN_ON.findall(classes))
 
 
 def _peaks(shift: int) -> List[Tuple[str, int]]:
@@ -37,6 +47,18 @@ def _classes_by(shift: int) -> Dict[int, str]:
     }
 
 
+def levelled(listing: Listing, layout: Layout) -> Listing:
+    """The listing with each pulse as it is forced, if the threshold of the whole recording is wrong."""
+    falls, classes, names = list(listing.falls), list(listing.classes), {word: name for name, word in NAMES.items()}
+    for repair in level(listing, layout):
+        for edit in repair.edits:
+            number, _, word = edit.split()
+            pulse = int(number) - 1
+            classes[pulse] = names[word]
+            falls[pulse] = plus(listing.rises[pulse], round(SHARE[classes[pulse]] * layout.interval))
+    return replace(listing, falls=falls, classes="".join(classes))
+
+
 def level(listing: Listing, layout: Layout) -> List[Repair]:
     """Gives each pulse the class that its width has among all others, if the classes as they are make few frames."""
     if listing.classes.count("b") < limits.SOME_BAD * len(listing.classes):
@@ -46,19 +68,28 @@ def level(listing: Listing, layout: Layout) -> List[Repair]:
     shift = _find_shift(Counter(widths))
     class_of = _classes_by(shift)
     classes = "".join([class_of.get(width, "b") for width in widths])
-    before, after = len(READABLE.findall(listing.classes)), len(READABLE.findall(classes))
-    many_bad = classes.count("b") > limits.MOST_BAD * len(classes)
-    if abs(shift) < limits.LEAST_SHIFT or after <= 2 * before or many_bad:
+    gained = _gained(listing.classes, classes)
+    if abs(shift) < limits.LEAST_SHIFT or not gained or classes.count("b") > limits.MOST_BAD * len(classes):
         return []
     way, cause = ("longer", "low") if shift > 0 else ("shorter", "high")
     why = (
         "every pulse is %d %s than its nominal width, as if the threshold was too %s: with widths moved by "
-        "that %d frames can be read, without %d; each pulse gets its own class"
-        % (abs(shift) * interval // 100, way, cause, after, before)
+        "that %s; each pulse gets its own class" % (abs(shift) * interval // 100, way, cause, gained)
     )
     edits, again = _forced(listing, layout, classes), "pulses that are %s, as above" % way
     groups = [edits[at:at + limits.MOST_EDITS] for at in range(0, len(edits), limits.MOST_EDITS)]
     return [repair_of(Microseconds(0), [again if number else why], group) for number, group in enumerate(groups)]
+
+
+def _gained(before: str, after: str) -> str:
+    """What other classes of the pulses lead to, if they fit far better than those that they have."""
+    read = [len(READABLE.findall(classes)) for classes in (before, after)]
+    if any(read):
+        return "%d frames can be read, without %d" % (read[1], read[0]) if read[1] > 2 * read[0] else ""
+    apart = [ten_apart(classes) for classes in (before, after)]
+    if apart[1] <= 2 * apart[0] or apart[1] < limits.TEN_APART * after.count("P"):
+        return ""
+    return "%d position identifiers are ten apart, without %d" % (apart[1], apart[0])
 
 
 def _forced(listing: Listing, layout: Layout, classes: str) -> List[Edit]:

@@ -38,6 +38,11 @@ class CodeWire:
         return self.best.fine if self.best else 0
 
     @property
+    def led(self) -> int:
+        """Frames that lead to a time together, if none is fine."""
+        return self.best.led if self.best else 0
+
+    @property
     def expression(self) -> int:
         return self.best.expression if self.best else 2
 
@@ -70,6 +75,8 @@ class CodeWire:
         texts = [row.text() for row in fine]
         others = " ".join(str(row.expression) for row in rows if not row.fine)
         if rows and not fine:
+            if self.led:
+                return ["no frame is fine; under expression %d %d lead to a time together" % (self.expression, self.led)]
             return ["no frame is fine under any expression; %d is only a guess" % self.expression]
         if others:
             texts.append("other expressions (%s): no frame is fine" % others)
@@ -88,7 +95,7 @@ class What:
         self.path, self.shown_path, self.unit, self.dump = path, shown_path, unit, dump
         self.found: Found = search(path, unit, dump)
         self.carriers = self._read_all(self.found.probes[:MOST_READ])
-        self.carriers = sorted(self.carriers, key=lambda carrier: -carrier.fine)
+        self.carriers = sorted(self.carriers, key=lambda carrier: (-carrier.fine, -carrier.led))
 
     def _read_all(self, probes: List[Probe]) -> List[CodeWire]:
         """What is on these wires, after one more pass through the dump."""
@@ -110,7 +117,7 @@ class What:
     def _read(probe: Probe, track: str, extract: Extract) -> CodeWire:
         kind, inverted = probe.kind
         carrier = CodeWire(probe.signal, inverted, kind, read(track, kind), extract.report.doubtful)
-        if carrier.fine:
+        if carrier.fine or carrier.led:
             carrier.script = _script(track, kind, carrier.expression)
         return carrier
 
