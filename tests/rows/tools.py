@@ -282,7 +282,7 @@ def two_sided(name, change, length, wanted):
     pulses = recording(12)
     change(pulses)
     script, after = mended(pulses, length)
-    yield starts(name, script.splitlines(), ["# undecided: at %s; that is left: if the recorder slipped" % wanted])
+    yield starts(name, script.splitlines(), ["# stays: at %s; that is left: if the recorder slipped" % wanted])
     yield same(name + ", the pulses", after, pulses)
     yield same(name + ", --move", mended(pulses, length, move=True)[1], recording(12))
 
@@ -339,7 +339,7 @@ def missing():
         for there, wanted in ((pulses, pulses), (broken, pulses if is_repaired else broken)):
             script, after = mended(there, pulses[-1][1] + 2000 * (not lost), expression=6)
             changed = [at for at, (one, other) in enumerate(zip(after, wanted)) if one != other]
-            yield same("%s, %d pulses" % (name, len(there)), ("undecided" in script, changed), (True, []))
+            yield same("%s, %d pulses" % (name, len(there)), ("# undecided: at" in script or "# stays: at" in script, changed), (True, []))
     early = recording(8, expression=6)[130:]  # the same near the beginning, soon after a marker
     del early[72:82]
     moved(early, 72, -100000)
@@ -349,7 +349,7 @@ def missing():
     broken[205:206] = [[rise, rise + 500], [rise + 540, fall]]
     script, after = mended(broken, early[-1][1] + 2000, expression=6)
     changed = [at for at, (one, other) in enumerate(zip(after, early)) if one != other]
-    yield same("near the beginning", ("undecided" in script, changed), (True, []))
+    yield same("near the beginning", ("# undecided: at" in script or "# stays: at" in script, changed), (True, []))
 
 
 def late_for_a_while(pulses, by=3300, back=3300):

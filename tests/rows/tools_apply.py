@@ -1,11 +1,12 @@
 """Rows for `irig_mend --apply`, for tracks that are found in any dump, and for what is printed for programs."""
 import json
 import os
+import re
 import tempfile
 from unittest import mock
 
 from cases import case
-from irig_tools import damage_program, facts, mend_program
+from irig_tools import damage_program, mend_program
 from random_input import damages
 from rows import in_process, tools
 from rows.in_process import run
@@ -373,7 +374,7 @@ def objects():
         yield same("irig_damage --json", got, wanted)
         found = [json.loads(line) for line in run("irig_mend", ["--expression=4", "--json", "rec.vcd"])[1].splitlines()]
         got = [tuple(each[name] for name in ("kind", "repair", "undecided", "step")) for each in found]
-        yield same("irig_mend --json", got, [("step", False, True, 3300), ("split", True, False, None)])
+        yield same("irig_mend --json", got, [("step", False, False, 3300), ("split", True, False, None)])
         lines = run("irig_mend", ["--expression=4", "rec.vcd"])[1].decode().splitlines()
         yield same("its script", found[1]["script"], [line for line in lines if line[0] != "#"])
         done = json.loads(run("irig_mend", ["--expression=4", "--json", "--apply", "new.vcd", "rec.vcd"])[1])
@@ -395,11 +396,31 @@ def objects():
 
 
 def kinds():
-    """Each text of a worked row of damage has a kind."""
-    for _, change, length, wanted in tools.ROWS:
-        for line in wanted:
-            kind = facts.kind_of(line.partition(": ")[2] or line.partition(" ")[2])
-            yield same("the kind of " + line, kind != "other", True)
+    """Each place of a worked row of damage has a kind; what is undecided is counted as the lines say."""
+    def holds():
+        for name, change, length, wanted in tools.ROWS:
+            pulses = tools.recording()
+            change(pulses)
+            with open("row.vcd", "w", encoding="utf-8") as file:
+                file.write(damages.dump(pulses, length))
+            words = ["--expression=4", "row.vcd"]
+            found = [json.loads(line) for line in run("irig_damage", ["--json", *words])[1].splitlines()]
+            yield same("the kinds of " + name, (len(found), "other" in [each["kind"] for each in found]), (len(wanted), False))
+            told = run("irig_mend", ["--apply", "mended.vcd", *words])[1].decode()
+            counted = [int(re.search(r"(\d+) %s" % each, told)[1]) for each in ("undecided", "step")]
+            said = [sum(line.startswith("# %s: " % each) for line in told.splitlines()) for each in ("undecided", "stays")]
+            yield same("the count of " + name, counted, said)
+        changing = tools.recording(12)
+        for frame in (4, 7, 8):
+            changing[100 * frame + 74][1] += 3000
+        del changing[674]
+        with open("row.vcd", "w", encoding="utf-8") as file:
+            file.write(damages.dump(changing, 12000000))
+        told = run("irig_mend", ["--json", "--apply", "guessed.vcd", "--expression=4", "row.vcd"])[1]
+        counted = json.loads(told)["summary"]
+        yield same("a guess", (counted["undecided"], counted["guessed"]), (0, 1))
+
+    return in_folder(lambda: list(holds()))
 
 
 def cases(top):

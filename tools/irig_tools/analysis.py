@@ -12,6 +12,7 @@ from .editor import Listing, Progress
 from .faults import Faults, Remark
 from .frames import Times
 from .interval import Clock, Run, share_in_step
+from .kinds import DamageKind
 from .layout import Layout
 from .parity import Rule
 from .polarity import upside_down
@@ -66,8 +67,8 @@ class Findings:
         """That of the control functions, if a part has one."""
         return next((part.times.rule for part in self.parts if part.times.rule), None)
 
-    def remark(self, at: Microseconds, seen: str, choice: str) -> None:
-        self.remarks.append(Remark(at, seen, choice))
+    def remark(self, at: Microseconds, seen: str, choice: str, kind: DamageKind = DamageKind.FORMAT) -> None:
+        self.remarks.append(Remark(at, seen, choice, kind=kind))
 
 
 def looks(obeyed: Callable[[], Listing], progress: Progress, script: Sequence[Repair], steady: bool = False,
@@ -117,7 +118,7 @@ def _turn_over(findings: Findings, stretches: Sequence[Tuple[Microseconds, Micro
         why += " from " + " and from ".join("%d to %d" % stretch for stretch in stretches)
         why += "; pulses have the numbers that they have when it is turned over"
     edits = [Edit("invert", stretch) for stretch in stretches]
-    findings.whole = [repair_of(stretches[0][0], [why], edits, stretches[-1][1])]
+    findings.whole = [repair_of(DamageKind.INVERTED, stretches[0][0], [why], edits, stretches[-1][1])]
 
 
 def _examine_parts(clock: Clock, findings: Findings, move: bool) -> None:
@@ -140,7 +141,7 @@ def _examine_parts(clock: Clock, findings: Findings, move: bool) -> None:
     for before, after in zip(found, found[1:]):
         elements = round((after[0].begin - before[-1].end) / clock.interval) - 1
         seen = "after that %d elements cannot be read" % elements
-        findings.remark(clock.rises[before[-1].last], seen, "that is too much to repair")
+        findings.remark(clock.rises[before[-1].last], seen, "that is too much to repair", DamageKind.OTHER)
     if not found:
         findings.remark(START, "no pulses follow each other in step", OTHER_WIRE)
 
@@ -151,7 +152,7 @@ def _remark_unsure(findings: Findings, clock: Clock, run: Run) -> None:
     ends = number_of(run.first), number_of(run.last)
     seen = "pulses %d to %d may begin with element %s, and nothing decides which" % (*ends, elements)
     choice = "they are left, and what comes before and after them is mended for itself"
-    findings.remark(clock.rises[run.first], seen, choice)
+    findings.remark(clock.rises[run.first], seen, choice, DamageKind.OTHER)
 
 
 def _moved(track: Track) -> List[Part]:

@@ -13,8 +13,8 @@ from .dump_header import Reader
 from .dump_choice import choose, singles
 from .dump_source import Source
 from .editor import CUT_OFF, Problem, find_beside, find_editor
-from .facts import STEPS, TURNED, is_undecided, kind_of
 from .joining import frames_at_fault, joined
+from .kinds import STEPS, DamageKind
 from .opening import Opened
 from .output import output
 from .put_back import PutBack, TrackEdges
@@ -55,14 +55,13 @@ class Summary:
 
 def summary(before: Sequence[Damage], after: Sequence[Damage], script: Sequence[Repair], frames: Sequence[int],
             refused: int) -> Summary:
-    """Counts; `before` and `after` are what irig_damage finds, and `frames` how many are sound."""
+    """Counts; `before` and `after` are what irig_damage finds, and `frames` how many are sound. What is undecided, or a guess, are the
+    comments that say so."""
     found, there = (sum(not each.is_remark for each in seen) for seen in (before, after))
-    doubts = [each for each in script if is_undecided(each)]
-    steps = sum(kind_of(each.seen) in STEPS for each in after)
-    undecided = sum(not each.edits and kind_of(each.comments[0]) not in STEPS for each in doubts)
-    undecided = min(undecided, there - steps)
-    return Summary(found, max(0, found - there), undecided, there - steps - undecided, steps,
-                   sum(bool(each.edits) for each in doubts), refused, frames[0], frames[1])
+    steps = sum(each.kind in STEPS for each in after)
+    undecided, guessed = (sum(len(each.undecided) for each in script if bool(each.edits) == is_made) for is_made in (False, True))
+    return Summary(found, max(0, found - there), undecided, max(0, there - steps - undecided), steps, guessed, refused,
+                   frames[0], frames[1])
 
 
 def find_guard() -> str:
@@ -127,7 +126,7 @@ def _run_guard(command: List[str], path: str, script: Sequence[Repair], out: str
 
 def _turning(script: Sequence[Repair]) -> int:
     """How many repairs and remarks come up to the one that turns the wire over; 0 if none does."""
-    return next((number for number, each in enumerate(script, 1) if each.edits and kind_of(each.comments[0]) == TURNED), 0)
+    return next((number for number, each in enumerate(script, 1) if each.edits and each.kind == DamageKind.INVERTED), 0)
 
 
 def lines_of_all(script: Sequence[Repair]) -> List[str]:

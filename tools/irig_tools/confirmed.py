@@ -5,6 +5,7 @@ from typing import Iterable, List
 
 from .faults import LEFT_FRAME, Faults
 from .frames import Times
+from .kinds import DamageKind
 from .layout import NAMES
 from .parity import Rule
 from .track import Track
@@ -95,4 +96,4 @@ class _Frame:
         """Nothing of the frame is changed."""
         faults, own = self.faults, range(place_in(self.number), place_in(self.number) + 100)
         faults.wanted = {place: target for place, target in faults.wanted.items() if place not in own}
-        faults.remark(self.place, "%s, %s" % (faults.times.name(self.number), seen), choice)
+        faults.remark(self.place, "%s, %s" % (faults.times.name(self.number), seen), choice, DamageKind.CONTROL)

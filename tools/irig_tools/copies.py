@@ -10,6 +10,7 @@ from . import limits
 from .edit import moved_rest, of_pulses, repair_of
 from .frames import Times
 from .interval import Run
+from .kinds import DamageKind
 from .script import Repair
 from .spans import Span
 from .track import Track
@@ -124,7 +125,7 @@ def without_copy(track: Track, again: Optional[Again]) -> Optional[Repair]:
         "and the rest goes back by %d" % (many, begin - by, begin, by)
     )
     edits = [of_pulses("delete", again.first, PulseIndex(after - 1)), moved_rest(again.first, -by)]
-    return repair_of(begin, [why], edits, removed=by)
+    return repair_of(DamageKind.TWICE, begin, [why], edits, removed=by)
 
 
 def copy_between(track: Track, times: Times, left: List[Run], right: List[Run]) -> Optional[Again]:

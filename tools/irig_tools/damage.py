@@ -2,7 +2,7 @@
 from __future__ import annotations
 
 from dataclasses import dataclass
-from typing import List, Sequence, Tuple
+from typing import Dict, List, Sequence, Tuple
 
 from . import limits
 from .analysis import START, Findings, Part, looks
@@ -10,6 +10,7 @@ from .editor import Editor, Listing, Progress
 from .faults import Faults, Remark, pulses_text
 from .grouping import grouped
 from .interval import Clock
+from .kinds import DamageKind
 from .script import Repair
 from .units import Microseconds, PlaceNumber, PulseIndex, frame_of, plus
 
@@ -27,6 +28,7 @@ class Damage:
     seen: str
     pulses: Tuple[PulseIndex, ...] = ()  # the first and the last, if it concerns any
     is_remark: bool = False  # it is named, and no damage
+    kind: DamageKind = DamageKind.OTHER
 
     def line(self) -> str:
         pulses = [pulses_text(self.pulses[0], self.pulses[-1])] if self.pulses else []
@@ -54,7 +56,8 @@ def look(editor: Editor, progress: Progress, steady: bool = False, grid: float =
         if not findings.whole or listing.refused:
             found += _rest(listing, findings)
         else:
-            found.append(Damage(findings.whole[0].at, findings.whole[0].at, "", findings.whole[0].comments[0]))
+            first = findings.whole[0]
+            found.append(Damage(first.at, first.at, "", first.comments[0], kind=first.kind))
             script += [] if findings.turned and not findings.partly else findings.whole
     progress("")
     found = sorted(set(found), key=lambda each: (each.at, each.until, each.name, each.seen))
@@ -64,7 +67,7 @@ def look(editor: Editor, progress: Progress, steady: bool = False, grid: float =
 def _rest(listing: Listing, findings: Findings) -> List[Damage]:
     """What is found if every pulse has its own class."""
     said = findings.remarks + [remark for part in findings.parts for remark in part.remarks + part.faults.remarks]
-    found = [Damage(remark.at, remark.at, remark.name, _asked(remark)) for remark in said]
+    found = [Damage(remark.at, remark.at, remark.name, _asked(remark), kind=remark.kind) for remark in said]
     if findings.clock:
         found += _of_clock(findings.clock)
     for part in findings.parts:
@@ -82,16 +85,17 @@ def _asked(remark: Remark) -> str:
 
 def _of_clock(clock: Clock) -> List[Damage]:
     """Drift and jitter, each said once."""
-    said, off = [], clock.interval / clock.nominal - 1
+    said: Dict[DamageKind, str] = {}
+    off = clock.interval / clock.nominal - 1
     if abs(off) >= limits.DRIFT:
         way = "slow" if off > 0 else "fast"
-        said.append("the clock is %.2f %% %s: pulses come every %.1f microseconds, not every %d%s" % (
-            abs(100 * off), way, clock.interval, clock.nominal, _extremes(clock)))
+        said[DamageKind.CLOCK] = "the clock is %.2f %% %s: pulses come every %.1f microseconds, not every %d%s" % (
+            abs(100 * off), way, clock.interval, clock.nominal, _extremes(clock))
     if clock.noise >= limits.TREMBLE * clock.nominal:
-        said.append("rises tremble: half of all distances are off by more than %d microseconds, %.1f %% of the interval, and "
-                    "a step of less than %d does not show" % (
-                        clock.noise, 100 * clock.noise / clock.nominal, clock.least_step))
-    return [Damage(START, clock.rises[-1], THE_WHOLE, seen, is_remark=True) for seen in said]
+        said[DamageKind.JITTER] = (
+            "rises tremble: half of all distances are off by more than %d microseconds, %.1f %% of the interval, and a step of less than %d "
+            "does not show" % (clock.noise, 100 * clock.noise / clock.nominal, clock.least_step))
+    return [Damage(START, clock.rises[-1], THE_WHOLE, seen, is_remark=True, kind=kind) for kind, seen in said.items()]
 
 
 def _extremes(clock: Clock) -> str:
@@ -115,23 +119,23 @@ def _of_places(faults: Faults, group: Sequence[PlaceNumber]) -> List[Damage]:
     reach = track.spans(first, at_first[-1]) if at_first else 0
     if len(group) == 1 or (len(group) < limits.TOGETHER and reach != len(group) - 1):
         names = [(place, faults.name(place), "%s; %s" % (faults.seen(place), faults.reason(place))) for place in group]
-        return [_of_stretch(faults, [place], name, seen) for place, name, seen in names]
+        return [_of_stretch(faults, [place], name, seen, faults.kind(place)) for place, name, seen in names]
     empty = sum(not track.pulses_at(place) for place in group)
     if reach == len(group) - 1:
-        seen = "%d pulses have run together" % len(group)
+        kind, seen = DamageKind.JOINED, "%d pulses have run together" % len(group)
     elif empty == len(group):
-        seen = "%d elements without a pulse" % empty
+        kind, seen = DamageKind.MISSING, "%d elements without a pulse" % empty
     else:
-        seen = "%d damaged elements, %d without a pulse" % (len(group), empty)
+        kind, seen = DamageKind.STRETCH, "%d damaged elements, %d without a pulse" % (len(group), empty)
     end = faults.name(last) if frame_of(first) != frame_of(last) else str(last % 100)
-    return [_of_stretch(faults, group, "%s to %s" % (faults.name(first), end), seen)]
+    return [_of_stretch(faults, group, "%s to %s" % (faults.name(first), end), seen, kind)]
 
 
-def _of_stretch(faults: Faults, group: Sequence[PlaceNumber], name: str, seen: str) -> Damage:
+def _of_stretch(faults: Faults, group: Sequence[PlaceNumber], name: str, seen: str, kind: DamageKind) -> Damage:
     pulses = faults.track.pulses_of(group)
     until = plus(faults.track.rise_at(group[-1]), round(faults.clock.interval))
     ends = (pulses[0], pulses[-1]) if pulses else ()
-    return Damage(faults.track.rise_at(group[0]), until, name, seen, ends)
+    return Damage(faults.track.rise_at(group[0]), until, name, seen, ends, kind=kind)
 
 
 def _of_ends(listing: Listing, first: Part, last: Part) -> List[Damage]:
@@ -142,9 +146,9 @@ def _of_ends(listing: Listing, first: Part, last: Part) -> List[Damage]:
     before = plus(before, -(before == 1 and rises[0] == 0))  # cut by the beginning
     beyond = plus(after, 1 + (after == many - 2 and listing.falls[-1] == listing.length))  # cut by the end
     if before:
-        found.append(Damage(rises[0], rises[before], "", NO_FRAME, (PulseIndex(0), plus(before, -1))))
+        found.append(Damage(rises[0], rises[before], "", NO_FRAME, (PulseIndex(0), plus(before, -1)), kind=DamageKind.OUTSIDE))
     if beyond < many:
-        found.append(Damage(rises[beyond], listing.length, "", NO_FRAME, (beyond, PulseIndex(many - 1))))
+        found.append(Damage(rises[beyond], listing.length, "", NO_FRAME, (beyond, PulseIndex(many - 1)), kind=DamageKind.OUTSIDE))
     return found
 
 
@@ -152,7 +156,7 @@ def _of_silence(listing: Listing, interval: float) -> List[Damage]:
     """A recorder seldom begins at the first pulse and ends at the last one, so silence there is no damage."""
     found, first, last, end = [], listing.rises[0], listing.falls[-1], listing.length
     if first > limits.SILENCE * interval:
-        found.append(Damage(START, first, "", "no pulse before %d" % first, is_remark=True))
+        found.append(Damage(START, first, "", "no pulse before %d" % first, is_remark=True, kind=DamageKind.SILENCE))
     if end - listing.rises[-1] > limits.SILENCE * interval:
-        found.append(Damage(last, end, "", "no pulse from there to the end at %d" % end, is_remark=True))
+        found.append(Damage(last, end, "", "no pulse from there to the end at %d" % end, is_remark=True, kind=DamageKind.SILENCE))
     return found

@@ -4,6 +4,7 @@ from __future__ import annotations
 from dataclasses import dataclass
 from typing import List, Optional, Sequence, Tuple, Union
 
+from .kinds import DamageKind
 from .script import Repair
 from .units import Microseconds, PulseIndex, number_of
 
@@ -63,8 +64,8 @@ def script_lines(edits: Sequence[Edit]) -> List[str]:
     return [edit.line() for edit in edits]
 
 
-def repair_of(at: Microseconds, comments: Sequence[str], edits: Sequence[Edit], until: Microseconds = Microseconds(0),
-              removed: int = 0, instead: Sequence[Edit] = ()) -> Repair:
+def repair_of(kind: DamageKind, at: Microseconds, comments: Sequence[str], edits: Sequence[Edit], until: Microseconds = Microseconds(0),
+              removed: int = 0, instead: Sequence[Edit] = (), undecided: Sequence[str] = ()) -> Repair:
     """The edits that belong together, with what they move; `removed` microseconds are taken out."""
     moves = [(at, edit.move, removed) for edit in edits if edit.move]
-    return Repair(at, list(comments), script_lines(edits), script_lines(instead), until, moves)
+    return Repair(at, list(comments), script_lines(edits), script_lines(instead), until, moves, kind, list(undecided))

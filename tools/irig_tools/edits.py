@@ -8,6 +8,7 @@ from typing import Dict, Iterator, List, Optional, Sequence, Tuple
 from . import limits
 from .edit import Edit, inserted, of_pulse, of_pulses
 from .faults import Faults
+from .kinds import DamageKind
 from .layout import NAMES
 from .units import PlaceNumber, PulseIndex, plus, through
 
@@ -23,6 +24,8 @@ class Item:
     lost: bool = False  # a pulse that is missing and that follows
     single: bool = False  # it gives each of its places the pulse that is wanted
     targets: Dict[PlaceNumber, str] = field(default_factory=dict)  # the classes of a frame that is generated again
+    kind: DamageKind = DamageKind.OTHER
+    is_guess: bool = False  # nothing decides one of its classes
 
 
 def items(faults: Faults) -> List[Item]:
@@ -41,7 +44,8 @@ def _item(faults: Faults, place: PlaceNumber) -> Optional[Item]:
     if not pulses:
         why = "%s: no pulse; %s" % (faults.where(place), faults.reason(place))
         insert = inserted(faults.track.rise_at(place), faults.width(target, place))
-        return Item(place, place, [insert], why, place not in faults.guesses, True)
+        is_guess = place in faults.guesses
+        return Item(place, place, [insert], why, not is_guess, True, kind=DamageKind.MISSING, is_guess=is_guess)
     many = faults.track.spans(place, pulses[-1])
     return _divide(faults, place, many, pulses) if many else _reduce(faults, place, pulses, target)
 
@@ -66,7 +70,7 @@ def _divide(faults: Faults, place: PlaceNumber, many: int, pulses: Sequence[Puls
         edits.append(of_pulse("force", parts[-1], NAMES[faults.wanted[last]]))
     reasons = ", then ".join(map(faults.reason, over))
     why = "%s: %s; %s" % (faults.where(place), faults.seen(place), reasons)
-    return Item(place, last, edits, why, single=True)
+    return Item(place, last, edits, why, single=True, kind=DamageKind.JOINED, is_guess=not faults.guesses.keys().isdisjoint(over))
 
 
 def _is_unlike(faults: Faults, place: PlaceNumber, width: int, target: str) -> bool:
@@ -114,4 +118,4 @@ def _reduce(faults: Faults, place: PlaceNumber, pulses: Sequence[PulseIndex], ta
     change = [force] * wrong + [shift] * off
     edits += change if begin > rise else reversed(change)
     why = "%s: %s; %s" % (faults.where(place), faults.seen(place), faults.reason(place))
-    return Item(place, place, edits, why, single=True)
+    return Item(place, place, edits, why, single=True, kind=faults.kind(place), is_guess=place in faults.guesses)

@@ -3,7 +3,7 @@ from __future__ import annotations
 
 import json
 import re
-from typing import Dict, Optional, Sequence, Tuple
+from typing import Dict, Optional, Sequence
 
 from .damage import Damage
 from .dump_offset import Offset
@@ -11,39 +11,9 @@ from .script import Repair
 from .units import number_of
 
 Object = Dict[str, object]
-TURNED = "inverted"  # the kind of a wire that is upside down
-# what is seen, and what kind of damage it is
-DAMAGE_KINDS: Tuple[Tuple[str, str], ...] = (
-    ("pulses where one has to be", "split"),
-    ("pulses have run together", "joined"),
-    ("on all comes [0-9]+ (late|early)", "step"),
-    ("and the rest follows at once", "cut"),
-    ("are there twice", "twice"),
-    ("from this frame on the times are", "times"),
-    ("^no pulse (before|from there)", "silence"),
-    (r"^no pulse\b|elements without a pulse", "missing"),
-    ("damaged elements|elements (.* )?are lost or damaged|pulses are missing", "stretch"),
-    ("wide, which is no class", "width"),
-    ("wide, an? .*, and [0-9]+ (late|early)", "late"),
-    ("wide, an? ", "class"),
-    ("upside down", TURNED),
-    ("every pulse is|pulses that are (longer|shorter)", "threshold"),
-    ("the clock is", "clock"),
-    ("rises tremble", "jitter"),
-    ("control functions that no other|by the elements before it", "control"),
-    ("belong to no frame", "outside"),
-    ("is it another|is other code", "format"),
-)
-STEPS = frozenset(("step", "cut", "twice", "times"))  # of the recorder's clock
-UNDECIDED = "undecided"  # the word in a comment, if nothing decides
 FRAME = re.compile(r"frame ([0-9:T-]+), element ([0-9]+)(?: to (?:frame ([0-9:T-]+), element )?([0-9]+))?")
 PULSE_NUMBERS = re.compile(r"pulses? ([0-9]+)(?: to ([0-9]+))?")
 REST_COMES = re.compile(r"on all comes ([0-9]+) (late|early)")
-
-
-def kind_of(seen: str) -> str:
-    """The kind of damage that a text names."""
-    return next((kind for pattern, kind in DAMAGE_KINDS if re.search(pattern, seen)), "other")
 
 
 def place_named(text: str) -> Object:
@@ -66,8 +36,7 @@ def of_damage(damage: Damage, offset: Optional[Offset]) -> Object:
     place = place_named(damage.name)
     if damage.pulses:
         place["pulses"] = list(map(number_of, damage.pulses))
-    kind = kind_of(damage.seen)
-    return {"time": damage.at, "until": max(damage.at, damage.until), **_original(damage.at, offset), "kind": kind,
+    return {"time": damage.at, "until": max(damage.at, damage.until), **_original(damage.at, offset), "kind": damage.kind,
             "damage": not damage.is_remark, **place, "seen": damage.seen, "step": step_named(damage.seen)}
 
 
@@ -75,12 +44,8 @@ def of_repair(repair: Repair, offset: Optional[Offset]) -> Object:
     """A repair that is proposed, or what is left to the user."""
     why = repair.comments[0] if repair.comments else ""
     return {"time": repair.at, "until": max(repair.at, repair.until), **_original(repair.at, offset),
-            "kind": kind_of(why), "repair": bool(repair.edits), "undecided": is_undecided(repair), **place_named(why),
+            "kind": repair.kind, "repair": bool(repair.edits), "undecided": bool(repair.undecided), **place_named(why),
             "why": list(repair.comments), "script": list(repair.edits), "step": step_named(why)}
-
-
-def is_undecided(repair: Repair) -> bool:
-    return any(UNDECIDED in comment for comment in repair.comments)
 
 
 def _original(at: int, offset: Optional[Offset]) -> Object:

@@ -7,6 +7,7 @@ from typing import Container, Dict, Iterable, List, Optional, Set
 
 from . import limits
 from .frames import Times
+from .kinds import STEPS, DamageKind
 from .layout import NAMES, POSITIONS, READABLE, SHARE
 from .texts import counted
 from .track import Track
@@ -23,9 +24,12 @@ class Remark:
     seen: str
     choice: str = ""
     name: str = ""  # its frame and element, if they are to be named
+    kind: DamageKind = DamageKind.OTHER
 
     def comment(self) -> str:
-        return "undecided: at %d: %s%s" % (self.at, self.seen, "; " + self.choice if self.choice else "")
+        """A step of the recorder's clock stays; of all else nothing decides what is right."""
+        word = "stays" if self.kind in STEPS else "undecided"
+        return "%s: at %d: %s%s" % (word, self.at, self.seen, "; " + self.choice if self.choice else "")
 
 
 def pulses_text(first: PulseIndex, last: PulseIndex) -> str:
@@ -93,8 +97,8 @@ class Faults:
             shown = self.times.calendar.name(self.times.calendar.moment(number, own))
             self.remark(place_in(number), "a frame alone shows %s, to which no other frame leads" % shown, LEFT_FRAME)
 
-    def remark(self, place: PlaceNumber, seen: str, choice: str) -> None:
-        self.remarks.append(Remark(self.track.rise_at(place), seen, choice))
+    def remark(self, place: PlaceNumber, seen: str, choice: str, kind: DamageKind = DamageKind.OTHER) -> None:
+        self.remarks.append(Remark(self.track.rise_at(place), seen, choice, kind=kind))
 
     def _contradicts(self, number: FrameNumber, text: str, expected: str) -> bool:
         """Whether a frame shows another time than its neighbours lead to, too clearly to be damage."""
@@ -218,6 +222,18 @@ class Faults:
         if frame_of(place) in self.times.spliced:
             return "a %s follows from the frames before: this frame was cut, and keeps the time with which it begins" % target
         return "a %s follows from the frames around it" % target
+
+    def kind(self, place: PlaceNumber) -> DamageKind:
+        """The kind of damage at a place."""
+        pulses = self.track.pulses_at(place)
+        if not pulses:
+            return DamageKind.MISSING
+        if self.track.spans(place, pulses[-1]):
+            return DamageKind.JOINED
+        if len(pulses) > 1:
+            return DamageKind.SPLIT
+        is_off = abs(self.rises[pulses[0]] - self.track.rise_at(place)) > self.track.stray_at(place)
+        return DamageKind.WIDTH if self.track.classes[pulses[0]] == "b" else DamageKind.LATE if is_off else DamageKind.CLASS
 
     def seen(self, place: PlaceNumber) -> str:
         """What is at a place."""

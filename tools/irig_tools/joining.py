@@ -38,4 +38,5 @@ def one_of(repairs: Sequence[Repair]) -> Repair:
     edits = [edit for each in repairs for edit in each.edits]
     moves = [move for each in repairs for move in each.moves]
     begin, end = min(each.at for each in repairs), max(max(each.at, each.until) for each in repairs)
-    return Repair(begin, comments, edits, until=end, moves=moves)
+    undecided = [comment for each in repairs for comment in each.undecided]
+    return Repair(begin, comments, edits, until=end, moves=moves, kind=repairs[0].kind, undecided=undecided)

@@ -11,6 +11,7 @@ from .check import Check, Harm, Moved
 from .editor import Editor, Listing, Progress
 from .faults import Remark
 from .joining import one_of
+from .kinds import STEPS, DamageKind
 from .repairs import repairs
 from .script import BY_LINE, Repair
 from .units import Microseconds
@@ -29,7 +30,12 @@ def called_for(findings: Findings) -> List[Repair]:
 
 
 def _said(remarks: Sequence[Remark]) -> List[Repair]:
-    return [Repair(remark.at, [remark.comment()]) for remark in remarks]
+    return [_of_remark(remark.at, remark.comment(), remark.kind) for remark in remarks]
+
+
+def _of_remark(at: Microseconds, said: str, kind: DamageKind) -> Repair:
+    """A repair without edits: nothing decides what is right, but of a step."""
+    return Repair(at, [said], kind=kind, undecided=[] if kind in STEPS else [said])
 
 
 def obeyed(editor: Editor, script: List[Repair], refused: Set[str]) -> Listing:
@@ -110,7 +116,7 @@ def _half_moved(script: Sequence[Repair], last: Findings) -> List[Repair]:
     at = min(begin for repair in script for begin, _, _ in repair.moves)
     seen = "undecided: at %d: from here on not every step can be moved, and the others alone would give a wrong time to " \
            "what is right; so none is moved" % at
-    return [Repair(at, [seen])]
+    return [_of_remark(at, seen, DamageKind.OTHER)]
 
 
 def _together(script: Sequence[Repair]) -> List[Repair]:
@@ -158,7 +164,7 @@ def _blamed(script: Sequence[Repair], harms: Sequence[Harm], all_of_them: bool) 
 def _left_out(repair: Repair, harm: Harm) -> Repair:
     lines = "; ".join(repair.edits)[:BY_LINE]
     said = "undecided: at %d: with these lines %s, so they are left out: %s" % (repair.at, harm.seen, lines)
-    return Repair(repair.at, [said])
+    return Repair(repair.at, [said], kind=repair.kind, undecided=[said])
 
 
 def script_text(script: Sequence[Repair]) -> str:

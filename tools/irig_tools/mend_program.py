@@ -18,7 +18,8 @@ from .damage_program import say_notes
 from .editor import Editor, Progress, progress_to
 from .ending import ALL_RIGHT, ESCAPED, FOUND, Usage, complain
 from .explain import explained
-from .facts import UNDECIDED, json_lines, repairs_as_json
+from .facts import json_lines, repairs_as_json
+from .kinds import STEPS
 from .mend import called_for, propose, script_text
 from .opening import Opened, is_of_one_wire, opened
 from .options import DUMP, EDITOR, JSON, OUTPUT, TIMESCALE, WIRE, Command, Given, Option
@@ -196,9 +197,9 @@ def report(given: Given, script: List[Repair], done: Summary, reasons: Sequence[
         return
     stream.write("%s: %s\n" % (given.names[0].translate(ESCAPED), done.text()))
     stream.writelines(reason + "\n" for reason in reasons)
-    for comment in (comment for repair in script for comment in repair.comments):
-        if UNDECIDED in comment:
-            stream.write("# %s\n" % comment)
+    for repair in script:
+        stays = repair.comments if not repair.edits and repair.kind in STEPS else []
+        stream.writelines("# %s\n" % comment for comment in stays or repair.undecided)
 
 
 def main() -> int:

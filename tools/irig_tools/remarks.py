@@ -10,6 +10,7 @@ from .copies import again_within, without_copy
 from .faults import Remark
 from .frames import Times
 from .interval import Run
+from .kinds import DamageKind
 from .other_code import ONE_SECOND, OtherCode, named
 from .spans import Span
 from .track import Track
@@ -39,12 +40,12 @@ def remarks(track: Track, times: Times) -> List[Remark]:
 def of_no_frame(track: Track) -> Remark:
     """What is said if no part of the recording has a frame that can be read; the track is its first part."""
     seen = "no frame can be read with expression %d, and only position identifiers are looked at" % track.layout.expression
-    return Remark(track.rises[track.runs[0].first], seen, OTHER_EXPRESSION)
+    return Remark(track.rises[track.runs[0].first], seen, OTHER_EXPRESSION, kind=DamageKind.FORMAT)
 
 
 def _of_expression(track: Track, times: Times) -> List[Remark]:
     seen = "many frames have ones that expression %d does not use" % track.layout.expression
-    return [Remark(track.rises[track.runs[0].first], seen, OTHER_EXPRESSION)] if times.doubtful else []
+    return [Remark(track.rises[track.runs[0].first], seen, OTHER_EXPRESSION, kind=DamageKind.FORMAT)] if times.doubtful else []
 
 
 def _of_elsewhere(track: Track) -> List[Remark]:
@@ -73,14 +74,14 @@ def missing(zone: Zone, many: Optional[int]) -> str:
 
 def _of_other(track: Track, other: OtherCode) -> Remark:
     """Pulses in a hole that are not of this code."""
-    return Remark(track.rises[other.first], named(other, track.falls[other.last]), LEFT_OTHER)
+    return Remark(track.rises[other.first], named(other, track.falls[other.last]), LEFT_OTHER, kind=DamageKind.FORMAT)
 
 
 def _of_vague(track: Track, zone: Zone) -> Remark:
     """A long hole on a clock that wanders."""
     places = zone.inner()
     seen = "%d elements are lost or damaged from there to %d, and the clock wanders: they can be %.3g milliseconds off what both sides say"
-    return Remark(track.rise_at(places[0]), seen % (len(places), track.rise_at(zone.last), zone.vague / 1000), LEFT_VAGUE)
+    return Remark(track.rise_at(places[0]), seen % (len(places), track.rise_at(zone.last), zone.vague / 1000), LEFT_VAGUE, kind=DamageKind.STRETCH)
 
 
 def _of_cut(track: Track, times: Times, left: List[Run], right: List[Run]) -> Remark:
@@ -88,8 +89,8 @@ def _of_cut(track: Track, times: Times, left: List[Run], right: List[Run]) -> Re
     zone, frames, at = track.zone_before(right[0]), times.frames_between(left, right), track.rises[right[0].first]
     many = 0 if frames is None else zone.skipped() + 100 * frames
     if abs(many) > limits.LONGEST_CUT:
-        return Remark(at, clock_was_set(many * zone.clock.nominal / ONE_SECOND), LEFT_SET)
-    return Remark(at, missing(zone, right[0].gone or None), LEFT_CUT)
+        return Remark(at, clock_was_set(many * zone.clock.nominal / ONE_SECOND), LEFT_SET, kind=DamageKind.TIMES)
+    return Remark(at, missing(zone, right[0].gone or None), LEFT_CUT, kind=DamageKind.CUT)
 
 
 def _of_times(track: Track, times: Times, before: Span, after: Span) -> Remark:
@@ -101,7 +102,7 @@ def _of_times(track: Track, times: Times, before: Span, after: Span) -> Remark:
     repair = without_copy(track, again_within(track, times, before, after))
     if repair:
         choice += "; if it is there twice, this takes the second out: " + "; ".join(repair.edits)
-    return Remark(track.rise_at(place_in(after.first)), seen, choice)
+    return Remark(track.rise_at(place_in(after.first)), seen, choice, kind=DamageKind.TIMES)
 
 
 def _of_control(track: Track, times: Times) -> List[Remark]:
@@ -121,5 +122,5 @@ def _of_control(track: Track, times: Times) -> List[Remark]:
             unlike = [each for each, a, b in zip(elements, value, usual) if a != b]
             seen = "%s, element %s: control functions that no other frame has" % (
                 times.name(number), ", ".join(map(str, unlike)))
-            found.append(Remark(track.rise_at(place_in(number, unlike[0])), seen, LEFT_CONTROL))
+            found.append(Remark(track.rise_at(place_in(number, unlike[0])), seen, LEFT_CONTROL, kind=DamageKind.CONTROL))
     return found

@@ -29,6 +29,7 @@ def repairs(seen: Faults) -> Tuple[List[Repair], List[Remark]]:
 def _repair(faults: Faults, group: List[Item]) -> Repair:
     comments: List[str] = []
     lost: List[Item] = []
+    undecided = [item.why for item in group if item.is_guess]
     for item in group:
         if item.lost:
             lost.append(item)
@@ -40,8 +41,8 @@ def _repair(faults: Faults, group: List[Item]) -> Repair:
     at, until = (track.rise_at(track.within(PlaceNumber(int(place + 0.5)))) for place in (group[-1].low, group[0].high))
     edits, instead = [edit for item in group for edit in item.edits], _written_again(faults, group)
     if all(item.single for item in group) and 0 < len(instead) < len(edits):
-        return repair_of(at, comments, instead, until)
-    return repair_of(at, comments, edits, until, instead=instead)
+        return repair_of(group[0].kind, at, comments, instead, until, undecided=undecided)
+    return repair_of(group[0].kind, at, comments, edits, until, instead=instead, undecided=undecided)
 
 
 def _written_again(faults: Faults, group: List[Item]) -> List[Edit]:

@@ -4,6 +4,7 @@ from __future__ import annotations
 from dataclasses import dataclass, field
 from typing import List, Tuple
 
+from .kinds import DamageKind
 from .units import Microseconds
 
 LONGEST_COMMENT = 395  # letters of a comment; the editor refuses lines that are far longer
@@ -22,6 +23,8 @@ class Repair:
     instead: List[str] = field(default_factory=list)  # what also does it, if an edit is refused
     until: Microseconds = Microseconds(0)  # where it ends
     moves: List[Move] = field(default_factory=list)  # edit by edit
+    kind: DamageKind = DamageKind.OTHER  # of the damage
+    undecided: List[str] = field(default_factory=list)  # the comments that say of what nothing decides
 
     def text(self) -> str:
         """Its edits, by which it is known."""
@@ -37,9 +40,9 @@ class Repair:
     def refused(self) -> Repair:
         """The editor refuses one of the edits: the other way, or if there is none a remark."""
         if self.instead:
-            return Repair(self.at, self.comments, self.instead, until=self.until)
+            return Repair(self.at, self.comments, self.instead, until=self.until, kind=self.kind, undecided=self.undecided)
         said = "the editor refuses these lines, so they are left out: " + "; ".join(self.edits)[:BY_LINE]
-        return Repair(self.at, self.comments + [said])
+        return Repair(self.at, self.comments + [said], kind=self.kind, undecided=self.undecided)
 
 
 def _bounded(comment: str) -> str:

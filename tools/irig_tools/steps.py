@@ -11,6 +11,7 @@ from .edit import moved_from, script_lines
 from .faults import Faults, Remark
 from .frames import Times
 from .interval import Run
+from .kinds import DamageKind
 from .other_code import ONE_SECOND
 from .remarks import LEFT_SET, clock_was_set, missing
 from .track import Track
@@ -39,15 +40,15 @@ class Step:
     def remark(self, right: Faults) -> Remark:
         """What is said of it; `right` is what comes after it."""
         if self.copy:
-            return Remark(self.copy.at, self.copy.comments[0].partition("; ")[0], _choice(self.copy.edits))
+            return Remark(self.copy.at, self.copy.comments[0].partition("; ")[0], _choice(self.copy.edits), kind=DamageKind.TWICE)
         if self.known and abs(self.late) > limits.LONGEST_CUT * self.zone.interval:
-            return Remark(self.at, clock_was_set(-self.late / ONE_SECOND), LEFT_SET)
+            return Remark(self.at, clock_was_set(-self.late / ONE_SECOND), LEFT_SET, kind=DamageKind.TIMES)
         if self.zone.glued and self._is_dense() and not (self.known and self.late > 0):
             many = self.elements - self.zone.straight() if self.known else None
-            return Remark(self.at, missing(self.zone, many), _choice(self._edits()))
+            return Remark(self.at, missing(self.zone, many), _choice(self._edits()), kind=DamageKind.CUT)
         first = right.track.first
         place = plus(first, -round((right.track.rise_at(first) - self.at) / self.zone.interval))
-        return Remark(self.at, self._moved(), _choice(self._edits()), right.name(place))
+        return Remark(self.at, self._moved(), _choice(self._edits()), right.name(place), DamageKind.STEP)
 
     def _moved(self) -> str:
         """By how much the rest comes late or early."""

@@ -9,6 +9,7 @@ from typing import Dict, List, Mapping, Tuple
 from . import limits
 from .edit import Edit, of_pulse, repair_of
 from .editor import Listing
+from .kinds import DamageKind
 from .layout import NAMES, READABLE, SHARE, Layout
 from .script import Repair
 from .units import Microseconds, PulseIndex, plus
@@ -78,7 +79,7 @@ def level(listing: Listing, layout: Layout) -> List[Repair]:
     )
     edits, again = _forced(listing, layout, classes), "pulses that are %s, as above" % way
     groups = [edits[at:at + limits.MOST_EDITS] for at in range(0, len(edits), limits.MOST_EDITS)]
-    return [repair_of(Microseconds(0), [again if number else why], group) for number, group in enumerate(groups)]
+    return [repair_of(DamageKind.THRESHOLD, Microseconds(0), [again if number else why], group) for number, group in enumerate(groups)]
 
 
 def _gained(before: str, after: str) -> str:

@@ -30,11 +30,11 @@ def led(listing: Listing, kind: str, expression: int) -> Led:
     some = levelled(some, layout)
     if ten_apart(some.classes) < limits.SOME_TEN_APART * some.classes.count("P"):  # which would take long, and lead to nothing
         return Led(0, 0, set())
-    found = [each for part in examine(some).parts for each in _fitting(part.times)]
+    found = [each for part in examine(some).parts for each in _frames_that_fit(part.times)]
     return Led(len(found), sum(against for against, _ in found), {year for _, year in found} if layout.with_year else set())
 
 
-def _fitting(times: Times) -> Iterator[Tuple[int, str]]:
+def _frames_that_fit(times: Times) -> Iterator[Tuple[int, str]]:
     """Of each frame that fits, how many elements are against its time, and its year: at least half of the elements of its time are
     there, hardly one is another, and none is used that the expression has not."""
     for number, base in times.bases.items():

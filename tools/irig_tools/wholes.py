@@ -9,6 +9,7 @@ from .edit import Edit, moved_from, moved_rest
 from .edits import Item
 from .faults import Faults, Remark
 from .grouping import grouped
+from .kinds import DamageKind
 from .steps import has_room, rest_comes
 from .units import Base, FrameNumber, Microseconds, PlaceNumber, frame_of, place_in, plus, through
 from .zones import Zone
@@ -26,7 +27,7 @@ def left_rest(faults: Faults, zone: Zone) -> Remark:
     assert zone.right and zone.border is not None
     way = "late" if zone.late > 0 else "early"
     seen = "%d elements are missing, and the rest comes %d %s" % (zone.right.step - 1, abs(round(zone.late)), way)
-    return Remark(faults.rises[zone.border], seen, _why_not(faults, zone))
+    return Remark(faults.rises[zone.border], seen, _why_not(faults, zone), kind=DamageKind.STEP)
 
 
 def shift(faults: Faults, zone: Zone) -> Item:
@@ -38,8 +39,8 @@ def shift(faults: Faults, zone: Zone) -> Item:
         why += ", and %d elements before it are missing or damaged" % between
     if late > 0 and any(place in faults.wanted for place in through(zone.first, plus(zone.border_place, -1))):
         # what is before it is repaired first, and that may change the numbers of pulses
-        return Item(zone.first - 0.5, zone.border_place - 0.5, moved_from(at, -late), why)
-    return Item(zone.border_place - 0.5, zone.border_place - 0.5, [moved_rest(zone.border, -late)], why)
+        return Item(zone.first - 0.5, zone.border_place - 0.5, moved_from(at, -late), why, kind=DamageKind.STEP)
+    return Item(zone.border_place - 0.5, zone.border_place - 0.5, [moved_rest(zone.border, -late)], why, kind=DamageKind.STEP)
 
 
 def _why_not(faults: Faults, zone: Zone) -> str:
@@ -141,4 +142,4 @@ def _generate(faults: Faults, frames: List[_Lost]) -> Item:
     guessed = sorted({place % 100 for place in faults.guesses if own[0] <= place <= own[-1]})
     if guessed:
         why += "; undecided are the control elements %s" % ", ".join(map(str, guessed))
-    return Item(own[0], own[-1], [Edit("regen", (*values, *control))], why, targets=lost)
+    return Item(own[0], own[-1], [Edit("regen", (*values, *control))], why, targets=lost, kind=DamageKind.STRETCH, is_guess=bool(guessed))
