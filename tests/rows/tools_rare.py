@@ -12,7 +12,7 @@ from built import TOP
 from cases import case
 from irig_tools import analysis, edits, mend, readings, search, spans
 from irig_tools.check import Check, Moved
-from irig_tools.editor import Listing
+from irig_tools.editor import Editor, Listing
 from irig_tools.layout import Layout
 from irig_tools.parity import rule_of
 from irig_tools.script import Repair
@@ -134,8 +134,8 @@ def of_centuries():
         found = looked_at(pulses[:lost] + pulses[lost + 100:], kind, expression)
         letters = listed(pulses, kind, expression).classes[lost:lost + 100]
         yield same(name + ": the first frame is lost", wanted(found), {lost + at: each for at, each in enumerate(letters)})
-    backward = signal(6, day=LAST_OF_1999 + 1, begin=0) + [[a + 6000000, b + 6000000] for a, b in
-                                                          signal(6, day=LAST_OF_1999, begin=timecode.DAY - 600)]
+    before, after = signal(6, day=LAST_OF_1999 + 1, begin=0), signal(6, day=LAST_OF_1999, begin=timecode.DAY - 600)
+    backward = before + [[rise + 6000000, fall + 6000000] for rise, fall in after]
     yield same("from 2000 to 1999", said(looked_at(backward)),
                ["from this frame on the times are 12.00 seconds earlier than the frames before lead to"])
 
@@ -236,6 +236,26 @@ def of_rules():
     yield same("the last frame, one element of its time", wanted(looked_at(ended)), {3906: listed(signal(40)).classes[3906]})
 
 
+# frames that are fine and wrong
+
+
+def of_neighbours():
+    """Of three wrong frames next to each other two are fine: the one between them is mended once they are."""
+    for name, options in (("", []), (", --save", ["--save"])):
+        whole = signal(12, expression=2)
+        damaged = flipped(signal(12, expression=2), 511, 623, 732)  # element 23: hour 1 and ten more
+        with tempfile.TemporaryDirectory() as folder:
+            path, mended = (os.path.join(folder, each) for each in ("damaged.vcd", "mended.vcd"))
+            with open(path, "w", encoding="utf-8") as file:
+                file.write(damages.dump(damaged, 12000000))
+            command = [os.path.join(TOP, "tools", "irig_mend"), "--format=B", "--expression=2", *options, "--apply", mended, path]
+            told = subprocess.run(command, capture_output=True, text=True, check=False)
+            after = Editor(["--format=B", "--expression=2", mended]).ask([])
+        found = "3 places found, 3 repaired, 0 undecided, 0 left, 0 steps that stay; 10 frames sound before, 11 after"
+        yield same("what is said" + name, (told.returncode, told.stdout.partition(": ")[2]), (0, found + "\n"))
+        yield same("the pulses" + name, [list(each) for each in zip(after.rises, after.falls)] == whole, True)
+
+
 # no frame is fine
 
 
@@ -262,8 +282,8 @@ def of_unread():
             read = readings.read(path, kind)
             yield same(name + ": the expression", (read.best.expression, read.best.fine, read.best.led >= 8), (expression, 0, True))
             printed = subprocess.run([os.path.join(TOP, "tools", "irig_damage"), path], capture_output=True, text=True, check=False)
-            yield same(name + ": irig_damage", (printed.returncode, "format %s, expression %d: 0 of" % (kind, expression) in printed.stderr),
-                       (1, True))
+            said = "format %s, expression %d: 0 of" % (kind, expression) in printed.stderr
+            yield same(name + ": irig_damage", (printed.returncode, said), (1, True))
     steady = [[10000 * at, 10000 * at + rng.choice((1000, 3000, 6000, 9000))] for at in range(2000)]
     read = readings.Readings([readings.Reading("B", expression) for expression in range(8)])
     readings._choose_led(listed(steady), read)
@@ -276,4 +296,4 @@ def cases():
         ("noise", of_noise), ("centuries", of_centuries), ("clocks that were set", of_set_clocks), ("bases", of_bases),
         ("leap seconds", of_leap_seconds),
         ("steady control functions", of_steady_control), ("control functions with a rule", of_rules),
-        ("no frame is fine", of_unread))]
+        ("frames that are fine and wrong", of_neighbours), ("no frame is fine", of_unread))]

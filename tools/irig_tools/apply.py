@@ -6,7 +6,8 @@ import shutil
 import subprocess
 from contextlib import ExitStack
 from dataclasses import dataclass
-from typing import Dict, List, Optional, Sequence
+from functools import cached_property
+from typing import Dict, List, Optional, Sequence, Set
 
 from .damage import Damage
 from .dump_header import Reader
@@ -77,10 +78,18 @@ class Refused:
     reasons: Sequence[str] = ()
     printed: Sequence[str] = ()
 
+    @cached_property
+    def _dropped(self) -> Set[str]:
+        """The lines that were printed as comments."""
+        return {line[2:] for line in self.printed if line.startswith("# ")}
+
+    def drops(self, repair: Repair) -> bool:
+        """Whether a repair was refused."""
+        return bool(repair.edits) and self._dropped.issuperset(repair.edits)
+
     def drops_moves(self, script: Sequence[Repair]) -> bool:
         """Whether a repair that moves what follows was refused."""
-        dropped = {line[2:] for line in self.printed if line.startswith("# ")}
-        return any(dropped.issuperset(repair.edits) for repair in script if repair.moves)
+        return any(repair.moves and self.drops(repair) for repair in script)
 
 
 def run_script(track: Opened, script: Sequence[Repair], save: bool, out: str, moved: bool, kind: str) -> Refused:

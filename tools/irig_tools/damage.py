@@ -93,8 +93,8 @@ def _of_clock(clock: Clock) -> List[Damage]:
             abs(100 * off), way, clock.interval, clock.nominal, _extremes(clock))
     if clock.noise >= limits.TREMBLE * clock.nominal:
         said[DamageKind.JITTER] = (
-            "rises tremble: half of all distances are off by more than %d microseconds, %.1f %% of the interval, and a step of less than %d "
-            "does not show" % (clock.noise, 100 * clock.noise / clock.nominal, clock.least_step))
+            "rises tremble: half of all distances are off by more than %d microseconds, %.1f %% of the interval, and a step of less than "
+            "%d does not show" % (clock.noise, 100 * clock.noise / clock.nominal, clock.least_step))
     return [Damage(START, clock.rises[-1], THE_WHOLE, seen, is_remark=True, kind=kind) for kind, seen in said.items()]
 
 

@@ -27,6 +27,7 @@ from .output import check_apart, is_standard_output, output
 from .overview import sheet_of
 from .page import page
 from .script import Repair
+from .second_try import once_more
 from .temporary import temporary_folder
 from .wire import ENDS_WITHIN_TIME
 
@@ -169,6 +170,9 @@ def apply(given: Given, track: Opened, editor: Editor, script: List[Repair], pro
             script[:] = propose(editor, progress, given.has(STEADY))
             again_refused = run_script(track, script, given.has(SAVE), repaired, False, before.listing.kind)
             refused = replace(again_refused, reasons=[*refused.reasons, *again_refused.reasons])
+        command = [find_guard(), *["--moved"] * given.has(MOVE), *track.code, *["--save"] * given.has(SAVE)]
+        refused = once_more(script, refused, lambda: propose(Editor([*track.code, repaired]), progress, given.has(STEADY), given.has(MOVE)),
+                            command, repaired, before.listing.kind)
         after = look(Editor([*track.code, repaired]), progress, given.has(STEADY), before.findings.grid)
         frames = sound_frames(track.options, track.path), sound_frames(track.code, repaired)
         if given.has(PAGE_OF_REPAIRS):

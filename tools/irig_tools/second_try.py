@@ -1,0 +1,43 @@
+"""A second run through irig_guard. Of neighbouring frames that are fine and wrong those at the ends are mended first; only then has one
+between them neighbours that support its time."""
+from __future__ import annotations
+
+import os
+from typing import Callable, List, Sequence
+
+from .apply import Refused, run_guarded
+from .joining import frames_at_fault
+from .layout import INTERVAL
+from .script import Repair
+
+
+def once_more(script: List[Repair], refused: Refused, propose_again: Callable[[], Sequence[Repair]], command: List[str], out: str,
+              kind: str) -> Refused:
+    """What is refused in the end. Repairs that were dropped, and that only give pulses another class, are tried again on the track that
+    was written; if one is kept, the script has them at its end instead."""
+    dropped = [repair for repair in script if refused.drops(repair) and _changes_classes(repair)]
+    if not dropped:
+        return refused
+    found = [each for each in propose_again() if _changes_classes(each) and any(each.touches(one.at, one.until) for one in dropped)]
+    again = run_guarded(command, out, found, out + ".again", kind) if found else refused
+    kept = [each for each in found if not again.drops(each)]
+    if not kept:
+        return refused
+    os.replace(out + ".again", out)
+    gone = [repair for repair in dropped if any(repair.touches(each.at, each.until) for each in kept)]
+    script[:] = [repair for repair in script if repair not in gone] + kept
+    return Refused(refused.lines - sum(len(each.edits) for each in gone), _left(refused.reasons, kept, INTERVAL[kind]), refused.printed)
+
+
+def _left(reasons: Sequence[str], kept: Sequence[Repair], interval: int) -> List[str]:
+    """The reasons without those of frames that are mended now."""
+
+    def is_mended(begin: int) -> bool:
+        return any(begin - interval <= each.at < begin + 100 * interval for each in kept)
+
+    return [reason for reason in reasons if not any(map(is_mended, frames_at_fault([reason])))]
+
+
+def _changes_classes(repair: Repair) -> bool:
+    """Whether no pulse is moved, inserted or deleted."""
+    return bool(repair.edits) and all(" force " in edit for edit in repair.edits)
