@@ -75,7 +75,7 @@ def flipped(pulses, *places):
 
 
 def with_noise(rng, pulses, begin, long, many):
-    """For a while the level changes at random, so often."""
+    """For a while the level changes at random, twice for each pulse of the noise."""
     edges = [edge for pulse in pulses for edge in pulse if not begin <= edge < begin + long]
     edges += rng.sample(range(begin, begin + long), 2 * many)
     edges = sorted(edges)
@@ -260,7 +260,7 @@ def of_neighbours():
 
 
 def damaged_everywhere(rng, pulses, many):
-    """Of each frame so many pulses are lost."""
+    """Of each frame that many pulses are lost."""
     lost = {100 * number + element for number in range(len(pulses) // 100) for element in rng.sample(range(100), many)}
     return [pulse for at, pulse in enumerate(pulses) if at not in lost]
 

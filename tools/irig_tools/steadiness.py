@@ -18,7 +18,7 @@ class Steadiness:
         self._none_did = not any(self._did.values())
 
     def never_changed(self, element: int) -> bool:
-        """Whether an element never changed, in so many frames that a change in one alone has a small chance."""
+        """Whether an element never changed, in enough frames that a change in one alone has a small chance."""
         return not self._did[element] and self._could[element] >= limits.CHANCES
 
     def holds(self, element: int, before: int, after: int) -> bool:
