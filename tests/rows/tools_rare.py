@@ -229,6 +229,12 @@ def of_rules():
         turned = flipped(signal(40, control=quality, parity=(75, True)), 2000 + element)
         found = looked_at(turned)
         yield same("a fine frame with another element %d" % element, wanted(found), {2000 + element: "0"} if element < 75 else {})
+    late = flipped(signal(40, control=quality, parity=(75, True)), 2063)
+    late[2066] = [time + 1200 for time in late[2066]]
+    yield same("another one is late", wanted(looked_at(late)), {2063: "0", 2066: "0"})
+    several = flipped(signal(40, control=quality, parity=(75, True)), 2060, 2062, 2063)
+    del several[2029]
+    yield same("several are others, and a position is lost", wanted(looked_at(several)), {2029: "P"})
     turned = flipped(signal(40, control=quality, parity=(75, True)), 2075)
     found = looked_at(turned)
     yield same("the parity itself is another", len(wanted(found)) + sum("has to be a" in each for each in said(found)), 1)

@@ -35,7 +35,8 @@ class _Frame:
         wanted = faults.wanted
         self.text = "".join([wanted.get(place_in(number, element), text[element]) for element in range(rule.element + 1)])
         before = [place_in(number, element) for element in faults.times.kept if element < rule.element]
-        self.filled = [place for place in before if place in wanted]  # by their shape, or as the frames next to it have them
+        # by their shape, or as the frames next to it have them
+        self.filled = [place for place in before if place in wanted and not faults.is_recorded(place, wanted[place])]
 
     def compare(self) -> None:
         """Gives the element of the rule what follows if it is lost; if it is there, it says what else is lost or damaged."""
@@ -66,7 +67,7 @@ class _Frame:
         elif self.filled:
             self.faults.guesses.update({place: self.faults.wanted[place] for place in self.filled})
         elif not self.faults.is_between(self.number) and self.rule.holds(self.old):
-            self._leave("reads well by itself, and another time than the frames next to it lead to", LEFT_FRAME)
+            self._leave()
         else:
             self._repair(self._suspects())
 
@@ -76,7 +77,7 @@ class _Frame:
             self._take(suspects[0], OTHER[self.text[suspects[0] % 100]])
         else:
             told = NAMES[self.rule.follows(self.text)]
-            self._leave("element %d: by the elements before it this has to be a %s" % (self.rule.element, told), BY_HAND)
+            self._say("element %d: by the elements before it this has to be a %s" % (self.rule.element, told), BY_HAND)
 
     def _suspects(self) -> List[PlaceNumber]:
         """Those that differ from the nearest frames, which agree; if none does, the element of the rule itself."""
@@ -92,8 +93,12 @@ class _Frame:
         self.faults.guesses.pop(place, None)
         self.faults.by_rule.add(place)
 
-    def _leave(self, seen: str, choice: str) -> None:
+    def _leave(self) -> None:
         """Nothing of the frame is changed."""
         faults, own = self.faults, range(place_in(self.number), place_in(self.number) + 100)
         faults.wanted = {place: target for place, target in faults.wanted.items() if place not in own}
+        self._say("reads well by itself, and another time than the frames next to it lead to", LEFT_FRAME)
+
+    def _say(self, seen: str, choice: str) -> None:
+        faults = self.faults
         faults.remark(self.place, "%s, %s" % (faults.times.name(self.number), seen), choice, DamageKind.CONTROL)

@@ -158,6 +158,11 @@ class Faults:
     def width_of(self, pulse: PulseIndex) -> int:
         return self.falls[pulse] - self.rises[pulse]
 
+    def is_recorded(self, place: PlaceNumber, name: str) -> bool:
+        """Whether one pulse of a place was recorded with this class, though it can be late."""
+        pulses = self.track.pulses_at(place)
+        return len(pulses) == 1 and self.track.classes[pulses[0]] == name and self._is_nominal(place, pulses[0], name)
+
     def _is_nominal(self, place: PlaceNumber, pulse: PulseIndex, name: str) -> bool:
         return abs(self.width_of(pulse) - self.width(name, place)) <= limits.NOMINAL * self.layout.interval
 
