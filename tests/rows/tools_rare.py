@@ -232,6 +232,10 @@ def of_rules():
     late = flipped(signal(40, control=quality, parity=(75, True)), 2063)
     late[2066] = [time + 1200 for time in late[2066]]
     yield same("another one is late", wanted(looked_at(late)), {2063: "0", 2066: "0"})
+    both = flipped(signal(40, control=quality, parity=(75, True)), 2063)
+    del both[2066]
+    faults = looked_at(both).parts[0].faults
+    yield same("another one is lost", (faults.wanted, faults.guesses), ({2066: "0"}, {2066: "0"}))
     several = flipped(signal(40, control=quality, parity=(75, True)), 2060, 2062, 2063)
     del several[2029]
     yield same("several are others, and a position is lost", wanted(looked_at(several)), {2029: "P"})

@@ -1,7 +1,7 @@
 """What the rule of the control functions says, if there is one: which are damaged in a frame that reads well, and what is lost."""
 from __future__ import annotations
 
-from typing import Iterable, List
+from typing import Dict, Iterable, List, Optional
 
 from .faults import LEFT_FRAME, Faults
 from .frames import Times
@@ -62,7 +62,7 @@ class _Frame:
 
     def _contradict(self) -> None:
         """Something is not as it was sent."""
-        if len(self.filled) == 1:
+        if len(self.filled) == 1 and set(self._unlike()) <= set(self.filled):
             self._take(self.filled[0], OTHER[self.faults.wanted[self.filled[0]]])
         elif self.filled:
             self.faults.guesses.update({place: self.faults.wanted[place] for place in self.filled})
@@ -79,14 +79,21 @@ class _Frame:
             told = NAMES[self.rule.follows(self.text)]
             self._say("element %d: by the elements before it this has to be a %s" % (self.rule.element, told), BY_HAND)
 
+    def _around(self) -> Dict[int, Optional[str]]:
+        """What the frames around this one have before the element of the rule, if they agree."""
+        times = self.faults.times
+        return {element: times.around(self.number, element) for element in sorted(times.kept) if element < self.rule.element}
+
+    def _unlike(self) -> List[PlaceNumber]:
+        """Those that differ from the nearest frames, which agree."""
+        return [place_in(self.number, element) for element, told in self._around().items() if told and told != self.text[element]]
+
     def _suspects(self) -> List[PlaceNumber]:
-        """Those that differ from the nearest frames, which agree; if none does, the element of the rule itself."""
-        times, number = self.faults.times, self.number
-        near = {element: times.around(number, element) for element in sorted(times.kept) if element < self.rule.element}
-        unlike = [element for element, told in near.items() if told and told != self.text[element]]
-        if not unlike and None not in near.values() and times.is_beside(number, self.rule.element, self.rule.follows(self.text)):
+        """The same; if none does, the element of the rule itself."""
+        unlike, times, element = self._unlike(), self.faults.times, self.rule.element
+        if not unlike and None not in self._around().values() and times.is_beside(self.number, element, self.rule.follows(self.text)):
             return [self.place]
-        return [place_in(number, element) for element in unlike]
+        return unlike
 
     def _take(self, place: PlaceNumber, target: str) -> None:
         self.faults.wanted[place] = target
