@@ -1,8 +1,10 @@
 """The program irig_demodulate."""
 from __future__ import annotations
 
-from typing import IO, Callable, Union
+from contextlib import ExitStack
+from typing import IO, Callable, Optional, Union
 
+from .aside import Aside
 from .carrier import CARRIERS, Carrier
 from .command import run
 from .dump_offset import Offset
@@ -13,6 +15,7 @@ from .options import OUTPUT, Command, Given, Option, a_number, whole
 from .output import check_apart, output
 from .samples import MICROSECONDS, RAW, Samples
 from .table import Steps, Table
+from .texts import counted
 
 
 CARRIER_FORMAT = Option("--format", "A|B|E", "the format of code on a carrier (10 kHz, 1 kHz, 100 Hz); B if it is not given",
@@ -31,13 +34,18 @@ RATE = Option("--rate", "HERTZ", "the samples in a second, with --raw or --table
 TABLE = Option("--table", about="SAMPLES is a table of an oscilloscope or a logic analyser, as CSV")
 TIME_COLUMN = Option("--time-column", "NAME", "the column of the times, by its head or its number, from 1")
 COLUMN = Option("--column", "NAME", "the column of the levels or volts")
+SAMPLES = Option("--samples", "FILE", "also writes what was recorded next to the code, for irig_time: a line for each sample of the other "
+                 "channels, or of the other columns, with its time in the dump in microseconds, and a tab before each value")
 COMMAND = Command("irig_demodulate", ("SAMPLES",), """\
 Makes a dump of recorded samples of IRIG 200-04 time code. SAMPLES is a WAV file
 (also WAVE_FORMAT_EXTENSIBLE, RF64 and W64) of integers or floats, or with --raw
 numbers without a head, or one a line, or with --table rows of numbers; - is
-standard input.
+standard input. What was recorded next to the code gets its time of day by
+
+  irig_demodulate --samples data.txt rec.wav > track.vcd
+  irig_time track.vcd < data.txt        once irig_mend has repaired the track
 """, (CARRIER_FORMAT, CARRIER, LEVEL, THRESHOLD, CHANNEL, SWAP, NO_SWAP, KIND, RATE, TABLE, TIME_COLUMN,
-      COLUMN, OUTPUT), """\
+      COLUMN, SAMPLES, OUTPUT), """\
 The status is 0 if pulses were found, 1 if there are none, 2 if the samples were
 not read, and 70 if memory ran out or the tool has a defect.
 """)
@@ -59,6 +67,8 @@ def check_options(given: Given) -> None:
             raise Usage("%s and %s exclude each other" % (one.name, other.name))
     if given.has(TABLE) and (given.has(KIND) or given.has(CHANNEL)):
         raise Usage("--table has no --raw and no --channel; --column names a column")
+    if given.has(KIND) and given.has(SAMPLES):
+        raise Usage("--samples is for sound files and tables; --raw has one channel")
     if given.has(KIND) and given.has(CHANNEL):
         raise Usage("--channel is for sound files; --raw has one channel")
     if not given.has(TABLE) and (given.has(TIME_COLUMN) or given.has(COLUMN)):
@@ -69,17 +79,17 @@ def check_options(given: Given) -> None:
         raise Usage("--threshold needs --level")
 
 
-def table_of(given: Given) -> Table:
+def table_of(given: Given, aside: Optional[Aside]) -> Table:
     swapped, volts = given.has(SWAP) and given.has(LEVEL), any(map(given.has, (LEVEL, CARRIER_FORMAT, CARRIER)))
-    return Table(given.names[0], given.text(TIME_COLUMN), given.text(COLUMN), given.number(RATE) or 0, swapped, volts)
+    return Table(given.names[0], given.text(TIME_COLUMN), given.text(COLUMN), given.number(RATE) or 0, swapped, volts, aside)
 
 
-def reader_of(given: Given) -> Demodulator:
+def reader_of(given: Given, aside: Optional[Aside] = None) -> Demodulator:
     check_options(given)
     if not given.has(TABLE):
         values = given.names[0], given.number(CHANNEL) or 1, given.text(KIND) or "", given.number(RATE) or 0
-        return reader_of_samples(given, lambda swapped: Samples(*values, swapped))
-    table = table_of(given)
+        return reader_of_samples(given, lambda swapped: Samples(*values, swapped, aside))
+    table = table_of(given, aside)
     return Steps(table, given.has(SWAP)) if table.is_levels else reader_of_samples(given, lambda _: table)
 
 
@@ -150,10 +160,13 @@ def subtracted(first: int) -> str:
 
 
 def work(given: Given) -> int:
-    check_apart(given.names[0], [(OUTPUT.name, given.text(OUTPUT))])
-    reader = reader_of(given)
-    with output(given.text(OUTPUT)) as out:
-        pulses = write_dump(reader, out)
+    check_apart(given.names[0], [(each.name, given.text(each)) for each in (OUTPUT, SAMPLES)], not given.has(OUTPUT))
+    with ExitStack() as outputs:
+        aside = Aside(outputs.enter_context(output(given.text(SAMPLES)))) if given.has(SAMPLES) else None
+        reader = reader_of(given, aside)
+        pulses = write_dump(reader, outputs.enter_context(output(given.text(OUTPUT))))
+    if aside:
+        say("%s has %s: microseconds, then %s" % (given.text(SAMPLES), counted(aside.count, "line"), ", ".join(aside.names)))
     if pulses:
         remark(reader)
     say_gaps(reader)

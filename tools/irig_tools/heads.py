@@ -3,7 +3,7 @@ from __future__ import annotations
 
 import re
 from fractions import Fraction
-from typing import List, NamedTuple, Optional, Sequence
+from typing import List, NamedTuple, Optional, Sequence, Tuple
 
 from .digits import FRACTION, NUMBER, WHOLE
 from .editor import Problem
@@ -104,6 +104,11 @@ class Heads:
         if place is not None and not unit:
             self._check_unit(place)
         return Columns(self.parted, place, self._place(value) if value else self._value(place), SECONDS_IN.get(unit, 1.0))
+
+    def others(self, form: Columns) -> List[Tuple[int, str]]:
+        """The columns that are neither the time nor the value, with their names."""
+        return [(place, self._name(place) or "column %d" % (place + 1)) for place in range(self.count)
+                if place not in (form.time, form.value)]
 
     def has_times(self) -> bool:
         """Whether a column is named as one of times, and does not count rows."""

@@ -8,6 +8,7 @@ from array import array
 from typing import IO, Iterator, List, Optional, Sequence, Tuple, cast
 
 from . import texts
+from .aside import Aside
 from .digits import NUMBER
 from .editor import Problem
 from .ending import Usage
@@ -49,8 +50,9 @@ class Samples:
     """One channel, and its rate in hertz; plus and minus are swapped if it is `negative`."""
 
     start = begun = 0.0  # when the first sample is, and when it is in the dump, in microseconds
+    aside: Optional[Aside] = None  # what gets the other channels, or the other columns
 
-    def __init__(self, path: str, channel: int, raw: str, rate: int, negative: bool = False) -> None:
+    def __init__(self, path: str, channel: int, raw: str, rate: int, negative: bool = False, aside: Optional[Aside] = None) -> None:
         self.path, self.channel, self.kind, self.rate, self.negative = path, channel, raw, rate, negative
         self.channels = 1
         self.left: Optional[int] = None  # bytes of samples, if they are known
@@ -60,6 +62,9 @@ class Samples:
             self._sound()
         if self.rate < 1:
             raise Usage("--raw needs --rate, in samples a second")
+        if aside:
+            self.aside = aside
+            aside.begin(path, ["channel %d" % number for number in range(1, self.channels + 1) if number != channel])
 
     def _sound(self) -> None:
         form = SoundReader(self.stream, self.path).form()
@@ -85,9 +90,12 @@ class Samples:
     def _in_bytes(self, length: int) -> Iterator[Sequence[float]]:
         step = RAW[self.kind][1] * self.channels
         for data in self._whole(length * step, step):
-            values = numbers_of(data, self.kind)[self.channel - 1 if self.channels > 1 else 0::self.channels]
+            every = numbers_of(data, self.kind)
+            values = every[self.channel - 1 if self.channels > 1 else 0::self.channels]
             if self.kind.startswith("f") and not _is_sound(values):
                 raise Problem("%s: a sample is no number from -1e30 to 1e30; if it is raw, is --raw KIND right?" % self.path)
+            if self.aside:
+                self.aside.take_channels(every, self.channels, self.channel, self.rate)
             yield values
 
     def _read(self, size: int) -> bytes:

@@ -8,6 +8,7 @@ from bisect import bisect_right
 from itertools import chain, islice
 from typing import IO, Iterator, List, Optional, Sequence, Tuple
 
+from .aside import Aside
 from .cycles import Edge
 from .digits import NUMBER, WHOLE
 from .editor import Problem
@@ -58,11 +59,12 @@ class Table(Samples):
     `volts`."""
 
     def __init__(self, path: str, time: Optional[str], value: Optional[str], rate: int, negative: bool = False,
-                 volts: bool = False) -> None:
+                 volts: bool = False, aside: Optional[Aside] = None) -> None:
         self.path, self.kind, self.notes, self.number, self.negative = path, "text", [], 0, negative
         self.places = array("q")  # of rows whose times are kept
         self.times = array("d")
         self.lost = 0  # stretches of rows
+        self.others: List[Tuple[int, str]] = []  # columns with their names
         self.lines = self._lines(stream_of(path))
         heads, first = self._heads([int(name) - 1 for name in (time, value) if name and WHOLE.fullmatch(name) and int(name)])
         self.rate = rate or rate_of(heads)
@@ -72,6 +74,9 @@ class Table(Samples):
             self.notes.append("the times of the table are not read, as --rate is given: its first row is at 0 in the dump")
         if self.form.time is None and not self.rate:
             raise Problem("%s: has no column of times; name it by --time-column, or give --rate, in samples a second" % path)
+        if aside:
+            self.aside, self.others = aside, named.others(self.form)
+            aside.begin(path, [each for _, each in self.others])
         rows = self._rows(first)
         looked = list(islice(rows, LOOKED_AT))
         self.rows = chain(looked, rows)
@@ -107,6 +112,7 @@ class Table(Samples):
             fields = fields_of(line, form.parted)
             value = self._value(fields, form.value)
             if form.time is None:
+                self._set_aside(number / self.rate, fields)
                 yield number / self.rate, value
                 continue
             time = self._value(fields, form.time) * form.unit
@@ -116,7 +122,13 @@ class Table(Samples):
             if time - begun < last:
                 raise Problem("%s: line %d has a time before that of the last row" % (self.path, self.number))
             last = time - begun
+            self._set_aside(last, fields)
             yield last, value
+
+    def _set_aside(self, since: float, fields: Sequence[str]) -> None:
+        """The other columns of a row, at its time in the dump."""
+        if self.aside:
+            self.aside.take_row(self._seconds(since), [fields[place] if place < len(fields) else "" for place, _ in self.others])
 
     def _value(self, fields: Sequence[str], place: int) -> float:
         word = fields[place] if place < len(fields) else ""
