@@ -1,11 +1,12 @@
 """What a user sees and does on a page, in a real browser: counts, selects, reads, zooms, copies, prints."""
+import re
 import struct
 import tempfile
 from pathlib import Path
 
 from browser import Browser, BrowserFailed, PageFailed
 from irig_tools.page import page
-from page_rows import WHOLE_DAY, check, hostile, recording, repaired
+from page_rows import WHOLE_DAY, check, eighteen, hostile, recording, repaired
 
 
 def shown(browser: Browser) -> object:
@@ -84,10 +85,49 @@ def looks(browser: Browser, path: str) -> None:
     browser.ask("Emulation.setEmulatedMedia", features=night)
     check("it is dark at night", True, day != browser.run(ground))
     browser.ask("Emulation.setEmulatedMedia", features=[])
-    browser.run("addEventListener('beforeprint', () => { window.printed = paper.children.length; })")
+    browser.run("addEventListener('beforeprint', () => { window.printed = paper.querySelectorAll('.strip, article').length; })")
     check("it can be printed", b"%PDF", browser.paper()[:4])
     check("on paper are the strip and all places", 1 + 6, browser.run("window.printed"))
     check("nothing is thrown, and nothing is refused", [], browser.errors)
+
+
+def pages_of(paper: bytes) -> int:
+    """How many pages a PDF has."""
+    return len(re.findall(rb"/Type\s*/Page\b(?!s)", paper))
+
+
+def printed(browser: Browser, address: str) -> None:
+    """18 places are two pages."""
+    browser.open(address)
+    check("18 places are two pages", 2, pages_of(browser.paper()))
+
+
+def crowded(browser: Browser, address: str) -> None:
+    """Signs that would cover each other are one, which says for how many; the list shows all, or what is left."""
+    browser.open(address)
+    browser.click("#whole")
+    counted = """[...document.querySelectorAll('#strip .signs text.many')].reduce((sum, each) => sum + Number(each.textContent), 0)
+        + [...document.querySelectorAll('#strip .signs path:not(.chosen):not(.needle) title')].filter((each) =>
+            !each.textContent.includes(" places, the first at ")).length"""
+    check("each place is counted by a sign", 500, browser.run(counted))
+    near = """[...document.querySelectorAll('#strip .signs text.many')].map((each) => Number(each.getAttribute("x")))
+        .some((x, at, all) => at && x - all[at - 1] < 20)"""
+    check("no two numbers cover each other", False, browser.run(near))
+    visible = "[...list.children].filter((item) => item.offsetParent).length"
+    check("the list has all", 500, browser.run(visible))
+    check("how many are left is said", "left to you: 166", browser.run("byId('filter').textContent.trim()"))
+    browser.click("#open-only")
+    check("or what is left to the user", 166, browser.run(visible))
+    browser.run("list.focus()")
+    browser.press("ArrowDown")
+    check("a key goes to the first of them", "#place-3", browser.run("location.hash"))
+    browser.press("ArrowDown")
+    check("and to the next", "#place-6", browser.run("location.hash"))
+    browser.click("#open-only")
+    times = "[0, 1e6, 3600.25e6, 43200e6].map((time) => dayTime(time, 2))"
+    check("the time of day", ["12:00:00.00", "12:00:01.00", "13:00:00.25", "00:00:00.00"], browser.run(times))
+    shown_times = "[...document.querySelectorAll('#strip .of-day')].every((each) => /^[0-9]{2}:[0-9]{2}:[0-9]{2}$/.test(each.textContent))"
+    check("the strip has it", True, browser.run(shown_times))
 
 
 def copies(browser: Browser) -> None:
@@ -116,16 +156,22 @@ def changes(browser: Browser, address: str) -> None:
     browser.open(address + "#changed-2")
     lines = "[...document.querySelectorAll('#changes code')].map((line) => line.textContent)"
     check("the list has the lines of irig_diff", sheet.lines, browser.run(lines))
-    words = ["low → high, 2000 µs; place 1", "low → high, 40 µs; place 2", "low → high, 4000 µs; 1 edge in it stays",
-             "high → low, 990 µs"]
+    words = ["low → high, 2000 µs", "low → high, 40 µs", "low → high, 4000 µs; 1 edge in it stays", "high → low, 990 µs"]
     how = "[...document.querySelectorAll('#changes .how')].map((each) => each.textContent)"
     check("and what became of the levels", words, browser.run(how))
+    heads = "[...document.querySelectorAll('#changes summary')].map((each) => each.textContent)"
+    groups = ["1. A pulse is missing: 1 stretch, 2000 µs", "2. A pulse is in two: 1 stretch, 40 µs",
+              "In no place of damage: 2 stretches, 4990 µs"]
+    check("the lines of a place are a group", groups, browser.run(heads))
+    check("all are folded but the one that is looked at", [False, True, False],
+          browser.run("[...document.querySelectorAll('#changes details')].map((each) => each.open)"))
     check("the address picks a stretch", ["invert 10500900 10500940", "2. A pulse is in two", True, "#changed-2"], picked(browser))
     browser.run("byId('changes').focus()")
     browser.press("ArrowDown")
     check("a key picks the next", ["invert 30190000 30194000", "2. A pulse is in two", True, "#changed-3"], picked(browser))
     browser.press("ArrowDown")
     check("a stretch in no frame", ["invert 59999000 59999990", "2. A pulse is in two", "no frame", "#changed-4"], picked(browser))
+    browser.click("#changes summary")
     browser.click("#changes .in-frame")
     check("the line of a frame leads to its first", ["invert 500000 502000", "1. A pulse is missing", True, "#changed-1"], picked(browser))
     browser.click("#whole")
@@ -134,9 +180,11 @@ def changes(browser: Browser, address: str) -> None:
     titles = "[...document.querySelectorAll('#strip .now-high title')].map((title) => title.textContent)"
     title = "invert 10500900 10500940: low → high, 40 µs\n# frame 11 at 10000000: broken 50 step, then 061 12:00:10 fine"
     check("that says what it is", title, browser.run(titles)[1])
-    rest = """[held.changes.rest.push([40e6, 41e6, 7]), paintStrip(view, selected),
-        ...[...document.querySelectorAll('#strip .hidden-part title')].map((title) => title.textContent)].slice(2)"""
-    check("what is not listed has a mark", ["7 more from 40000000 to 41000000"], browser.run(rest))
+    rest = """[drawn.push(...readRest("ntc74*lfls.3.4")), drawn.sort((one, two) => one.start - two.start) && paintStrip(view, selected),
+        ...[...document.querySelectorAll("#strip .changes title")].map((title) => title.textContent)
+            .filter((words) => words.includes("not in the list"))].slice(2)"""
+    more = "stretches, the first: from 40000000 to 41000000, not in the list"
+    check("what is not listed has marks", ["3 " + more, "4 " + more], browser.run(rest))
     x, y = browser.run("""[document.querySelectorAll('#strip .now-high')[2].getBoundingClientRect()].map((box) =>
         [box.x + 1, box.y + 4])[0]""")
     for kind in ("mousePressed", "mouseReleased"):
@@ -148,10 +196,10 @@ def changes(browser: Browser, address: str) -> None:
     check("the lines are copied", "\n".join(sheet.lines) + "\n", browser.run("window.got"))
     browser.click("#copy-command")
     check("the command is copied", sheet.command + "\n", browser.run("window.got"))
-    browser.run("addEventListener('beforeprint', () => { window.printed = paper.textContent; })")
+    browser.run("addEventListener('beforeprint', () => { window.printed = [...paper.querySelectorAll('pre, code')].map((each) =>"
+                " each.textContent); })")
     browser.paper()
-    printed = browser.run("window.printed")
-    check("on paper are the lines and the command", [True, True], ["\n".join(sheet.lines) in printed, sheet.command in printed])
+    check("on paper is the command, and not the lines", [sheet.command], browser.run("window.printed"))
     for width in (1500, 420):
         browser.size(width, 900)
         browser.settle()
@@ -175,13 +223,16 @@ def visit(path: str, screenshot: str) -> None:
     """Goes through all pages, and leaves a screenshot if it has a name."""
     with tempfile.TemporaryDirectory() as folder, Browser(path) as browser:
         addresses = []
-        for number, sheet in enumerate((recording(WHOLE_DAY, 500), recording(60, 6), hostile(), repaired())):
+        sheets = recording(WHOLE_DAY, 500), recording(60, 6), hostile(), repaired(), eighteen()
+        for number, sheet in enumerate(sheets):
             made = Path(folder, "%d.html" % number)
             made.write_text(page(sheet), encoding="utf-8")
             addresses.append(made.as_uri())
         browser.size(1500, 950)
         selection(browser, addresses[0])
         zoom(browser)
+        crowded(browser, addresses[0])
+        printed(browser, addresses[4])
         browser.open(addresses[1] + "#place-2")
         copies(browser)
         looks(browser, screenshot or str(Path(folder, "screenshot.png")))

@@ -5,6 +5,7 @@ from irig_tools.sheet import DAMAGED, LOST, SOUND, Changes, Place, Pulse, Sheet,
 
 INTERVAL = 10000                        # microseconds from element to element: format B
 WHOLE_DAY = 86400                       # frames of format B
+HOUR, NOON = 3600000000, 43200000000    # microseconds of the day
 HOSTILE = "</script><img src=x onerror=\"document.title='spoilt'\"><!--&amp;\u2028\x01\udcff'`@DATA@"
 WIDTHS = {"zero": 2000, "one": 5000, "position": 8000}
 TITLES = ("A pulse is missing", "A pulse is in two", "A width of no class")
@@ -56,7 +57,11 @@ def recording(frames: int, count: int, name: str = "track.vcd") -> Sheet:
         state = SOUND if rest or number >= count else LOST if number % 5 == 4 else DAMAGED
         stretches.append(Stretch(frame * 100 * INTERVAL, (frame + 1) * 100 * INTERVAL, state))
     length = frames * 100 * INTERVAL
-    return Sheet(name, length, INTERVAL, "B 4", tuple(stretches), places, script, ("No drift.",))
+    # frame 0 begins at 12:00:00
+    known = tuple(value for time in (*range(0, length, HOUR), length) for value in (time, (NOON + time) % (2 * NOON)))
+    summary = "%s: %d places found" % (name, count)
+    return Sheet(name, length, INTERVAL, "B 4", tuple(stretches), places, script, ("No drift.",), None, summary,
+                 "by irig_mend 2026.11.28-1234567 on 2026-11-28 at 06:20", "top.irig", "061T12:00:00 to 061T12:59:59", (known,))
 
 
 def repaired() -> Sheet:
@@ -69,6 +74,14 @@ def repaired() -> Sheet:
     command = "irig_diff --frames --format=B --expression=4 'a <b>.vcd' new.vcd"
     changes = Changes(command, lines, [0, 0, 2, 1], [], 4, 7030)
     return dataclasses.replace(recording(60, 6), changes=changes)
+
+
+def eighteen() -> Sheet:
+    """A recording of an hour with 18 places and the same changes, and texts that are as long as those of irig_mend."""
+    sheet, changed = recording(3600, 18), repaired().changes
+    reason = "frame 2024-061T12:00:03, element 1, pulses 302 to 303: 2 pulses where one has to be; a one follows from the frames around it"
+    places = tuple(dataclasses.replace(place, reason=reason, frame="frame 2024-061T12:00:03, element 1") for place in sheet.places)
+    return dataclasses.replace(sheet, places=places, changes=changed)
 
 
 def hostile() -> Sheet:

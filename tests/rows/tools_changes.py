@@ -5,6 +5,7 @@ import random
 import shutil
 import subprocess
 import tempfile
+from unittest import mock
 
 import mending
 from built import DIFF
@@ -252,15 +253,19 @@ def dropped(top):
 
 
 def counted():
-    """Of more stretches than are listed it is known where they are; those near each other are one."""
+    """Of more stretches than are listed it is known where they are, and what they are now; of very many, those near each other
+    are one."""
     listing = Listing(length=20_000_000, rises=[0, 1000], falls=[500, 1500])
     lines = [b"# length 1 2\n"]
     for start in range(0, 10 * changes.LISTED, 10):
         lines += [b"# frame 1 at 0: a, then b\n", b"invert %d %d\n" % (start, start + 3)]
-    lines += [b"invert 1000000 1000001\n", b"invert 1010001 1010002\n", b"invert 1020003 1020004\n"]
+    lines += [b"invert 1000000 1000001\n", b"invert 1002001 1002002\n", b"invert 1020003 1020004\n"]
     found = changes.read_changes(lines, listing, "irig_diff")
     yield same("what is listed", (len(found.lines), len(found.levels)), (2 * changes.LISTED + 1, changes.LISTED))
-    yield same("what is not", found.rest, [(1000000, 1010002, 2), (1020003, 1020004, 1)])
+    yield same("what is not", found.rest, [(1000000, 1000001, 1, 0), (1002001, 1002002, 1, 0), (1020003, 1020004, 1, 0)])
+    with mock.patch.object(changes, "DRAWN", changes.LISTED):
+        many = changes.read_changes(lines, Listing(length=20_000_000, rises=[0, 1001000], falls=[500, 1003000]), "irig_diff")
+    yield same("of very many", many.rest, [(1000000, 1002002, 1, 1), (1020003, 1020004, 1, 0)])
     yield same("all", (found.stretches, found.time), (changes.LISTED + 3, 3 * changes.LISTED + 3))
     for start, end, level in ((0, 3, 1), (0, 500, 1), (0, 501, 3), (500, 1000, 0), (499, 1500, 5), (500, 1001, 2), (1500, 1600, 0)):
         yield same("the level from %d to %d" % (start, end), changes.level_in(listing, start, end), level)

@@ -14,7 +14,8 @@ from .sheet import Changes
 INVERTED = re.compile(rb"invert ([0-9]+) ([0-9]+)\n")
 DIFFER = (0, 1)  # the statuses of irig_diff that are no trouble
 LISTED = 5000  # stretches whose lines are kept
-PARTS = 2000  # of the recording: stretches after those are joined if they are not farther apart than one
+DRAWN = 50000  # stretches that are kept one by one
+PARTS = 4000  # of the recording: stretches after those are joined if they are not farther apart than one
 
 
 def find_differ() -> str:
@@ -59,14 +60,15 @@ def _take_stretch(found: Changes, start: int, end: int, listing: Listing) -> Non
     """Counts a stretch, and keeps its level or where it is."""
     found.stretches += 1
     found.time += end - start
+    level = level_in(listing, start, end)
     if found.stretches <= LISTED:
-        found.levels.append(level_in(listing, start, end))
+        found.levels.append(level)
         return
-    last = found.rest[-1] if found.rest else None
-    if last and start - last[1] <= listing.length // PARTS:
-        found.rest[-1] = (last[0], end, last[2] + 1)
+    last = found.rest[-1] if found.rest and found.stretches > DRAWN else None
+    if last and end - last[0] <= listing.length // PARTS:
+        found.rest[-1] = (last[0], end, last[2] + 1 - level % 2, last[3] + level % 2)
     else:
-        found.rest.append((start, end, 1))
+        found.rest.append((start, end, 1 - level % 2, level % 2))
 
 
 def level_in(listing: Listing, start: int, end: int) -> int:

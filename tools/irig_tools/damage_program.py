@@ -11,13 +11,15 @@ from .damage import Damage, look
 from .editor import Editor, progress_to
 from .ending import ALL_RIGHT, FOUND, complain
 from .facts import damages_as_json
+from .named import wire_or_none
 from .opening import Opened, opened
 from .options import DUMP, EDITOR, JSON, QUIET, TIMESCALE, WIRE, Command, Given, Option
 from .output import check_apart, write
-from .overview import sheet_of
+from .overview import of_program, sheet_of
 from .page import page
 from .picture import picture
 from .sheet import Sheet
+from .texts import counted
 from .wire import ENDS_WITHIN_TIME
 
 PAGE = Option("--page", "FILE", "also writes a page (HTML) to look at: the whole recording, and each place as a "
@@ -50,9 +52,10 @@ def work(given: Given) -> int:
         if ENDS_WITHIN_TIME in track.notes:
             seen.damages.append(Damage(seen.listing.length, seen.listing.length, "", ENDS_WITHIN_TIME))
         found = sum(not damage.is_remark for damage in seen.damages)
+        wire = wire_or_none(track)
         text = "%d\n" % found if given.has(COUNT) else text_of(seen.damages, track, given.has(JSON))
     if given.has(PAGE) or given.has(PICTURE):
-        draw(given, sheet_of(os.path.basename(name), seen))
+        draw(given, of_program(sheet_of(os.path.basename(name), wire, seen), COMMAND.name, found_text(name, seen.damages)))
     if not given.has(QUIET):
         sys.stdout.write(text)
     return FOUND if found else ALL_RIGHT
@@ -68,6 +71,12 @@ def say_notes(track: Opened, program: str) -> None:
 
 def text_of(found: Sequence[Damage], track: Opened, as_json: bool) -> str:
     return damages_as_json(found, track.offset) if as_json else "".join(damage.line() + "\n" for damage in found)
+
+
+def found_text(name: str, found: Sequence[Damage]) -> str:
+    """What a page says first."""
+    remarks = sum(each.is_remark for each in found)
+    return "%s: %s of damage, %s" % (name, counted(len(found) - remarks, "place"), counted(remarks, "remark"))
 
 
 def draw(given: Given, sheet: Sheet) -> None:

@@ -21,14 +21,16 @@ from .explain import explained
 from .facts import json_lines, repairs_as_json
 from .kinds import STEPS
 from .mend import called_for, propose, script_text
+from .named import wire_or_none
 from .opening import Opened, is_of_one_wire, opened
 from .options import DUMP, EDITOR, JSON, OUTPUT, TIMESCALE, WIRE, Command, Given, Option
 from .output import check_apart, is_standard_output, output
-from .overview import sheet_of
+from .overview import of_program, sheet_of
 from .page import page
 from .script import Repair
 from .second_try import once_more
 from .temporary import temporary_folder
+from .texts import counted
 from .wire import ENDS_WITHIN_TIME
 
 PAGE_OF_REPAIRS = Option("--page", "FILE", "also writes a page (HTML) to look at: the whole recording, each place before and "
@@ -85,7 +87,7 @@ def work(given: Given) -> int:
                             given.text(TIMESCALE), given.number(DUMP))
             done, reasons = apply(given, track, editor, script, progress, target)
         else:
-            draw_proposal(given, editor, script, progress, outputs)
+            draw_proposal(given, track, script, progress, outputs)
     if given.has(OUTPUT) or not given.has(APPLY):
         with output(given.text(OUTPUT)) as out:
             out.write((repairs_as_json(script, track.offset) if given.has(JSON) else script_of(script, track)).encode("utf-8"))
@@ -149,13 +151,21 @@ def original_of(given: Given, path: str) -> Iterator[Optional[str]]:
         yield original
 
 
-def draw_proposal(given: Given, editor: Editor, script: List[Repair], progress: Progress, outputs: ExitStack) -> None:
+def proposed(script: List[Repair]) -> str:
+    """What a page says first of a script."""
+    edits = sum(bool(repair.edits) for repair in script)
+    return "%s proposed, %s left to you; nothing is changed yet" % (counted(edits, "repair"), counted(len(script) - edits, "place"))
+
+
+def draw_proposal(given: Given, track: Opened, script: List[Repair], progress: Progress, outputs: ExitStack) -> None:
     """Writes the page of what is proposed, if it is asked for."""
     path = given.text(PAGE_OF_REPAIRS)
     if path is not None:
+        editor = Editor(track.words)
         after = editor.ask([repair.lines() for repair in script])
         seen = look(editor, progress, given.has(STEADY))
-        drawn = page(sheet_of(os.path.basename(given.names[0]), seen, script, after))
+        sheet = sheet_of(os.path.basename(given.names[0]), wire_or_none(track), seen, script, after)
+        drawn = page(of_program(sheet, COMMAND.name, "%s: %s" % (given.names[0], proposed(script))))
         outputs.enter_context(output(path)).write(drawn.encode("utf-8"))
 
 
@@ -175,21 +185,24 @@ def apply(given: Given, track: Opened, editor: Editor, script: List[Repair], pro
                             command, repaired, before.listing.kind)
         after = look(Editor([*track.code, repaired]), progress, given.has(STEADY), before.findings.grid)
         frames = sound_frames(track.options, track.path), sound_frames(track.code, repaired)
+        done = summary(before.damages, after.damages, script, frames, refused.lines)
         if given.has(PAGE_OF_REPAIRS):
-            drawn = drawing(given, track, script, before, after, repaired)
+            drawn = drawing(given, track, script, (before, after, done), repaired)
             target.outputs.enter_context(output(given.text(PAGE_OF_REPAIRS))).write(drawn.encode("utf-8"))
         for note in target.write(repaired, track):
             complain(note, COMMAND.name)
-    return summary(before.damages, after.damages, script, frames, refused.lines), refused.reasons
+    return done, refused.reasons
 
 
-def drawing(given: Given, track: Opened, script: List[Repair], before: Seen, after: Seen, repaired: str) -> str:
-    """The page of what was repaired."""
+def drawing(given: Given, track: Opened, script: List[Repair], seen: Tuple[Seen, Seen, Summary], repaired: str) -> str:
+    """The page of what was repaired; what was seen before and after it, and the sums."""
+    before, after, done = seen
     rules = [option.name for option in (STEADY, MOVE) if given.has(option)]
     names = Names(given.names[0], given.text(APPLY) or "", given.text(INTO), given.number(DUMP), rules)
     changes = changes_of(track, before.listing, repaired)
     changes.command = again(names, track, before.listing)
-    return page(sheet_of(os.path.basename(given.names[0]), before, script, after.listing, changes))
+    sheet = sheet_of(os.path.basename(given.names[0]), wire_or_none(track), before, script, after.listing, changes)
+    return page(of_program(sheet, COMMAND.name, "%s: %s" % (given.names[0], done.text())))
 
 
 def report(given: Given, script: List[Repair], done: Summary, reasons: Sequence[str]) -> None:

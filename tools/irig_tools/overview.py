@@ -1,24 +1,31 @@
 """A recording, its damage and its repairs as the data that a page or a picture shows."""
 from __future__ import annotations
 
+import time
 from collections import Counter
 from dataclasses import replace
-from typing import Iterator, Optional, Sequence, Tuple
+from typing import Dict, Iterator, List, Optional, Sequence, Tuple
 
 from .analysis import Part
 from .damage import THE_WHOLE, Damage, Seen
 from .editor import Listing
+from .ending import ESCAPED
+from .moments import DAY
 from .script import Repair
-from .sheet import DAMAGED, LOST, SOUND, Changes, Place, Sheet, Stretch, Wave, cut, merged
+from .sheet import DAMAGED, LOST, SOUND, STATES, Changes, Place, Sheet, Stretch, Wave, cut, merged
+from .spans import Span
 from .steps import cut_by_a_step
-from .units import frame_of, place_in
+from .units import FrameNumber, PlaceNumber, frame_of, place_in, plus
+from .version import version
 
 AROUND = 4  # intervals that are shown on both sides of a place
+MOST_KNOWN = 1000  # times whose time of day is on a page
+HUNDREDTH = 10000  # microseconds
 
 
-def sheet_of(name: str, seen: Seen, script: Sequence[Repair] = (), after: Optional[Listing] = None,
+def sheet_of(name: str, wire: str, seen: Seen, script: Sequence[Repair] = (), after: Optional[Listing] = None,
              changes: Optional[Changes] = None) -> Sheet:
-    """The data of a recording; `after` is the listing after the script, or after what was made of it, with its changes."""
+    """The data of a wire of a recording; `after` is the listing after the script, or after what was made of it, with its changes."""
     layout = seen.findings.layout
     notes = [each for each in seen.damages if each.is_remark or each.name == THE_WHOLE]
     places = [_place_of_damage(seen, each, script, after) for each in seen.damages if each not in notes]
@@ -27,7 +34,50 @@ def sheet_of(name: str, seen: Seen, script: Sequence[Repair] = (), after: Option
     said = tuple(each.seen for each in notes)
     if changes:
         places = [_made(place) for place in places]
-    return Sheet(name, seen.listing.length, layout.interval, kind, _stretches(seen), tuple(places), lines, said, changes)
+    return Sheet(name, seen.listing.length, layout.interval, kind, _stretches(seen), tuple(places), lines, said, changes,
+                 wire=wire, span=_span_of_times(seen), clock=tuple(_clock_of(seen)))
+
+
+def of_program(sheet: Sheet, program: str, summary: str) -> Sheet:
+    """The data with what a program says of it, its version and the date."""
+    made = "by %s %s on %s" % (program, version(), time.strftime("%Y-%m-%d at %H:%M"))
+    return replace(sheet, summary=summary.translate(ESCAPED), made=made)
+
+
+def _span_of_times(seen: Seen) -> str:
+    """The times of the first and of the last frame that has one."""
+    names = [part.times.calendar.name(moment) for part in reversed(seen.findings.parts) for number in part.times.texts
+             for moment in [part.times.moment(number)] if moment is not None]
+    return "%s to %s" % (names[0], names[-1]) if names else ""
+
+
+def _clock_of(seen: Seen) -> Iterator[Tuple[int, ...]]:
+    """The time of day, stretch by stretch: some times, each with the microsecond of the day. In a stretch the times go on; a leap
+    second parts two."""
+    spans = [(part, span) for part in reversed(seen.findings.parts) for span in part.times.spans]
+    every = max(1, sum(span.last - span.first + 1 for _, span in spans) // MOST_KNOWN)
+    for part, span in spans:
+        track, element = part.track, part.times.layout.period * HUNDREDTH // 100
+        numbers = (*range(span.first, span.last + 1, every), span.last + 1)
+        found: List[int] = []
+        last = place_in(span.first)
+        for place in sorted({track.within(place_in(FrameNumber(number))) for number in numbers}):
+            day = _of_day(part, span, place) + element * (place % 100)
+            if found and (day - found[-1] - element * (place - last)) % (DAY * HUNDREDTH):
+                yield tuple(found)
+                found = []
+            found += [track.rise_at(place), day]
+            last = place
+        if len(found) > 2:
+            yield tuple(found)
+
+
+def _of_day(part: Part, span: Span, place: PlaceNumber) -> int:
+    """The microsecond of the day at which the frame of a place begins."""
+    calendar = part.times.calendar
+    told = calendar.fields(calendar.moment(frame_of(place), span.base))
+    hundredths = 100 * (3600 * told["hours"] + 60 * told["minutes"] + told["seconds"]) + told["hundredths"]
+    return HUNDREDTH * hundredths % (DAY * HUNDREDTH)
 
 
 def _made(place: Place) -> Place:
@@ -51,18 +101,28 @@ def _place_of_damage(seen: Seen, damage: Damage, script: Sequence[Repair], after
 
 
 def _stretches(seen: Seen) -> Tuple[Stretch, ...]:
-    found = [stretch for part in reversed(seen.findings.parts) for stretch in _frame_stretches(part)]
+    found = [stretch for part in reversed(seen.findings.parts) for stretch in _frame_stretches(part, seen.listing.length)]
     return merged(found) if found else (Stretch(0, seen.listing.length, DAMAGED),)
 
 
-def _frame_stretches(part: Part) -> Iterator[Stretch]:
-    """A stretch for each frame."""
+def lasting_of(seen: Seen) -> Dict[str, int]:
+    """For how many microseconds a recording is in each state."""
+    found = dict.fromkeys(STATES, 0)
+    for stretch in _stretches(seen):
+        found[stretch.state] += stretch.end - stretch.start
+    return found
+
+
+def _frame_stretches(part: Part, length: int) -> Iterator[Stretch]:
+    """A stretch for each frame. The last element that is there lasts an interval, in a recording of this length."""
     track, done = part.track, part.track.rise_at(part.track.first)
     empty = Counter(frame_of(place) for place in part.faults.wanted if not track.pulses_at(place))
     damaged = {*map(frame_of, part.faults.wanted), *cut_by_a_step(track)}
     undecided = [remark.at for remark in part.remarks + part.faults.remarks]
     for number in track.frames():
         start, end = (track.rise_at(track.within(place_in(number, element))) for element in (0, 100))
+        if place_in(number, 100) > track.last:
+            end = plus(end, min(round(part.faults.clock.interval), max(0, length - end)))
         is_damaged = number in damaged or any(start <= at < end for at in undecided)
         start = max(start, done)
         if start < end:

@@ -40,8 +40,8 @@ view.click = (time, y) => {
 };
 
 places.forEach((place, index) => {
-  const state = !held.script.length ? "" : place.after ? "repair" : "left to you";
-  const item = make("li", {role: "option", id: `item-${index + 1}`, "aria-selected": "false"},
+  const state = !held.script.length ? "" : isLeft(place) ? "left to you" : "repair";
+  const item = make("li", {role: "option", id: `item-${index + 1}`, "aria-selected": "false", class: isLeft(place) ? "" : "done"},
     make("span", {class: "count"}, String(index + 1)), make("span", {class: "title"}, place.title),
     make("span", {class: "state" + (place.after ? "" : " open")}, state),
     make("span", {class: "where"}, seconds(place.at) + (place.frame ? ", " + place.frame : "")));
@@ -77,6 +77,7 @@ function pick(change) {
   picked = change;
   const item = byId(`change-${stretches.indexOf(change) + 1}`);
   item.setAttribute("aria-selected", "true");
+  item.closest("details").open = true;
   byId("changes").setAttribute("aria-activedescendant", item.id);
   reveal(byId("changes"), item);
   select(placeOf(change));
@@ -93,7 +94,7 @@ const pickStep = (far) => {
 
 // Scrolls a list so that an item of it is seen.
 function reveal(list, item) {
-  const above = item.offsetTop - list.offsetTop;
+  const above = item.getBoundingClientRect().top - list.getBoundingClientRect().top + list.scrollTop;
   const below = above + item.offsetHeight;
   if (above < list.scrollTop) list.scrollTop = above;
   if (below > list.scrollTop + list.clientHeight) list.scrollTop = below - list.clientHeight;
@@ -102,10 +103,8 @@ function reveal(list, item) {
 const itemOf = (place) => list.children[places.indexOf(place)];
 
 function showPlace(place) {
-  const index = places.indexOf(place);
-  byId("place-title").textContent = `${index + 1}. ${place.title}`;
-  byId("previous").disabled = index === 0;
-  byId("next").disabled = index === places.length - 1;
+  byId("place-title").textContent = `${places.indexOf(place) + 1}. ${place.title}`;
+  showSteps();
   const {picture, facts} = shownPlace(place);
   picture.setAttribute("tabindex", "0");
   shown.replaceChildren(...facts, picture, make("div", {class: "scroll"}, table(place)));
@@ -113,6 +112,20 @@ function showPlace(place) {
   const least = Math.min(end - start, held.interval / 5);
   waves = new View(picture, start, end, least, (now) => paintWave(now, place));
   waves.now();
+}
+
+// Which of the buttons lead to a place.
+function showSteps() {
+  const rows = listed();
+  byId("previous").disabled = !rows.some((place) => place.at < selected.at);
+  byId("next").disabled = !rows.some((place) => place.at > selected.at);
+}
+
+// The list with all places, or with those that are left.
+function filter() {
+  list.classList.toggle("open-only", byId("open-only").checked);
+  if (selected) showSteps();
+  view.ask();
 }
 
 // The script, with the lines of the place marked.
@@ -143,8 +156,10 @@ function locate() {
 }
 
 const step = (far) => {
-  const index = places.indexOf(selected) + far;
-  select(places[Math.min(places.length - 1, Math.max(0, index))]);
+  const rows = listed();
+  const before = rows.filter((place) => place.at <= selected.at).length - 1;
+  const at = rows.indexOf(selected) < 0 && far < 0 ? before + 1 : before;
+  select(rows[Math.min(rows.length - 1, Math.max(0, (rows.includes(selected) ? rows.indexOf(selected) : at) + far))]);
 };
 
 list.addEventListener("keydown", (event) => {
@@ -208,11 +223,15 @@ function showChanges() {
   });
 }
 
+byId("open-count").textContent = places.filter(isLeft).length;
+byId("filter").hidden = !places.some(isLeft);
+byId("open-only").addEventListener("change", filter);
 byId("more").textContent = held.more ? `${held.more} more places are not on this page.` : "";
 byId("script").hidden = !held.script.length;
 byId("desk").classList.toggle("plain", !held.script.length);
 showLines(null);
 byId("place").classList.toggle("none", !places.length);
+if (DAY) byId("strip").classList.add("with-day");
 if (held.changes) showChanges();
 addEventListener("hashchange", fromAddress);
 addEventListener("beforeprint", fillPaper);

@@ -28,6 +28,8 @@ def page(sheet: Sheet, most: int = MOST_LISTED) -> str:
     parts = {
         "POLICY": policy % (digest(code), digest(style)),
         "TITLE": escaped(sheet.name),
+        "RESULT": escaped(sheet.summary or "%s: %s of damage" % (sheet.name, counted(len(sheet.places), "place"))),
+        "MADE": escaped(sheet.made),
         "FACTS": escaped(facts_of(sheet)),
         "NOTES": "".join("<p>%s</p>" % escaped(note) for note in sheet.notes),
         "LEGEND": "".join(legend_items(sheet)),
@@ -55,10 +57,11 @@ def digest(code: str) -> str:
 
 
 def legend_items(sheet: Sheet) -> Iterator[str]:
-    """What the bars of the strip mean, with the number of frames of each kind."""
+    """What the bars of the strip mean, with the number of frames of each kind; those of a repair are as they were before it."""
+    when = "before, " if sheet.changes else ""
     for state in STATES:
-        yield '<li><span class="key %s"></span>%s: %s</li>' % (
-            state, state, escaped(counted(frames_in(sheet, state), "frame")))
+        yield '<li><span class="key %s"></span>%s%s: %s</li>' % (
+            state, when, state, escaped(counted(frames_in(sheet, state), "frame, whole or in part", "frames, whole or in part")))
     if sheet.changes:
         yield '<li><span class="key changed"></span>changed: %s; up is now high, down is now low</li>' % (
             escaped(counted(sheet.changes.stretches, "stretch", "stretches")))
@@ -72,7 +75,7 @@ def changed(changes: Changes) -> str:
     parts = {
         "FACTS": differ if changes.stretches else "Nothing was changed: the levels are the same at every microsecond.",
         "COMMAND": escaped(changes.command),
-        "MORE": "%s more %s not in this list. Their marks are grey, and the command prints them." % (
+        "MORE": "%s more %s not in this list, but in the strip. The command prints them." % (
             format(more, ","), "is" if more == 1 else "are") if more else "",
     }
     return filled("page_changes.html", parts)
@@ -90,11 +93,12 @@ def data(sheet: Sheet, most: int) -> str:
         "places": [place_data(sheet, place, start, pulses) for place, start in zip(places, starts)],
         "more": len(sheet.places) - len(places),
         "script": [plain(line) for line in sheet.script],
+        "clock": sheet.clock,
     }
     if sheet.changes:
         kept = sheet.changes
         found["changes"] = {"command": plain(kept.command), "count": kept.stretches,
-                            "lines": [plain(line) for line in kept.lines], "levels": kept.levels, "rest": kept.rest}
+                            "lines": [plain(line) for line in kept.lines], "levels": kept.levels, "rest": rest_words(kept)}
     words = json.dumps(found, ensure_ascii=False, separators=(",", ":"))
     return words.replace("<", "\\u003c").replace("\u2028", "\\u2028").replace("\u2029", "\\u2029")
 
@@ -163,6 +167,18 @@ def strip_words(sheet: Sheet) -> str:
             words.append("." + digits(stretch.frames))
         last = stretch.end
     return "".join(words)
+
+
+def rest_words(changes: Changes) -> str:
+    """The stretches that are not listed: the time since the one before, + if it is now high, - if it is now low, and its length;
+    for several together a star, and after dots how many are now high and how many now low."""
+    words, last = [], 0
+    for start, end, highs, lows in changes.rest:
+        sign = "*" if highs + lows > 1 else "+" if highs else "-"
+        counts = ".%s.%s" % (digits(highs), digits(lows)) if sign == "*" else ""
+        words.append(digits(start - last) + sign + digits(end - start) + counts)
+        last = end
+    return " ".join(words)
 
 
 def wave_words(wave: Wave, most: int) -> str:

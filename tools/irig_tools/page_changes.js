@@ -20,7 +20,21 @@ function readChanges({lines, levels}) {
   return found;
 }
 
+// The stretches without lines: one by one, or several together.
+function readRest(words) {
+  const found = [];
+  let last = 0;
+  for (const [, gap, sign, length, highs, lows] of words.matchAll(/([0-9a-z]+)([-+*])([0-9a-z]+)(?:\.([0-9a-z]+)\.([0-9a-z]+))?/g)) {
+    const start = last + number(gap);
+    last = start + number(length);
+    const counts = sign === "*" ? [number(highs), number(lows)] : sign === "+" ? [1, 0] : [0, 1];
+    counts.forEach((count, level) => { if (count) found.push({start, end: last, level, count}); });
+  }
+  return found;
+}
+
 const stretches = held.changes ? readChanges(held.changes) : [];
+const drawn = held.changes ? [...stretches, ...readRest(held.changes.rest)] : [];
 const rowHigh = held.changes ? MARKS : 0;
 let picked = null;      // the stretch that is looked at
 
@@ -30,12 +44,17 @@ function wordsOf({start, end, level, kept}) {
 }
 
 // What a mark says to the mouse.
-const titleOf = (change) => `${change.line}: ${wordsOf(change)}${change.about ? "\n" + change.about : ""}`;
+function titleOf(change) {
+  if (!change.line) return `from ${change.start} to ${change.end}, not in the list`;
+  return `${change.line}: ${wordsOf(change)}${change.about ? "\n" + change.about : ""}`;
+}
+
+const countOf = (of) => of.reduce((sum, change) => sum + (change.count || 1), 0);
 
 // The stretches in sight of one kind of mark, those on the same pixels as one.
 function marksOf(view, level) {
   const found = [];
-  for (const change of stretches) {
+  for (const change of drawn) {
     if (change.level !== level || change.end < view.start || change.start > view.end) continue;
     const left = Math.max(SIDE, Math.floor(view.x(change.start)));
     const right = Math.min(view.width - SIDE + 2, Math.max(left + 2, view.x(change.end)));
@@ -48,21 +67,15 @@ function marksOf(view, level) {
   return found;
 }
 
-// A mark for each stretch: up if it is high now, down if it is low now; and where there are those that are not listed.
+// A mark for each stretch: up if it is high now, down if it is low now. All are drawn, also those that are not listed.
 function changeMarks(view, top) {
   const made = draw("g", {class: "changes"});
   if (!held.changes) return made;
   const middle = top + MARKS / 2;
-  for (const [start, end, count] of held.changes.rest) {
-    if (end < view.start || start > view.end) continue;
-    const left = Math.max(SIDE, view.x(start));
-    const wide = Math.max(2, Math.min(view.width - SIDE, view.x(end)) - left);
-    made.append(draw("rect", {x: left, y: top + 2, width: wide, height: MARKS - 4, class: "hidden-part"},
-      draw("title", {}, `${count} more from ${start} to ${end}`)));
-  }
   for (const level of [0, 1]) {
     for (const {left, right, of} of marksOf(view, level)) {
-      const words = of.length === 1 ? titleOf(of[0]) : `${of.length} stretches, the first: ${titleOf(of[0])}`;
+      const count = countOf(of);
+      const words = count === 1 ? titleOf(of[0]) : `${count} stretches, the first: ${titleOf(of[0])}`;
       made.append(draw("rect", {x: left, y: level ? middle : top + 2, width: right - left, height: MARKS / 2 - 2,
         class: level ? "now-low" : "now-high"}, draw("title", {}, words)));
     }
@@ -87,35 +100,60 @@ function placeOf(change) {
   return places.find((place) => place.at - near <= change.end && change.start <= place.end + near);
 }
 
-// The lines as irig_diff prints them. A line of a frame leads to its first stretch.
-function listChanges(pick) {
-  const lists = byId("changes");
-  let index = 0;
+// The lines as irig_diff prints them, by the place they are in: neighbours of one place are a group.
+function groupsOfLines() {
+  const groups = [];
+  let [waiting, index] = [[], 0];
   for (const line of held.changes.lines) {
     const change = stretches[index];
-    const item = make("li", {}, make("code", {}, line));
-    if (change && line === change.line) {
-      index += 1;
-      const place = placeOf(change);
-      const words = wordsOf(change) + (place ? `; place ${places.indexOf(place) + 1}` : "");
-      for (const [key, value] of [["role", "option"], ["id", `change-${index}`], ["aria-selected", "false"]]) {
-        item.setAttribute(key, value);
+    const isStretch = change && line === change.line;
+    waiting.push({line, change, number: isStretch ? index + 1 : 0});
+    if (!isStretch) continue;
+    const place = placeOf(change);
+    if (!groups.length || groups[groups.length - 1].place !== place) groups.push({place, rows: [], of: []});
+    const last = groups[groups.length - 1];
+    last.rows.push(...waiting);
+    last.of.push(change);
+    [waiting, index] = [[], index + 1];
+  }
+  if (waiting.length && !groups.length) groups.push({rows: [], of: []});
+  if (waiting.length) groups[groups.length - 1].rows.push(...waiting);
+  return groups;
+}
+
+// What the head of a group says.
+function headOf({place, of}) {
+  const where = place ? `${places.indexOf(place) + 1}. ${place.title}` : "In no place of damage";
+  const long = of.reduce((sum, {start, end}) => sum + end - start, 0);
+  return `${where}: ${of.length} ${of.length === 1 ? "stretch" : "stretches"}, ${long} µs`;
+}
+
+// The lines, folded. A line of a frame leads to its first stretch.
+function listChanges(pick) {
+  for (const group of groupsOfLines()) {
+    const lines = make("ol", {role: "group"});
+    for (const {line, change, number} of group.rows) {
+      const item = make("li", {}, make("code", {}, line));
+      if (number) {
+        for (const [key, value] of [["role", "option"], ["id", `change-${number}`], ["aria-selected", "false"]]) {
+          item.setAttribute(key, value);
+        }
+        item.append(make("span", {class: "how"}, wordsOf(change)));
+      } else {
+        item.setAttribute("role", "presentation");
+        item.className = "in-frame";
       }
-      item.append(make("span", {class: "how"}, words));
-    } else {
-      item.setAttribute("role", "presentation");
-      item.className = "in-frame";
+      if (change) item.addEventListener("click", () => pick(change));
+      lines.append(item);
     }
-    if (change) item.addEventListener("click", () => pick(change));
-    lists.append(item);
+    byId("changes").append(make("details", {}, make("summary", {}, headOf(group)), lines));
   }
 }
 
-// On paper: the lines and what was counted.
+// On paper: what was counted, and the command that prints the lines.
 function changesOnPaper() {
   const section = byId("changed");
-  const facts = [...section.querySelectorAll("p, #command")].map((part) => part.cloneNode(true));
+  const facts = [...section.querySelectorAll("p:not(.hint), #command")].map((part) => part.cloneNode(true));
   facts.forEach((part) => part.removeAttribute("id"));
-  return make("article", {}, make("h3", {}, "What was changed"), ...facts,
-    make("pre", {}, held.changes.lines.join("\n")));
+  return make("article", {class: "wide"}, make("h3", {}, "What was changed"), ...facts);
 }

@@ -7,7 +7,8 @@ function linesOf(place) {
 
 function times(place) {
   const long = place.end > place.at ? ` to ${seconds(place.end)}, ${span(place.end - place.at)} long` : "";
-  return `${seconds(place.at)}${long}; ${clock(place.at)} after the start`;
+  const day = dayTime(place.at, 6);
+  return `${seconds(place.at)}${long}; ${day ? day + " of the day" : clock(place.at) + " after the start"}`;
 }
 
 // A place as elements, with an empty picture for its waveforms.
@@ -22,24 +23,24 @@ function shownPlace(place) {
   return {picture, facts};
 }
 
-// On paper: the whole recording, and all places one below the other.
+// On paper: the whole recording, and all places in two columns.
 function fillPaper() {
   const paper = byId("paper");
   const whole = draw("svg", {class: "strip"});
+  const columns = make("div", {class: "columns"});
   paper.replaceChildren(whole);
   const view = {start: 0, end: held.length, width: 720, picture: whole, x: View.prototype.x};
-  whole.setAttribute("viewBox", `0 0 720 ${112 + rowHigh}`);
+  whole.setAttribute("viewBox", `0 0 720 ${116 + rowHigh + DAY}`);
   paintStrip(view, null);
   if (held.changes) paper.append(changesOnPaper());
+  paper.append(columns);
   places.forEach((place, index) => {
     const {picture, facts} = shownPlace(place);
     const [start, end] = place.window;
-    paintWave({start, end, width: 820, picture, x: View.prototype.x}, place);
-    picture.setAttribute("viewBox", `0 0 820 ${picture.getAttribute("height")}`);
+    paintWave({start, end, width: 660, picture, x: View.prototype.x}, place);
+    picture.setAttribute("viewBox", `0 0 660 ${picture.getAttribute("height") - AXIS}`);    // its times are in the text
     picture.removeAttribute("height");
-    const lines = linesOf(place);
-    paper.append(make("article", {}, make("h3", {}, `${index + 1}. ${place.title}`), ...facts, picture,
-      ...(lines.length ? [make("pre", {}, lines.join("\n"))] : [])));
+    columns.append(make("article", {}, make("h3", {}, `${index + 1}. ${place.title}`), ...facts, picture));
   });
   if (held.more) paper.append(make("p", {}, `${held.more} more places are not on this page.`));
 }

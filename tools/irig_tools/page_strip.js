@@ -87,17 +87,23 @@ class View {
   }
 }
 
+const DAY = held.clock.length ? 14 : 0;         // pixels of the row with the time of day
+const AXIS = 40 + DAY;                          // and of the whole axis of a waveform
+
 // The marks of time below a picture, and a line up to the top at each.
 function axis(view, top, bottom) {
-  const {times, name, write} = marks(view.start, view.end, Math.max(2, Math.floor(view.width / 80)));
+  const wide = held.clock.length ? 115 : 80;
+  const {times, name, write, ofDay} = marks(view.start, view.end, Math.max(2, Math.floor(view.width / wide)));
   const made = draw("g", {class: "axis"});
   for (const time of times) {
     const x = view.x(time);
     const side = x < 60 ? "start" : x > view.width - 60 ? "end" : "middle";
     made.append(draw("path", {d: `M${x.toFixed(1)} ${top}V${bottom + 4}`}),
-      draw("text", {x: x.toFixed(1), y: bottom + 17, "text-anchor": side}, write(time)));
+      draw("text", {x: x.toFixed(1), y: bottom + 17, "text-anchor": side}, write(time)),
+      draw("text", {x: x.toFixed(1), y: bottom + 17 + DAY, "text-anchor": side, class: "of-day"}, ofDay(time)));
   }
-  made.append(draw("text", {x: view.width / 2, y: bottom + 33, class: "faint"}, "time in " + name));
+  const words = `time in ${name}` + (DAY ? ", and the time of day" : "");
+  made.append(draw("text", {x: view.width / 2, y: bottom + 33 + DAY, class: "faint"}, words));
   return made;
 }
 
@@ -137,28 +143,42 @@ function bars(view, top, high, out) {
   return made;
 }
 
-// A sign for each place above the strip; those that would cover each other are drawn once.
+const APART = 26;       // pixels: signs that are nearer are one, with the number of their places
+
+// The places in sight, those whose signs would cover each other as one.
+function crowds(view) {
+  const found = [];
+  for (const place of listed()) {
+    const x = view.x(place.at);
+    if (x < SIDE - 1 || x > view.width - SIDE + 1) continue;
+    const last = found[found.length - 1];
+    if (last && x - last.first < APART) {
+      last.of.push(place);
+      last.x = (last.first + x) / 2;
+    } else found.push({first: x, x, of: [place]});
+  }
+  return found;
+}
+
+// A sign for each place above the strip; one for several says for how many.
 function signs(view, selected, top) {
   const made = draw("g", {class: "signs"});
-  let last = -9;
-  const sign = (place, x) => draw("path",
-    {d: `M${x.toFixed(1)} ${top}l-4 -9h8z`, class: place === selected ? "chosen" : ""});
-  for (const place of places) {
-    const x = view.x(place.at);
-    if (place === selected || x < SIDE - 1 || x > view.width - SIDE + 1 || x - last < 9) continue;
-    made.append(sign(place, x));
-    last = x;
+  const sign = (x, kind, words) => draw("path", {d: `M${x.toFixed(1)} ${top}l-4 -9h8z`, class: kind}, draw("title", {}, words));
+  for (const {x, of} of crowds(view)) {
+    const first = `${seconds(of[0].at)} ${dayTime(of[0].at, 3)}: ${of[0].title}`;
+    made.append(sign(x, "", of.length === 1 ? first : `${of.length} places, the first at ${first}`));
+    if (of.length > 1) made.append(draw("text", {x: x.toFixed(1), y: top - 11, class: "many"}, String(of.length)));
   }
   if (selected && selected.at >= view.start && selected.at <= view.end) {
     const x = view.x(selected.at);
     const words = String(places.indexOf(selected) + 1);
-    made.append(sign(selected, x), draw("path", {d: `M${x.toFixed(1)} ${top}v43`, class: "needle"}),
-      draw("text", {x: Math.min(view.width - 20, Math.max(20, x)), y: top - 13}, words));
+    made.append(sign(x, "chosen", selected.title), draw("path", {d: `M${x.toFixed(1)} ${top}v43`, class: "needle"}),
+      draw("text", {x: Math.min(view.width - 20, Math.max(20, x)), y: top - 22}, words));
   }
   return made;
 }
 
-const BARS = 42;        // where the bars of the strip begin, and where those below them end
+const BARS = 46;        // where the bars of the strip begin, and where those below them end
 const UNDER = BARS + 34;
 
 function paintStrip(view, selected) {

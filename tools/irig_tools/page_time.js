@@ -60,6 +60,10 @@ const places = held.places.map((place) => ({
   after: place.after === undefined ? null : readWave(place.after),
 }));
 
+// The places that the list shows: all, or those that are left to the user.
+const isLeft = (place) => held.script.length > 0 && !place.after;
+const listed = () => document.getElementById("open-only").checked ? places.filter(isLeft) : places;
+
 // A time in seconds, to the last digit.
 function seconds(time) {
   const whole = Math.floor(time / 1e6);
@@ -71,6 +75,31 @@ function clock(time) {
   const whole = Math.floor(time / 1e6);
   const two = (value) => String(value).padStart(2, "0");
   return Math.floor(whole / 3600) + ":" + two(Math.floor(whole / 60) % 60) + ":" + two(whole % 60);
+}
+
+// The microsecond of the day at a time, if the frames around it say it: between two known times it goes evenly.
+function ofDay(time) {
+  const known = held.clock.find((each) => each[0] <= time && time <= each[each.length - 2]);
+  if (!known) return null;
+  let [low, high] = [0, known.length / 2 - 1];
+  while (high - low > 1) {
+    const middle = (low + high) >> 1;
+    if (known[2 * middle] <= time) low = middle; else high = middle;
+  }
+  const [begin, from, end, to] = known.slice(2 * low, 2 * low + 4);
+  const day = 864e8;
+  return (from + ((to - from + day) % day) * (time - begin) / (end - begin)) % day;
+}
+
+// The time of day for people, with that many digits after the second; nothing if it is not known.
+function dayTime(time, digits = 0) {
+  const found = ofDay(time);
+  if (found === null) return "";
+  const unit = 10 ** (6 - digits);
+  const whole = Math.floor(found / unit + 1e-6) * unit;
+  const rest = digits ? "." + String(Math.round(whole % 1e6 / unit)).padStart(digits, "0") : "";
+  const two = (value) => String(Math.floor(value)).padStart(2, "0");
+  return `${two(whole / 3600e6)}:${two(whole / 60e6 % 60)}:${two(whole / 1e6 % 60)}${rest}`;
 }
 
 // A length of time in the unit that fits it.
@@ -90,5 +119,7 @@ function marks(start, end, most) {
   const digits = Math.max(0, Math.round(Math.log10(unit)) - Math.floor(Math.log10(step)));
   const times = [];
   for (let time = Math.ceil(start / step) * step; time <= end; time += step) times.push(time);
-  return {times, name, write: (time) => (time / unit).toFixed(digits)};
+  const isWhole = times.every((time) => (ofDay(time) + 1) % 1e6 < 2);
+  const fine = Math.min(6, Math.max(isWhole ? 0 : 1, 7 - Math.floor(Math.log10(step) + 1e-9)));
+  return {times, name, write: (time) => (time / unit).toFixed(digits), ofDay: (time) => dayTime(time, fine)};
 }

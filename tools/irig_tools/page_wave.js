@@ -99,7 +99,7 @@ function paintWave(view, place) {
   const rows = [["as it is" + hint(view), place.before]];
   if (place.after) rows.push(["after the repair", place.after]);
   const bottom = 6 + ROW * rows.length;
-  view.picture.setAttribute("height", bottom + 40);
+  view.picture.setAttribute("height", bottom + AXIS);
   view.picture.replaceChildren(tints(place, view, bottom), axis(view, 6, bottom));
   rows.forEach(([name, wave], row) => {
     const floor = 6 + ROW * (row + 1) - 22;

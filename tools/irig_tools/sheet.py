@@ -49,7 +49,8 @@ class Changes:
     lines: list[str] = field(default_factory=list)      # of irig_diff, up to the last stretch that is listed
     levels: list[int] = field(default_factory=list)     # of each listed stretch: the level with which it begins as it is,
     # 0 or 1, and twice the edges in it; both recordings have these
-    rest: list[tuple[int, int, int]] = field(default_factory=list)  # where the others are, from, to, and how many
+    # where the others are: from, to, and how many are now high and how many now low
+    rest: list[tuple[int, int, int, int]] = field(default_factory=list)
     stretches: int = 0
     time: int = 0                       # of all stretches together
 
@@ -67,6 +68,11 @@ class Sheet:
     script: tuple[str, ...] = ()        # the whole script, line by line; empty if none is proposed
     notes: tuple[str, ...] = ()         # what holds for the whole recording: a clock that drifts, jitter
     changes: Optional[Changes] = None   # by the repair, if one was made
+    summary: str = ""                   # what the tool prints of it, in a line
+    made: str = ""                      # by which tool, and when
+    wire: str = ""                      # its name in the file
+    span: str = ""                      # the times of the first and the last frame
+    clock: tuple[tuple[int, ...], ...] = ()     # the time of day, in stretches: a time, the microsecond of the day then, and so on
 
 
 def merged(stretches: Iterable[Stretch]) -> tuple[Stretch, ...]:
@@ -89,9 +95,10 @@ def cut(rises: Sequence[int], falls: Sequence[int], letters: Sequence[str], star
 
 
 def facts_of(sheet: Sheet) -> str:
-    """The format, length, interval and number of places of a recording, in one line."""
-    return "format %s, %s, interval %s µs, %s of damage" % (
-        sheet.format, seconds(sheet.length), format(sheet.interval, ","), counted(len(sheet.places), "place"))
+    """The format, length, interval and number of places of a recording, in one line; also its wire and its times, if known."""
+    named = ["wire " + sheet.wire] * bool(sheet.wire) + ["format " + sheet.format] + [sheet.span] * bool(sheet.span)
+    return "%s, %s, interval %s µs, %s of damage" % (
+        ", ".join(named), seconds(sheet.length), format(sheet.interval, ","), counted(len(sheet.places), "place"))
 
 
 def frames_in(sheet: Sheet, state: str) -> int:

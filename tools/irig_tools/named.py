@@ -1,0 +1,21 @@
+"""The name of the wire of a track."""
+from __future__ import annotations
+
+from .dump_choice import choose
+from .dump_header import Reader
+from .dump_source import Source
+from .editor import Problem
+from .opening import Opened
+
+
+def wire_named(track: Opened) -> str:
+    """The name of the wire in the track's own file."""
+    return track.wire or choose(Reader(Source(track.path)).read(), None).name
+
+
+def wire_or_none(track: Opened) -> str:
+    """The same; nothing if only the editor can read the file."""
+    try:
+        return wire_named(track)
+    except Problem:
+        return ""
