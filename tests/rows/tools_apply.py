@@ -246,7 +246,7 @@ def cut():
         status, printed, _ = run("irig_damage", ["--expression=4", "rec.vcd"])
         yield same("its line", (status, printed.decode()), (1, "7998000 " + said))
         yield same("irig_mend --apply", run("irig_mend", ["--expression=4", "--apply", "new.vcd", "rec.vcd"])[::2],
-                   (1, "irig_mend: " + said))
+                   (1, "irig_mend: rec.vcd: " + said))
 
     return in_folder(lambda: list(holds()), rec=damages.dump(recorded(), END)[:-6])
 
@@ -321,11 +321,34 @@ def guarded():
             text = "1 place found, 0 repaired, 0 undecided, 1 left, 0 steps that stay, 1 line refused"
             for words in ("", "--move"):
                 got, said, _ = run("irig_mend", ["--expression=4", *words.split(), "--apply", "new.vcd", "rec.vcd"])
-                why = [line for line in said.decode().splitlines() if line.startswith("# not kept: ")]
-                yield same("a guard " + words, (got, text in said.decode(), why), (1, True, ["# not kept: not a repair"]))
+                why = [line for line in said.decode().splitlines() if "not kept: " in line]
+                yield same("a guard " + words, (got, text in said.decode(), why), (1, True, ["rec.vcd: not kept: not a repair"]))
                 yield same("what it gets " + words, "--moved" in text_of("words").split(), words == "--move")
 
     return in_folder(lambda: list(holds()), rec=damages.dump(recorded(glitch), END))
+
+
+def lost_function(pulses):
+    pulses.pop(64)  # a control function of the first frame: two frames are before none of it
+
+
+def guesses():
+    """What is undecided is counted as it is printed: a repair that is dropped is no guess."""
+    def holds():
+        status, printed, _ = run("irig_mend", ["--expression=4", "--apply", "new.vcd", "rec.vcd"])
+        lines = printed.decode().splitlines()
+        yield same("a guess", (status, "1 repaired (1 by a guess), 0 undecided" in lines[0], len(lines)), (0, True, 2))
+        os.symlink(os.path.abspath(os.environ["IRIG_ED"]), "irig_ed")
+        with open("irig_guard", "w", encoding="ascii") as file:
+            file.write('#!/bin/sh\nwhile [ "$1" != --out ]; do shift; done; cp "$3" "$2"\n'
+                       'sed "/^#/!s/^/# not kept: not a repair\\n# /"; exit 1\n')
+        os.chmod("irig_guard", 0o755)
+        with mock.patch.dict(os.environ, IRIG_ED=os.path.abspath("irig_ed")):
+            lines = run("irig_mend", ["--expression=4", "--apply", "new.vcd", "rec.vcd"])[1].decode().splitlines()
+        text = "rec.vcd: 1 place found, 0 repaired, 0 undecided, 1 left, 0 steps that stay, 1 line refused; 7 frames"
+        yield same("a guess that is dropped", (lines[0].startswith(text), lines[1:]), (True, ["rec.vcd: not kept: not a repair"]))
+
+    return in_folder(lambda: list(holds()), rec=damages.dump(recorded(lost_function), END))
 
 
 REFUSED = (
@@ -381,6 +404,9 @@ def objects():
         yield same("the summary", done["summary"], {
             "found": 2, "repaired": 1, "undecided": 0, "left": 0, "steps": 1, "guessed": 0, "refused": 0, "sound_before": 5,
             "sound_after": 6})
+        yield same("what irig_time needs", [done[name] for name in ("recording", "wire", "format", "expression")],
+                   ["rec.vcd", "code", "B", 4])
+        yield same("why something is left", [each.partition(":")[0] for each in done["reasons"]], ["stays"])
         each = json.loads(run("irig_what", ["--json", "rec.vcd"])[1])
         got = each["wire"], each["format"], each["fine"], each["inverted"], each["pulses"], each["command"].split()[0]
         yield same("irig_what --json", got, ("code", "B", 5, False, 801, "irig_mend"))
@@ -428,4 +454,4 @@ def cases(top):
     return [*(case("apply: " + row[0], applied, *row) for row in APPLIED),
             *(case("apply: " + part.__name__, part)
               for part in (into, options_of_a_script, late_times, saved, page_alone, one_line, cut, growing, upside_down, steady,
-                           guarded, refused, objects, kinds))]
+                           guarded, guesses, refused, objects, kinds))]

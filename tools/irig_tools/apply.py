@@ -4,6 +4,7 @@ from __future__ import annotations
 import os
 import shutil
 import subprocess
+from bisect import bisect_left, bisect_right
 from contextlib import ExitStack
 from dataclasses import dataclass
 from functools import cached_property
@@ -11,11 +12,12 @@ from typing import Dict, List, Optional, Sequence, Set
 
 from .damage import Damage
 from .dump_header import Reader
-from .dump_choice import choose, singles
+from .dump_choice import singles
 from .dump_source import Source
-from .editor import CUT_OFF, Problem, find_beside, find_editor
+from .editor import CUT_OFF, Listing, Problem, find_beside, find_editor
 from .joining import frames_at_fault, joined
 from .kinds import STEPS, DamageKind
+from .named import wire_named, wire_or_none
 from .opening import Opened
 from .output import output
 from .put_back import PutBack, TrackEdges
@@ -54,22 +56,6 @@ class Summary:
         return not (self.undecided or self.left or self.steps or self.refused)
 
 
-def summary(before: Sequence[Damage], after: Sequence[Damage], script: Sequence[Repair], frames: Sequence[int],
-            refused: int) -> Summary:
-    """Counts; `before` and `after` are what irig_damage finds, and `frames` how many are sound. What is undecided, or a guess, are the
-    comments that say so."""
-    found, there = (sum(not each.is_remark for each in seen) for seen in (before, after))
-    steps = sum(each.kind in STEPS for each in after)
-    undecided, guessed = (sum(len(each.undecided) for each in script if bool(each.edits) == is_made) for is_made in (False, True))
-    return Summary(found, max(0, found - there), undecided, max(0, there - steps - undecided), steps, guessed, refused,
-                   frames[0], frames[1])
-
-
-def find_guard() -> str:
-    """The path of irig_guard."""
-    return find_beside("irig_guard", "--apply tries each repair in it")
-
-
 @dataclass(frozen=True)
 class Refused:
     """How many lines of a script were refused, the comments of irig_guard that say why, and all that it printed."""
@@ -79,17 +65,55 @@ class Refused:
     printed: Sequence[str] = ()
 
     @cached_property
-    def _dropped(self) -> Set[str]:
-        """The lines that were printed as comments."""
+    def dropped(self) -> Set[str]:
+        """The lines that are comments now."""
         return {line[2:] for line in self.printed if line.startswith("# ")}
 
     def drops(self, repair: Repair) -> bool:
-        """Whether a repair was refused."""
-        return bool(repair.edits) and self._dropped.issuperset(repair.edits)
+        """Whether a repair is dropped: its lines are comments."""
+        return bool(repair.edits) and self.dropped.issuperset(repair.edits)
 
     def drops_moves(self, script: Sequence[Repair]) -> bool:
         """Whether a repair that moves what follows was refused."""
-        return any(repair.moves and self.drops(repair) for repair in script)
+        return any(self.drops(repair) for repair in script if repair.moves)
+
+
+def summary(before: Sequence[Damage], after: Sequence[Damage], script: Sequence[Repair], frames: Sequence[int],
+            refused: Refused) -> Summary:
+    """Counts; `before` and `after` are what irig_damage finds, and `frames` how many are sound. What is undecided are the comments that
+    say so, a guess is a place that is repaired by one: not if it is dropped."""
+    found, there = (sum(not each.is_remark for each in seen) for seen in (before, after))
+    steps = sum(each.kind in STEPS for each in after)
+    undecided = sum(len(each.undecided) for each in script if not each.edits)
+    repaired = max(0, found - there)
+    guesses = [each for each in script if each.edits and each.undecided and not refused.drops(each)]
+    guessed = min(repaired, _places_of(guesses, [each for each in before if not each.is_remark]))
+    return Summary(found, repaired, undecided, max(0, there - steps - undecided), steps, guessed, refused.lines, frames[0], frames[1])
+
+
+def _places_of(repairs: Sequence[Repair], damages: Sequence[Damage]) -> int:
+    """How many places of damage these repairs touch."""
+    begins = [each.at for each in damages]
+    touched: Set[int] = set()
+    for repair in repairs:
+        near = range(max(0, bisect_left(begins, repair.at) - 1), bisect_right(begins, max(repair.at, repair.until)))
+        touched.update(place for place in near if repair.touches(damages[place].at, damages[place].until))
+    return len(touched)
+
+
+@dataclass(frozen=True)
+class Code:
+    """Which recording it is, and how irig_time reads it."""
+
+    recording: str
+    wire: str
+    format: str
+    expression: int
+
+
+def find_guard() -> str:
+    """The path of irig_guard."""
+    return find_beside("irig_guard", "--apply tries each repair in it")
 
 
 def run_script(track: Opened, script: Sequence[Repair], save: bool, out: str, moved: bool, kind: str) -> Refused:
@@ -203,8 +227,7 @@ class Target:
         header = Reader(Source(self.into)).read()
         if self.wire is not None or len(singles(header)) == 1:
             return self.wire
-        own = Reader(Source(track.path)).read()
-        return choose(own, track.wire).name
+        return wire_named(track)
 
 
 def _with_offset(head: bytes, track: Opened) -> bytes:
@@ -214,5 +237,10 @@ def _with_offset(head: bytes, track: Opened) -> bytes:
     return head + track.offset.comment().encode("ascii") + b"\n"
 
 
-def as_object(found: Summary) -> Dict[str, object]:
-    return {"summary": dict(vars(found))}
+def code_of(name: str, track: Opened, listing: Listing) -> Code:
+    """The recording with this name."""
+    return Code(name, wire_or_none(track), listing.kind, listing.expression)
+
+
+def as_object(found: Summary, code: Code, reasons: Sequence[str]) -> Dict[str, object]:
+    return {**vars(code), "summary": dict(vars(found)), "reasons": list(reasons)}

@@ -9,7 +9,7 @@ from typing import Sequence
 from .command import kept, run
 from .damage import Damage, look
 from .editor import Editor, progress_to
-from .ending import ALL_RIGHT, FOUND, complain
+from .ending import ALL_RIGHT, FOUND, complain, name_of
 from .facts import damages_as_json
 from .named import wire_or_none
 from .opening import Opened, opened
@@ -47,7 +47,7 @@ def work(given: Given) -> int:
     check_apart(name, [(option.name, given.text(option)) for option in (PAGE, PICTURE)], not given.has(QUIET))
     with kept(name) as path, opened(path, name, given, given.text(WIRE)) as track:
         if not given.has(QUIET):
-            say_notes(track, COMMAND.name)
+            say_notes(track, name, COMMAND.name)
         seen = look(Editor(track.words), progress_to(sys.stderr))
         if ENDS_WITHIN_TIME in track.notes:
             seen.damages.append(Damage(seen.listing.length, seen.listing.length, "", ENDS_WITHIN_TIME))
@@ -61,12 +61,13 @@ def work(given: Given) -> int:
     return FOUND if found else ALL_RIGHT
 
 
-def say_notes(track: Opened, program: str) -> None:
-    """Says on standard error what was chosen, and what was subtracted from the times."""
-    for note in track.notes:
-        complain(note, program)
+def say_notes(track: Opened, name: str, program: str) -> None:
+    """Says on standard error what was chosen of a file, and what was subtracted from the times."""
+    notes = list(track.notes)
     if track.offset is not None and track.offset.count:
-        complain("the times count from %s of the file that this was cut out of" % track.offset.text(), program)
+        notes.append("the times count from %s of the file that this was cut out of" % track.offset.text())
+    for note in notes:
+        complain("%s: %s" % (name_of(name), note), program)
 
 
 def text_of(found: Sequence[Damage], track: Opened, as_json: bool) -> str:
@@ -76,7 +77,7 @@ def text_of(found: Sequence[Damage], track: Opened, as_json: bool) -> str:
 def found_text(name: str, found: Sequence[Damage]) -> str:
     """What a page says first."""
     remarks = sum(each.is_remark for each in found)
-    return "%s: %s of damage, %s" % (name, counted(len(found) - remarks, "place"), counted(remarks, "remark"))
+    return "%s: %s of damage, %s" % (name_of(name), counted(len(found) - remarks, "place"), counted(remarks, "remark"))
 
 
 def draw(given: Given, sheet: Sheet) -> None:

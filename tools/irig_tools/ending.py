@@ -56,6 +56,11 @@ def complain(text: str, program: str) -> None:
         print("%s: %s" % (program, text.translate(ESCAPED)), file=sys.stderr)
 
 
+def name_of(path: str) -> str:
+    """What a file is called in a message."""
+    return "standard input" if path == "-" else path
+
+
 def ended(program: str, work: Callable[[], int]) -> int:
     """The status of some work. Whatever it raises has one line and a status of its own."""
     status = _status_of(program, work)
@@ -93,7 +98,7 @@ def _known(error: Exception, program: str) -> int:
         text = str(error.strerror or error)
         text = "%s: %s" % (error.filename, text) if error.filename else text
     if text.startswith("-: "):
-        text = "standard input" + text[1:]
+        text = name_of("-") + text[1:]
     _last_words(text, program)
     return NOT_READ
 

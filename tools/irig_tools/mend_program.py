@@ -12,11 +12,11 @@ from .again import Names, again
 from .analysis import START, examine
 from .changes import changes_of, find_differ
 from .command import kept, run, unchanged
-from .apply import Summary, Target, as_object, find_guard, run_script, sound_frames, summary
+from .apply import Code, Refused, Summary, Target, as_object, code_of, find_guard, run_script, sound_frames, summary
 from .damage import Seen, look
 from .damage_program import say_notes
 from .editor import Editor, Progress, progress_to
-from .ending import ALL_RIGHT, ESCAPED, FOUND, Usage, complain
+from .ending import ALL_RIGHT, ESCAPED, FOUND, Usage, complain, name_of
 from .explain import explained
 from .facts import json_lines, repairs_as_json
 from .kinds import STEPS
@@ -77,7 +77,7 @@ def work(given: Given) -> int:
     find_programs(given)
     progress = progress_to(sys.stderr)
     with ExitStack() as outputs, taken(given) as (track, original):
-        say_notes(track, COMMAND.name)
+        say_notes(track, given.names[0], COMMAND.name)
         editor = Editor(track.words)
         if given.has(EXPLAIN):
             return explain(editor, given)
@@ -85,15 +85,15 @@ def work(given: Given) -> int:
         if given.has(APPLY):
             target = Target(outputs, given.text(APPLY) or "", original, given.text(WIRE) or track.wire,
                             given.text(TIMESCALE), given.number(DUMP))
-            done, reasons = apply(given, track, editor, script, progress, target)
+            done = apply(given, track, editor, script, progress, target)
         else:
             draw_proposal(given, track, script, progress, outputs)
     if given.has(OUTPUT) or not given.has(APPLY):
         with output(given.text(OUTPUT)) as out:
             out.write((repairs_as_json(script, track.offset) if given.has(JSON) else script_of(script, track)).encode("utf-8"))
     if given.has(APPLY):
-        report(given, script, done, reasons)
-        return ALL_RIGHT if done.is_whole and ENDS_WITHIN_TIME not in track.notes else FOUND
+        report(given, *done)
+        return ALL_RIGHT if done[0].is_whole and ENDS_WITHIN_TIME not in track.notes else FOUND
     return FOUND if script else ALL_RIGHT
 
 
@@ -165,13 +165,13 @@ def draw_proposal(given: Given, track: Opened, script: List[Repair], progress: P
         after = editor.ask([repair.lines() for repair in script])
         seen = look(editor, progress, given.has(STEADY))
         sheet = sheet_of(os.path.basename(given.names[0]), wire_or_none(track), seen, script, after)
-        drawn = page(of_program(sheet, COMMAND.name, "%s: %s" % (given.names[0], proposed(script))))
+        drawn = page(of_program(sheet, COMMAND.name, "%s: %s" % (name_of(given.names[0]), proposed(script))))
         outputs.enter_context(output(path)).write(drawn.encode("utf-8"))
 
 
 def apply(given: Given, track: Opened, editor: Editor, script: List[Repair], progress: Progress,
-          target: Target) -> Tuple[Summary, Sequence[str]]:
-    """Runs the script, writes what it gives, and counts what it did; why repairs are not kept."""
+          target: Target) -> Tuple[Summary, Code, Sequence[str]]:
+    """Runs the script, writes what it gives, and counts what it did; why repairs are not kept, and what nothing decides."""
     with temporary_folder() as folder:
         repaired = os.path.join(folder, "repaired.vcd")
         before = look(editor, progress, given.has(STEADY))
@@ -185,13 +185,26 @@ def apply(given: Given, track: Opened, editor: Editor, script: List[Repair], pro
                             command, repaired, before.listing.kind)
         after = look(Editor([*track.code, repaired]), progress, given.has(STEADY), before.findings.grid)
         frames = sound_frames(track.options, track.path), sound_frames(track.code, repaired)
-        done = summary(before.damages, after.damages, script, frames, refused.lines)
+        done = summary(before.damages, after.damages, script, frames, refused)
         if given.has(PAGE_OF_REPAIRS):
             drawn = drawing(given, track, script, (before, after, done), repaired)
             target.outputs.enter_context(output(given.text(PAGE_OF_REPAIRS))).write(drawn.encode("utf-8"))
         for note in target.write(repaired, track):
-            complain(note, COMMAND.name)
-    return done, refused.reasons
+            complain("%s: %s" % (name_of(given.text(INTO) or ""), note), COMMAND.name)
+    code = code_of(given.names[0], track, before.listing)
+    return done, code, reasons_of(track, script, refused)
+
+
+def reasons_of(track: Opened, script: List[Repair], refused: Refused) -> List[str]:
+    """Why something is left: repairs that are not kept, steps that stay, what nothing decides, and a file that is cut."""
+    left = [comment for repair in script if not refused.drops(repair) for comment in left_by(repair)]
+    cut = [note for note in track.notes if note == ENDS_WITHIN_TIME]
+    return [reason.removeprefix("# ") for reason in refused.reasons] + left + cut
+
+
+def left_by(repair: Repair) -> List[str]:
+    """The comments on a step that stays, or on what nothing decides."""
+    return repair.comments if not repair.edits and repair.kind in STEPS else repair.undecided
 
 
 def drawing(given: Given, track: Opened, script: List[Repair], seen: Tuple[Seen, Seen, Summary], repaired: str) -> str:
@@ -202,21 +215,18 @@ def drawing(given: Given, track: Opened, script: List[Repair], seen: Tuple[Seen,
     changes = changes_of(track, before.listing, repaired)
     changes.command = again(names, track, before.listing)
     sheet = sheet_of(os.path.basename(given.names[0]), wire_or_none(track), before, script, after.listing, changes)
-    return page(of_program(sheet, COMMAND.name, "%s: %s" % (given.names[0], done.text())))
+    return page(of_program(sheet, COMMAND.name, "%s: %s" % (name_of(given.names[0]), done.text())))
 
 
-def report(given: Given, script: List[Repair], done: Summary, reasons: Sequence[str]) -> None:
-    """Prints what became of the recording, why repairs are not kept, and what nothing decides."""
+def report(given: Given, done: Summary, code: Code, reasons: Sequence[str]) -> None:
+    """Prints what became of the recording, and why something is left. Each line has its name."""
     written = filter(None, map(given.text, (APPLY, OUTPUT, PAGE_OF_REPAIRS)))
     stream = sys.stderr if any(map(is_standard_output, written)) else sys.stdout
     if given.has(JSON):
-        stream.write(json_lines([as_object(done)]))
+        stream.write(json_lines([as_object(done, code, reasons)]))
         return
-    stream.write("%s: %s\n" % (given.names[0].translate(ESCAPED), done.text()))
-    stream.writelines(reason + "\n" for reason in reasons)
-    for repair in script:
-        stays = repair.comments if not repair.edits and repair.kind in STEPS else []
-        stream.writelines("# %s\n" % comment for comment in stays or repair.undecided)
+    for line in (done.text(), *(reason for reason in reasons if reason != ENDS_WITHIN_TIME)):
+        stream.write("%s: %s\n" % (given.names[0].translate(ESCAPED), line))
 
 
 def main() -> int:
