@@ -231,7 +231,6 @@ def refused():
             (["--column=\u00b2"], head + "0,0\n1,1\n", "has no column '\u00b2'"),
             (["--rate=5", "--time-column=1"], head + "0,0\n", "--rate and --time-column exclude each other"),
             ([], "5" * 20000, "is too long"), ([], ("\ufeff" + "5" * 20000).encode("utf-16-be"), "line 1 is too long"),
-            ([], ("\ufeff" + head + "0,0\n1,10").encode("utf-16-le")[:-1], "line 3 has no number in column 2"),
             (["--raw=text"], head, "--table has no --raw")):
         status, _, shown = run("irig_demodulate", ["--table", *words, "-"], text if isinstance(text, bytes) else text.encode())
         results.append(status == 2 and said in shown)
@@ -242,6 +241,19 @@ def refused():
         results[-1] or print("FAILED irig_demodulate --table at %.20s: %d %s" % (rate, status, shown))
     status, _, shown = run("irig_demodulate", ["--column=A", "-"], b"")
     return [*results, status == 2 and "need --table" in shown]
+
+
+def cut():
+    """A table that ends within a row: the row is left out, and a line says so."""
+    whole = "Time [s],A\n0,0\n1,1\n2,0\n"
+    for end in ("3", "3,", "3,-", "3.5e"):
+        texts = (whole + end).encode(), ("\ufeff" + whole + end).encode("utf-16-le"), ("\ufeff" + whole + end).encode("utf-16-be")[:-1]
+        for text in texts:
+            status, dump, said = run("irig_demodulate", ["--table", "-"], text)
+            good = (status, dump) == run("irig_demodulate", ["--table", "-"], whole.encode())[:2]
+            good = good and "the table ends within a row, so it is cut; that row is left out" in said
+            good or print("FAILED irig_demodulate --table that ends with %s: %d %s" % (end, status, said))
+            yield good
 
 
 def packed(rate="20 kHz", names=("D0", "code"), bit=1, size=1, parts=3, extra="", files=()):
@@ -329,5 +341,6 @@ def cases(top):
     return [*(case("table: " + row[0], table, *row) for row in TABLES), case("table: when it begins", begun),
             case("table: times of rows", times_of_rows), case("table: a rate instead of times", rate_is_given),
             case("table: coarse times", coarse), case("table: zeros first", zeros_first), case("table: an uneven clock", uneven_clock),
-            case("table: a carrier", carrier), case("table: what is refused", refused), case("sigrok: channels", sigrok),
+            case("table: a carrier", carrier), case("table: cut", cut),
+            case("table: what is refused", refused), case("sigrok: channels", sigrok),
             case("sigrok: other folders", no_sigrok), case("sigrok: its own program", by_sigrok, top)]

@@ -7,6 +7,7 @@ import sys
 from typing import Sequence
 
 from .command import kept, run
+from .cut_end import cut_notes, note_if_cut
 from .damage import Damage, look
 from .editor import Editor, progress_to
 from .ending import ALL_RIGHT, FOUND, complain, name_of
@@ -20,7 +21,6 @@ from .page import page
 from .picture import picture
 from .sheet import Sheet
 from .texts import counted
-from .wire import ENDS_WITHIN_TIME
 
 PAGE = Option("--page", "FILE", "also writes a page (HTML) to look at: the whole recording, and each place as a "
               "waveform")
@@ -46,11 +46,12 @@ def work(given: Given) -> int:
     name = given.names[0]
     check_apart(name, [(option.name, given.text(option)) for option in (PAGE, PICTURE)], not given.has(QUIET))
     with kept(name) as path, opened(path, name, given, given.text(WIRE)) as track:
+        note_if_cut(track)
         if not given.has(QUIET):
             say_notes(track, name, COMMAND.name)
         seen = look(Editor(track.words), progress_to(sys.stderr))
-        if ENDS_WITHIN_TIME in track.notes:
-            seen.damages.append(Damage(seen.listing.length, seen.listing.length, "", ENDS_WITHIN_TIME))
+        length = seen.listing.length
+        seen.damages += [Damage(length, length, "", note) for note in cut_notes(track)]
         found = sum(not damage.is_remark for damage in seen.damages)
         wire = wire_or_none(track)
         text = "%d\n" % found if given.has(COUNT) else text_of(seen.damages, track, given.has(JSON))

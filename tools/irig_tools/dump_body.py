@@ -5,7 +5,7 @@ from collections import Counter
 from dataclasses import dataclass, field
 from typing import Dict, Iterator, List, Optional, Tuple
 
-from .dump_header import BODY, HEADS, shown
+from .dump_header import BODY, HEADS, Header, shown
 from .dump_source import Source
 
 Change = Tuple[int, int, str]  # a time in the dump's unit, a signal, a letter of 0 1 x z
@@ -54,14 +54,15 @@ class Body:
         self.source, self.wanted = source, wanted
         self.now = 0  # the last time
         self.begun = 0  # the first time that is not 0
-        self.more = ""  # "header" or "backward" if something follows, "cut" if the file ends within a time
+        self.more = ""  # "header" or "backward" if something follows, "cut" if the file ends within a time or a value
+        self.last_code: Optional[bytes] = None  # of the last change, if the file ends with it, without white space
         self.counts: Counter[str] = Counter()
         self.strange: Optional[str] = None  # the first word that means no change, and the last time before it
         self.strange_at = 0
 
     def changes(self) -> Iterator[Change]:
         """The wanted changes; `now` is the last time that was read."""
-        scalars = self.wanted.scalars
+        scalars, word = self.wanted.scalars, b"$"
         for word in self.source.words():
             found = scalars.get(word)
             if found is None:
@@ -78,11 +79,22 @@ class Body:
                 self.counts["letters"] += word[0] not in b"01xXzZ"
                 for signal, value in found:
                     yield self.now, signal, value
+        if self.source.ends_within_word and word[0] in SCALAR:
+            self.last_code = word[1:]
+
+    def ends_within(self, header: Header) -> str:
+        """What the file ends within: `time`, `value`, or nothing. A code that no wire has is a part of one."""
+        if self.more == "cut":
+            return "time" if self.last_code is None else "value"
+        codes = {wire.code for wire in header.wires} if self.last_code is not None else set()
+        return "value" if self.last_code is not None and self.last_code not in codes else ""
 
     def _other(self, word: bytes) -> Iterator[Change]:
         first = word[0]
         if first in PAIRS:
             code = next(self.source, b"")
+            if self.source.ends_within_word:
+                self.last_code, self.more = code, "" if code else "cut"
             if first in b"bB" and code in self.wanted.signals:
                 yield from self._vector(word.decode("latin-1"), self.wanted.signals[code])
         elif first == 112:
@@ -94,6 +106,9 @@ class Body:
 
     def _time(self, word: bytes) -> None:
         digits = word[1:]
+        if not digits and self.source.ends_within_word:
+            self.more = "cut"
+            return
         if not digits.isdigit() or len(digits) > 60:
             self._strange(word)
             return

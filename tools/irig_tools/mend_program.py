@@ -13,6 +13,7 @@ from .analysis import START, examine
 from .changes import changes_of, find_differ
 from .command import kept, run, unchanged
 from .apply import Code, Refused, Summary, Target, as_object, code_of, find_guard, run_script, sound_frames, summary
+from .cut_end import cut_notes, is_cut, note_if_cut
 from .damage import Seen, look
 from .damage_program import say_notes
 from .editor import Editor, Progress, progress_to
@@ -31,7 +32,7 @@ from .script import Repair
 from .second_try import once_more
 from .temporary import temporary_folder
 from .texts import counted
-from .wire import ENDS_WITHIN_TIME
+from .wire import ENDS_WITHIN
 
 PAGE_OF_REPAIRS = Option("--page", "FILE", "also writes a page (HTML) to look at: the whole recording, each place before and "
                          "after its repair, and the script; with --apply what was changed, as irig_diff prints it")
@@ -77,6 +78,7 @@ def work(given: Given) -> int:
     find_programs(given)
     progress = progress_to(sys.stderr)
     with ExitStack() as outputs, taken(given) as (track, original):
+        note_if_cut(track)
         say_notes(track, given.names[0], COMMAND.name)
         editor = Editor(track.words)
         if given.has(EXPLAIN):
@@ -93,7 +95,7 @@ def work(given: Given) -> int:
             out.write((repairs_as_json(script, track.offset) if given.has(JSON) else script_of(script, track)).encode("utf-8"))
     if given.has(APPLY):
         report(given, *done)
-        return ALL_RIGHT if done[0].is_whole and ENDS_WITHIN_TIME not in track.notes else FOUND
+        return ALL_RIGHT if done[0].is_whole and not is_cut(track) else FOUND
     return FOUND if script else ALL_RIGHT
 
 
@@ -198,8 +200,7 @@ def apply(given: Given, track: Opened, editor: Editor, script: List[Repair], pro
 def reasons_of(track: Opened, script: List[Repair], refused: Refused) -> List[str]:
     """Why something is left: repairs that are not kept, steps that stay, what nothing decides, and a file that is cut."""
     left = [comment for repair in script if not refused.drops(repair) for comment in left_by(repair)]
-    cut = [note for note in track.notes if note == ENDS_WITHIN_TIME]
-    return [reason.removeprefix("# ") for reason in refused.reasons] + left + cut
+    return [reason.removeprefix("# ") for reason in refused.reasons] + left + cut_notes(track)
 
 
 def left_by(repair: Repair) -> List[str]:
@@ -225,7 +226,7 @@ def report(given: Given, done: Summary, code: Code, reasons: Sequence[str]) -> N
     if given.has(JSON):
         stream.write(json_lines([as_object(done, code, reasons)]))
         return
-    for line in (done.text(), *(reason for reason in reasons if reason != ENDS_WITHIN_TIME)):
+    for line in (done.text(), *(reason for reason in reasons if reason not in ENDS_WITHIN.values())):
         stream.write("%s: %s\n" % (given.names[0].translate(ESCAPED), line))
 
 

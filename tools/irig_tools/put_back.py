@@ -18,7 +18,7 @@ from .dump_source import Source
 from .dump_units import MICROSECOND
 from .editor import Problem
 from .merger import OTHER_LENGTH, Level, Merger, Origin
-from .wire import ENDS_WITHIN_TIME, Report, Wish, first_of, unit_in
+from .wire import ENDS_WITHIN, Report, Wish, first_of, unit_in
 from .wire_words import words_of
 
 ANOTHER = 0.9  # of the time for which a track is high: a wire that differs for longer is another one
@@ -109,7 +109,8 @@ class PutBack:
         self.source.free = True
         self._check_end(body)
         self.report.done.append("the wire is %s" % signal.text())
-        self.report.doubtful += [ENDS_WITHIN_TIME] if body.more == "cut" else []
+        within = body.ends_within(header)
+        self.report.doubtful += [ENDS_WITHIN[within]] if within else []
         self._say()
         return body
 

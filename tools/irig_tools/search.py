@@ -100,7 +100,7 @@ class Found:
     probes: List[Probe]
     looked_at: int
     dumps: int = 1
-    is_cut: bool = False  # the file ends within a time
+    is_cut: bool = False  # the file ends within a time or a value
     hopeless: int = 0  # wires that were looked at no longer
 
 
@@ -114,7 +114,9 @@ def search(path: str, unit: str, number: int) -> Found:
         every = Every(header)
         found = Found(header, named or TRIED[0], [], every.count())
         results.append(found)
-        return _look(source, every, {one: steps_of(one) for one in ([named] if named else TRIED)}, found)
+        body = _look(source, every, {one: steps_of(one) for one in ([named] if named else TRIED)}, found)
+        found.is_cut = bool(body.ends_within(header))
+        return body
 
     dumps = each_dump(source, number, use)
     found = results[0]
@@ -152,5 +154,4 @@ def _look(source: Source, every: Every, units: Dict[str, Dict[str, float]], foun
             wanted.drop(number, probe.signal.code)
             found.hopeless += 1
     found.probes = [probes[number] for number in sorted(probes)]
-    found.is_cut = body.more == "cut"
     return body

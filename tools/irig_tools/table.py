@@ -49,7 +49,7 @@ def utf8_lines(stream: IO[bytes]) -> Iterator[bytes]:
     decoder, rest = codecs.getincrementaldecoder("utf-16")("replace"), ""
     for piece in pieces:
         *whole, rest = (rest + decoder.decode(piece, not piece)).split("\n")
-        yield from (line.encode() for line in whole)
+        yield from (line.encode() + b"\n" for line in whole)
         if len(rest) >= LONGEST_LINE or not piece:
             yield rest.encode()
 
@@ -65,6 +65,7 @@ class Table(Samples):
         self.times = array("d")
         self.lost = 0  # stretches of rows
         self.others: List[Tuple[int, str]] = []  # columns with their names
+        self.is_open = False  # the last line has no end, so it can be cut
         self.lines = self._lines(stream_of(path))
         heads, first = self._heads([int(name) - 1 for name in (time, value) if name and WHOLE.fullmatch(name) and int(name)])
         self.rate = rate or rate_of(heads)
@@ -88,6 +89,7 @@ class Table(Samples):
     def _lines(self, stream: IO[bytes]) -> Iterator[str]:
         for line in utf8_lines(stream):
             self.number += 1
+            self.is_open = not line.endswith(b"\n")
             if len(line) >= LONGEST_LINE:
                 raise Problem("%s: line %d is too long for a table" % (self.path, self.number))
             yield decoded(line, "utf-8-sig" if self.number == 1 else "utf-8").strip("\r\n\0 ")
@@ -110,6 +112,9 @@ class Table(Samples):
         numbered = enumerate(line for line in chain([first], self.lines) if line and not line.startswith(";"))
         for number, line in numbered:
             fields = fields_of(line, form.parted)
+            if number and self.is_open and not self._is_whole(fields):
+                self.notes.append("the table ends within a row, so it is cut; that row is left out")
+                return
             value = self._value(fields, form.value)
             if form.time is None:
                 self._set_aside(number / self.rate, fields)
@@ -129,6 +134,11 @@ class Table(Samples):
         """The other columns of a row, at its time in the dump."""
         if self.aside:
             self.aside.take_row(self._seconds(since), [fields[place] if place < len(fields) else "" for place, _ in self.others])
+
+    def _is_whole(self, fields: Sequence[str]) -> bool:
+        """Whether a row that has no end has its numbers."""
+        places = [place for place in (self.form.time, self.form.value) if place is not None]
+        return all(place < len(fields) and NUMBER.fullmatch(fields[place]) for place in places)
 
     def _value(self, fields: Sequence[str], place: int) -> float:
         word = fields[place] if place < len(fields) else ""

@@ -21,8 +21,9 @@ file that is there. DUMP is any dump that irig_wire reads; - is standard input.
 """, (TIMESCALE, DUMP, JSON), """\
 The editor is the program that IRIG_ED names, or irig_ed on the path.
 The status is 0 if just one wire carries time code, 1 if none does or several,
-if no frame is fine, or if the file has several dumps or ends within a time, 2
-if the dump was not read, and 70 if memory ran out or the tool has a defect.
+if no frame is fine, or if the file has several dumps or ends within a time or
+a value, 2 if the dump was not read, and 70 if memory ran out or the tool has a
+defect.
 """)
 
 

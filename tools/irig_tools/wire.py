@@ -17,7 +17,7 @@ LONGEST_TIME = 1 << 40  # microseconds that the editor reads
 MOST_BYTES = 1 << 28
 MOST_EDGES = 1 << 23
 LINES = 1 << 14  # that are written at once
-ENDS_WITHIN_TIME = "the file ends within a time, so it is cut"
+ENDS_WITHIN = {"time": "the file ends within a time, so it is cut", "value": "the file ends within a value, so it is cut"}
 SWAPPED = {"0": "1", "1": "0", "x": "x", "z": "z"}
 
 
@@ -160,7 +160,7 @@ class Extract:
     def end(self, header: Header, body: Body, writer: Writer) -> None:
         """Says what was done."""
         self._say_header(header, writer.signal, writer.unit)
-        self._say_body(body, writer)
+        self._say_body(header, body, writer)
         self._say_limits(writer)
 
     def _say_header(self, header: Header, signal: Signal, unit: Unit) -> None:
@@ -176,7 +176,7 @@ class Extract:
         if self.wish.invert:
             say("high and low are swapped")
 
-    def _say_body(self, body: Body, writer: Writer) -> None:
+    def _say_body(self, header: Header, body: Body, writer: Writer) -> None:
         say, doubt, counts = self.report.done.append, self.report.doubtful.append, body.counts
         if writer.offset:
             say("%d of the dump's unit was subtracted from all times; a comment in the new dump has it" % writer.offset)
@@ -191,8 +191,8 @@ class Extract:
         if counts["strange"]:
             text = "words that mean no change were left out, %d of them; the first is '%s', after time %d"
             doubt(text % (counts["strange"], body.strange, body.strange_at))
-        if body.more == "cut":
-            doubt(ENDS_WITHIN_TIME)
+        if body.ends_within(header):
+            doubt(ENDS_WITHIN[body.ends_within(header)])
         if not writer.edges:
             doubt("the wire never changes; irig_what finds the wires with time code")
 
