@@ -140,7 +140,7 @@ def proposed(top):
     """The last line of irig_what leaves each file that is there, and leads to a track that can be edited."""
     for name, text, begin in PROPOSED:
         lines, status, _, is_left, _ = continued(top, name, text)
-        good = lines[-1].startswith(begin) and status < 2 and is_left and not any("damaged" in line for line in lines)
+        good = lines[-1].startswith(begin) and status < 2 and is_left and not any(line.startswith("damaged: ") for line in lines)
         good or print("FAILED irig_what %s: %s %s" % (name, lines[-2:], status))
         yield good
 

@@ -63,6 +63,16 @@ def bus(edges):
                      + ["#%d b%d00 ! 1c" % (time, level) for time, level in edges])
 
 
+def noisy():
+    """In frame 2 elements 45 to 74 are noise: pulses as wide as ones, 13 ms apart, so some are near control elements."""
+    edges, length = track("B", 6, 30000)
+    begin, end = 2040000 + 450000, 2040000 + 750000
+    noise = [(time + shift, level) for time in range(begin + 4000, end - 13000, 13000) for shift, level in ((0, 1), (5000, 0))]
+    return sorted([each for each in edges if not begin <= each[0] < end] + noise), length
+
+
+LOST = B[0][:222] + B[0][642:], B[1]  # frame 1 but for its first ten elements, frame 2, and twenty elements of frame 3
+
 # name, dump, arguments, status, parts of what is printed, the frames that the last line lists as fine
 ROWS = [
     ("format B", dump(*B), [], 0, ["upright, format B", "expression 2: 4 of 4 frames fine, 061 12:34:20"], 4),
@@ -70,6 +80,12 @@ ROWS = [
     ("code after much else", dump([*OPEN[0], *((time + OPEN[1], level) for time, level in B[0])], OPEN[1] + B[1]), [], 1,
      ["no wire of 1 carries time code", "1 wire changed 16,384 times without time code, and what follows was not looked at; "
       "irig_wire --from TIME"], None),
+    ("for how long it is sound", dump(*B), [], 0,
+     ["in seconds: sound 4.010000, damaged 0.000000, lost 0.000000, without frames 0.050000"], 4),
+    ("for how long it is lost", dump(*LOST), [], 0,
+     ["in seconds: sound 1.010000, damaged 1.000000, lost 2.000000, without frames 0.050000"], None),
+    ("noise that is near control elements", dump(*noisy()), [], 0,
+     ["expression 2: 5 of ", "  expressions 2, 1, 5 and 6 fit equally; 2 is first, because it has no unused"], None),
     ("format A", dump(*track("A", 5)), [], 0, ["expression 2: 5 of 5", "12:34:20.00 to 061 12:34:20.40"], 5),
     ("format E", dump(*track("E", 3)), [], 0, ["format E", "expression 2: 3 of 3"], 3),
     ("format G", dump(*track("G", 9)), [], 0, ["format G", "expression 2: 9 of 9"], 9),

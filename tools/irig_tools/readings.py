@@ -16,6 +16,7 @@ from .temporary import temporary_script
 from .unread import led
 
 EXPRESSIONS = {"A": range(8), "B": range(8), "E": (1, 2, 5, 6), "G": (1, 2, 5, 6)}
+NEXT_IN_STEP = 0.05  # of the interval
 CONTROL_TOO = {2: 1, 3: 0, 6: 5, 7: 4}  # expressions without control functions, and those that have them besides
 
 
@@ -119,11 +120,14 @@ def _choose_led(listing: Listing, found: Readings) -> None:
 
 
 def _has_control(listing: Listing) -> bool:
-    """Whether a one is at a control function, by its distance from the marker before it."""
+    """Whether a one is at a control function, by its distance from the marker before it. The pulses next to it have to be in step
+    with it: noise is not."""
     layout, rises = Layout(listing.kind, listing.expression), listing.rises
     markers = [rises[pair.start() + 1] for pair in re.finditer("P(?=P)", listing.classes)]
     interval, control = statistics.median(distances(rises)), set(layout.control)
-    ones = [rise for rise, name in zip(rises, listing.classes) if name == "1"]
+    in_step = [abs(after - before - 2 * interval) < 2 * NEXT_IN_STEP * interval and abs(rise - before - interval) < NEXT_IN_STEP * interval
+               for before, rise, after in zip(rises, rises[1:], rises[2:])]
+    ones = [rise for rise, name, good in zip(rises[1:], listing.classes[1:], in_step) if name == "1" and good]
     return any(round((rise - markers[max(0, bisect_right(markers, rise) - 1)]) / interval) % 100 in control for rise in ones)
 
 

@@ -5,14 +5,17 @@ from contextlib import ExitStack
 from dataclasses import dataclass, field
 from typing import IO, Dict, List, Optional, cast
 
+from .damage import look
 from .dump_choice import Signal
 from .dump_header import shown
 from .editor import Editor
 from .mend import propose
 from .opening import MOST_READ, needed_name, wire_name
+from .overview import lasting_of
 from .proposal import Proposal, no_option
 from .readings import Reading, Readings, is_read, read
 from .script import Repair
+from .sheet import STATES
 from .search import TRIED, Found, Probe, search
 from .temporary import named_if_no_room, temporary_track
 from .wire import Extract, Wish, extract_all
@@ -28,6 +31,7 @@ class CodeWire:
     readings: Readings
     doubtful: List[str]
     script: List[Repair] = field(default_factory=list)  # that irig_mend proposes
+    lasting: Dict[str, int] = field(default_factory=dict)  # for how many microseconds it is sound, damaged or lost
 
     @property
     def best(self) -> Optional[Reading]:
@@ -54,7 +58,16 @@ class CodeWire:
         else:
             seconds = self.readings.length / 1000000
             lines.append("  %d pulses in %.6f seconds" % (self.readings.pulses, seconds))
+            lines += self._lasting_line()
         return lines + ["  " + text for text in self._rows() + self.doubtful]
+
+    def _lasting_line(self) -> List[str]:
+        """For how long it is sound; the rest is before the first frame or after the last."""
+        if not self.lasting:
+            return []
+        rest = max(0, self.readings.length - sum(self.lasting.values()))
+        parts = ["%s %.6f" % (state, self.lasting[state] / 1000000) for state in STATES]
+        return ["  in seconds: %s, without frames %.6f" % (", ".join(parts), rest / 1000000)]
 
     def as_object(self) -> Dict[str, object]:
         """The same for a program."""
@@ -65,6 +78,7 @@ class CodeWire:
             "readings": [row.as_object() for row in self.readings.rows],
             "repairs": sum(1 for repair in self.script if repair.edits),
             "remarks": sum(1 for repair in self.script if not repair.edits),
+            **{state: self.lasting.get(state) for state in STATES},
             "refused": self.readings.refused or None, "notes": self.doubtful}
 
     def _rows(self) -> List[str]:
@@ -118,7 +132,9 @@ class What:
         kind, inverted = probe.kind
         carrier = CodeWire(probe.signal, inverted, kind, read(track, kind), extract.report.doubtful)
         if carrier.fine or carrier.led:
-            carrier.script = _script(track, kind, carrier.expression)
+            editor = Editor(["--format", kind, "--expression", str(carrier.expression), track])
+            carrier.script = propose(editor, lambda text: None)
+            carrier.lasting = lasting_of(look(editor, lambda text: None))
         return carrier
 
     def lines(self) -> List[str]:
@@ -173,9 +189,3 @@ class What:
 
     def _wire_option(self) -> Optional[str]:
         return needed_name(self.found.header, self.carriers[0].signal)
-
-
-def _script(track: str, kind: str, expression: int) -> List[Repair]:
-    """What irig_mend proposes for a track of one wire."""
-    options = ["--format", kind, "--expression", str(expression), track]
-    return propose(Editor(options), lambda text: None)

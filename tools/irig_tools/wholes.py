@@ -138,7 +138,7 @@ def _generate(faults: Faults, frames: List[_Lost]) -> Item:
         len(lost), many, first.rise, faults.times.name(first.number))
     control = ["%x" % first.shown[0]] if first.shown[0] else []
     if control:
-        why += " and to the control functions " + control[0]
+        why += " and to the control functions 0x" + control[0]
     guessed = sorted({place % 100 for place in faults.guesses if own[0] <= place <= own[-1]})
     if guessed:
         why += "; undecided are the control elements %s" % ", ".join(map(str, guessed))
