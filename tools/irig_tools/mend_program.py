@@ -19,6 +19,7 @@ from .damage_program import say_notes
 from .editor import Editor, Progress, progress_to
 from .ending import ALL_RIGHT, ESCAPED, FOUND, Usage, complain, name_of
 from .explain import explained
+from .folder_program import APPLY_TO, JOBS, REPORT, mend_folder
 from .facts import json_lines, repairs_as_json
 from .kinds import STEPS
 from .mend import called_for, propose, script_text
@@ -55,13 +56,15 @@ expression are found if they are not given:
 
   irig_mend --apply new.vcd track.vcd                 one command
   irig_mend --apply new.vcd --into all.vcd all.vcd    with all other wires
+  irig_mend --apply-to mended recordings              all recordings of a folder
   irig_mend --expression 4 track.vcd > repair.ed      read it, change it
   (cat repair.ed; echo write) | irig_ed --expression 4 --out new.vcd track.vcd
-""", (*EDITOR, TIMESCALE, DUMP, PAGE_OF_REPAIRS, STEADY, MOVE, EXPLAIN, OUTPUT, APPLY, SAVE, INTO, JSON), """\
+""", (*EDITOR, TIMESCALE, DUMP, PAGE_OF_REPAIRS, STEADY, MOVE, EXPLAIN, OUTPUT, APPLY, SAVE, INTO, APPLY_TO, REPORT, JOBS, JSON), """\
 The editor is the program that IRIG_ED names, or irig_ed on the path.
 The status is 0 if there is nothing to repair, 1 if there is something, 2 if the
 track was not read, and 70 if memory ran out or the tool has a defect. With
---apply it is 0 if no damage is left, and 1 if some is.
+--apply it is 0 if no damage is left, and 1 if some is; with --apply-to 0 if so
+it is for all recordings, and else 1.
 """)
 
 
@@ -75,6 +78,9 @@ def find_programs(given: Given) -> None:
 
 def work(given: Given) -> int:
     check(given)
+    if given.has(APPLY_TO):
+        find_guard()
+        return mend_folder(given, (STEADY, MOVE, SAVE), PAGE_OF_REPAIRS)
     find_programs(given)
     progress = progress_to(sys.stderr)
     with ExitStack() as outputs, taken(given) as (track, original):
@@ -115,9 +121,14 @@ def explain(editor: Editor, given: Given) -> int:
 
 def check(given: Given) -> None:
     """Refuses options that exclude each other, and outputs that are an input."""
-    for option in (SAVE, INTO):
-        if given.has(option) and not given.has(APPLY):
-            raise Usage("%s is only for --apply" % option.name)
+    for option, needed in ((SAVE, (APPLY, APPLY_TO)), (INTO, (APPLY,)), (REPORT, (APPLY_TO,)), (JOBS, (APPLY_TO,))):
+        if given.has(option) and not any(map(given.has, needed)):
+            raise Usage("%s is only for %s" % (option.name, " and ".join(each.name for each in needed)))
+    for option in (APPLY, INTO, OUTPUT, EXPLAIN):
+        if given.has(APPLY_TO) and given.has(option):
+            raise Usage("--apply-to and %s exclude each other" % option.name)
+    if given.has(APPLY_TO):
+        return
     for option in (APPLY, PAGE_OF_REPAIRS, JSON):
         if given.has(EXPLAIN) and given.has(option):
             raise Usage("--explain and %s exclude each other" % option.name)

@@ -1,0 +1,225 @@
+"""Rows for `irig_mend --apply-to`: each recording of a folder to a file of the same name, and a table, worst first."""
+import csv
+import fcntl
+import gzip
+import io
+import json
+import os
+import signal
+import subprocess
+import sys
+import time
+from unittest import mock
+
+from built import TOP
+from cases import case
+from random_input import damages
+from rows.in_process import run
+from rows.tools_apply import END, both, glitch, in_folder, nanoseconds, others, recorded, same, text_of
+
+TO = ["--apply-to", "mended", "--expression=4"]
+RUN_BEFORE = " from a run before"
+
+
+def write_all(files):
+    """Writes texts as files, in folders if a name has some."""
+    for name, text in files.items():
+        os.makedirs(os.path.dirname(name) or ".", exist_ok=True)
+        with open(name, "wb") as file:
+            file.write(text if isinstance(text, bytes) else text.encode("ascii"))
+
+
+def of_kinds():
+    """Recordings of one name in two folders: one with a glitch and other wires, a sound one; one with a step; and what is none."""
+    return {"in/rec.vcd": nanoseconds(recorded(glitch)), "in/deep/rec.vcd": damages.dump(recorded(), END),
+            "in/deep/step.vcd": damages.dump(recorded(both), END + 3300), "in/cut.vcd": damages.dump(recorded(), END)[:-6],
+            "in/junk.vcd": "no dump at all\n", "in/notes.txt": "a note\n", "in/.hidden.vcd": "x"}
+
+
+# a recording, its wire, places, repaired, undecided, left, steps, frames before and after, and status: worst first
+ROWS = [
+    ["junk.vcd", "", "", "", "", "", "", "", "", "2"],
+    ["deep/step.vcd", "code", "2", "1", "0", "0", "1", "5", "6", "1"],
+    ["cut.vcd", "code", "0", "0", "0", "0", "0", "7", "7", "1"],
+    ["deep/rec.vcd", "code", "0", "0", "0", "0", "0", "7", "7", "0"],
+    ["rec.vcd", "top.rx.irig", "1", "1", "0", "0", "0", "6", "7", "0"],
+]
+NAMES = ("recording", "wire", "found", "repaired", "undecided", "left", "steps", "sound_before", "sound_after", "status")
+SUMS = "5 recordings: 2 whole, 2 with damage left, 1 not repaired; 3 places found, 2 repaired; 25 frames sound before, 27 after"
+
+
+def rows_of(text):
+    return [[row[name] for name in NAMES] for row in csv.DictReader(io.StringIO(text))]
+
+
+def outputs():
+    """The files below the folder of the results, without the record."""
+    found = [os.path.relpath(os.path.join(place, name), "mended") for place, _, names in os.walk("mended") for name in names]
+    return sorted(set(found) - {"irig_mend.done"})
+
+
+def mended(*words):
+    """The status, the lines that are printed, and what is said."""
+    status, printed, said = run("irig_mend", [*TO, *words, "in"])
+    return status, printed.decode().splitlines(), said
+
+
+def table():
+    """Each recording has a row, in the table and in the report, and its result has all its wires."""
+    def holds():
+        write_all(of_kinds())
+        before = {name: text_of(name) for name in of_kinds()}
+        status, lines, said = mended("--report", "table.csv", "--page", "page.html", "--jobs", "2")
+        yield same("the status, and the sums", (status, lines[-1]), (1, SUMS))
+        yield same("the report", rows_of(text_of("table.csv")), ROWS)
+        yield same("the table", [line.split()[0] for line in lines[1:6]], [row[0] for row in ROWS])
+        why = [line for line in lines[6:-1] if line.startswith(("junk.vcd: ", "deep/step.vcd: ", "cut.vcd: "))]
+        yield same("the reasons", len(why), len(lines) - 7)
+        yield same("of a file that is cut", "cut.vcd: the file ends within a time, so it is cut" in why, True)
+        yield same("what is left out", "in: 1 of the files are no dumps and are left out: notes.txt" in said, True)
+        yield same("the results", outputs(), ["cut.vcd", "deep/rec.vcd", "deep/step.vcd", "rec.vcd"])
+        yield same("the recordings", {name: text_of(name) for name in before}, before)
+        yield same("the other wires", others(text_of("mended/rec.vcd")), others(before["in/rec.vcd"]))
+        run("irig_mend", ["--expression=4", "--apply", "one.vcd", "--into", "in/deep/step.vcd", "in/deep/step.vcd"])
+        yield same("a result", text_of("mended/deep/step.vcd"), text_of("one.vcd"))
+        with open("page.html", encoding="utf-8") as file:
+            page = file.read()
+        yield same("the page", (page.count("<tr class="), page.count('<tr class="whole">'), SUMS in page), (5, 2, True))
+
+    return in_folder(lambda: list(holds()))
+
+
+def goes_on():
+    """What was done is not done again, unless a file or an option has changed or the line of the record is cut."""
+    def holds():
+        write_all(of_kinds())
+        os.remove("in/junk.vcd")
+        mended()
+        files = {name: os.stat("mended/" + name).st_mtime_ns for name in outputs()}
+
+        def again(name, words, done):
+            status, lines, _ = mended(*words)
+            kept = {each for each, written in files.items() if os.stat("mended/" + each).st_mtime_ns == written}
+            files.update((each, os.stat("mended/" + each).st_mtime_ns) for each in files)
+            yield same(name, (status, set(files) - kept), (1, set(done)))
+            yield same(name + ", the sums", lines[-1].endswith("; %d%s" % (len(kept), RUN_BEFORE)), bool(kept))
+
+        yield from again("nothing has changed", [], [])
+        with open("in/rec.vcd", "a", encoding="ascii") as file:
+            file.write("\n")
+        yield from again("a recording has changed", [], ["rec.vcd"])
+        with open("mended/cut.vcd", "a", encoding="ascii") as file:
+            file.write("\n")
+        yield from again("a result has changed", [], ["cut.vcd"])
+        with open("mended/irig_mend.done", "rb+") as file:
+            file.truncate(os.path.getsize("mended/irig_mend.done") - 20)  # that of the last one
+        yield from again("a line of the record is cut", [], ["cut.vcd"])
+        yield from again("and whole again", [], [])
+        yield from again("another rule", ["--steady"], files)
+        yield from again("as a track with its steps", ["--save"], files)
+        yield same("with --save", "irig-journal-1" in text_of("mended/cut.vcd"), True)
+
+    return in_folder(lambda: list(holds()))
+
+
+def packed():
+    """A result is not packed; if its name is taken, it has another."""
+    def holds():
+        text = damages.dump(recorded(glitch), END)
+        write_all({"in/a.vcd": text, "in/a.vcd.gz": gzip.compress(text.encode()), "in/b.VCD.GZ": gzip.compress(text.encode()),
+                   "in/dump": text, "in/table.csv": "1,2\n"})
+        status, lines, said = mended()
+        yield same("packed", (status, outputs()), (0, ["a.vcd", "a.vcd.gz.vcd", "b.VCD", "dump"]))
+        yield same("what is left out", "left out: table.csv\n" in said, True)
+        yield same("all are one", {text_of("mended/" + name) for name in outputs()}, {text_of("mended/a.vcd")})
+
+    return in_folder(lambda: list(holds()))
+
+
+def never_over():
+    """No result is written over a recording, whatever leads there, and neither is a report."""
+    def holds():
+        write_all(of_kinds())
+        os.makedirs("mended")
+        os.symlink(os.path.abspath("in/rec.vcd"), "mended/cut.vcd")
+        os.link("in/deep/step.vcd", "mended/rec.vcd")
+        before = {name: text_of(name) for name in of_kinds()}
+        status, printed, _ = run("irig_mend", [*TO, "--json", "in"])
+        found = {each["recording"]: each for each in map(json.loads, printed.decode().splitlines())}
+        bad = sorted(name for name, each in found.items() if each["status"] == 2)
+        yield same("results over recordings", (status, bad), (1, ["cut.vcd", "junk.vcd", "rec.vcd"]))
+        yield same("why", found["rec.vcd"]["reasons"], ["mended/rec.vcd would be written over the recording in/deep/step.vcd"])
+        yield same("the recordings", {name: text_of(name) for name in before}, before)
+        for words, text in ((["--apply-to", "in", "in"], "--apply-to in would write over the recordings that are read"),
+                            ([*TO, "--report", "in/rec.vcd", "in"], "--report in/rec.vcd would write over in/rec.vcd"),
+                            ([*TO, "--page", "mended/deep/rec.vcd", "in"], "would write over mended/deep/rec.vcd"),
+                            ([*TO, "--page", "x", "--report", "./x", "in"], "--report and --page are one file"),
+                            ([*TO, "in/rec.vcd"], "in/rec.vcd: is no folder; --apply FILE repairs one recording"),
+                            ([*TO, "none"], "none: No such file or directory"), ([*TO, "--jobs", "0", "in"], "--jobs needs a whole"),
+                            ([*TO, "--out", "x", "in"], "--apply-to and --out exclude each other"),
+                            (["--report", "x", "in/rec.vcd"], "--report is only for --apply-to")):
+            status, printed, said = run("irig_mend", words)
+            yield same(" ".join(words), (status, printed, text in said), (2, b"", True))
+
+    return in_folder(lambda: list(holds()))
+
+
+SLOW = """#!/bin/sh
+echo x >> '%s'
+sleep 0.4
+exec '%s' "$@"
+"""
+
+
+def ended():
+    """A run that is ended goes on where it was, and leaves nothing but results."""
+    def holds():
+        text = damages.dump(recorded(glitch), END)
+        write_all({"in/%d.vcd" % number: text for number in range(4)})
+        os.mkdir("tmp")
+        for name in ("irig_ed", "irig_guard"):
+            program = os.path.join(os.path.dirname(os.environ["IRIG_ED"]), "../../%s/out/%s" % (name, name))
+            write_all({name: SLOW % (os.path.abspath("begun"), os.path.abspath(program))})
+            os.chmod(name, 0o755)
+        slow = dict(os.environ, IRIG_ED=os.path.abspath("irig_ed"), TMPDIR=os.path.abspath("tmp"))
+        command = [sys.executable, "-S", os.path.join(TOP, "tools", "irig_mend"), *TO, "--jobs=1", "in"]
+        for number, wanted in ((signal.SIGTERM, 143), (signal.SIGINT, 130), (signal.SIGKILL, -9)):
+            process = subprocess.Popen(command, env=slow, stdout=subprocess.DEVNULL, stderr=subprocess.PIPE, text=True)
+            done = len(outputs())
+            while len(outputs()) == done and process.poll() is None:
+                time.sleep(0.05)
+            time.sleep(0.3)
+            process.send_signal(number)
+            said = process.communicate()[1]
+            yield same("the status after signal %d" % number, process.returncode, wanted)
+            if number != signal.SIGKILL:
+                yield same("what is said", "of 4 recordings are looked at; the same command does the others" in said, True)
+                yield same("what is left", (os.listdir("tmp"), [name for name in os.listdir("mended") if name[0] == "."]), ([], []))
+        kept = {name: os.stat("mended/" + name).st_mtime_ns for name in outputs()[:2]}
+        status, lines, _ = mended()
+        yield same("the rest is done", (status, outputs()), (0, ["%d.vcd" % number for number in range(4)]))
+        yield same("and no more", {name: os.stat("mended/" + name).st_mtime_ns for name in kept}, kept)
+        yield same("what is said then", RUN_BEFORE in lines[-1], True)
+
+    return in_folder(lambda: list(holds()))
+
+
+def alone():
+    """Two runs never work on one folder; what cannot be looked at is a row."""
+    def holds():
+        write_all(of_kinds())
+        mended()
+        with open("mended/irig_mend.done", "rb") as file:
+            fcntl.flock(file, fcntl.LOCK_EX)
+            yield same("another run", mended()[::2], (2, mended()[2]))
+            yield same("what is said", "mended: another irig_mend works on this folder" in mended()[2], True)
+        with mock.patch("os.scandir", side_effect=PermissionError(13, "Permission denied", "in")):
+            status, lines, _ = mended()
+            yield same("a folder that cannot be read", (status, ".: Permission denied" in lines), (1, True))
+
+    return in_folder(lambda: list(holds()))
+
+
+def cases(top):
+    """Each part by its name."""
+    return [case("folder: " + part.__name__, part) for part in (ended, table, goes_on, packed, never_over, alone)]

@@ -1,0 +1,112 @@
+"""What became of the recordings of a folder: a row for each, worst first, as a table, as CSV and as JSON."""
+from __future__ import annotations
+
+import csv
+import io
+from dataclasses import dataclass, field
+from typing import Any, Dict, List, Sequence, Tuple
+
+from .ending import ALL_RIGHT, ESCAPED, FOUND
+from .texts import counted
+
+COUNTS = ("found", "repaired", "guessed", "undecided", "left", "steps", "refused", "sound_before", "sound_after")
+# the head of each column of the table, and what is in it
+HEADS_OF_TABLE = (
+    ("recording", "recording"), ("wire", "wire"), ("format", "format"), ("expression", "expression"), ("places", "found"),
+    ("repaired", "repaired"), ("left", "open"), ("frames before", "sound_before"), ("after", "sound_after"), ("status", "status"))
+# those of the report
+REPORTED = ("recording", "result", "wire", "format", "expression", *COUNTS[:-2], "sound_before", "sound_after", "status", "reasons")
+
+
+@dataclass(frozen=True)
+class Result:
+    """What became of one recording; of one that was not read there are no counts."""
+
+    recording: str
+    result: str  # the name of the file that was written, if one was
+    status: int
+    reasons: Sequence[str] = ()
+    wire: str = ""
+    format: str = ""
+    expression: object = ""
+    counts: Dict[str, int] = field(default_factory=dict)
+    is_kept: bool = False  # from a run before
+
+    @property
+    def is_read(self) -> bool:
+        return self.status in (ALL_RIGHT, FOUND)
+
+    @property
+    def needs_a_person(self) -> bool:
+        return self.status != ALL_RIGHT
+
+    @property
+    def open(self) -> int:
+        """How many places are not repaired."""
+        return sum(self.counts.get(name, 0) for name in ("undecided", "left", "steps"))
+
+    def cell(self, name: str) -> object:
+        """What a column has."""
+        if name in COUNTS or name == "open":
+            return "" if not self.counts else self.open if name == "open" else self.counts.get(name, 0)
+        return "; ".join(self.reasons) if name == "reasons" else getattr(self, name)
+
+    def rank(self) -> Tuple[Any, ...]:
+        """The worst first: what was not read, then by what is left, then by the frames that are lost."""
+        lost = self.counts.get("sound_before", 0) - self.counts.get("sound_after", 0)
+        read = -self.status if not self.is_read else 0
+        return not self.needs_a_person, self.is_read, read, -self.open, -self.counts.get("refused", 0), -lost, self.recording
+
+    def as_object(self) -> Dict[str, object]:
+        """The same for a program."""
+        return {"recording": self.recording, "result": self.result or None, "wire": self.wire or None, "format": self.format or None,
+                "expression": self.expression if self.is_read else None, "status": self.status,
+                "summary": {name: self.counts[name] for name in COUNTS} if self.counts else None, "reasons": list(self.reasons)}
+
+
+def of_object(found: Dict[str, Any], is_kept: bool = False) -> Result:
+    """The result that an object is."""
+    expression = "" if found["expression"] is None else found["expression"]
+    return Result(found["recording"], found["result"] or "", found["status"], found["reasons"], found["wire"] or "",
+                  found["format"] or "", expression, found["summary"] or {}, is_kept)
+
+
+def worst_first(results: Sequence[Result]) -> List[Result]:
+    return sorted(results, key=Result.rank)
+
+
+def table_of_all(results: Sequence[Result]) -> str:
+    """The rows, one below the other, then a reason for each that needs a person, and the sums."""
+    rows = [[head for head, _ in HEADS_OF_TABLE]]
+    rows += [[str(each.cell(name)).translate(ESCAPED) for _, name in HEADS_OF_TABLE] for each in results]
+    wide = [max(len(row[column]) for row in rows) for column in range(len(HEADS_OF_TABLE))]
+    lines = ["  ".join(cell.rjust(size) if 3 < column else cell.ljust(size)
+                       for column, (cell, size) in enumerate(zip(row, wide))).rstrip() for row in rows]
+    return "".join(line + "\n" for line in lines + [reason_of(each) for each in results if each.needs_a_person] + [sums(results)])
+
+
+def reason_of(result: Result) -> str:
+    """Why a recording needs a person, in a line."""
+    reasons = list(result.reasons) or ["damage is left: irig_damage lists it"]
+    more = " (and %d more)" % (len(reasons) - 1) if len(reasons) > 1 else ""
+    return "%s: %s%s" % (result.recording.translate(ESCAPED), reasons[0].translate(ESCAPED), more)
+
+
+def sums(results: Sequence[Result]) -> str:
+    total = {name: sum(each.counts.get(name, 0) for each in results) for name in COUNTS}
+    unread = sum(not each.is_read for each in results)
+    left = sum(each.needs_a_person for each in results) - unread
+    kept = sum(each.is_kept for each in results)
+    return "%s: %d whole, %d with damage left, %d not repaired; %s found, %s repaired; %s sound before, %s after%s" % (
+        counted(len(results), "recording"), len(results) - left - unread, left, unread, counted(total["found"], "place"),
+        format(total["repaired"], ","), counted(total["sound_before"], "frame"), format(total["sound_after"], ","),
+        "; %d from a run before" % kept if kept else "")
+
+
+def report_of(results: Sequence[Result]) -> bytes:
+    """The table as CSV; a name has its own bytes."""
+    text = io.StringIO()
+    rows = csv.writer(text, lineterminator="\n")
+    rows.writerow(REPORTED)
+    rows.writerows([each.cell(name) for name in REPORTED] for each in results)
+    return text.getvalue().encode("utf-8", "surrogateescape")
