@@ -591,7 +591,7 @@ def processes(top):
                 (folder, "%s: %s: is a folder" % (tool, folder)),
                 ("", "%s: no TRACK is given (%s --help says more)" % (tool, tool)),
                 ("--expression 4", "%s: no TRACK is given (%s --help says more)" % (tool, tool)),
-                ("--page= " + sound, "%s: --page needs a file (%s --help says more)" % (tool, tool)),
+                ("--page= " + sound, "%s: --page needs a file: --page FILE (%s --help says more)" % (tool, tool)),
                 ("--stedy " + sound, "%s: '--stedy' is no option (%s --help says more)" % (tool, tool)),
             ):
                 yield same("%s %s" % (tool, words), run(top, "%s %s" % (tool, words)), (2, "", complaint))

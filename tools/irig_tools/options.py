@@ -168,5 +168,5 @@ class Command:
         if not option.value:
             return "%s has no value" % name
         if error.message.startswith(NO_VALUE):
-            return "%s needs a %s" % (name, "file" if option.value in FILE_VALUES else "value")
+            return "%s needs a %s: %s %s" % (name, "file" if option.value in FILE_VALUES else "value", name, option.value)
         return "%s %s" % (name, error.message)
