@@ -87,7 +87,7 @@ def with_noise(rng, pulses, begin, long, many):
 
 def slow_choice(faults, pulses, place, target):
     """Each stretch of the pulses is joined in turn: that with the fewest edits is chosen, of these the one that is off least."""
-    due, width, stray = faults.track.rise_at(place), faults.width(target), faults.track.stray_at(place)
+    due, width, stray = faults.track.rise_at(place), faults.width(target, place), faults.track.stray_at(place)
     found = []
     for first in range(len(pulses)):
         for last in range(first, len(pulses)):
