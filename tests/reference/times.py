@@ -50,7 +50,8 @@ def frames_of(kind, expression, pulses):
         values, note = timecode.decode(kind, expression, timecode.ones_of(interval, pulses, marker))
         micros = 1_000_000 * values["seconds"] + 10_000 * values.get("hundredths", 0)
         if note == "fine" and micros + PERIOD[kind] <= LONG_MINUTE:
-            found.append(Frame(marker, pulses[marker][0], Time(values.get("year"), values["days"], values["hours"], values["minutes"], micros)))
+            shown = Time(values.get("year"), values["days"], values["hours"], values["minutes"], micros)
+            found.append(Frame(marker, pulses[marker][0], shown))
     return found
 
 

@@ -60,6 +60,22 @@ def two_in_a_frame(pulses):
         pulses[number][1] = pulses[number][0] + width
 
 
+def other_code(pulses):
+    """Zeros of format A for nine tenths of a second, in a hole of two frames."""
+    pulses[230:330] = [[2310000 + 1000 * at, 2310200 + 1000 * at] for at in range(900)]
+
+
+def dropout(pulses):
+    """Thirteen pulses are lost, and the next one rises late."""
+    pulses[430][0] += 300
+    del pulses[417:430]
+
+
+def late_rise(pulses):
+    """In a frame that is fine."""
+    pulses[430][0] += 300
+
+
 def recorded(change=lambda pulses: None):
     pulses = tools.recording()
     change(pulses)
@@ -117,6 +133,13 @@ APPLIED = (
      "1 place found, 1 repaired, 0 undecided, 0 left, 0 steps that stay; 6 frames sound before, 7 after", recorded),
     ("two damages in a frame, which reads another time after one repair alone", two_in_a_frame, "", 0,
      "2 places found, 2 repaired, 0 undecided, 0 left, 0 steps that stay; 6 frames sound before, 7 after", recorded),
+    ("code of another format is left", other_code, "", 1,
+     "1 place found, 0 repaired, 1 undecided, 0 left, 0 steps that stay; 5 frames sound before, 5 after", lambda: recorded(other_code)),
+    ("a dropout, after which a rise is late", dropout, "", 0,
+     "1 place found, 1 repaired, 0 undecided, 0 left, 0 steps that stay; 6 frames sound before, 7 after", recorded),
+    ("a late rise in a frame that is fine, of which the guard moves no pulse", late_rise, "", 1,
+     "1 place found, 0 repaired, 0 undecided, 1 left, 0 steps that stay, 2 lines refused; 7 frames sound before, 7 after",
+     lambda: recorded(late_rise)),
     ("a glitch, and a step that stays", both, "", 1,
      "2 places found, 1 repaired, 0 undecided, 0 left, 1 step that stays; 5 frames sound before, 6 after", lambda: recorded(late)),
     ("the same, with --move", both, "--move", 0,
