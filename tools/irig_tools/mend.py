@@ -3,7 +3,7 @@ no frame is worse."""
 from __future__ import annotations
 
 from dataclasses import dataclass, field
-from typing import Dict, List, Sequence, Set, Tuple
+from typing import Dict, List, Optional, Sequence, Set, Tuple
 
 from . import limits
 from .analysis import Findings, looks
@@ -78,10 +78,14 @@ class _Mending:
         self.remarks = [each for each in found if not each.edits]
         self.script += [each for each in found if each.edits and each.text() not in self.refused]
 
+    def first_look(self) -> Tuple[int, Listing, Findings]:
+        """The first look at pulses that have their classes, or some of them."""
+        return next((look for look in self.looks if not look[2].whole or look[2].partly), self.looks[-1])
+
     def harms(self) -> List[Harm]:
         """What the script makes worse, if the pulses had their classes before it, or some of them."""
         last = self.looks[-1][2]
-        done, before, first = next((look for look in self.looks if not look[2].whole or look[2].partly), self.looks[-1])
+        done, before, first = self.first_look()
         clock = first.clock or last.clock
         if clock is None or last.clock is None or not self.script[done:]:
             return []
@@ -128,17 +132,20 @@ def _together(script: Sequence[Repair]) -> List[Repair]:
     return [*script[:first], one_of(script[first:beyond]), *script[beyond:]]
 
 
-def propose(editor: Editor, progress: Progress, steady: bool = False, move: bool = False) -> List[Repair]:
+def propose(editor: Editor, progress: Progress, steady: bool = False, move: bool = False,
+            seen: Optional[List[Findings]] = None) -> List[Repair]:
     """The script that repairs what the editor's track has; no line of it is refused, and none makes a frame worse.
     If control functions are `steady`, no frame has others than most. If not `move`, no rest is moved, and neither if only
     some of those could be that belong together.
 
-    First are remarks: what is undecided when all repairs are made."""
+    First are remarks: what is undecided when all repairs are made. `seen` gets what is found in the track as it is."""
     refused: Set[str] = set()
     taken: Dict[int, Repair] = {}
     for turn in range(limits.MOST_CHECKS):
         mending = _Mending(editor, progress, steady, move, refused)
         mending.run()
+        if seen is not None and not seen:
+            seen.append(mending.first_look()[2])
         harms = mending.harms()
         if not harms:
             break

@@ -6,7 +6,7 @@ from collections import Counter
 from dataclasses import replace
 from typing import Dict, Iterator, List, Optional, Sequence, Tuple
 
-from .analysis import Part
+from .analysis import Findings, Part
 from .damage import THE_WHOLE, Damage, Seen
 from .editor import Listing
 from .ending import ESCAPED
@@ -34,8 +34,9 @@ def sheet_of(name: str, wire: str, seen: Seen, script: Sequence[Repair] = (), af
     said = tuple(each.seen for each in notes)
     if changes:
         places = [_made(place) for place in places]
-    return Sheet(name, seen.listing.length, layout.interval, kind, _stretches(seen), tuple(places), lines, said, changes,
-                 wire=wire, span=_span_of_times(seen), clock=tuple(_clock_of(seen)))
+    length = seen.listing.length
+    return Sheet(name, length, layout.interval, kind, _stretches(seen.findings, length), tuple(places), lines, said, changes, wire=wire,
+                 span=_span_of_times(seen), clock=tuple(_clock_of(seen)))
 
 
 def of_program(sheet: Sheet, program: str, summary: str) -> Sheet:
@@ -100,15 +101,15 @@ def _place_of_damage(seen: Seen, damage: Damage, script: Sequence[Repair], after
     return Place(damage.at, until, damage.seen.partition(";")[0], damage.seen, before, wave, lines, damage.name)
 
 
-def _stretches(seen: Seen) -> Tuple[Stretch, ...]:
-    found = [stretch for part in reversed(seen.findings.parts) for stretch in _frame_stretches(part, seen.listing.length)]
-    return merged(found) if found else (Stretch(0, seen.listing.length, DAMAGED),)
+def _stretches(findings: Findings, length: int) -> Tuple[Stretch, ...]:
+    found = [stretch for part in reversed(findings.parts) for stretch in _frame_stretches(part, length)]
+    return merged(found) if found else (Stretch(0, length, DAMAGED),)
 
 
-def lasting_of(seen: Seen) -> Dict[str, int]:
-    """For how many microseconds a recording is in each state."""
+def lasting_of(findings: Findings, length: int) -> Dict[str, int]:
+    """For how many microseconds a recording of this length is in each state."""
     found = dict.fromkeys(STATES, 0)
-    for stretch in _stretches(seen):
+    for stretch in _stretches(findings, length):
         found[stretch.state] += stretch.end - stretch.start
     return found
 

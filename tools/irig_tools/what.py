@@ -5,7 +5,7 @@ from contextlib import ExitStack
 from dataclasses import dataclass, field
 from typing import IO, Dict, List, Optional, cast
 
-from .damage import look
+from .analysis import Findings
 from .dump_choice import Signal
 from .dump_header import shown
 from .editor import Editor
@@ -133,8 +133,9 @@ class What:
         carrier = CodeWire(probe.signal, inverted, kind, read(track, kind), extract.report.doubtful)
         if carrier.fine or carrier.led:
             editor = Editor(["--format", kind, "--expression", str(carrier.expression), track])
-            carrier.script = propose(editor, lambda text: None)
-            carrier.lasting = lasting_of(look(editor, lambda text: None))
+            seen: List[Findings] = []
+            carrier.script = propose(editor, lambda text: None, seen=seen)
+            carrier.lasting = lasting_of(seen[0], carrier.readings.length)
         return carrier
 
     def lines(self) -> List[str]:
