@@ -457,7 +457,7 @@ def kinds():
             yield same("the kinds of " + name, (len(found), "other" in [each["kind"] for each in found]), (len(wanted), False))
             told = run("irig_mend", ["--apply", "mended.vcd", *words])[1].decode()
             counted = [int(re.search(r"(\d+) %s" % each, told)[1]) for each in ("undecided", "step")]
-            said = [sum(line.startswith("# %s: " % each) for line in told.splitlines()) for each in ("undecided", "stays")]
+            said = [sum(line.startswith("row.vcd: %s: " % each) for line in told.splitlines()) for each in ("undecided", "stays")]
             yield same("the count of " + name, counted, said)
         changing = tools.recording(12)
         for frame in (4, 7, 8):
