@@ -5,6 +5,7 @@ pub mod helpers;
 mod refused_growths;
 mod row;
 mod rows;
+mod slow_output;
 mod stopped_disks;
 mod stops;
 mod watched_files;
