@@ -69,6 +69,10 @@ class Bearing:
         """Whether they do not contradict each other."""
         return self.is_far(one, other) or self.is_shown(one, other)
 
+    def agrees(self, one: Shown, other: Shown) -> bool:
+        """Whether they are near enough for their distance to say how many frames it is, and their times are as many apart."""
+        return not self.is_far(one, other) and self.is_shown(one, other)
+
     def is_shown(self, one: Shown, other: Shown) -> bool:
         """Whether the distance shows as many frame periods as the times."""
         return self.count(one, other) > 0 and 2 * self.stray(one, other) < self.frame
@@ -94,29 +98,40 @@ class Bearing:
         due, found = many * (last.rise - first.rise), whole * (other.rise - one.rise)
         return many > 0 and 2 * abs(found - due) <= whole * self.interval
 
+    def shows_any_clock(self, one: Shown, other: Shown) -> bool:
+        """Whether two frames agree, and show a clock that is off by 8 in 100 at most."""
+        return self.is_shown(one, other) and 100 * self.stray(one, other) <= 8 * self.count(one, other) * self.frame
+
+    def is_own_clock(self, near: Near) -> bool:
+        """Whether the frames on both sides show the clock that the two before show, or the two after, to half an interval."""
+        if near.before is None or near.after is None or not self.shows_any_clock(near.before, near.after):
+            return False
+        others = [pair for pair in ((near.before_last, near.before), (near.after, near.after_next)) if pair[0] and pair[1]]
+        return any(self.shows_any_clock(*pair) and self.in_time(pair, near.before, near.after) for pair in others)
+
     def by_clock(self, near: Near, frame: Shown) -> bool:
-        """Whether a frame is where the clock of the two nearest has it."""
+        """Whether a frame is where the clock of the two nearest has it, which is off by a fortieth at most or is the recording's own."""
         two = near.two()
-        if two is None or not self.shows_clock(*two):
+        if two is None or not (self.shows_clock(*two) or self.is_own_clock(near)):
             return False
         return self.in_time(two, near.before, frame) if near.before else self.in_time(two, frame, two[0])
 
-    # what is believed
+    # what is heard
 
-    def is_doubted(self, before: Optional[Shown], frame: Optional[Shown], after: Optional[Shown]) -> bool:
-        """Whether a frame is contradicted by both others, which do not contradict each other."""
+    def is_overruled(self, before: Optional[Shown], frame: Optional[Shown], after: Optional[Shown]) -> bool:
+        """Whether both others contradict a frame, and do not contradict each other."""
         if before is None or frame is None or after is None:
             return False
         return not self.allows(before, frame) and not self.allows(frame, after) and self.allows(before, after)
 
-    def believed(self, near: Near) -> Near:
-        """The frames next to a place, but for the one before it or the one after it if that is contradicted by both next to it; and none
+    def heard(self, near: Near) -> Near:
+        """Those of the frames next to a place that are heard: not the one before it or the one after it if that is overruled; and none
         of two on one side that contradict each other if the other has none."""
-        doubts_after = self.is_doubted(near.before, near.after, near.after_next)
-        doubts_before = self.is_doubted(near.before_last, near.before, near.after)
-        if doubts_after and not doubts_before:
+        without_after = self.is_overruled(near.before, near.after, near.after_next)
+        without_before = self.is_overruled(near.before_last, near.before, near.after)
+        if without_after and not without_before:
             return Near(near.before_last, near.before, near.after_next, None)
-        if doubts_before and not doubts_after:
+        if without_before and not without_after:
             return Near(None, near.before_last, near.after, near.after_next)
         if self.is_disputed(near.before, near.after, near.after_next) or self.is_disputed(near.after, near.before_last, near.before):
             return Near(None, None, None, None)
@@ -130,7 +145,7 @@ class Bearing:
 
     def is_borne(self, near: Near, frame: Shown) -> bool:
         """Whether the time of a frame is borne out: something supports it, and neither neighbour contradicts it."""
-        near = self.believed(near)
+        near = self.heard(near)
         before, after = near.before, near.after
         supported = (
             (before is not None and self.leads(before, frame) and self.is_within(near, before, frame))

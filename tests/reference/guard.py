@@ -168,20 +168,31 @@ class Controls:
         self.elements = [element for element, _ in fields["control"][0]] if "control" in fields else []
 
     def are_supported(self, near: Near, frame: Fine) -> bool:
-        """Whether each is recorded, or as in the nearest frames on both sides."""
+        """Whether each is recorded, or as in the nearest frames on both sides, or what was recorded of it was lost."""
         return all(
-            self._is_recorded(frame.pulses[element]) or self._is_shared(near, frame.shown, bit)
-            for bit, element in enumerate(self.elements)
+            self._is_recorded(pulse) or self._is_shared(near, frame.shown, bit) or self._is_lost(pulse)
+            for bit, pulse in enumerate(frame.pulses[element] for element in self.elements)
         )
+
+    def are_recorded(self, frame: Fine) -> bool:
+        """Whether all are."""
+        return all(self._is_recorded(frame.pulses[element]) for element in self.elements)
 
     def _is_recorded(self, pulse: Tuple[int, int]) -> bool:
         """Whether a pulse of the recording is of its class, and rises within a tenth of an interval of it."""
-        rise, fall = pulse
-        first = bisect_left(self.rises, rise - self.interval // 10)
-        return any(
-            timecode.class_of(self.interval, end - begin) == timecode.class_of(self.interval, fall - rise)
-            for begin, end in self.pulses[first:bisect_right(self.rises, rise + self.interval // 10)]
-        )
+        return self._class(pulse) in map(self._class, self._near(pulse, 10))
+
+    def _is_lost(self, pulse: Tuple[int, int]) -> bool:
+        """Whether no pulse of the recording that has a class rises within half an interval of it."""
+        return all(self._class(other) == "bad" for other in self._near(pulse, 2))
+
+    def _near(self, pulse: Tuple[int, int], part: int) -> List[Tuple[int, int]]:
+        """The pulses of the recording that rise within this part of an interval of a pulse."""
+        reach = self.interval // part
+        return self.pulses[bisect_left(self.rises, pulse[0] - reach):bisect_right(self.rises, pulse[0] + reach)]
+
+    def _class(self, pulse: Tuple[int, int]) -> str:
+        return timecode.class_of(self.interval, pulse[1] - pulse[0])
 
     def _is_shared(self, near: Near, frame: Shown, bit: int) -> bool:
         """Whether the two nearest frames have a control function as it has it."""
@@ -225,18 +236,15 @@ class Anchors:
         return True
 
     def _before(self, near: Near, frame: Shown) -> Optional[Point]:
-        """The marker of the nearest frame before, if both agree and are not too far from each other."""
-        if near.before is None or not self._agree(near.before, frame):
+        """The marker of the nearest frame before, if both agree."""
+        if near.before is None or not self.bearing.agrees(near.before, frame):
             return None
         return -100 * self.bearing.count(near.before, frame), near.before.rise
 
     def _after(self, near: Near, frame: Shown) -> Optional[Point]:
-        if near.after is None or not self._agree(frame, near.after):
+        if near.after is None or not self.bearing.agrees(frame, near.after):
             return None
         return 100 * self.bearing.count(frame, near.after), near.after.rise
-
-    def _agree(self, one: Shown, other: Shown) -> bool:
-        return self.bearing.is_shown(one, other) and not self.bearing.is_far(one, other)
 
     def _is_on_line(self, near: Near, before: Optional[Point], point: Point, after: Optional[Point]) -> bool:
         if before is not None and after is not None:
@@ -285,6 +293,14 @@ class Guard:
             else:
                 self.refused = True
                 self.printed += [NOT_KEPT + reason.encode(), *map(commented, repair)]
+
+    def remark(self) -> bytes:
+        """How many frames have a control function that is not in the recording, as it is said on the standard error; nothing if none
+        has. They are not counted if frames may move, or if nothing was fine."""
+        many = sum(not self.safety.controls.are_recorded(frame) for frame in fine(self.machine.present))
+        if not many or self.safety.moved or not self.safety.old:
+            return b""
+        return b"control functions of %d frame%s are not in the recording" % (many, b"s" * (many > 1))
 
     def _dropped(self, repair: List[bytes]) -> Optional[str]:
         """Tries a repair, and undoes it if it is not kept; then why."""

@@ -23,6 +23,7 @@ class Row(NamedTuple):
     script: Sequence[str]
     wanted: Sequence[str]
     moved: bool = False  # with --moved
+    filled: int = 0  # frames with a control function that is not in the recording
 
 
 def values_of(form: str, when: datetime.datetime, control: int = 0, second: int = -1) -> Dict[str, int]:
@@ -108,6 +109,8 @@ AGO = NOON - datetime.timedelta(hours=1)
 WITHOUT_ZERO = without(SOUND, 243)  # element 42 of frame 2
 SET_FUNCTION = steady(control=4)  # element 62 is a one
 ONE_FUNCTION = joined(joined(SOUND, SET_FUNCTION, 3), SOUND, 4)  # that of frame 3
+SET_FUNCTION_OF_3 = ["begin", "insert 3420000 3422000", "363 force one", "end"]
+LATE_FUNCTION = ["begin", "363 delete", "insert 3620000 3625000", "end"]
 LATER = ["begin", "insert 3420000 3422000", "350,390 shift 600"]  # elements 49 to 89 of frame 3
 MEND = "insert 2420000 2422000"
 REGEN = "regen 3000000 1 2024-138T12:34:53"
@@ -116,6 +119,9 @@ NEW_YEAR = datetime.datetime(2023, 12, 31, 23, 59, 57)
 LONG_YEAR = datetime.datetime(2024, 12, 31, 23, 59, 57)
 LONG = "9" * 1001
 SLOW = moved(SOUND, lambda at: at * 51 // 50)
+SLOWER = moved(SOUND, lambda at: at * 21 // 20)
+SLIPPED = hole(SOUND[:399] + moved(SOUND[399:], lambda at: at + 100000), 2, 2)  # ten intervals more in a hole
+SLIP = ["regen 2066667 2 2024-138T12:34:52"]
 HUNDREDTHS = [[rise // 10, fall // 10] for rise, fall in frames("A0", [
     dict(values_of("A0", NOON), hundredths=10 * k) for k in range(7)])]
 TURNED = [[one[1], other[0]] for one, other in zip(SOUND, SOUND[1:])]
@@ -161,31 +167,33 @@ ROWS = (
     Row("a lost pulse", "B4", WITHOUT_ZERO, [MEND], [MEND]),
     Row("a group", "B4", WITHOUT_ZERO, ["begin", "# why", MEND, "end"], ["begin", "# why", MEND, "end"]),
     Row("an empty group", "B4", SOUND, ["begin", "end"], ["begin", "end"]),
-    Row("a lost frame", "B4", hole(SOUND, 3), [REGEN], [REGEN]),
+    Row("a lost frame", "B4", hole(SOUND, 3), [REGEN], [REGEN], filled=1),
     Row("its first repair alone makes nothing fine", "B4", without(SOUND, 243, 250),
         ["insert 2490000 2498000", MEND], ["insert 2490000 2498000", MEND]),
     Row("a new year in a hole", "B4", hole(steady(begin=NEW_YEAR), 3),
-        ["regen 3000000 1 2024-001T00:00:00"], ["regen 3000000 1 2024-001T00:00:00"]),
+        ["regen 3000000 1 2024-001T00:00:00"], ["regen 3000000 1 2024-001T00:00:00"], filled=1),
     Row("a new year after 366 days", "B4", hole(steady(begin=LONG_YEAR), 3),
-        ["regen 3000000 1 2025-001T00:00:00"], ["regen 3000000 1 2025-001T00:00:00"]),
+        ["regen 3000000 1 2025-001T00:00:00"], ["regen 3000000 1 2025-001T00:00:00"], filled=1),
     Row("a new year without the year", "B2", hole(steady("B2", begin=LONG_YEAR), 3),
         ["regen 3000000 1 2024-001T00:00:00"], ["regen 3000000 1 2024-001T00:00:00"]),
     Row("the frame before a new year", "B2", hole(steady("B2", begin=NEW_YEAR), 2),
         ["regen 2000000 1 2023-365T23:59:59"], ["regen 2000000 1 2023-365T23:59:59"]),
     Row("the last frame, by the two before it", "B4", hole(SOUND, 6),
-        ["regen 6000000 1 2024-138T12:34:56"], ["regen 6000000 1 2024-138T12:34:56"]),
+        ["regen 6000000 1 2024-138T12:34:56"], ["regen 6000000 1 2024-138T12:34:56"], filled=1),
     Row("a clock that is 2 % slow", "B4", without(SLOW, 243),
         ["insert 2468400 2470440"], ["insert 2468400 2470440"]),
     Row("the last frame, by a clock that is 2 % slow", "B4", without(SLOW, 643),
         ["insert 6548400 6550440"], ["insert 6548400 6550440"]),
+    Row("a clock that is 5 % slow", "B4", without(SLOWER, 343), ["insert 3591000 3593100"], ["insert 3591000 3593100"]),
+    Row("a slip of 10 intervals, like a clock that is 5 % slow", "B4", SLIPPED, SLIP, unsafe("138 12:34:53", 3066667, UNSUPPORTED, *SLIP)),
     Row("second 60 between others", "B4", without(leap(), 443), ["insert 4420000 4422000"], ["insert 4420000 4422000"]),
     Row("the first second after second 60", "B4", without(leap(), 543),
         ["insert 5420000 5422000"], ["insert 5420000 5422000"]),
     Row("a frame that reads another time", "B6", changed(steady("B6"), 312, "one"), ["312 force zero"], ["312 force zero"]),
     Row("a control function that both nearest frames have", "B4", without(SET_FUNCTION, 363),
-        ["insert 3620000 3625000"], ["insert 3620000 3625000"]),
+        ["insert 3620000 3625000"], ["insert 3620000 3625000"], filled=1),
     Row("a control function that the two frames before the last have", "B4", without(SET_FUNCTION, 663),
-        ["insert 6620000 6625000"], ["insert 6620000 6625000"]),
+        ["insert 6620000 6625000"], ["insert 6620000 6625000"], filled=1),
     Row("control functions that are recorded, and that the nearest frames do not have", "B4", without(ONE_FUNCTION, 343),
         ["insert 3420000 3422000"], ["insert 3420000 3422000"]),
     Row("a recorded control function, a tenth of an interval later", "B4", without(ONE_FUNCTION, 343),
@@ -195,12 +203,12 @@ ROWS = (
     Row("an empty script for it", "B4", TURNED, [], [NOTHING_FINE]),
     # control functions alone of frames that were fine
     Row("a control function that both nearest frames do not have", "B4", changed(SOUND, 363, "one"),
-        ["363 force zero"], ["363 force zero"]),
-    Row("one that both nearest frames have", "B4", changed(SET_FUNCTION, 363, "zero"), ["363 force one"], ["363 force one"]),
+        ["363 force zero"], ["363 force zero"], filled=1),
+    Row("one that both nearest frames have", "B4", changed(SET_FUNCTION, 363, "zero"), ["363 force one"], ["363 force one"], filled=1),
     Row("two at once", "B4", changed(changed(SOUND, 363, "one"), 379, "one"),
-        ["begin", "363 force zero", "379 force zero", "end"], ["begin", "363 force zero", "379 force zero", "end"]),
+        ["begin", "363 force zero", "379 force zero", "end"], ["begin", "363 force zero", "379 force zero", "end"], filled=1),
     Row("the nearest frames that are fine, next to one that is not", "B4", without(changed(SOUND, 363, "one"), 444),
-        ["363 force zero"], ["363 force zero"]),
+        ["363 force zero"], ["363 force zero"], filled=1),
     Row("one of two alone", "B4", changed(changed(SOUND, 363, "one"), 379, "one"), ["363 force zero"],
         unsafe("138 12:34:53", 3000000, CHANGED, "363 force zero")),
     Row("one that the frame before it has, and the frame after it does not", "B4", joined(SET_FUNCTION, SOUND, 4), ["363 force zero"],
@@ -221,7 +229,7 @@ ROWS = (
     Row("one that both have, at another rise", "B4", changed(SOUND, 363, "one"), ["begin", "363 force zero", "301,400 shift 600", "end"],
         unsafe("138 12:34:53", 3000000, LOST, "begin", "363 force zero", "301,400 shift 600", "end")),
     Row("one that both have in the recording, whatever became of them", "B4", changed(changed(SOUND, 363, "one"), 563, "one"),
-        ["463 force one", "363 force zero", "563 force zero"], ["463 force one", "363 force zero", "563 force zero"]),
+        ["463 force one", "363 force zero", "563 force zero"], ["463 force one", "363 force zero", "563 force zero"], filled=3),
     # frames that were fine
     Row("a pulse of a frame that is fine", "B4", SOUND, ["343 delete"],
         unsafe("138 12:34:53", 3000000, LOST, "343 delete")),
@@ -267,23 +275,26 @@ ROWS = (
     Row("an inner pulse of a frame that an earlier repair made fine", "B4", WITHOUT_ZERO, [MEND, "242 shift 900"],
         [MEND, "242 shift 900"]),
     Row("a tenth of an interval beside its place", "B4", hole(SOUND, 3, 3), ["regen 3001001 2 " + THIRD, "regen 3001000 2 " + THIRD],
-        [*unsafe("138 12:34:54", 4001001, MISPLACED, "regen 3001001 2 " + THIRD), "regen 3001000 2 " + THIRD]),
+        [*unsafe("138 12:34:54", 4001001, MISPLACED, "regen 3001001 2 " + THIRD), "regen 3001000 2 " + THIRD], filled=2),
     Row("less than half an interval beside its place, and recorded", "B4", ALONE, moves(2000),
         unsafe("138 12:34:53", 3002000, MISPLACED, *moves(2000))),
     Row("pulses between recorded ones", "B4", without(SOUND, 341, 342, 343), TENTH, TENTH),
     Row("frames of nothing", "B4", [[0, 10], [9999990, 10000000]], ["regen 1000000 4 1987-200T03:04:05"],
         [NOTHING_FINE, *unsafe("200 03:04:06", 2000000, MISPLACED, "regen 1000000 4 1987-200T03:04:05")]),
     # control functions
-    Row("a control function that is not recorded, and that the nearest frames do not have", "B4", without(SOUND, 363),
-        ["insert 3620000 3625000"], unsafe("138 12:34:53", 3000000, UNRECORDED, "insert 3620000 3625000")),
-    Row("one that only the frame before it has", "B4", without(joined(SET_FUNCTION, SOUND, 4), 363),
-        ["insert 3620000 3625000"], unsafe("138 12:34:53", 3000000, UNRECORDED, "insert 3620000 3625000")),
-    Row("one that only one of the two frames before the last has", "B4", without(joined(SOUND, SET_FUNCTION, 5), 663),
-        ["insert 6620000 6625000"], unsafe("138 12:34:56", 6000000, UNRECORDED, "insert 6620000 6625000")),
+    Row("a control function that was lost, and that the nearest frames do not have", "B4", without(SOUND, 363),
+        ["insert 3620000 3625000"], ["insert 3620000 3625000"], filled=1),
+    Row("one that was recorded as a zero, and that only the frame before it has", "B4", without(joined(SET_FUNCTION, SOUND, 3), 343),
+        SET_FUNCTION_OF_3, unsafe("138 12:34:53", 3000000, UNRECORDED, *SET_FUNCTION_OF_3)),
+    Row("one of which a pulse of no class is left", "B4", turned_at(without(SOUND, 363), 3620000, 3620040),
+        ["invert 3620040 3625000"], ["invert 3620040 3625000"], filled=1),
+    Row("one of which a pulse with a class is left, half an interval later", "B4", turned_at(without(SOUND, 363), 3624900, 3626900),
+        LATE_FUNCTION, unsafe("138 12:34:53", 3000000, UNRECORDED, *LATE_FUNCTION)),
     Row("a recorded control function, more than a tenth of an interval later", "B4", without(ONE_FUNCTION, 343),
         [*LATER, "363,375 shift 401", "end"], unsafe("138 12:34:53", 3000000, UNRECORDED, *LATER, "363,375 shift 401", "end")),
     Row("a recorded control function, as another class", "B4", without(ONE_FUNCTION, 343),
-        ["begin", "insert 3420000 3422000", "363 force zero", "end"], ["begin", "insert 3420000 3422000", "363 force zero", "end"]),
+        ["begin", "insert 3420000 3422000", "363 force zero", "end"], ["begin", "insert 3420000 3422000", "363 force zero", "end"],
+        filled=1),
     Row("the last of 18 control functions", "B4", without(SOUND, 343),
         ["begin", "insert 3420000 3422000", "379 force one", "end"],
         unsafe("138 12:34:53", 3000000, UNRECORDED, "begin", "insert 3420000 3422000", "379 force one", "end")),

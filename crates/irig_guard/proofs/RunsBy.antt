@@ -4,8 +4,8 @@ use Rattle.std.specs.Prelude.{is_some, not, option_map, if◌then◌else◌}
 use denote.Ref.{Bor}
 use Rattle.irig_vcd.specs.{Parts.dump_parts, declared.fault.VcdFault.VcdFault}
 use Rattle.irig_vcd.proofs.WholeDump.{fails_now}
-use Rattle.irig_script.specs.{Obey.Desk.Desk, Obey.Desk.desk, declared.obey.status.Status.Status}
-use Rattle.irig_guarding.specs.{GuardedRun.GuardsOnDump, declared.product.GuardFault.GuardFault, declared.product.GuardFault.TheVariants.Dump}
+use Rattle.irig_script.specs.Obey.Desk.{Desk, desk}
+use Rattle.irig_guarding.specs.{GuardedRun.GuardsOnDump, declared.product.GuardFault.GuardFault, declared.product.GuardFault.TheVariants.Dump, declared.product.Kept.Kept}
 use Rattle.irig_text.specs.Shelved.{shelved}
 use Rattle.irig_guard.specs.Given.{Ends, Files, IsApart, ends, place_of, product_of}
 use Rattle.irig_guard.specs.{Ending.RunsBy, declared.chosen.Settings.Settings}
@@ -20,7 +20,7 @@ wire_in chosen = option_map (λ w. w.now) chosen.wire
 
 -- the shelf was at the path of the settings, from the start to the end
 pub runs_by : (given : Files) (chosen : Settings) (source : List ℕ) (out out_new script left : Option (List ℕ)) (texts texts_new : Option (List (List ℕ)))
-    (label label_new : List ℕ) (writes new : Option (List Write)) (failures failures_new : ℕ) (result : Result Status GuardFault)
+    (label label_new : List ℕ) (writes new : Option (List Write)) (failures failures_new : ℕ) (result : Result Kept GuardFault)
     → label_new ≡ label → texts ≡ texts_at (given.paths (place_of chosen)) writes → texts_new ≡ texts_at (given.paths (place_of chosen)) new → failures ≡ 0
     → given.kept (place_of chosen)
     → GuardsOnDump (wire_in chosen) chosen.format chosen.moved source (product_of chosen) script left (desk out (shelved texts failures label))

@@ -3,8 +3,8 @@
 use Rattle.std.specs.Prelude.{◌≡◌, ◌<◌, ◌^◌, ℕ, List, Result, Ok, Err, IfSome, is_some}
 use Rattle.std.specs.Prelude.{length, option_map, true}
 use Rattle.clap.specs.Words.{Text}
-use Rattle.irig_script.specs.{Obey.Desk.desk, declared.obey.status.Status.Status}
-use Rattle.irig_guarding.specs.declared.product.GuardFault.{GuardFault}
+use Rattle.irig_script.specs.Obey.Desk.{desk}
+use Rattle.irig_guarding.specs.{declared.product.GuardFault.GuardFault, declared.product.Kept.Kept}
 use Rattle.irig_guarding.specs.GuardedRun.{GuardsOnDump}
 use Rattle.irig_text.specs.Shelved.{shelved}
 use Rattle.irig_files.specs.declared.dump_file.DumpFileFault.TheVariants.{TooLong}
@@ -19,7 +19,7 @@ use Rattle.irig_guard.specs.{Statuses.HasStatus, Settings.Reads, declared.ending
 -- The script ran under guard on the bytes, by the wire and the format of the settings; what was
 -- written was written where their path to write leads, and is kept through a crash at any moment.
 pub record RunsBy (given : Files) (chosen : Settings) (source : List ℕ) (old new : Ends)
-    (result : Result Status GuardFault) : Type 0 where
+    (result : Result Kept GuardFault) : Type 0 where
   pub label : List ℕ
   pub failures : ℕ
   pub ran : GuardsOnDump (option_map (λ w. w.now) chosen.wire) chosen.format chosen.moved source

@@ -9,14 +9,18 @@ use Rattle.irig_guard.specs.declared.ending.Ending.TheVariants.{Usage, Value, Un
 use Rattle.irig_guard.specs.declared.ending.Ending.TheVariants.{Ran}
 use Rattle.irig_script.specs.declared.obey.status.Status.{Status}
 use Rattle.irig_script.specs.declared.obey.status.Status.TheVariants.{AllAccepted, SomeRefused}
-use Rattle.irig_guarding.specs.declared.product.GuardFault.{GuardFault}
+use Rattle.irig_guarding.specs.{declared.product.GuardFault.GuardFault, declared.product.Kept.Kept}
 use Rattle.irig_guarding.specs.declared.product.GuardFault.TheVariants.{Dump}
+
+-- the status of a run that came to its end
+abbrev pub kept_number : Status → ℕ
+kept_number AllAccepted = 0
+kept_number SomeRefused = 1
 
 -- the status of the program for how a run ended: 0 if each line was kept, 1 if some were not, 3 if
 -- the track was not read, 4 if the run was broken off
-abbrev pub status_number : Result Status GuardFault → ℕ
-status_number (Ok AllAccepted) = 0
-status_number (Ok SomeRefused) = 1
+abbrev pub status_number : Result Kept GuardFault → ℕ
+status_number (Ok kept) = kept_number kept.status
 status_number (Err (Dump fault)) = 3
 status_number (Err _) = 4
 

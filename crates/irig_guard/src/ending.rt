@@ -2,8 +2,7 @@
 
 use crate::chosen::OptionFault;
 use irig_files::DumpFileFault;
-use irig_guarding::GuardFault;
-use irig_script::Status;
+use irig_guarding::{GuardFault, Kept};
 
 /// How the program ends, before it is reported.
 #[derive(Drop)]
@@ -19,5 +18,5 @@ pub enum Ending<'a> {
     /// It cannot be found out whether it does.
     Unknown,
     /// The script ran under guard on the dump at this path, and so the run ended.
-    Ran(&'a str, Result<Status, GuardFault>),
+    Ran(&'a str, Result<Kept, GuardFault>),
 }

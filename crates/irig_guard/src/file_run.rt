@@ -13,8 +13,7 @@ use crate::chosen::Settings;
 use crate::command_line::{UsageFault, settings};
 use crate::ending::Ending;
 use irig_files::{Disk, DumpFileFault, FileShelf, Parts, Room};
-use irig_guarding::{GuardFault, Product, guard_on_parts};
-use irig_script::Status;
+use irig_guarding::{GuardFault, Kept, Product, guard_on_parts};
 use irig_text::ShelfFault;
 use irig_vcd::VcdFault;
 use std::alloc::Global;
@@ -138,7 +137,7 @@ fn run_on_read<D: Disk, R: Read, W: Write>(
     disk: &mut D,
     script: &mut R,
     out: &mut W,
-) -> Result<Status, GuardFault>
+) -> Result<Kept, GuardFault>
     requires few { HasFewBytes read }
     requires apart { IsTrue D.is_told → IsApart chosen.now (D.disk disk.old) }
     ensures ran { (source : List ℕ)

@@ -2,13 +2,13 @@
 
 ghost use Rattle.std.specs.Prelude.{◌≡◌, ◌⊎◌};
 ghost use Rattle.std.specs.Process.{exit_status};
-ghost use Rattle.irig_guard.specs.Statuses.{HasStatus, status_number, unread_text};
+ghost use Rattle.irig_guard.specs.Statuses.{HasStatus, kept_number, status_number, unread_text};
 ghost use Rattle.irig_words.specs.Errors.{IsHelp, IsMistake};
 
 use crate::chosen::OptionFault;
 use crate::ending::Ending;
 use irig_files::DumpFileFault;
-use irig_guarding::GuardFault;
+use irig_guarding::{GuardFault, Kept};
 use irig_script::Status;
 use std::fmt::Display;
 use std::process::ExitCode;
@@ -68,16 +68,37 @@ fn unread_text<'a>(fault: DumpFileFault) -> &'a str
 }
 
 /// The exit status for how a run ended; a fault is printed on the standard error.
-fn tell_ended<R: Eprint>(rt: &R, name: &str, outcome: Result<Status, GuardFault>) -> ExitCode
+fn tell_ended<R: Eprint>(rt: &R, name: &str, outcome: Result<Kept, GuardFault>) -> ExitCode
     ensures { exit_status result ≡ status_number outcome }
 {
     match outcome {
-        Ok(Status::AllAccepted) => ExitCode::SUCCESS,
-        Ok(Status::SomeRefused) => ExitCode::from(1),
+        Ok(kept) => tell_kept(rt, name, kept),
         Err(GuardFault::Dump(fault)) => {
             let _ = eprintln!(rt; "irig_guard: {name}: {fault}");
             ExitCode::from(3)
         }
         Err(fault) => tell(rt, 4, &fault),
+    }
+}
+
+/// The exit status for a run that came to its end. How many frames have control functions that are not in
+/// the recording is printed on the standard error, if some have.
+fn tell_kept<R: Eprint>(rt: &R, name: &str, kept: Kept) -> ExitCode
+    ensures { exit_status result ≡ kept_number kept.status }
+{
+    tell_filled(rt, name, kept.filled);
+    match kept.status {
+        Status::AllAccepted => ExitCode::SUCCESS,
+        Status::SomeRefused => ExitCode::from(1),
+    }
+}
+
+/// Says how many frames have control functions that are not in the recording, if some have.
+fn tell_filled<R: Eprint>(rt: &R, name: &str, filled: usize) {
+    let frames = if filled == 1 { "frame" } else { "frames" };
+    if filled > 0 {
+        let _ = eprintln!(rt;
+            "irig_guard: {name}: control functions of {filled} {frames} are not in the recording"
+        );
     }
 }

@@ -2,6 +2,7 @@ pub mod AgainLemmas
 pub mod AnchorLemmas
 pub mod ControlLemmas
 pub mod DropLemmas
+pub mod FillingLemmas
 pub mod GuardLemmas
 pub mod PaddedLemmas
 pub mod PrintedLemmas

@@ -11,7 +11,9 @@ use Rattle.irig_guarding.specs.declared.product.GuardFault.{GuardFault}
 use Rattle.irig_guarding.specs.declared.product.GuardFault.TheVariants.{Dump, ReadFailed}
 use Rattle.irig_guarding.specs.declared.product.GuardFault.TheVariants.{OutOfMemory, PrintFailed}
 use Rattle.irig_guarding.specs.declared.product.GuardFault.TheVariants.{WriteFailed}
-use Rattle.irig_guarding.specs.{Guarded.IsGuarded, Trials.IsTried, declared.product.Product.Product}
+use Rattle.irig_guarding.specs.{Fillings.Fills, Guarded.IsGuarded, Reading.original_of}
+use Rattle.irig_guarding.specs.{Trials.IsTried, declared.product.Kept.Kept}
+use Rattle.irig_guarding.specs.declared.product.Product.{Product}
 use Rattle.irig_guarding.specs.declared.product.Product.TheVariants as product
 
 -- the texts that are written of what a run leaves
@@ -20,8 +22,8 @@ product_texts product.Nothing m = []
 product_texts product.Track m = dump_text m ∷ []
 product_texts product.Session m = saved_text (work_in m) ∷ []
 
--- the proposed script was run under guard, repair by repair: what it printed, what it left, and its
--- status
+-- the proposed script was run under guard, repair by repair: what it printed, what it left, its status,
+-- and how many frames have a control function then that is not in the recording
 pub record Guards (moved : Bool) (first : Machine) (script : Option (List ℕ)) : Type 0 where
   pub proposal : List ℕ
   pub whole : IfSome script (λ all. proposal ≡ all)
@@ -30,15 +32,18 @@ pub record Guards (moved : Bool) (first : Machine) (script : Option (List ℕ)) 
   pub guarded : IsGuarded moved first printed last
   pub status : Status
   pub tried : IsTried moved first proposal printed status last
+  pub filled : ℕ
+  pub fillings : Fills (original_of moved first.state) last.state filled
 
 -- it was run, its result was printed, what is asked for was written, and the status says whether all
 -- of it was kept; or memory ran out, or a
 -- read failed, and nothing was printed or written; or the printing failed, and nothing was written;
 -- or the writing failed
 abbrev pub RunsUnderGuard : Bool → Product → Machine → Option (List ℕ) → Desk → Desk
-    → Result Status GuardFault → Type 0
-RunsUnderGuard moved asked first script from to (Ok status) =
-    (run : Guards moved first script) × (run.status ≡ status) × Appends from.out to.out run.printed
+    → Result Kept GuardFault → Type 0
+RunsUnderGuard moved asked first script from to (Ok kept) =
+    (run : Guards moved first script) × (run.status ≡ kept.status) × (run.filled ≡ kept.filled)
+    × Appends from.out to.out run.printed
     × Puts from.shelf to.shelf (product_texts asked run.last) 0
 RunsUnderGuard moved asked first script from to (Err PrintFailed) =
     (run : Guards moved first script) × AppendsFront from.out to.out run.printed
@@ -52,7 +57,7 @@ RunsUnderGuard moved asked first script from to (Err (Dump fault)) = ⊥
 
 -- the same on the session that is opened from a dump; or that was not opened, and nothing was done
 abbrev pub GuardsOnDump : Option (List ℕ) → FormatView → Bool → List ℕ → Product
-    → Option (List ℕ) → Option (List ℕ) → Desk → Desk → Result Status GuardFault → Type 0
+    → Option (List ℕ) → Option (List ℕ) → Desk → Desk → Result Kept GuardFault → Type 0
 GuardsOnDump wire chosen moved source asked script left from to (Err (Dump fault)) =
     IsUnopened wire source fault × (to ≡ from) × (left ≡ script)
 GuardsOnDump wire chosen moved source asked script left from to result =

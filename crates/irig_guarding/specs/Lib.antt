@@ -1,4 +1,5 @@
 pub mod Controls
+pub mod Fillings
 pub mod Guarded
 pub mod GuardedRun
 pub mod Meaning

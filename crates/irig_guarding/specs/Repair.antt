@@ -16,7 +16,8 @@ pub record Agrees (one other : Machine) : Type 0 where
   pub past : one.past ≡ other.past
   pub floor : one.floor ≡ other.floor
 
--- a command that a repair may consist of: an edit of pulses or marks
+-- a command that a repair may consist of: an edit of pulses or marks. Each command is named, so that one
+-- that is added to the language has to be
 abbrev pub IsRepair : Command → Type 0
 IsRepair (command.Delete r) = Unit {0}
 IsRepair (command.Shift r d) = Unit {0}
@@ -28,7 +29,21 @@ IsRepair (command.Invert s t) = Unit {0}
 IsRepair (command.Regen s frames moment control) = Unit {0}
 IsRepair (command.Mark letter t) = Unit {0}
 IsRepair (command.Unmark letter) = Unit {0}
-IsRepair _ = ⊥
+IsRepair command.Nothing = ⊥
+IsRepair (command.Show a) = ⊥
+IsRepair (command.List r) = ⊥
+IsRepair (command.Format kind n) = ⊥
+IsRepair command.Undo = ⊥
+IsRepair command.Redo = ⊥
+IsRepair command.Begin = ⊥
+IsRepair command.End = ⊥
+IsRepair command.Abort = ⊥
+IsRepair command.Frames = ⊥
+IsRepair command.Marks = ⊥
+IsRepair command.Info = ⊥
+IsRepair command.Write = ⊥
+IsRepair command.Save = ⊥
+IsRepair command.Quit = ⊥
 
 -- a line that is not too long asks for the command
 abbrev pub Asks : Command → List ℕ → Type 0

@@ -15,12 +15,13 @@ use irig_safety::{Anchor, Original, Witnesses, is_on_line, marker_after, marker_
 pub fn are_placed(session: &Session, opened: &Original, near: &Witnesses, frame: &Seen) -> bool
     ensures { IsTrue result ↔ Stands opened.now session.now.state near.now frame.now }
 {
+    let mut place = 0;
     let mut last = None;
-    let mut next = next_anchor(session, opened, frame.marker, 0);
+    let mut next = next_anchor(session, opened, frame.marker, 0, place);
     for element in 0..100 {
-        if is_anchored(session, opened, frame.marker, element) {
+        if is_anchored(session, opened, frame.marker, element, &mut place) {
             last = Some(element);
-            next = next_anchor(session, opened, frame.marker, element + 1);
+            next = next_anchor(session, opened, frame.marker, element + 1, place);
         } else if !is_held(session, near, frame, element, last, next) {
             return false;
         }
@@ -32,31 +33,53 @@ pub fn are_placed(session: &Session, opened: &Original, near: &Witnesses, frame:
 pub fn is_rooted(session: &Session, opened: &Original, frame: &Seen) -> bool
     ensures { IsTrue result ↔ IsRooted opened.now session.now.state frame.now }
 {
+    let mut place = 0;
     let mut many: usize = 0;
     for element in 0..100 {
-        if is_anchored(session, opened, frame.marker, element) {
+        if is_anchored(session, opened, frame.marker, element, &mut place) {
             many += 1;
         }
     }
+    is_most(many)
+}
+
+/// Whether so many of the 100 pulses of a frame are most of them.
+fn is_most(many: usize) -> bool
+    ensures { IsTrue result ↔ (60 ≤ many) }
+{
     many >= 60
 }
 
-/// Whether the pulse of an element is an anchor, of the frame of a marker.
-fn is_anchored(session: &Session, opened: &Original, marker: usize, element: usize) -> bool
+/// Whether the pulse of an element is an anchor, of the frame of a marker. A place of the recording is
+/// looked at first, and becomes the next one to look at.
+fn is_anchored(
+    session: &Session,
+    opened: &Original,
+    marker: usize,
+    element: usize,
+    place: &mut usize,
+) -> bool
     ensures { result ≡ is_anchored opened.now.pulses session.now.state.pulses marker element }
 {
-    opened.holds(pulse_at(session, marker, element))
+    opened.holds(pulse_at(session, marker, element), place)
 }
 
-/// The first anchor of a frame from an element on.
-fn next_anchor(session: &Session, opened: &Original, marker: usize, from: usize) -> Option<usize>
+/// The first anchor of a frame from an element on. A place of the recording is looked at first.
+fn next_anchor(
+    session: &Session,
+    opened: &Original,
+    marker: usize,
+    from: usize,
+    place: usize,
+) -> Option<usize>
     requires { from ≤ 100 }
     ensures value { result
         ≡ next_anchor opened.now.pulses session.now.state.pulses marker (100 - from) from }
     ensures few { IfSome result (λ k. k < 100) }
 {
+    let mut place = place;
     for element in from..100 {
-        if is_anchored(session, opened, marker, element) {
+        if is_anchored(session, opened, marker, element, &mut place) {
             return Some(element);
         }
     }

@@ -1,15 +1,17 @@
 //! Whether the control functions of the frames are borne out.
 
-ghost use Rattle.std.specs.Prelude.{◌≡◌, ◌↔◌, ◌+◌, ◌<◌, ◌≤◌, ◌∷◌, List, IsTrue, None, Option, Some};
+ghost use Rattle.std.specs.Prelude.{◌≡◌, ◌↔◌, ◌⊎◌, ◌+◌, ◌<◌, ◌≤◌, ◌∷◌, List, IsTrue, None, Option};
+ghost use Rattle.std.specs.Prelude.{Some};
 ghost use Rattle.std.specs.Prelude.{IfErr, IfOk, MatchOption, OnErr, OnOk, length, slice_get};
 ghost use Rattle.irig_safety.specs.Controls.{IsFunctionBorne, function_element};
-ghost use Rattle.irig_safety.specs.Original.{IsRecorded, with_frames};
+ghost use Rattle.irig_safety.specs.Original.{IsLost, IsRecorded, with_frames};
 ghost use Rattle.irig_safety.specs.declared.fault.Fault.{Fault as SomeFault};
 ghost use Rattle.irig_guarding.specs.Controls.{AreBorneFrom, ControlsAt, IsBorne, IsUnborneFrom};
 ghost use Rattle.irig_guarding.specs.Controls.{Judges};
 ghost use Rattle.irig_guarding.specs.declared.seen.Seen.{Seen as SeenFrame};
 
 use crate::seen::Seen;
+use irig_codes::Format;
 use irig_edit::{Pulse, Session};
 use irig_safety::{
     Fault, Original, Shown, Witnesses, frame_at, function_element, functions, is_same, is_shared,
@@ -132,18 +134,44 @@ fn is_function_borne(
 {
     let element = function_element(session.current_format(), function);
     is_shared(near, &frame.shown, function)
-        || is_recorded(session, opened, pulse_at(session, frame.marker, element))
+        || may_be(session, opened, pulse_at(session, frame.marker, element))
 }
 
-/// Whether a pulse is there, and as recorded.
-fn is_recorded(session: &Session, opened: &Original, pulse: Option<Pulse>) -> bool
-    ensures { IsTrue result
-        ↔ MatchOption pulse ⊥ (IsRecorded session.now.state.format opened.now.pulses) }
+/// Whether a pulse is there, and as recorded, or what was recorded of it was lost.
+fn may_be(session: &Session, opened: &Original, pulse: Option<Pulse>) -> bool
+    ensures { IsTrue result ↔ MatchOption pulse ⊥ (λ q.
+        IsRecorded session.now.state.format opened.now.pulses q
+        ⊎ IsLost session.now.state.format opened.now.pulses q) }
 {
     match pulse {
+        Some(pulse) => is_recorded_or_lost(session.current_format(), opened, pulse),
+        None => false,
+    }
+}
+
+/// Whether the control function of the frame of a marker is recorded at its place.
+pub fn is_recorded_at(session: &Session, opened: &Original, marker: usize, function: u32) -> bool
+    requires { function < 64 }
+    ensures { IsTrue result ↔ MatchOption (slice_get session.now.state.pulses
+        (marker + function_element session.now.state.format function)) ⊥
+        (IsRecorded session.now.state.format opened.now.pulses) }
+{
+    let element = function_element(session.current_format(), function);
+    match pulse_at(session, marker, element) {
         Some(pulse) => opened.has(session.current_format(), pulse),
         None => false,
     }
+}
+
+/// Whether a pulse is as recorded, or what was recorded of it was lost.
+fn is_recorded_or_lost(format: Format, opened: &Original, pulse: Pulse) -> bool
+    ensures { IsTrue result ↔ (IsRecorded format opened.now.pulses pulse
+        ⊎ IsLost format opened.now.pulses pulse) }
+{
+    if opened.has(format, pulse) {
+        return true;
+    }
+    !opened.has_any(format, pulse)
 }
 
 /// The pulse of an element of a frame, if there is one.

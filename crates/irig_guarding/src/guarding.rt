@@ -4,17 +4,19 @@ ghost use Rattle.std.specs.Prelude.{◌≡◌, ◌<◌, ◌≤◌, ◌-◌, [], 
 ghost use Rattle.std.specs.Prelude.{is_none, length, take, if◌then◌else◌};
 ghost use Rattle.irig_guarding.specs.Guarded.{IsGuarded, IsSafeAfter, Stands};
 ghost use Rattle.irig_guarding.specs.Trials.{IsCutBefore, IsTried, IsTriedBefore, Shows, Tries};
-ghost use Rattle.irig_guarding.specs.{Controls.IsSafeBy, Reading.original_of};
+ghost use Rattle.irig_guarding.specs.{Controls.IsSafeBy, Fillings.Fills, Reading.original_of};
 ghost use Rattle.irig_guarding.specs.{Reasons.head_lines, Repair.texts};
 ghost use Rattle.irig_script.specs.Obey.Run.{unlines};
 ghost use Rattle.irig_script.specs.declared.obey.status.Status.TheVariants.{SomeRefused};
 
 use crate::commands::{are_remarks, begins, closes};
+use crate::fillings::filled_frames;
 use crate::line::Line;
 use crate::lines::lines_of;
 use crate::mending::take;
 use crate::opening::original_of;
 use crate::printing::{put_head, put_lines, put_remarks};
+use crate::product::Kept;
 use crate::reading::fine_frames;
 use crate::reason::Reason;
 use crate::reason_text::put_reason;
@@ -26,24 +28,28 @@ use std::alloc::{AllocError, Global};
 /// Runs a proposed script on a session repair by repair: an edit, or the lines from a `begin` to the
 /// next `end` or `abort`. A repair that is accepted and safe is kept and printed, as comments are;
 /// any other line is printed as a comment, after the reason. Frames of the recording may move or not.
-/// Returns what is printed, and whether all was kept.
+/// Returns what is printed, whether all was kept, and how many frames have a control function then
+/// that is not in the recording.
 pub fn guard(
     alloc: Global,
     session: &mut Session,
     moved: bool,
     script: &[u8],
-) -> Result<(Vec<u8>, Status), AllocError>
+) -> Result<(Vec<u8>, Kept), AllocError>
     requires { session.old.floor ≡ None }
     ensures guarded { IfOk result (λ done. IsGuarded moved session.old done.0.items session.new) }
-    ensures tried { IfOk result (λ done. IsTried moved session.old script.now done.0.items done.1
-        session.new) }
+    ensures tried { IfOk result (λ done. IsTried moved session.old script.now done.0.items
+        done.1.status session.new) }
+    ensures filled { IfOk result (λ done. Fills (original_of moved session.old.state)
+        session.new.state done.1.filled) }
 {
     let opened = original_of(alloc, session, moved)?;
     let lines = lines_of(alloc, script)?;
     let mut out = Vec::new(alloc);
     put_head(&mut out, opened.frames())?;
     let status = guard_lines(alloc, session, &opened, lines.as_slice(), &mut out)?;
-    Ok((out, status))
+    let filled = filled_frames(alloc, session, &opened)?;
+    Ok((out, Kept { status, filled }))
 }
 
 /// Runs lines on a session repair by repair, and prints them. Returns whether all were kept.

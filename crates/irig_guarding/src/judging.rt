@@ -9,9 +9,8 @@ ghost use Rattle.irig_guarding.specs.{Reading.fine_frames, Reading.seen_frames};
 
 use crate::controls::check_controls;
 use crate::pulses::{check_rooted, check_stand};
-use crate::reading::fine_frames;
 use crate::reason::Reason;
-use crate::seen::{Seen, seen_frames};
+use crate::seen::{Seen, seen_frames, shown_of};
 use irig_edit::Session;
 use irig_safety::{Fault, Original, Shown, check_safe, check_unspoiled, moved_in};
 use std::alloc::Global;
@@ -27,10 +26,10 @@ pub fn check(
     ensures stays { OnOk result (MayStay opened.now before.now session.now.state) }
     ensures sways { IfErr result (Sways opened.now before.now session.now.state) }
 {
-    let Ok(frames) = fine_frames(alloc, session) else {
+    let Ok(seen) = seen_frames(alloc, session) else {
         return Err(Reason::OutOfMemory);
     };
-    let Ok(seen) = seen_frames(alloc, session) else {
+    let Ok(frames) = shown_of(alloc, session, seen.as_slice()) else {
         return Err(Reason::OutOfMemory);
     };
     if opened.is_moved() {

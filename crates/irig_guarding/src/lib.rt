@@ -4,6 +4,7 @@
 mod anchors;
 mod commands;
 mod controls;
+mod fillings;
 mod frame_text;
 mod guarding;
 mod judging;
@@ -23,5 +24,5 @@ mod run;
 mod seen;
 
 pub use law::{printed_scripts_are_obeyed, safe_states_are_kept_or_borne_out};
-pub use product::{GuardFault, Product};
+pub use product::{GuardFault, Kept, Product};
 pub use run::guard_on_parts;

@@ -1,5 +1,6 @@
 //! What a run under guard writes, and why it is broken off.
 
+use irig_script::Status;
 use irig_vcd::VcdFault;
 use thiserror::Error;
 
@@ -12,6 +13,14 @@ pub enum Product {
     Track,
     /// The track with its journal.
     Session,
+}
+
+/// How a run under guard ended: whether each repair was kept, and how many frames have a control
+/// function then that is not in the recording.
+#[derive(Clone, Copy)]
+pub struct Kept {
+    pub status: Status,
+    pub filled: usize,
 }
 
 /// Why a run under guard did not come to its end.

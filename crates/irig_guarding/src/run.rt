@@ -10,11 +10,10 @@ ghost use Rattle.irig_text.specs.Shelved.{Puts};
 
 use crate::guarding::guard;
 use crate::output::put_all;
-use crate::product::{GuardFault, Product};
+use crate::product::{GuardFault, Kept, Product};
 use irig_codes::Format;
 use irig_edit::Session;
 use irig_recording::Recording;
-use irig_script::Status;
 use irig_text::{Shelf, ShelfFault, Text};
 use irig_vcd::VcdFault;
 use std::alloc::Global;
@@ -32,7 +31,7 @@ pub fn guard_on_parts<R: Read, W: Write, S: Shelf>(
     script: &mut R,
     out: &mut W,
     shelf: &mut S,
-) -> Result<Status, GuardFault>
+) -> Result<Kept, GuardFault>
     requires { IfSome journal (λ text. length text.items ≤ 2 ^ 28) }
     ensures ends { (wire : Option (List ℕ)) (bytes : List ℕ)
         → dump_parts wire bytes ≡ Ok (recording, bytes_of journal)
@@ -85,7 +84,7 @@ pub fn guard_session<R: Read, W: Write, S: Shelf>(
     script: &mut R,
     out: &mut W,
     shelf: &mut S,
-) -> Result<Status, GuardFault>
+) -> Result<Kept, GuardFault>
     requires { session.old.floor ≡ None }
     ensures ends { RunsUnderGuard moved product session.old (R.remaining script.old)
         (desk (W.contents out.old) (S.known shelf.old))
@@ -98,14 +97,14 @@ pub fn guard_session<R: Read, W: Write, S: Shelf>(
     let Ok(_) = script.read_to_end(&mut bytes) else {
         return Err(GuardFault::ReadFailed);
     };
-    let Ok((printed, status)) = guard(alloc, session, moved, bytes.as_slice()) else {
+    let Ok((printed, kept)) = guard(alloc, session, moved, bytes.as_slice()) else {
         return Err(GuardFault::OutOfMemory);
     };
     let Ok(()) = put_all(out, printed.as_slice()) else {
         return Err(GuardFault::PrintFailed);
     };
     match write_product(session, product, shelf) {
-        Ok(()) => Ok(status),
+        Ok(()) => Ok(kept),
         Err(_) => Err(GuardFault::WriteFailed),
     }
 }

@@ -1,9 +1,9 @@
 //! The frames of a session that read well, with their markers.
 
-ghost use Rattle.std.specs.Prelude.{◌≡◌, ◌≤◌, ◌-◌, ◌++◌, length, slice_get, Some, IfOk, OnOk};
+ghost use Rattle.std.specs.Prelude.{◌≡◌, ◌≤◌, ◌-◌, ◌++◌, length, map, slice_get, Some, IfOk, OnOk};
 ghost use Rattle.irig_index.specs.declared.record.Record.{Record};
 ghost use Rattle.irig_edit.specs.State.State.{frames_of};
-ghost use Rattle.irig_guarding.specs.Reading.{seen_at, seen_by, seen_frames};
+ghost use Rattle.irig_guarding.specs.Reading.{fine_frames, seen_at, seen_by, seen_frames};
 
 use irig_codes::Note;
 use irig_edit::{Session, Verdict};
@@ -26,6 +26,26 @@ pub fn seen_frames(alloc: Global, session: &Session) -> Result<Vec<Seen>, AllocE
         put_frame(&mut seen, session, index + 1)?;
     }
     Ok(seen)
+}
+
+/// What the frames of a session show that read well, without their markers.
+pub fn shown_of(alloc: Global, session: &Session, seen: &[Seen]) -> Result<Vec<Shown>, AllocError>
+    requires { seen.now ≡ seen_frames session.now.state }
+    ensures { IfOk result (λ shown. shown.items ≡ fine_frames session.now.state) }
+{
+    let shown = shown_among(alloc, seen)?;
+    Ok(shown)
+}
+
+/// What some frames show.
+fn shown_among(alloc: Global, seen: &[Seen]) -> Result<Vec<Shown>, AllocError>
+    ensures { IfOk result (λ shown. shown.items ≡ map (λ y. y.shown) seen.now) }
+{
+    let mut shown = Vec::with_capacity(alloc, seen.len())?;
+    for frame in seen {
+        shown.push(frame.shown)?;
+    }
+    Ok(shown)
 }
 
 /// Puts a frame, from 1, after others if it reads well.

@@ -1,5 +1,5 @@
 -- A search among the rises of pulses.
-use Rattle.std.proofs.Common.{◌≡◌, ◌==◌, ◌&&◌, ◌<◌, ◌≤◌, ◌∙◌, ℕ, Bool, true, false, List, Some, ap, arith, get_or, inl, inr, length, nat_lt, refl, slice_get, sym}
+use Rattle.std.proofs.Common.{◌≡◌, ◌==◌, ◌&&◌, ◌<◌, ◌≤◌, ◌-◌, ◌∙◌, ℕ, Bool, true, false, List, Some, ap, arith, get_or, inl, inr, length, nat_lt, refl, slice_get, sym}
 use Rattle.std.specs.List.{list_any}
 use Rattle.std.specs.List.Sorted.{IsNonDecreasingBy}
 use Rattle.std.proofs.lemmas.List.Folds.{list_any_at, list_any_none}
@@ -58,3 +58,18 @@ pub rise_past : (key : Pulse → ℕ) (ps : List Pulse) (t place : ℕ) → IsNo
     → nat_lt place (length ps) ≡ list_any (λ p. key p == t) ps
 rise_past key ps t place up before past =
     not_less place (length ps) past ∙ sym (rise_none key ps t place up before (λ d within. absurd (omega (arith, past, within))))
+
+-- none before a place rises at a time or later, if the one right before it does not
+pub all_early : (key : Pulse → ℕ) (ps : List Pulse) (t place : ℕ) (e : Pulse) → IsNonDecreasingBy key ps → place < length ps → 0 < place
+    → key (get_or ps (place - 1) e) < t → (j : ℕ) (d : Pulse) → j < place → j < length ps → key (get_or ps j d) < t
+all_early key ps t place e up there some early j d less within =
+    let more = up j (place - 1) d (omega (arith, less)) (omega (arith, there)) in
+    let same : get_or ps (place - 1) d ≡ get_or ps (place - 1) e =
+    get_or_from_slice_get ps (place - 1) (get_or ps (place - 1) e) d (slice_get-get_or ps (place - 1) e (omega (arith, there))) in
+    omega (arith, more, early, ap key same)
+
+pub at_place : (key : Pulse → ℕ) (ps : List Pulse) (t place : ℕ) (e d : Pulse) → place < length ps → t ≤ key (get_or ps place e)
+    → t ≤ key (get_or ps place d)
+at_place key ps t place e d there least =
+    let same : get_or ps place d ≡ get_or ps place e = get_or_from_slice_get ps place (get_or ps place e) d (slice_get-get_or ps place e there) in
+    omega (arith, least, ap key same)

@@ -5,10 +5,11 @@ use Rattle.std.specs.List.{range_with_len}
 use Rattle.irig_codes.specs.{Format.FormatView, Format.control_count_of, declared.fields.Fields.Fields, declared.format.Kind.Kind}
 use Rattle.irig_codes.specs.{Layout.control, Layout.rows_of, declared.format.Kind.TheVariants.A, declared.format.Kind.TheVariants.B}
 use Rattle.irig_codes.specs.declared.format.Kind.TheVariants.{E, G}
-use Rattle.irig_safety.specs.Bearing.{clock_of, is_far, is_later, leads, periods, shows_clock, slack, stray}
+use Rattle.irig_safety.specs.Bearing.{clock_of, is_far, is_later, leads, periods, slack, stray}
+use Rattle.irig_safety.specs.Clocks.{is_by_own_clock, shows_clock}
 use Rattle.irig_recording.specs.declared.pulse.Pulse.{Pulse}
 use Rattle.irig_safety.specs.{Anchors.is_anchor, Lines.is_between, Lines.is_nominal, Rises.rise_in, declared.lines.Anchor.Anchor}
-use Rattle.irig_safety.specs.Witnesses.{is_doubted, is_led}
+use Rattle.irig_safety.specs.{Heard.is_overruled, Witnesses.is_led}
 use Rattle.irig_safety.specs.Mended.{HasControlOfBoth, with_control}
 use Rattle.irig_safety.specs.{Controls.function_element, Witnesses.is_borne, declared.shown.Shown.Shown}
 
@@ -234,9 +235,24 @@ led = refl
 not_led : is_led b4 (Some before) (Some after) (at 6005601 (time 24 138 12 34 56)) ≡ false
 not_led = refl
 
--- a frame of day 139 between them is not believed
-other_day : is_doubted b4 (Some before) (Some (at 7000000 (time 24 139 12 34 57))) (Some after) ≡ true
+-- a frame of day 139 between them is not heard
+other_day : is_overruled b4 (Some before) (Some (at 7000000 (time 24 139 12 34 57))) (Some after) ≡ true
 other_day = refl
 
-not_believed : is_borne b4 None (Some before) (Some (at 7000000 (time 24 139 12 34 57))) (Some after) (at 6000000 (time 24 138 12 34 56)) ≡ true
-not_believed = refl
+not_heard : is_borne b4 None (Some before) (Some (at 7000000 (time 24 139 12 34 57))) (Some after) (at 6000000 (time 24 138 12 34 56)) ≡ true
+not_heard = refl
+
+-- each second takes 1.05 s: so the two frames before show it, and between the next two a frame is in time
+abbrev slow_at : ℕ → ℕ → Shown
+slow_at rise second = at rise (time 24 138 12 34 second)
+
+own_clock : is_by_own_clock b4 (Some (slow_at 1000000 50)) (slow_at 2050000 51) (slow_at 4150000 53) None (slow_at 3100000 52) ≡ true
+own_clock = refl
+
+-- or the two after
+own_clock_after : is_by_own_clock b4 None (slow_at 2050000 51) (slow_at 4150000 53) (Some (slow_at 5200000 54)) (slow_at 3100000 52) ≡ true
+own_clock_after = refl
+
+-- not if those show an exact clock: then it is a slip of 10 intervals
+no_own_clock : is_by_own_clock b4 (Some (slow_at 1050000 50)) (slow_at 2050000 51) (slow_at 4150000 53) (Some (slow_at 5150000 54)) (slow_at 3100000 52) ≡ false
+no_own_clock = refl

@@ -101,24 +101,6 @@ allows f a b = is_far f a b || is_shown f a b
 abbrev pub agrees : FormatView → Shown → Shown → Bool
 agrees f a b = not (is_far f a b) && is_shown f a b
 
--- the frames agree, and so show by how much the clock is off: by a fortieth at most
-abbrev pub shows_clock : FormatView → Shown → Shown → Bool
-shows_clock f p q =
-    is_shown f p q
-    && nat_le (40 * stray f p q) (periods f p q * frame_period_of f.kind)
-
--- by the clock of p and q, the frame y begins within half an interval of the time when it should
--- after x
-abbrev pub is_in_time : FormatView → Shown → Shown → Shown → Shown → Bool
-is_in_time f p q x y =
-    is_later f x y
-    && nat_le (2 * apart (distance x y * periods f p q) (periods f x y * distance p q))
-    (periods f p q * interval_of f.kind)
-
--- so on the clock that p and q show
-abbrev pub is_by_clock : FormatView → Shown → Shown → Shown → Shown → Bool
-is_by_clock f p q x y = shows_clock f p q && is_in_time f p q x y
-
 -- two frames stray by no more than half an interval more than two others do from each other, or those
 -- do not agree
 abbrev pub is_within : FormatView → Shown → Shown → Shown → Shown → Bool

@@ -7,7 +7,7 @@ use Rattle.irig_codes.specs.Format.{FormatView, control_count_of, has_year}
 use Rattle.irig_codes.specs.declared.format.Kind.TheVariants.{A, B, E, G}
 use Rattle.irig_codes.specs.{declared.format.Kind.Kind}
 use Rattle.irig_recording.specs.declared.pulse.Pulse.{Pulse}
-use Rattle.irig_safety.specs.{Original.IsRecorded, declared.shown.Shown.Shown}
+use Rattle.irig_safety.specs.{Original.IsLost, Original.IsRecorded, declared.shown.Shown.Shown}
 use Rattle.irig_safety.specs.declared.witnesses.Witnesses.{Witnesses}
 
 -- the element with the first control function, with the year and without it
@@ -39,11 +39,12 @@ is_shared k w y = both w.before2 w.before w.after w.after2 where
   both a2 None (Some b) b2 = shares k (Some b) y && shares k b2 y
   both a2 (Some a) (Some b) b2 = shares k (Some a) y && shares k (Some b) y
 
--- a control function is as the two nearest frames have it, or its pulse is recorded
+-- a control function is as the two nearest frames have it, or as it was recorded, or what was recorded
+-- of it was lost
 abbrev pub IsFunctionBorne : FormatView → List Pulse → Witnesses → Shown → ℕ → Option Pulse
     → Type 0
 IsFunctionBorne f recorded w y k p =
-    (is_shared k w y ≡ true) ⊎ MatchOption p ⊥ (IsRecorded f recorded)
+    (is_shared k w y ≡ true) ⊎ MatchOption p ⊥ (λ q. IsRecorded f recorded q ⊎ IsLost f recorded q)
 
 -- all control functions are, of a frame whose marker is at a place of the pulses
 abbrev pub AreFunctionsBorne : FormatView → List Pulse → List Pulse → ℕ → Witnesses → Shown → Type

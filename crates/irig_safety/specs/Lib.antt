@@ -1,7 +1,9 @@
 pub mod Anchors
 pub mod Bearing
+pub mod Clocks
 pub mod Controls
 pub mod Faults
+pub mod Heard
 pub mod Lines
 pub mod Meaning
 pub mod Mended

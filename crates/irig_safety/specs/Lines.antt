@@ -1,24 +1,24 @@
 -- When a pulse is on the line between two whose place is known. This project's own.
-use Rattle.std.specs.Prelude.{◌+◌, ◌-◌, ◌*◌, ◌/◌, ◌&&◌, ◌||◌, ℕ, Bool, false, not, nat_le}
+use Rattle.std.specs.Prelude.{◌+◌, ◌-◌, ◌*◌, ◌/◌, ◌&&◌, ◌||◌, ℕ, Bool, false, nat_le}
 use Rattle.std.specs.Prelude.{Option, Some, None, if◌then◌else◌}
 use Rattle.irig_codes.specs.Format.{FormatView, interval_of}
-use Rattle.irig_safety.specs.Bearing.{apart, distance, is_far, is_shown, periods, shows_clock}
+use Rattle.irig_safety.specs.{Bearing.agrees, Bearing.apart, Bearing.distance, Bearing.periods}
+use Rattle.irig_safety.specs.Clocks.{shows_clock}
 use Rattle.irig_safety.specs.declared.lines.Anchor.{Anchor}
 use Rattle.irig_safety.specs.{declared.shown.Shown.Shown, declared.witnesses.Witnesses.Witnesses}
 
--- the marker of the frame before a frame, as it is seen from an element of that: if both agree, and
--- are not too far from each other
+-- the marker of the frame before a frame, as it is seen from an element of that, if both agree
 abbrev pub marker_before : FormatView → Option Shown → Shown → ℕ → Option Anchor
 marker_before f None y j = None
 marker_before f (Some a) y j =
-    if is_shown f a y && not (is_far f a y)
+    if agrees f a y
     then Some (record { steps = 100 * periods f a y + j; rise = a.rise }) else None
 
 -- so the marker of the frame after it
 abbrev pub marker_after : FormatView → Option Shown → Shown → ℕ → Option Anchor
 marker_after f None y j = None
 marker_after f (Some b) y j =
-    if is_shown f y b && not (is_far f y b)
+    if agrees f y b
     then Some (record { steps = 100 * periods f y b - j; rise = b.rise }) else None
 
 -- a time is on the line between two anchors, to a tenth of an interval

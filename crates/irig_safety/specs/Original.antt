@@ -1,5 +1,6 @@
 -- What is known of a recording as it was opened. This project's own.
-use Rattle.std.specs.Prelude.{◌≡◌, ◌≤◌, ◌*◌, ◌-◌, ℕ, Bool, List, Option, Some, drop, slice_get}
+use Rattle.std.specs.Prelude.{◌≡◌, ◌≤◌, ◌/◌, ◌-◌, ℕ, Bool, true, false, List, Option, Some, None, drop}
+use Rattle.std.specs.Prelude.{slice_get}
 use Rattle.irig_codes.specs.Format.{FormatView, interval_of}
 use Rattle.irig_codes.specs.Width.{class_of}
 use Rattle.irig_recording.specs.declared.pulse.Pulse.{Pulse}
@@ -32,10 +33,28 @@ abbrev pub near_in : List Shown → ℕ → ℕ → Witnesses
 near_in frames place next =
     near_by (behind (place - 1) frames) (behind place frames) (drop next frames)
 
--- one of the pulses is of the same class, and rises within a tenth of the interval of it
-pub record IsRecorded (f : FormatView) (recorded : List Pulse) (p : Pulse) : Type 0 where
+-- a pulse has the class of another; or if that is all that is asked, it has a class
+abbrev pub IsAlike : FormatView → Bool → Pulse → Pulse → Type 0
+IsAlike f false other p = class_of f (other.fall - other.rise) ≡ class_of f (p.fall - p.rise)
+IsAlike f true other p = class_of f (other.fall - other.rise) ≡ None → ⊥
+
+-- how near a pulse has to be: a tenth of an interval, or half of one if any class will do
+abbrev pub reach_of : FormatView → Bool → ℕ
+reach_of f false = interval_of f.kind / 10
+reach_of f true = interval_of f.kind / 2
+
+-- one of the pulses is alike, and rises near it
+pub record IsNear (f : FormatView) (any : Bool) (recorded : List Pulse) (p : Pulse) : Type 0 where
   pub place : ℕ
   pub other : Pulse
   pub there : slice_get recorded place ≡ Some other
-  pub near : 10 * apart other.rise p.rise ≤ interval_of f.kind
-  pub same : class_of f (other.fall - other.rise) ≡ class_of f (p.fall - p.rise)
+  pub near : apart other.rise p.rise ≤ reach_of f any
+  pub alike : IsAlike f any other p
+
+-- a pulse is as recorded: one of the same class rises there
+abbrev pub IsRecorded : FormatView → List Pulse → Pulse → Type 0
+IsRecorded f recorded p = IsNear f false recorded p
+
+-- what was recorded where a pulse rises was lost: nothing that rises there has a class
+abbrev pub IsLost : FormatView → List Pulse → Pulse → Type 0
+IsLost f recorded p = IsNear f true recorded p → ⊥

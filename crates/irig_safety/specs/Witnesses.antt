@@ -1,9 +1,10 @@
 -- When the frames next to a frame bear out its time. This project's own.
-use Rattle.std.specs.Prelude.{◌&&◌, ◌||◌, Bool, true, false, not, nat_le, is_some, Option, Some, None}
-use Rattle.std.specs.Prelude.{if◌then◌else◌}
+use Rattle.std.specs.Prelude.{◌&&◌, ◌||◌, Bool, true, false, nat_le, is_some, Option, Some, None}
 use Rattle.irig_codes.specs.Format.{FormatView}
-use Rattle.irig_safety.specs.Bearing.{allows, is_by_clock, is_within, leads}
-use Rattle.irig_safety.specs.{declared.shown.Shown.Shown, declared.witnesses.Witnesses.Witnesses}
+use Rattle.irig_safety.specs.Bearing.{allows, is_within, leads}
+use Rattle.irig_safety.specs.Clocks.{is_by_clock, is_by_own_clock}
+use Rattle.irig_safety.specs.{Heard.heard, declared.shown.Shown.Shown}
+use Rattle.irig_safety.specs.declared.witnesses.Witnesses.{Witnesses}
 
 -- the frame before it leads to a frame, or it leads to the one after it. If both are there and agree,
 -- they stray no more from it than from each other, but for half an interval
@@ -33,14 +34,14 @@ abbrev pub is_timed_to : FormatView → Shown → Shown → Option Shown → Boo
 is_timed_to f y b None = false
 is_timed_to f y b (Some b2) = is_by_clock f b b2 y b
 
--- it is in time by the clock of the frames on both sides; if one side has none, by the two of the
--- other
+-- it is in time by the clock of the frames on both sides, which is off by a fortieth at most, or is the
+-- recording's own; if one side has none, by the two of the other
 abbrev pub is_timed : FormatView → Option Shown → Option Shown → Option Shown → Option Shown
     → Shown → Bool
 is_timed f a2 None None b2 y = false
 is_timed f a2 (Some a) None b2 y = is_timed_from f a2 a y
 is_timed f a2 None (Some b) b2 y = is_timed_to f y b b2
-is_timed f a2 (Some a) (Some b) b2 y = is_by_clock f a b a y
+is_timed f a2 (Some a) (Some b) b2 y = is_by_clock f a b a y || is_by_own_clock f a2 a b b2 y
 
 -- an inserted second is borne out from both sides alone
 abbrev pub may_stand : Option Shown → Option Shown → Shown → Bool
@@ -53,32 +54,7 @@ bears f w y =
     (is_led f w.before w.after y || is_timed f w.before2 w.before w.after w.after2 y)
     && (allows_from f w.before y && allows_to f y w.after) && may_stand w.before w.after y
 
--- a frame is contradicted by both others, which do not contradict each other
-abbrev pub is_doubted : FormatView → Option Shown → Option Shown → Option Shown → Bool
-is_doubted f (Some a) (Some b) (Some c) =
-    not (allows f a b) && not (allows f b c) && allows f a c
-is_doubted f a b c = false
-
--- nothing is on one side, and the two on the other contradict each other
-abbrev pub is_disputed : FormatView → Option Shown → Option Shown → Option Shown → Bool
-is_disputed f None (Some p) (Some q) = not (allows f p q)
-is_disputed f x p q = false
-
--- these are next to a place
-abbrev pub witnesses : Option Shown → Option Shown → Option Shown → Option Shown → Witnesses
-witnesses a2 a b b2 = record { before2 = a2; before = a; after = b; after2 = b2 }
-
--- but for the one before it or the one after it, if that is contradicted by both next to it; and none
--- of two on one side, if they contradict each other and the other has none
-abbrev pub believed : FormatView → Option Shown → Option Shown → Option Shown → Option Shown
-    → Witnesses
-believed f a2 a b b2 =
-    if is_doubted f a b b2 && not (is_doubted f a2 a b) then witnesses a2 a b2 None
-    else if is_doubted f a2 a b && not (is_doubted f a b b2) then witnesses None a2 b b2
-    else if is_disputed f a b b2 || is_disputed f b a2 a then witnesses None None None None
-    else witnesses a2 a b b2
-
--- those that are believed bear it out
+-- those that are heard bear it out
 abbrev pub is_borne : FormatView → Option Shown → Option Shown → Option Shown → Option Shown
     → Shown → Bool
-is_borne f a2 a b b2 y = bears f (believed f a2 a b b2) y
+is_borne f a2 a b b2 y = bears f (heard f a2 a b b2) y

@@ -3,8 +3,8 @@
 ghost use Rattle.std.specs.Prelude.{◌≡◌, ◌+◌, ◌*◌, ◌%◌, ◌==◌, ◌^◌, ◌<◌};
 ghost use Rattle.irig_safety.specs.Bearing.{agrees, allows, apart, clock_after, clock_of};
 ghost use Rattle.irig_safety.specs.Bearing.{distance, goes_back};
-ghost use Rattle.irig_safety.specs.Bearing.{inserted_of, is_by_clock, is_far, is_in_time, is_later};
-ghost use Rattle.irig_safety.specs.Bearing.{is_near_year, is_shown, leads, periods, shows_clock};
+ghost use Rattle.irig_safety.specs.Bearing.{inserted_of, is_far, is_later};
+ghost use Rattle.irig_safety.specs.Bearing.{is_near_year, is_shown, leads, periods};
 ghost use Rattle.irig_safety.specs.Bearing.{is_within, slack, stray, turn_of, year_of};
 ghost use Rattle.irig_moment.specs.Generated.{period_of};
 
@@ -128,7 +128,7 @@ fn goes_back(one: &Fields, other: &Fields) -> bool
 
 /// Whether a frame says a time that is whole frame periods after that of another, no later than in
 /// the next year.
-fn is_later(format: Format, one: &Shown, other: &Shown) -> bool
+pub fn is_later(format: Format, one: &Shown, other: &Shown) -> bool
     ensures { result ≡ is_later format one.now other.now }
 {
     let (from, to) = (clock(&one.fields), clock_after(one, other));
@@ -159,7 +159,7 @@ pub fn apart(one: u128, other: u128) -> u128
 }
 
 /// By how many microseconds the distance of two frames differs from that of their times.
-fn stray(format: Format, one: &Shown, other: &Shown) -> u128
+pub fn stray(format: Format, one: &Shown, other: &Shown) -> u128
     ensures value { result ≡ stray format one.now other.now }
     ensures small { result < 2 ^ 90 }
 {
@@ -214,33 +214,6 @@ pub fn agrees(format: Format, one: &Shown, other: &Shown) -> bool
     ensures { result ≡ agrees format one.now other.now }
 {
     !is_far(format, one, other) && is_shown(format, one, other)
-}
-
-/// Whether two frames agree, and so show by how much the clock is off: by a fortieth at most.
-pub fn shows_clock(format: Format, one: &Shown, other: &Shown) -> bool
-    ensures { result ≡ shows_clock format one.now other.now }
-{
-    is_shown(format, one, other)
-        && 40 * stray(format, one, other)
-            <= periods(format, one, other) * u128::from(format.frame_period())
-}
-
-/// Whether by the clock of two frames another one begins when it should after some frame.
-fn is_in_time(format: Format, one: &Shown, other: &Shown, from: &Shown, frame: &Shown) -> bool
-    ensures { result ≡ is_in_time format one.now other.now from.now frame.now }
-{
-    let whole = periods(format, one, other);
-    let here = distance(from, frame) * whole;
-    let wanted = periods(format, from, frame) * distance(one, other);
-    is_later(format, from, frame)
-        && 2 * apart(here, wanted) <= whole * u128::from(format.interval())
-}
-
-/// The same, if the two frames show their clock.
-pub fn is_by_clock(format: Format, one: &Shown, other: &Shown, from: &Shown, frame: &Shown) -> bool
-    ensures { result ≡ is_by_clock format one.now other.now from.now frame.now }
-{
-    shows_clock(format, one, other) && is_in_time(format, one, other, from, frame)
 }
 
 /// Whether two frames stray by no more than half an interval more than two others do from each

@@ -2,6 +2,7 @@
 #![tactic(auto)]
 
 mod bearing;
+mod clocks;
 mod controls;
 mod fault;
 mod law;

@@ -1,12 +1,13 @@
 //! Whether a pulse is on the line between two whose place is known.
 
-ghost use Rattle.std.specs.Prelude.{◌≡◌, ◌≤◌, ◌<◌, ◌+◌, ◌-◌, ◌/◌, ◌^◌, IfSome};
+ghost use Rattle.std.specs.Prelude.{◌≡◌, ◌≤◌, ◌<◌, ◌+◌, ◌-◌, ◌*◌, ◌/◌, ◌^◌, IfSome};
 ghost use Rattle.irig_codes.specs.Format.{interval_of};
 ghost use Rattle.irig_safety.specs.Lines.{is_along, is_at_clock, is_at_clock_of, is_between};
 ghost use Rattle.irig_safety.specs.Lines.{is_clocked, is_nominal, is_on_line, marker_after};
 ghost use Rattle.irig_safety.specs.Lines.{marker_before};
 
-use crate::bearing::{apart, distance, is_far, is_shown, periods, shows_clock};
+use crate::bearing::{agrees, apart, distance, periods};
+use crate::clocks::shows_clock;
 use crate::shown::Shown;
 use crate::witnesses::Witnesses;
 use irig_codes::Format;
@@ -18,8 +19,15 @@ pub struct Anchor {
     pub rise: u64,
 }
 
-/// The marker of the frame before a frame, as it is seen from an element of that: if both agree, and
-/// are not too far from each other.
+/// How many elements some frames have.
+fn elements(frames: u128) -> u128
+    requires { frames < 2 ^ 64 }
+    ensures { result ≡ 100 * frames }
+{
+    100 * frames
+}
+
+/// The marker of the frame before a frame, as it is seen from an element of that, if both agree.
 pub fn marker_before(
     format: Format,
     before: Option<Shown>,
@@ -33,10 +41,10 @@ pub fn marker_before(
     let Some(before) = before else {
         return None;
     };
-    if is_shown(format, &before, frame) && !is_far(format, &before, frame) {
+    if agrees(format, &before, frame) {
         let many = periods(format, &before, frame);
         Some(Anchor {
-            steps: 100 * many + element as u128,
+            steps: elements(many) + element as u128,
             rise: before.rise,
         })
     } else {
@@ -57,10 +65,10 @@ pub fn marker_after(
     let Some(after) = after else {
         return None;
     };
-    if is_shown(format, frame, &after) && !is_far(format, frame, &after) {
+    if agrees(format, frame, &after) {
         let many = periods(format, frame, &after);
         Some(Anchor {
-            steps: (100 * many).saturating_sub(element as u128),
+            steps: elements(many).saturating_sub(element as u128),
             rise: after.rise,
         })
     } else {

@@ -1,11 +1,12 @@
 //! What is known of a recording as it was opened.
 
 ghost use Rattle.std.specs.Prelude.{◌≡◌, ◌↔◌, ◌-◌, ◌≤◌, IsTrue, get_or, length, slice_get, Some};
+ghost use Rattle.std.specs.Prelude.{false, true};
 ghost use Rattle.std.specs.List.Sorted.{IsNonDecreasingBy};
 ghost use Rattle.irig_codes.specs.Width.{class_of};
 ghost use Rattle.irig_recording.specs.declared.pulse.Pulse.{Pulse as SomePulse};
-ghost use Rattle.irig_safety.specs.Anchors.{is_anchor};
-ghost use Rattle.irig_safety.specs.Original.{IsRecorded, near_in};
+ghost use Rattle.irig_safety.specs.Anchors.{is_anchor, is_rise};
+ghost use Rattle.irig_safety.specs.Original.{IsAlike, IsNear, IsRecorded, near_in, reach_of};
 ghost use Rattle.irig_safety.specs.Rises.{rise_in, rise_or};
 
 use crate::rises::{has_fall, has_rise};
@@ -85,6 +86,13 @@ impl Original {
         }
     }
 
+    /// All pulses, which rise.
+    pub fn pulses(&self) -> &[Pulse]
+        ensures { result.now ≡ self.now.pulses }
+    {
+        self.pulses.as_slice()
+    }
+
     /// When the pulse of an element rises of a frame with a marker.
     pub fn rise(&self, marker: usize, element: usize) -> u64
         ensures { result ≡ rise_in self.now.pulses marker element }
@@ -98,12 +106,13 @@ impl Original {
     }
 
     /// Whether a pulse, if it is there, rises when one of the recording does, or is a gap of it turned
-    /// over.
-    pub fn holds(&self, pulse: Option<Pulse>) -> bool
+    /// over. A place of the recording is looked at first, and becomes the next one to look at: the
+    /// answer does not depend on it.
+    pub fn holds(&self, pulse: Option<Pulse>, place: &mut usize) -> bool
         ensures { result ≡ is_anchor self.now.pulses pulse }
     {
         match pulse {
-            Some(pulse) => is_anchor(self.pulses.as_slice(), pulse),
+            Some(pulse) => is_anchor(self.pulses.as_slice(), pulse, place),
             None => false,
         }
     }
@@ -113,18 +122,34 @@ impl Original {
     pub fn has(&self, format: Format, pulse: Pulse) -> bool
         ensures { IsTrue result ↔ IsRecorded format self.now.pulses pulse }
     {
-        has_like(format, self.pulses.as_slice(), pulse)
+        has_alike(format, false, self.pulses.as_slice(), pulse)
+    }
+
+    /// Whether a pulse with a class was recorded within half an interval of a pulse.
+    pub fn has_any(&self, format: Format, pulse: Pulse) -> bool
+        ensures { IsTrue result ↔ IsNear format true self.now.pulses pulse }
+    {
+        has_alike(format, true, self.pulses.as_slice(), pulse)
     }
 }
 
 /// Whether a pulse rises when one of others does, or rises when one falls and falls when one rises.
-fn is_anchor(recorded: &[Pulse], pulse: Pulse) -> bool
+fn is_anchor(recorded: &[Pulse], pulse: Pulse, place: &mut usize) -> bool
     requires rising { IsNonDecreasingBy (λ (p : SomePulse). p.rise) recorded.now }
     requires falling { IsNonDecreasingBy (λ (p : SomePulse). p.fall) recorded.now }
     ensures { result ≡ is_anchor recorded.now (Some pulse) }
 {
-    has_rise(recorded, pulse.rise)
-        || has_fall(recorded, pulse.rise) && has_rise(recorded, pulse.fall)
+    has_rise(recorded, pulse.rise, place)
+        || has_fall(recorded, pulse.rise, *place) && is_rise(recorded, pulse.fall, *place)
+}
+
+/// Whether one of some pulses rises at a time. A place is looked at first.
+fn is_rise(recorded: &[Pulse], time: u64, place: usize) -> bool
+    requires { IsNonDecreasingBy (λ (p : SomePulse). p.rise) recorded.now }
+    ensures { result ≡ is_rise recorded.now time }
+{
+    let mut at = place;
+    has_rise(recorded, time, &mut at)
 }
 
 /// When a pulse rises; 0 if there is none.
@@ -150,24 +175,46 @@ pub fn near_in(frames: &[Shown], place: usize, next: usize) -> Witnesses
     }
 }
 
-/// Whether one of some pulses that rise is of the same class as a pulse, and near it.
-fn has_like(format: Format, recorded: &[Pulse], pulse: Pulse) -> bool
+/// Whether one of some pulses that rise is alike to a pulse, and near it.
+fn has_alike(format: Format, any: bool, recorded: &[Pulse], pulse: Pulse) -> bool
     requires { IsNonDecreasingBy (λ (p : SomePulse). p.rise) recorded.now }
-    ensures { IsTrue result ↔ IsRecorded format recorded.now pulse }
+    ensures { IsTrue result ↔ IsNear format any recorded.now pulse }
 {
-    let tenth = format.interval() / 10;
-    let low = pulse.rise.saturating_sub(tenth);
+    let reach = reach_of(format, any);
+    let low = pulse.rise.saturating_sub(reach);
     let first = recorded.partition_point(|other| other.rise < low);
     for place in first..recorded.len() {
         let other = recorded[place];
-        if other.rise.saturating_sub(tenth) > pulse.rise {
+        if other.rise.saturating_sub(reach) > pulse.rise {
             return false;
         }
-        if is_same_class(format, other, pulse) {
+        if is_alike(format, any, other, pulse) {
             return true;
         }
     }
     false
+}
+
+/// How near a pulse has to be: a tenth of an interval, or half of one if any class will do.
+fn reach_of(format: Format, any: bool) -> u64
+    ensures { result ≡ reach_of format any }
+{
+    if any {
+        format.interval() / 2
+    } else {
+        format.interval() / 10
+    }
+}
+
+/// Whether a pulse has the class of another, or any.
+fn is_alike(format: Format, any: bool, other: Pulse, pulse: Pulse) -> bool
+    ensures { IsTrue result ↔ IsAlike format any other pulse }
+{
+    if any {
+        element(format, other).is_some()
+    } else {
+        is_same_class(format, other, pulse)
+    }
 }
 
 /// Whether two pulses mean the same.

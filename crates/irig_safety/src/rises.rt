@@ -1,26 +1,63 @@
 //! The rises and falls of recorded pulses.
 
-ghost use Rattle.std.specs.Prelude.{◌≡◌};
+ghost use Rattle.std.specs.Prelude.{◌≡◌, ◌<◌, ◌≤◌, ℕ, get_or, length};
 ghost use Rattle.std.specs.List.Sorted.{IsNonDecreasingBy};
 ghost use Rattle.irig_safety.specs.Anchors.{is_fall, is_rise};
 ghost use Rattle.irig_recording.specs.declared.pulse.Pulse.{Pulse as SomePulse};
 
 use irig_recording::Pulse;
 
-/// Whether one of some pulses rises at a time.
-pub fn has_rise(pulses: &[Pulse], time: u64) -> bool
+/// Whether one of some pulses rises at a time. A place is looked at first, and becomes the next one
+/// to look at: the answer does not depend on it.
+pub fn has_rise(pulses: &[Pulse], time: u64, place: &mut usize) -> bool
     requires { IsNonDecreasingBy (λ (p : SomePulse). p.rise) pulses.now }
     ensures { result ≡ is_rise pulses.now time }
 {
-    let place = pulses.partition_point(|pulse| pulse.rise < time);
-    place < pulses.len() && pulses[place].rise == time
+    let first = first_rise(pulses, time, *place);
+    let found = first < pulses.len() && pulses[first].rise == time;
+    *place = if found { first + 1 } else { first };
+    found
 }
 
-/// Whether one of some pulses falls at a time.
-pub fn has_fall(pulses: &[Pulse], time: u64) -> bool
+/// The first of some pulses that does not rise before a time. A place is looked at first.
+fn first_rise(pulses: &[Pulse], time: u64, place: usize) -> usize
+    requires { IsNonDecreasingBy (λ (p : SomePulse). p.rise) pulses.now }
+    ensures before { (j : ℕ) (d : SomePulse) → j < result → j < length pulses.now
+        → (get_or pulses.now j d).rise < time }
+    ensures after { (d : SomePulse) → result < length pulses.now
+        → time ≤ (get_or pulses.now result d).rise }
+{
+    if place < pulses.len()
+        && time <= pulses[place].rise
+        && (place == 0 || pulses[place - 1].rise < time)
+    {
+        return place;
+    }
+    pulses.partition_point(|pulse| pulse.rise < time)
+}
+
+/// Whether one of some pulses falls at a time. A place is looked at first.
+pub fn has_fall(pulses: &[Pulse], time: u64, place: usize) -> bool
     requires { IsNonDecreasingBy (λ (p : SomePulse). p.fall) pulses.now }
     ensures { result ≡ is_fall pulses.now time }
 {
-    let place = pulses.partition_point(|pulse| pulse.fall < time);
-    place < pulses.len() && pulses[place].fall == time
+    let first = first_fall(pulses, time, place);
+    first < pulses.len() && pulses[first].fall == time
+}
+
+/// The first of some pulses that does not fall before a time. A place is looked at first.
+fn first_fall(pulses: &[Pulse], time: u64, place: usize) -> usize
+    requires { IsNonDecreasingBy (λ (p : SomePulse). p.fall) pulses.now }
+    ensures before { (j : ℕ) (d : SomePulse) → j < result → j < length pulses.now
+        → (get_or pulses.now j d).fall < time }
+    ensures after { (d : SomePulse) → result < length pulses.now
+        → time ≤ (get_or pulses.now result d).fall }
+{
+    if place < pulses.len()
+        && time <= pulses[place].fall
+        && (place == 0 || pulses[place - 1].fall < time)
+    {
+        return place;
+    }
+    pulses.partition_point(|pulse| pulse.fall < time)
 }

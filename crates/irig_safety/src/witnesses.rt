@@ -1,12 +1,13 @@
 //! Whether the frames on both sides of a frame bear out its time.
 
 ghost use Rattle.std.specs.Prelude.{◌≡◌, Some};
-ghost use Rattle.irig_safety.specs.Witnesses.{allows_from, allows_to, bears, believed, is_borne};
-ghost use Rattle.irig_safety.specs.Witnesses.{is_disputed, is_doubted, is_led, is_timed, is_timed_from};
-ghost use Rattle.irig_safety.specs.Witnesses.{is_timed_to};
+ghost use Rattle.irig_safety.specs.Heard.{heard, is_disputed, is_overruled};
+ghost use Rattle.irig_safety.specs.Witnesses.{allows_from, allows_to, bears, is_borne, is_led};
+ghost use Rattle.irig_safety.specs.Witnesses.{is_timed, is_timed_from, is_timed_to};
 ghost use Rattle.irig_safety.specs.Witnesses.{may_stand};
 
-use crate::bearing::{allows, is_by_clock, is_within, leads};
+use crate::bearing::{allows, is_within, leads};
+use crate::clocks::{is_by_clock, is_by_own_clock};
 use crate::shown::Shown;
 use irig_codes::Format;
 
@@ -86,7 +87,10 @@ fn is_timed(format: Format, near: &Witnesses, frame: &Shown) -> bool
         ≡ is_timed format near.now.before2 near.now.before near.now.after near.now.after2 frame.now }
 {
     match (near.before, near.after) {
-        (Some(before), Some(after)) => is_by_clock(format, &before, &after, &before, frame),
+        (Some(before), Some(after)) => {
+            is_by_clock(format, &before, &after, &before, frame)
+                || is_by_own_clock(format, near.before2, &before, &after, near.after2, frame)
+        }
         (Some(before), None) => is_timed_from(format, near.before2, &before, frame),
         (None, Some(after)) => is_timed_to(format, frame, &after, near.after2),
         (None, None) => false,
@@ -110,14 +114,14 @@ fn bears(format: Format, near: &Witnesses, frame: &Shown) -> bool
         && may_stand(near, frame)
 }
 
-/// Whether a frame is contradicted by both others, which do not contradict each other.
-fn is_doubted(
+/// Whether a frame is overruled: both others contradict it, and do not contradict each other.
+fn is_overruled(
     format: Format,
     before: Option<Shown>,
     frame: Option<Shown>,
     after: Option<Shown>,
 ) -> bool
-    ensures { result ≡ is_doubted format before frame after }
+    ensures { result ≡ is_overruled format before frame after }
 {
     match (before, frame, after) {
         (Some(a), Some(b), Some(c)) => {
@@ -142,22 +146,22 @@ fn is_disputed(
     }
 }
 
-/// The frames next to a place, but for the one before it or the one after it if that is contradicted
-/// by both next to it; and none of two on one side that contradict each other if the other has none.
-fn believed(format: Format, near: &Witnesses) -> Witnesses
+/// The frames next to a place that are heard: not the one before it or the one after it if that is
+/// overruled; and none of two on one side that contradict each other if the other has none.
+fn heard(format: Format, near: &Witnesses) -> Witnesses
     ensures { result
-        ≡ believed format near.now.before2 near.now.before near.now.after near.now.after2 }
+        ≡ heard format near.now.before2 near.now.before near.now.after near.now.after2 }
 {
-    let doubts_after = is_doubted(format, near.before, near.after, near.after2);
-    let doubts_before = is_doubted(format, near.before2, near.before, near.after);
-    if doubts_after && !doubts_before {
+    let without_after = is_overruled(format, near.before, near.after, near.after2);
+    let without_before = is_overruled(format, near.before2, near.before, near.after);
+    if without_after && !without_before {
         Witnesses {
             before2: near.before2,
             before: near.before,
             after: near.after2,
             after2: None,
         }
-    } else if doubts_before && !doubts_after {
+    } else if without_before && !without_after {
         Witnesses {
             before2: None,
             before: near.before2,
@@ -178,10 +182,10 @@ fn believed(format: Format, near: &Witnesses) -> Witnesses
     }
 }
 
-/// Whether the frames next to a frame that are believed bear out its time.
+/// Whether the frames next to a frame that are heard bear out its time.
 pub fn is_borne(format: Format, near: &Witnesses, frame: &Shown) -> bool
     ensures { result
         ≡ is_borne format near.now.before2 near.now.before near.now.after near.now.after2 frame.now }
 {
-    bears(format, &believed(format, near), frame)
+    bears(format, &heard(format, near), frame)
 }

@@ -11,8 +11,10 @@ returns-in_default-put_all-clause-ends g c = (
     printed = c.in-Ok-guard.printed.items;
     last = c.guard.new.session;
     guarded = c.in-Ok-guard.ensures.guarded;
-    status = c.in-Ok-guard.status;
-    tried = subst (λ (l : List ℕ). IsTried c.args.moved c.args.session.now l c.in-Ok-guard.printed.items c.in-Ok-guard.status c.guard.new.session) c.as_slice.ensures.value c.in-Ok-guard.ensures.tried;
+    status = c.in-Ok-guard.kept.status;
+    tried = subst (λ (l : List ℕ). IsTried c.args.moved c.args.session.now l c.in-Ok-guard.printed.items c.in-Ok-guard.kept.status c.guard.new.session) c.as_slice.ensures.value c.in-Ok-guard.ensures.tried;
+    filled = c.in-Ok-guard.kept.filled;
+    fillings = c.in-Ok-guard.ensures.filled;
   },
   search rules,
   refl,
@@ -26,9 +28,12 @@ returns-in-Ok-write_product-clause-ends g c = (
     printed = c.in-Ok-guard.printed.items;
     last = c.guard.new.session;
     guarded = c.in-Ok-guard.ensures.guarded;
-    status = c.in-Ok-guard.status;
-    tried = subst (λ (l : List ℕ). IsTried c.args.moved c.args.session.now l c.in-Ok-guard.printed.items c.in-Ok-guard.status c.guard.new.session) c.as_slice.ensures.value c.in-Ok-guard.ensures.tried;
+    status = c.in-Ok-guard.kept.status;
+    tried = subst (λ (l : List ℕ). IsTried c.args.moved c.args.session.now l c.in-Ok-guard.printed.items c.in-Ok-guard.kept.status c.guard.new.session) c.as_slice.ensures.value c.in-Ok-guard.ensures.tried;
+    filled = c.in-Ok-guard.kept.filled;
+    fillings = c.in-Ok-guard.ensures.filled;
   },
+  refl,
   refl,
   search rules,
   search rules,
@@ -42,8 +47,10 @@ returns-clause-ends g c = (
     printed = c.in-Ok-guard.printed.items;
     last = c.guard.new.session;
     guarded = c.in-Ok-guard.ensures.guarded;
-    status = c.in-Ok-guard.status;
-    tried = subst (λ (l : List ℕ). IsTried c.args.moved c.args.session.now l c.in-Ok-guard.printed.items c.in-Ok-guard.status c.guard.new.session) c.as_slice.ensures.value c.in-Ok-guard.ensures.tried;
+    status = c.in-Ok-guard.kept.status;
+    tried = subst (λ (l : List ℕ). IsTried c.args.moved c.args.session.now l c.in-Ok-guard.printed.items c.in-Ok-guard.kept.status c.guard.new.session) c.as_slice.ensures.value c.in-Ok-guard.ensures.tried;
+    filled = c.in-Ok-guard.kept.filled;
+    fillings = c.in-Ok-guard.ensures.filled;
   },
   search rules,
   search rules,

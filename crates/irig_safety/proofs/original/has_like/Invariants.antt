@@ -1,5 +1,0 @@
-use Rattle.irig_safety.proofs.RecordedLemmas.{NoneBefore}
-use Rattle.irig_safety.proofs.original.has_like.Given as goal
-
-abbrev pub invariant-loop-place : goal.invariant-loop-place
-invariant-loop-place l = NoneBefore l.format l.recorded l.pulse l.place
