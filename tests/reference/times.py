@@ -10,7 +10,8 @@ PERIOD = {kind: 100 * interval for kind, interval in timecode.INTERVAL.items()} 
 UNITS = {"s": Fraction(10**6), "ms": Fraction(10**3), "us": Fraction(1), "ns": Fraction(1, 10**3), "ps": Fraction(1, 10**6)}
 LONG_MINUTE = 61_000_000  # microseconds
 LONGEST_LINE = 2**20
-NUMBER = re.compile(rb"[ \t\r]*([0-9]+(?:\.[0-9]+)?)[ \t\r]*")
+NUMBER = re.compile(rb"[ \t\r]*([+-]?[0-9]+(?:\.[0-9]+)?)(?:[eE]([+-]?[0-9]+))?[ \t\r]*")
+FARTHEST = 4000  # an exponent that is greater says no more, as long as a column has fewer digits
 
 
 class Options(NamedTuple):
@@ -341,7 +342,10 @@ def number(options, line):
     if options.column > len(columns):
         return None
     found = NUMBER.fullmatch(columns[options.column - 1])
-    return Fraction(found[1].decode()) * UNITS[options.unit] if found else None
+    if not found:
+        return None
+    exponent = max(-FARTHEST, min(int(found[2] or 0), FARTHEST))
+    return Fraction(found[1].decode()) * Fraction(10)**exponent * UNITS[options.unit]
 
 
 def table(options, pulses):

@@ -1,6 +1,6 @@
 -- Digits of a number that is no greater than a most.
 use Rattle.std.proofs.Common.{◌≡◌, ℕ, ◌+◌, ◌-◌, ◌*◌, ◌++◌, List, [], ◌∷◌, min, refl, sym, ap, ◌∙◌, arith}
-use Rattle.irig_stamps.specs.Numbers.{digits_after}
+use Rattle.irig_stamps.specs.Points.{digits_after}
 
 -- it is enough to know a number up to the most
 pub kept-at-most : (m v : ℕ) (cs : List ℕ) → min (digits_after v cs) m ≡ min (digits_after (min v m) cs) m

@@ -1,5 +1,6 @@
 pub mod Cuts
 pub mod Digits
+pub mod MovedPoints
 pub mod Late
 pub mod Words
 pub mod StampedLines

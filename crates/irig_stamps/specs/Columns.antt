@@ -3,6 +3,7 @@ use Rattle.std.specs.Prelude.{◌==◌, ℕ, zero, suc, Bool, not, ◌&&◌, ◌
 use Rattle.std.specs.Prelude.{Option, Some, None, if◌then◌else◌}
 use Rattle.irig_stamps.specs.declared.cutting.Until.{Until}
 use Rattle.irig_stamps.specs.declared.cutting.Until.TheVariants.{Blank, Text, Other, Comma}
+use Rattle.irig_stamps.specs.declared.cutting.Until.TheVariants.{Weight}
 
 -- the white space of a line: space, tab and carriage return
 abbrev pub is_space : ℕ → Bool
@@ -18,6 +19,7 @@ is_at Blank b = is_space b
 is_at Text b = not (is_space b)
 is_at Other b = not (is_digit b)
 is_at (Comma c) b = b == c
+is_at Weight b = not (b == 48)
 
 -- what is before the first such byte
 abbrev pub before : Until → List ℕ → List ℕ

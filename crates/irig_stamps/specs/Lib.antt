@@ -1,4 +1,6 @@
 pub mod Columns
+pub mod Points
+pub mod Exponents
 pub mod Numbers
 pub mod Dates
 pub mod Texts

@@ -1,49 +1,52 @@
 -- The decimal number in a column. This project's own.
-use Rattle.std.specs.Prelude.{◌==◌, ℕ, zero, suc, ◌+◌, ◌-◌, ◌*◌, ◌++◌, List, [], ◌∷◌, Option, Some}
-use Rattle.std.specs.Prelude.{None, if◌then◌else◌}
+use Rattle.std.specs.Prelude.{◌==◌, ℕ, ◌^◌, Bool, true, false, List, [], ◌∷◌, min}
+use Rattle.std.specs.Prelude.{Option, Some, None, if◌then◌else◌}
 use Rattle.irig_stamps.specs.declared.cutting.Until.TheVariants.{Text, Other}
-use Rattle.irig_stamps.specs.Columns.{before, onward}
-
--- the number that digits make, after a number v
-abbrev pub digits_after : ℕ → List ℕ → ℕ
-digits_after v [] = v
-digits_after v (c ∷ cs) = digits_after (10 * v + (c - 48)) cs
-
--- the first n digits of a fraction, with zeros after its last
-abbrev pub padded : ℕ → List ℕ → List ℕ
-padded zero fs = []
-padded (suc n) [] = 48 ∷ padded n []
-padded (suc n) (f ∷ fs) = f ∷ padded n fs
-
--- a number in units of which 10^n make one, rounded down
-abbrev pub scaled : ℕ → List ℕ → List ℕ → ℕ
-scaled n whole fraction = digits_after 0 (whole ++ padded n fraction)
-
--- a value, if only white space is left
-abbrev pub if_blank : List ℕ → ℕ → Option ℕ
-if_blank text v = blank (onward Text text) v where
-  blank : List ℕ → ℕ → Option ℕ
-  blank [] v = Some v
-  blank (b ∷ bs) v = None
+use Rattle.irig_stamps.specs.{Columns.before, Columns.onward, declared.picos.Picos.Picos}
+use Rattle.irig_stamps.specs.{Exponents.with_exponent, Points.digits_after, Points.rounded}
 
 -- the number with these digits before its point, and what is after them
-abbrev pub with_fraction : ℕ → List ℕ → List ℕ → Option ℕ
-with_fraction n whole [] = Some (scaled n whole [])
-with_fraction n whole (b ∷ bs) =
+abbrev pub with_fraction : Bool → ℕ → List ℕ → List ℕ → Option ℕ
+with_fraction up n whole [] = Some (rounded up n 0 whole [])
+with_fraction up n whole (b ∷ bs) =
     if b == 46 then fraction (before Other bs) (onward Other bs)
-    else if_blank (b ∷ bs) (scaled n whole [])
+    else with_exponent up n whole [] (b ∷ bs)
   where
     fraction : List ℕ → List ℕ → Option ℕ
     fraction [] rest = None
-    fraction (f ∷ fs) rest = if_blank rest (scaled n whole (f ∷ fs))
+    fraction (f ∷ fs) rest = with_exponent up n whole (f ∷ fs) rest
 
--- the number in a column, if it is one: digits, and maybe a point and digits, with white space
--- round them; in units of which 10^n make one of the column, rounded down
-abbrev pub number_in : ℕ → List ℕ → Option ℕ
-number_in n text = number (before Other (onward Text text)) (onward Other (onward Text text)) where
-  number : List ℕ → List ℕ → Option ℕ
-  number [] rest = None
-  number (d ∷ ds) rest = with_fraction n (d ∷ ds) rest
+-- the number without a sign
+abbrev pub size_in : Bool → ℕ → List ℕ → Option ℕ
+size_in up n text = size (before Other text) (onward Other text) where
+  size : List ℕ → List ℕ → Option ℕ
+  size [] rest = None
+  size (d ∷ ds) rest = with_fraction up n (d ∷ ds) rest
+
+-- so long after zero, or before it
+abbrev pub above : Option ℕ → Option Picos
+above None = None
+above (Some v) = Some (record { negative = false; size = v })
+
+abbrev pub below : Option ℕ → Option Picos
+below None = None
+below (Some v) = Some (record { negative = true; size = v })
+
+-- the same with a sign, or without one
+abbrev pub signed : ℕ → List ℕ → Option Picos
+signed n [] = None
+signed n (b ∷ bs) =
+    if b == 45 then below (size_in true n bs)
+    else (if b == 43 then above (size_in false n bs) else above (size_in false n (b ∷ bs)))
+
+-- the number in a column, if it is one: maybe a sign, digits, maybe a point and digits, and maybe an
+-- exponent, with white space round them; in units of which 10^n make one of the column, rounded down
+abbrev pub number_in : ℕ → List ℕ → Option Picos
+number_in n text = signed n (onward Text text)
+
+-- up to a most
+abbrev pub capped : Picos → Picos
+capped p = record p { size = min p.size (2 ^ 120) }
 
 -- the whole number that a text is, if it has only digits
 abbrev pub whole_in : List ℕ → Option ℕ

@@ -1,24 +1,32 @@
 -- A line with its time before it. This project's own.
 use Rattle.std.specs.Prelude.{◌≡◌, ℕ, ◌-◌, ◌≤◌, ◌++◌, List, [], ◌∷◌, Option, Some, None, unwrap_or}
-use Rattle.std.specs.Prelude.{Bool, true, false, ◌||◌, nat_lt, is_some}
+use Rattle.std.specs.Prelude.{Bool, true, false, ◌||◌, ◌+◌, nat_lt, is_some, if◌then◌else◌}
 use Rattle.irig_codes.specs.Format.{FormatView}
 use Rattle.irig_recording.specs.declared.pulse.Pulse.{Pulse}
 use Rattle.irig_times.specs.{declared.time.Time.Time, Counted.IsTimed}
-use Rattle.irig_stamps.specs.declared.settings.Settings.{Settings}
+use Rattle.irig_stamps.specs.{declared.picos.Picos.Picos, declared.settings.Settings.Settings}
 use Rattle.irig_stamps.specs.{Columns.column_of, Numbers.number_in, Texts.word_of}
 
 -- the recorder's time in a line, in picoseconds, if it is a number; the offset is not yet taken off
-abbrev pub picos_in : Settings → List ℕ → Option ℕ
+abbrev pub picos_in : Settings → List ℕ → Option Picos
 picos_in s line = number_in s.places (column_of s.comma s.column line)
 
--- the time of year v picoseconds after the recorder's zero, by the frames that are believed and the
--- pulses that are counted from them; the track starts `offset` after it
-abbrev pub IsTimeOf : FormatView → List Pulse → Settings → ℕ → Time → Type 0
+-- the picoseconds of a recorder's time and of the start of the track: a time that is negative, and
+-- the start if it is not, are taken off. The rest is what is after the start
+abbrev pub added : Settings → Picos → ℕ
+added s v = (if v.negative then 0 else v.size) + (if s.early then s.offset else 0)
+
+abbrev pub taken : Settings → Picos → ℕ
+taken s v = (if v.negative then v.size else 0) + (if s.early then 0 else s.offset)
+
+-- the time of year at the recorder's time v, by the frames that are believed and the pulses that are
+-- counted from them
+abbrev pub IsTimeOf : FormatView → List Pulse → Settings → Picos → Time → Type 0
 IsTimeOf f ps s v x =
-    (s.offset ≤ v) × IsTimed f s.alone s.century ps 1000000 (v - s.offset) x
+    (taken s v ≤ added s v) × IsTimed f s.alone s.century ps 1000000 (added s v - taken s v) x
 
 -- the word before a line: its time of year, or a hyphen if it has none
-abbrev pub IsWord : FormatView → List Pulse → Settings → Option ℕ → List ℕ → Type 0
+abbrev pub IsWord : FormatView → List Pulse → Settings → Option Picos → List ℕ → Type 0
 IsWord f ps s None word = word ≡ 45 ∷ []
 IsWord f ps s (Some v) word =
     ((x : Time) → IsTimeOf f ps s v x → word ≡ word_of s (Some x))

@@ -14,6 +14,8 @@ pub enum Until {
     Other,
     /// This byte.
     Comma(u8),
+    /// What is no zero.
+    Weight,
 }
 
 impl Until {
@@ -26,6 +28,7 @@ impl Until {
             Until::Text => !is_space(byte),
             Until::Other => !is_digit(byte),
             Until::Comma(comma) => byte == comma,
+            Until::Weight => byte != b'0',
         }
     }
 }

@@ -1,26 +1,75 @@
 //! The decimal number in a column.
 
-ghost use Rattle.std.specs.Prelude.{◌≡◌, ◌≤◌, ◌^◌, ◌+◌, ◌*◌, ◌-◌, ◌∷◌, ℕ, suc, List, min};
-ghost use Rattle.std.specs.Prelude.{option_map};
-ghost use Rattle.irig_stamps.specs.Numbers.{digits_after, padded, scaled, if_blank, number_in};
+ghost use Rattle.std.specs.Prelude.{◌≡◌, ◌^◌, ℕ, List, min, option_map, false, true};
+ghost use Rattle.irig_stamps.specs.Columns.{before, onward};
+ghost use Rattle.irig_stamps.specs.Exponents.{after_e, if_blank, powered, with_exponent};
+ghost use Rattle.irig_stamps.specs.Numbers.{above, below, capped, number_in, signed, size_in};
 ghost use Rattle.irig_stamps.specs.Numbers.{whole_in, with_fraction};
+ghost use Rattle.irig_stamps.specs.declared.cutting.Until.TheVariants.{Other};
 
 use crate::cutting::{Until, cut};
+use crate::picos::Picos;
+use crate::point::{digits, point_after, to_the_left, to_the_right};
 
-/// No greater number is returned: 2^120.
-const MOST: u128 = 1_329_227_995_784_915_872_903_807_060_280_344_576;
-
-/// The number in a column, if it is one: digits, and maybe a point and digits. It is in units of
-/// which 10^`places` make one of the column, rounded down; 2^120 if it is greater.
-pub fn number(places: usize, text: &[u8]) -> Option<u128>
-    ensures { result ≡ option_map (λ v. min v (2 ^ 120)) (number_in places text.now) }
+/// The number in a column, if it is one: maybe a sign, digits, maybe a point and digits, and maybe
+/// an exponent. It is in units of which 10^`places` make one of the column, rounded down; 2^120 if
+/// it is greater.
+pub fn number(places: usize, text: &[u8]) -> Option<Picos>
+    ensures { result ≡ option_map capped (number_in places text.now) }
 {
     let (_, text) = cut(text, Until::Text);
-    let (whole, rest) = cut(text, Until::Other);
-    if whole.is_empty() {
-        return None;
+    signed(places, text)
+}
+
+/// The same after the white space.
+fn signed(places: usize, text: &[u8]) -> Option<Picos>
+    ensures { result ≡ option_map capped (signed places text.now) }
+{
+    match text {
+        [b'-', text @ ..] => negative(places, text),
+        [b'+', text @ ..] => positive(places, text),
+        _ => positive(places, text),
     }
-    with_fraction(places, whole, rest)
+}
+
+/// The number after a minus.
+fn negative(places: usize, text: &[u8]) -> Option<Picos>
+    ensures { result ≡ option_map capped (below (size_in true places text.now)) }
+{
+    below(size_in(true, places, text))
+}
+
+/// The number after a plus, or without a sign.
+fn positive(places: usize, text: &[u8]) -> Option<Picos>
+    ensures { result ≡ option_map capped (above (size_in false places text.now)) }
+{
+    above(size_in(false, places, text))
+}
+
+/// So long after zero.
+fn above(size: Option<u128>) -> Option<Picos>
+    ensures { result ≡ above size }
+{
+    match size {
+        Some(size) => Some(Picos {
+            negative: false,
+            size,
+        }),
+        None => None,
+    }
+}
+
+/// So long before zero.
+fn below(size: Option<u128>) -> Option<Picos>
+    ensures { result ≡ below size }
+{
+    match size {
+        Some(size) => Some(Picos {
+            negative: true,
+            size,
+        }),
+        None => None,
+    }
 }
 
 /// The whole number that a text is, if it has only digits; 2^120 if it is greater.
@@ -34,20 +83,87 @@ pub fn whole(text: &[u8]) -> Option<u128>
     Some(digits(0, whole))
 }
 
+/// The number without a sign, rounded down, or up.
+fn size_in(up: bool, places: usize, text: &[u8]) -> Option<u128>
+    ensures { result ≡ option_map (λ v. min v (2 ^ 120)) (size_in up places text.now) }
+{
+    let (whole, rest) = cut(text, Until::Other);
+    if whole.is_empty() {
+        return None;
+    }
+    with_fraction(up, places, whole, rest)
+}
+
 /// The number with these digits before its point, and what is after them.
-fn with_fraction(places: usize, whole: &[u8], rest: &[u8]) -> Option<u128>
-    ensures { result ≡ option_map (λ v. min v (2 ^ 120)) (with_fraction places whole.now rest.now) }
+fn with_fraction(up: bool, places: usize, whole: &[u8], rest: &[u8]) -> Option<u128>
+    ensures { result ≡ option_map (λ v. min v (2 ^ 120))
+        (with_fraction up places whole.now rest.now) }
 {
     match rest {
-        [] => Some(scaled(places, whole, b"")),
+        [] => Some(point_after(up, places, whole, b"")),
         [b'.', rest @ ..] => {
             let (fraction, rest) = cut(rest, Until::Other);
             if fraction.is_empty() {
                 return None;
             }
-            if_blank(rest, scaled(places, whole, fraction))
+            with_exponent(up, places, whole, fraction, rest)
         }
-        _ => if_blank(rest, scaled(places, whole, b"")),
+        _ => with_exponent(up, places, whole, b"", rest),
+    }
+}
+
+/// The number with these digits before its point and after it, and what is after them.
+fn with_exponent(
+    up: bool,
+    places: usize,
+    whole: &[u8],
+    fraction: &[u8],
+    rest: &[u8],
+) -> Option<u128>
+    ensures { result ≡ option_map (λ v. min v (2 ^ 120))
+        (with_exponent up places whole.now fraction.now rest.now) }
+{
+    match rest {
+        [] => Some(point_after(up, places, whole, fraction)),
+        [b'e' | b'E', rest @ ..] => after_e(up, places, whole, fraction, rest),
+        _ => if_blank(rest, point_after(up, places, whole, fraction)),
+    }
+}
+
+/// The same after the e of an exponent.
+fn after_e(up: bool, places: usize, whole: &[u8], fraction: &[u8], rest: &[u8]) -> Option<u128>
+    ensures { result ≡ option_map (λ v. min v (2 ^ 120))
+        (after_e up places whole.now fraction.now rest.now) }
+{
+    match rest {
+        [b'-', rest @ ..] => powered(up, true, places, whole, fraction, rest),
+        [b'+', rest @ ..] => powered(up, false, places, whole, fraction, rest),
+        _ => powered(up, false, places, whole, fraction, rest),
+    }
+}
+
+/// The same from the digits of the exponent on.
+fn powered(
+    up: bool,
+    left: bool,
+    places: usize,
+    whole: &[u8],
+    fraction: &[u8],
+    rest: &[u8],
+) -> Option<u128>
+    ensures { result ≡ option_map (λ v. min v (2 ^ 120))
+        (powered up left places whole.now fraction.now (before Other rest.now)
+        (onward Other rest.now)) }
+{
+    let (power, rest) = cut(rest, Until::Other);
+    if power.is_empty() {
+        return None;
+    }
+    let power = digits(0, power);
+    if left {
+        if_blank(rest, to_the_left(up, places, power, whole, fraction))
+    } else {
+        if_blank(rest, to_the_right(up, places, power, whole, fraction))
     }
 }
 
@@ -57,61 +173,4 @@ fn if_blank(text: &[u8], value: u128) -> Option<u128>
 {
     let (_, left) = cut(text, Until::Text);
     if left.is_empty() { Some(value) } else { None }
-}
-
-/// One more digit.
-fn more(value: u128, digit: u8) -> u128
-    requires { value ≤ 2 ^ 120 }
-    ensures value { result ≡ min (10 * value + (digit - 48)) (2 ^ 120) }
-    ensures most { result ≤ 2 ^ 120 }
-{
-    if value > MOST / 10 {
-        MOST
-    } else {
-        MOST.min(10 * value + digit.saturating_sub(b'0') as u128)
-    }
-}
-
-/// The number that more digits make; 2^120 if it is greater.
-fn digits(value: u128, digits: &[u8]) -> u128
-    requires { value ≤ 2 ^ 120 }
-    ensures { result ≡ min (digits_after value digits.now) (2 ^ 120) }
-{
-    let mut value = value;
-    for digit in digits {
-        value = more(value, *digit);
-    }
-    value
-}
-
-/// The number that as many digits of a fraction make; 2^120 if it is greater.
-fn padded(value: u128, places: usize, fraction: &[u8]) -> u128
-    requires { value ≤ 2 ^ 120 }
-    ensures { result ≡ min (digits_after value (padded places fraction.now)) (2 ^ 120) }
-{
-    let mut value = value;
-    let mut left = fraction;
-    for place in 0..places {
-        let (digit, rest) = first(left);
-        value = more(value, digit);
-        left = rest;
-    }
-    value
-}
-
-/// The first digit of a fraction, and those after it; zeros follow the last.
-fn first(fraction: &[u8]) -> (u8, &[u8])
-    ensures { (n : ℕ) → padded (suc n) fraction.now ≡ result.0 ∷ padded n result.1.now }
-{
-    match fraction {
-        [digit, rest @ ..] => (*digit, rest),
-        [] => (b'0', fraction),
-    }
-}
-
-/// A number in units of which 10^`places` make one, rounded down; 2^120 if it is greater.
-fn scaled(places: usize, whole: &[u8], fraction: &[u8]) -> u128
-    ensures { result ≡ min (scaled places whole.now fraction.now) (2 ^ 120) }
-{
-    padded(digits(0, whole), places, fraction)
 }

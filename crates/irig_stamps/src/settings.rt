@@ -16,8 +16,10 @@ pub enum Form {
 pub struct Settings {
     /// 10^`places` picoseconds are a unit of the recorder's time.
     pub places: usize,
-    /// The recorder's time at the start of the track, in picoseconds.
+    /// The recorder's time at the start of the track, in picoseconds from its zero.
     pub offset: u128,
+    /// Whether the track starts before the recorder's zero.
+    pub early: bool,
     /// The column of the recorder's time, from 0.
     pub column: usize,
     /// The byte that parts columns; white space if it is missing.

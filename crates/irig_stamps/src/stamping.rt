@@ -1,15 +1,17 @@
 //! A line with its time before it.
 
-ghost use Rattle.std.specs.Prelude.{◌≡◌, ◌↔◌, ◌≤◌, ◌^◌, ◌++◌, ◌∷◌, [], ℕ, List, Some, min, Option};
+ghost use Rattle.std.specs.Prelude.{◌≡◌, ◌↔◌, ◌≤◌, ◌^◌, ◌-◌, ◌++◌, ◌∷◌, [], ℕ, List, Some, min, Option};
 ghost use Rattle.std.specs.Prelude.{IfOk, IfSome, OnOk, is_some, option_map, unwrap_or};
 ghost use Rattle.irig_times.specs.Counted.{timed_parts};
 ghost use Rattle.irig_times.specs.declared.time.Time.{Time};
 ghost use Rattle.irig_stamps.specs.Stamps.{IsOut, IsStamped, IsTimeOf, IsWord, is_header};
-ghost use Rattle.irig_stamps.specs.Stamps.{is_numbered, picos_in};
+ghost use Rattle.irig_stamps.specs.Stamps.{added, is_numbered, picos_in, taken};
+ghost use Rattle.irig_stamps.specs.{Numbers.capped, declared.picos.Picos.Picos};
 ghost use Rattle.irig_stamps.specs.Texts.{word_of};
 
 use crate::columns::column;
 use crate::numbers::number;
+use crate::picos::Picos;
 use crate::settings::Settings;
 use crate::text::put_word;
 use irig_codes::Format;
@@ -20,28 +22,43 @@ use std::alloc::AllocError;
 /// No time is as late, in picoseconds after the start of a track: 2^62.
 const LATE: u128 = 4_611_686_018_427_387_904;
 
-/// The time of year of a recorder's time in picoseconds; 2^120 stands for all later.
+/// What is added to the start of the track and what is taken off, for a recorder's time.
+fn span(settings: &Settings, picos: Picos) -> (u128, u128)
+    requires { settings.now.offset ≤ 2 ^ 119 }
+    ensures added { result.0 ≡ min (added settings.now picos) (2 ^ 128 - 1) }
+    ensures taken { result.1 ≡ min (taken settings.now picos) (2 ^ 128 - 1) }
+{
+    match (settings.early, picos.negative) {
+        (false, false) => (picos.size, settings.offset),
+        (false, true) => (0, picos.size.saturating_add(settings.offset)),
+        (true, false) => (picos.size.saturating_add(settings.offset), 0),
+        (true, true) => (settings.offset, picos.size),
+    }
+}
+
+/// The time of year of a recorder's time; 2^120 picoseconds stand for all that are further.
 fn time_of(
     pulses: &mut Lens<'_>,
     parts: &[Part],
     format: Format,
     settings: &Settings,
-    picos: u128,
+    picos: Picos,
 ) -> Option<Time>
     requires parts { parts.now ≡ timed_parts format settings.now.alone
         settings.now.century pulses.old.track.pulses }
     requires century { settings.now.century ≤ 99 }
     requires offset { settings.now.offset ≤ 2 ^ 119 }
-    ensures exact { (v : ℕ) → picos ≡ min v (2 ^ 120) → (x : Time) → (result ≡ Some x)
+    ensures exact { (v : Picos) → picos ≡ capped v → (x : Time) → (result ≡ Some x)
         ↔ IsTimeOf format pulses.old.track.pulses settings.now v x }
     ensures pulses { pulses.new.track ≡ pulses.old.track }
 {
     // Read for its bounds alone.
     let _count = pulses.len();
-    if picos < settings.offset {
+    let (added, taken) = span(settings, picos);
+    if added < taken {
         return None;
     }
-    let since = picos - settings.offset;
+    let since = added - taken;
     if since >= LATE {
         return None;
     }
@@ -54,13 +71,13 @@ fn word_time(
     parts: &[Part],
     format: Format,
     settings: &Settings,
-    told: Option<u128>,
+    told: Option<Picos>,
 ) -> Option<Time>
     requires parts { parts.now ≡ timed_parts format settings.now.alone
         settings.now.century pulses.old.track.pulses }
     requires century { settings.now.century ≤ 99 }
     requires offset { settings.now.offset ≤ 2 ^ 119 }
-    ensures word { (number : Option ℕ) → told ≡ option_map (λ v. min v (2 ^ 120)) number
+    ensures word { (number : Option Picos) → told ≡ option_map capped number
         → IsWord format pulses.old.track.pulses settings.now number
         (word_of settings.now result) }
     ensures pulses { pulses.new.track ≡ pulses.old.track }

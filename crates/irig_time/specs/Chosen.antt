@@ -5,7 +5,8 @@ use Rattle.std.specs.Str.{bytes_eq}
 use Rattle.irig_codes.specs.Format.{FormatView, is_permitted}
 use Rattle.irig_codes.specs.{Words.kind_named, declared.format.Kind.Kind}
 use Rattle.irig_stamps.specs.declared.settings.Form.TheVariants.{Ordinal, Calendar, Seconds}
-use Rattle.irig_stamps.specs.{declared.settings.Form.Form, declared.settings.Settings.Settings}
+use Rattle.irig_stamps.specs.{declared.picos.Picos.Picos, declared.settings.Form.Form}
+use Rattle.irig_stamps.specs.declared.settings.Settings.{Settings}
 use Rattle.irig_time.specs.Values.{comma_named, digit_named, form_named, offset_named, places_named}
 use Rattle.irig_time.specs.Values.{text_or, whole_between}
 use Rattle.irig_time.specs.declared.chosen.OptionFault.{OptionFault}
@@ -24,7 +25,8 @@ IsComma a None = a.comma ≡ None
 IsComma a (Some b) = comma_named (text_or a.comma (codes "")) ≡ Some b
 
 -- where the recorder's time is in a line: in microseconds in the first column, if nothing is given
-pub record HasColumns (a : Asked) (places offset column : ℕ) (comma : Option ℕ) : Type 0 where
+pub record HasColumns (a : Asked) (places : ℕ) (offset : Picos) (column : ℕ) (comma : Option ℕ)
+    : Type 0 where
   pub unit : places_named (text_or a.unit (codes "us")) ≡ Some places
   pub offset_is : offset_named places (text_or a.offset (codes "0")) ≡ Some offset
   pub column_is : whole_between 1 65536 (text_or a.column (codes "1")) ≡ Some (column + 1)
@@ -45,9 +47,13 @@ pub record HasDates (a : Asked) (century : ℕ) (year : Option ℕ) (form : Form
 abbrev pub stands_alone : Asked → Bool
 stands_alone a = bytes_eq (text_or a.alone (codes "false")) (codes "true")
 
+-- the recorder's time at the start of the track
+abbrev pub start_of : Settings → Picos
+start_of s = record { negative = s.early; size = s.offset }
+
 -- how lines are read and stamped
 pub record HasSettings (a : Asked) (s : Settings) : Type 0 where
-  pub columns : HasColumns a s.places s.offset s.column s.comma
+  pub columns : HasColumns a s.places (start_of s) s.column s.comma
   pub header : whole_between 0 4294967296 (text_or a.header (codes "0")) ≡ Some s.header
   pub dates : HasDates a s.century s.year s.form
   pub alone : s.alone ≡ stands_alone a

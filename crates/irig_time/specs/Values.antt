@@ -1,11 +1,11 @@
 -- The values of the command line. This project's own.
-use Rattle.std.specs.Prelude.{◌==◌, ◌&&◌, ◌^◌, ◌-◌, ℕ, Bool, not, nat_le, List, [], ◌∷◌, Option}
+use Rattle.std.specs.Prelude.{◌==◌, ◌&&◌, ◌||◌, ◌^◌, ◌-◌, ℕ, Bool, not, nat_le, List, [], ◌∷◌, Option}
 use Rattle.std.specs.Prelude.{Some, None, codes, if◌then◌else◌, option_map, unwrap_or}
 use Rattle.std.specs.Str.{bytes_eq}
 use denote.Ref.{Bor}
 use Rattle.irig_stamps.specs.Numbers.{number_in, whole_in}
 use Rattle.irig_stamps.specs.declared.settings.Form.TheVariants.{Ordinal, Calendar, Seconds}
-use Rattle.irig_stamps.specs.{Columns.is_digit, declared.settings.Form.Form}
+use Rattle.irig_stamps.specs.{Columns.is_digit, declared.picos.Picos.Picos, declared.settings.Form.Form}
 
 -- the text of an option, or another one if it is not given
 abbrev pub text_or : Option (Bor (List ℕ)) → List ℕ → List ℕ
@@ -39,9 +39,14 @@ places_named (b ∷ []) = if b == 115 then Some 12 else None
 places_named (p ∷ b ∷ []) = if b == 115 then prefix_places p else None
 places_named (p ∷ b ∷ c ∷ bs) = None
 
--- a byte of ASCII that can part columns: no digit, no point, and no end of a line
+-- a byte that a number can have: a digit, a point, a sign, or the e of an exponent
+abbrev pub is_of_number : ℕ → Bool
+is_of_number b =
+    is_digit b || ((b == 46) || ((b == 43) || ((b == 45) || ((b == 69) || (b == 101)))))
+
+-- a byte of ASCII that can part columns: none of a number, and no end of a line
 abbrev pub is_parting : ℕ → Bool
-is_parting b = nat_le b 127 && (not (is_digit b) && (not (b == 46) && not (b == 10)))
+is_parting b = nat_le b 127 && (not (is_of_number b) && not (b == 10))
 
 -- what parts columns, if it is given
 abbrev pub comma_named : List ℕ → Option ℕ
@@ -49,9 +54,14 @@ comma_named [] = None
 comma_named (b ∷ []) = if is_parting b then Some b else None
 comma_named (b ∷ c ∷ bs) = None
 
--- a number in a unit, in picoseconds: at most 2^119
-abbrev pub offset_named : ℕ → List ℕ → Option ℕ
-offset_named places text = within 0 (2 ^ 119) (number_in places text)
+-- a time, if it is at most 2^119 picoseconds from zero
+abbrev pub near : Option Picos → Option Picos
+near None = None
+near (Some p) = if nat_le p.size (2 ^ 119) then Some p else None
+
+-- a number in a unit, in picoseconds
+abbrev pub offset_named : ℕ → List ℕ → Option Picos
+offset_named places text = near (number_in places text)
 
 -- the form with this name
 abbrev pub form_named : List ℕ → Option Form

@@ -6,14 +6,14 @@ ghost use Rattle.irig_time.specs.Chosen.{HasColumns, HasDates, HasFault, HasSett
 ghost use Rattle.irig_time.specs.Chosen.{IsComma, IsFormat, IsSound, lacks_year, stands_alone};
 ghost use Rattle.irig_time.specs.Chosen.{tells_of_lines, wants_table};
 ghost use Rattle.irig_time.specs.Values.{comma_named, digit_named, form_named, is_parting};
-ghost use Rattle.irig_time.specs.Values.{offset_named, places_named, prefix_places, text_or};
+ghost use Rattle.irig_time.specs.Values.{near, offset_named, places_named, prefix_places, text_or};
 ghost use Rattle.irig_time.specs.Values.{whole_between, within};
 ghost use Rattle.irig_time.specs.declared.chosen.OptionFault.TheVariants.{Comma};
 
 use crate::asked::Asked;
 use crate::chosen::{Chosen, OptionFault};
 use irig_codes::{Format, kind_named};
-use irig_stamps::{Form, Settings, number, whole};
+use irig_stamps::{Form, Picos, Settings, number, whole};
 
 /// The greatest offset: 2^119 picoseconds.
 const LATEST: u128 = 664_613_997_892_457_936_451_903_530_140_172_288;
@@ -108,7 +108,8 @@ fn settings_of(asked: &Asked<'_>) -> Result<Settings, OptionFault>
     };
     Ok(Settings {
         places: columns.places,
-        offset: columns.offset,
+        offset: columns.offset.size,
+        early: columns.offset.negative,
         column: columns.column,
         comma: columns.comma,
         header: header as u64,
@@ -124,7 +125,7 @@ fn settings_of(asked: &Asked<'_>) -> Result<Settings, OptionFault>
 #[derive(Clone, Copy)]
 struct Columns {
     places: usize,
-    offset: u128,
+    offset: Picos,
     column: usize,
     comma: Option<u8>,
 }
@@ -132,7 +133,7 @@ struct Columns {
 /// Where the recorder's time is in a line.
 fn columns_of(asked: &Asked<'_>) -> Result<Columns, OptionFault>
     ensures columns { IfOk result (λ c. HasColumns asked.now c.places c.offset c.column c.comma) }
-    ensures sound { IfOk result (λ c. c.offset ≤ 2 ^ 119) }
+    ensures sound { IfOk result (λ c. c.offset.size ≤ 2 ^ 119) }
     ensures fault { IfErr result (HasFault asked.now) }
 {
     let Some(places) = places_named(text_or(asked.unit, "us")) else {
@@ -266,13 +267,25 @@ fn prefix_places(prefix: u8) -> Option<usize>
 }
 
 /// A number in a unit, in picoseconds.
-fn offset_named(places: usize, text: &[u8]) -> Option<u128>
+fn offset_named(places: usize, text: &[u8]) -> Option<Picos>
     ensures value { result ≡ offset_named places text.now }
-    ensures range { IfSome result (λ v. v ≤ 2 ^ 119) }
+    ensures range { IfSome result (λ v. v.size ≤ 2 ^ 119) }
 {
     match number(places, text) {
-        Some(number) => within(0, LATEST, number),
+        Some(picos) => near(picos),
         None => None,
+    }
+}
+
+/// A time, if it is not too far from zero.
+fn near(picos: Picos) -> Option<Picos>
+    ensures value { result ≡ near (Some picos) }
+    ensures range { IfSome result (λ v. v.size ≤ 2 ^ 119) }
+{
+    if picos.size <= LATEST {
+        Some(picos)
+    } else {
+        None
     }
 }
 
@@ -300,11 +313,11 @@ fn comma_named(text: &[u8]) -> Option<u8>
     }
 }
 
-/// Whether a byte of ASCII can part columns: no digit, no point, and no end of a line.
+/// Whether a byte of ASCII can part columns: none that a number can have, and no end of a line.
 fn is_parting(byte: u8) -> bool
     ensures { result ≡ is_parting byte }
 {
-    byte <= 127 && !matches!(byte, b'0'..=b'9') && byte != b'.' && byte != b'\n'
+    byte <= 127 && !matches!(byte, b'0'..=b'9' | b'.' | b'+' | b'-' | b'E' | b'e') && byte != b'\n'
 }
 
 /// The form with this name.

@@ -1,6 +1,6 @@
 use Rattle.std.proofs.Common.{◌≡◌, ◌^◌, ◌≤◌, ◌-◌, min}
-use Rattle.irig_stamps.specs.Numbers.{digits_after, padded}
-use Rattle.irig_stamps.proofs.numbers.padded.Given as goal
+use Rattle.irig_stamps.specs.Points.{digits_after, padded}
+use Rattle.irig_stamps.proofs.point.padded.Given as goal
 
 abbrev pub invariant-loop-place : goal.invariant-loop-place
 invariant-loop-place l = record {

@@ -1,6 +1,6 @@
 use Rattle.std.proofs.Common.{◌≡◌, ◌^◌, ◌≤◌, drop, min}
-use Rattle.irig_stamps.specs.Numbers.{digits_after}
-use Rattle.irig_stamps.proofs.numbers.digits.Given as goal
+use Rattle.irig_stamps.specs.Points.{digits_after}
+use Rattle.irig_stamps.proofs.point.digits.Given as goal
 
 abbrev pub invariant-loop-digit : goal.invariant-loop-digit
 invariant-loop-digit l = record {

@@ -1,7 +1,7 @@
 use Rattle.std.proofs.Common.{◌≡◌, suc, ◌+◌, ◌-◌, ◌^◌, min, ap, ◌∙◌, arith}
-use Rattle.irig_stamps.specs.Numbers.{digits_after, padded}
+use Rattle.irig_stamps.specs.Points.{digits_after, padded}
 use Rattle.irig_stamps.proofs.Digits.{next-at-most}
-use Rattle.irig_stamps.proofs.numbers.padded.Goals as goal
+use Rattle.irig_stamps.proofs.point.padded.Goals as goal
 
 pub loop-place-preserved : goal.loop-place-preserved
 loop-place-preserved c =

@@ -1,7 +1,7 @@
 use Rattle.std.proofs.Common.{◌+◌, ◌^◌, ◌∷◌, get_or, drop, drop-cons, min, ap, ◌∙◌, add-one, sym, arith}
-use Rattle.irig_stamps.specs.Numbers.{digits_after}
+use Rattle.irig_stamps.specs.Points.{digits_after}
 use Rattle.irig_stamps.proofs.Digits.{next-at-most}
-use Rattle.irig_stamps.proofs.numbers.digits.Goals as goal
+use Rattle.irig_stamps.proofs.point.digits.Goals as goal
 
 pub loop-digit-preserved : goal.loop-digit-preserved
 loop-digit-preserved c =

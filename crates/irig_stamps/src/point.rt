@@ -1,0 +1,139 @@
+//! The point of a decimal number, moved.
+
+ghost use Rattle.std.specs.Prelude.{◌≡◌, ◌≤◌, ◌^◌, ◌+◌, ◌*◌, ◌-◌, ◌∷◌, ℕ, suc, List, min};
+ghost use Rattle.std.specs.Prelude.{drop, false, true, ◌&&◌, ◌||◌};
+ghost use Rattle.irig_stamps.specs.Points.{digits_after, has_weight, padded, rounded, with_one};
+
+use crate::cutting::{Until, cut};
+
+/// No greater number is returned: 2^120.
+const MOST: u128 = 1_329_227_995_784_915_872_903_807_060_280_344_576;
+
+/// The number with a point that is moved to the right by an exponent.
+pub fn to_the_right(up: bool, places: usize, power: u128, whole: &[u8], fraction: &[u8]) -> u128
+    requires { power ≤ 2 ^ 120 }
+    ensures { (e : ℕ) → power ≡ min e (2 ^ 120)
+        → result ≡ min (rounded up (places + e) 0 whole.now fraction.now) (2 ^ 120) }
+{
+    // After as many zeros, each number but 0 is greater than the most.
+    let enough = fraction.len() as u128 + 37;
+    point_after(
+        up,
+        enough.min(places as u128 + power) as usize,
+        whole,
+        fraction,
+    )
+}
+
+/// The number with a point that is moved to the left by an exponent.
+pub fn to_the_left(up: bool, places: usize, power: u128, whole: &[u8], fraction: &[u8]) -> u128
+    requires { power ≤ 2 ^ 120 }
+    ensures { (e : ℕ) → power ≡ min e (2 ^ 120)
+        → result ≡ min (rounded up places e whole.now fraction.now) (2 ^ 120) }
+{
+    let places = places as u128;
+    if power <= places {
+        point_after(up, (places - power) as usize, whole, fraction)
+    } else {
+        point_before(up, power - places, whole, fraction)
+    }
+}
+
+/// The number with a point that is moved to the right.
+pub fn point_after(up: bool, right: usize, whole: &[u8], fraction: &[u8]) -> u128
+    ensures { result ≡ min (rounded up right 0 whole.now fraction.now) (2 ^ 120) }
+{
+    let value = padded(digits(0, whole), right, fraction);
+    let more = exceeds(up, after(right, fraction), b"");
+    with_one(more, value)
+}
+
+/// The number with a point that is moved to the left.
+fn point_before(up: bool, left: u128, whole: &[u8], fraction: &[u8]) -> u128
+    ensures { result ≡ min (rounded up 0 left whole.now fraction.now) (2 ^ 120) }
+{
+    let kept = (whole.len() as u128).saturating_sub(left) as usize;
+    let value = digits(0, &whole[..kept]);
+    let more = exceeds(up, after(kept, whole), fraction);
+    with_one(more, value)
+}
+
+/// Whether a number is rounded up, with these digits after its point.
+fn exceeds(up: bool, digits: &[u8], others: &[u8]) -> bool
+    ensures { result ≡ (up && (has_weight digits.now || has_weight others.now)) }
+{
+    up && (has_weight(digits) || has_weight(others))
+}
+
+/// One more, or not.
+fn with_one(more: bool, value: u128) -> u128
+    requires { value ≤ 2 ^ 120 }
+    ensures { result ≡ min (with_one more value) (2 ^ 120) }
+{
+    if more { MOST.min(value + 1) } else { value }
+}
+
+/// What is after some digits.
+fn after(count: usize, digits: &[u8]) -> &[u8]
+    ensures { result.now ≡ drop count digits.now }
+{
+    &digits[count.min(digits.len())..]
+}
+
+/// Whether some digit is not zero.
+fn has_weight(digits: &[u8]) -> bool
+    ensures { result ≡ has_weight digits.now }
+{
+    let (_, left) = cut(digits, Until::Weight);
+    !left.is_empty()
+}
+
+/// One more digit.
+fn more(value: u128, digit: u8) -> u128
+    requires { value ≤ 2 ^ 120 }
+    ensures value { result ≡ min (10 * value + (digit - 48)) (2 ^ 120) }
+    ensures most { result ≤ 2 ^ 120 }
+{
+    if value > MOST / 10 {
+        MOST
+    } else {
+        MOST.min(10 * value + digit.saturating_sub(b'0') as u128)
+    }
+}
+
+/// The number that more digits make; 2^120 if it is greater.
+pub fn digits(value: u128, digits: &[u8]) -> u128
+    requires { value ≤ 2 ^ 120 }
+    ensures { result ≡ min (digits_after value digits.now) (2 ^ 120) }
+{
+    let mut value = value;
+    for digit in digits {
+        value = more(value, *digit);
+    }
+    value
+}
+
+/// The number that as many digits of a fraction make; 2^120 if it is greater.
+fn padded(value: u128, places: usize, fraction: &[u8]) -> u128
+    requires { value ≤ 2 ^ 120 }
+    ensures { result ≡ min (digits_after value (padded places fraction.now)) (2 ^ 120) }
+{
+    let mut value = value;
+    let mut left = fraction;
+    for place in 0..places {
+        let (digit, rest) = first(left);
+        value = more(value, digit);
+        left = rest;
+    }
+    value
+}
+
+/// The first digit of a fraction, and those after it; zeros follow the last.
+fn first(fraction: &[u8]) -> (u8, &[u8])
+    ensures { (n : ℕ) → padded (suc n) fraction.now ≡ result.0 ∷ padded n result.1.now }
+{
+    match fraction {
+        [digit, rest @ ..] => (*digit, rest),
+        [] => (b'0', fraction),
+    }
+}
