@@ -8,8 +8,8 @@ use Rattle.irig_guarding.proofs.controls.may_be.Goals as goal
 pub returns-in-Some : goal.returns-in-Some
 returns-in-Some c =
     let of_format = subst (λ (f : FormatView). IsTrue c.is_recorded_or_lost.result
-        ↔ (IsRecorded f c.args.opened.now.pulses c.in-Some.pulse ⊎ IsLost f c.args.opened.now.pulses c.in-Some.pulse))
-        c.current_format.ensures c.is_recorded_or_lost.ensures in
+    ↔ (IsRecorded f c.args.opened.now.pulses c.in-Some.pulse ⊎ IsLost f c.args.opened.now.pulses c.in-Some.pulse))
+    c.current_format.ensures c.is_recorded_or_lost.ensures in
     subst (λ (o : Option Pulse). IsTrue c.is_recorded_or_lost.result ↔ MatchOption o ⊥ (λ q.
-        IsRecorded c.args.session.now.state.format c.args.opened.now.pulses q ⊎ IsLost c.args.session.now.state.format c.args.opened.now.pulses q))
+    IsRecorded c.args.session.now.state.format c.args.opened.now.pulses q ⊎ IsLost c.args.session.now.state.format c.args.opened.now.pulses q))
     (sym c.in-Some.is) of_format
