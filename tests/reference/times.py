@@ -159,7 +159,7 @@ def is_whole(kind, time):
 
 
 class Counting:
-    """The pulses beside frames that are in step with them."""
+    """The pulses next to frames that are in step with them."""
 
     def __init__(self, kind, expression, century, pulses):
         self.kind, self.expression, self.century, self.pulses = kind, expression, century, pulses

@@ -171,12 +171,12 @@ class Clock:
             self.interval = usual
 
     def over(self, steps: float, fewest: int = limits.BESIDE) -> float:
-        """How far a rest may be late after that many elements though it is on this clock, beside what rises stray. The shorter
+        """How far a rest may be late after that many elements though it is on this clock, not counting what rises stray. The shorter
         one of both runs has `fewest` pulses."""
         return self.wander.over(steps, fewest < limits.BESIDE) if self.wander else self.doubt * steps
 
     def inside(self, steps: float) -> float:
-        """How far a pulse in a hole of that many elements can be off, beside what rises stray; of a clock that wanders alone."""
+        """How far a pulse in a hole of that many elements can be off, not counting what rises stray; of a clock that wanders alone."""
         return self.wander.inside(steps) if self.wander else 0
 
     @property

@@ -161,7 +161,7 @@ class Wander:
         self.hops: Dict[int, Reach] = {}
         self.known: Dict[bool, Dict[int, float]] = {False: {}, True: {}}
         self.spread: Dict[bool, float] = {}
-        self.inner: Dict[int, float] = {}  # how far off pulses in holes of so many elements are
+        self.inner: Dict[int, float] = {}  # how far off pulses in holes of that many elements are
         for short, table in self.known.items():
             most = 0.0
             for steps in limits.HOLES_MEASURED:
@@ -230,7 +230,7 @@ def curve(apart: Sequence[int], least: float, most: float) -> List[float]:
 
 
 def is_curved(apart: Sequence[int], least: float, most: float, noise: float) -> bool:
-    """Whether distances are much nearer to those beside them than to the usual one, in some parts of the recording."""
+    """Whether distances are much nearer to those next to them than to the usual one, in some parts of the recording."""
     if not noise:
         return False
     size, parts = limits.CURVE_SEEN, limits.PARTS_SEEN

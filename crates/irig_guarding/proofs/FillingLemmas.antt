@@ -9,7 +9,7 @@ use Rattle.irig_guarding.specs.{Reading.seen_frames, declared.seen.Seen.Seen}
 use Rattle.irig_safety.specs.declared.shown.Shown.{Shown}
 use Rattle.irig_guarding.proofs.ControlLemmas.{drop_seen}
 
--- with the frames from a place on, so many more
+-- with the frames from a place on, that many more
 abbrev pub CountsAll : OriginalView → State → List Seen → ℕ → ℕ → Type 0
 CountsAll o s ys many i = (many ≤ i) × ((n : ℕ) → AreFilled o s (drop i ys) n → AreFilled o s ys (many + n))
 

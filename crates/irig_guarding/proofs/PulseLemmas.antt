@@ -1,4 +1,4 @@
--- Pulses that stand, frame by frame.
+-- Pulses that are where they have to be, frame by frame.
 use Rattle.std.proofs.Common.{◌≡◌, ◌+◌, ◌-◌, ◌<◌, ◌≤◌, ◌++◌, ◌==◌, ℕ, zero, suc, Bool, true, false, List, [], ◌∷◌, Option, Some, None, length, drop, get_or, map, slice_get}
 use Rattle.std.proofs.Common.{inl, inr, refl, ap, sym, ◌∙◌, subst, arith}
 use Rattle.std.specs.Prelude.{◌⊎◌, ◌↔◌, IfErr, IfOk, IsTrue, OnErr, OnOk, Result, Ok, Err}
@@ -20,7 +20,7 @@ use Rattle.irig_guarding.specs.Reading.{fine_frames, original_of, seen_at, seen_
 use Rattle.irig_guarding.specs.declared.seen.Seen.{Seen}
 use Rattle.irig_guarding.proofs.ControlLemmas.{IsBeforeAll, after_all, before_next, drop_seen}
 
--- frames with a fault do not stand
+-- the pulses of frames with a fault are not where they have to be
 stray_so : (o : OriginalView) (s : State) (ms : List ℕ) (a2 a : Option Shown) (old : List Shown) (new : List Seen) (why : Fault) → StrayFrom o s ms a2 a old new why
     → StandFrom o s ms a2 a old new → ⊥
 stray_so o s ms a2 a [] [] why h k = h

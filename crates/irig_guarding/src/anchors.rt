@@ -43,7 +43,7 @@ pub fn is_rooted(session: &Session, opened: &Original, frame: &Seen) -> bool
     is_most(many)
 }
 
-/// Whether so many of the 100 pulses of a frame are most of them.
+/// Whether that many of the 100 pulses of a frame are most of them.
 fn is_most(many: usize) -> bool
     ensures { IsTrue result ↔ (60 ≤ many) }
 {
@@ -131,7 +131,7 @@ fn held_before(
     }
 }
 
-/// What holds an element from behind.
+/// What holds an element from after it.
 fn held_after(
     session: &Session,
     near: &Witnesses,

@@ -145,7 +145,7 @@ fn check_borne(
     check_controls(session, opened, old, seen)
 }
 
-/// Whether the pulses of the frames stand, or if no frame of the recording reads well are rooted.
+/// Whether the pulses of the frames are where they may be, or if no frame of the recording reads well are rooted.
 fn check_pulses(
     session: &Session,
     opened: &Original,

@@ -16,8 +16,8 @@ use crate::seen::Seen;
 use irig_edit::Session;
 use irig_safety::{Fault, Original, Shown, Witnesses, frame_at, near_in, rise_or};
 
-/// Whether the pulses of each frame that reads well stand, by the frames at the old places. If not,
-/// the first that is at fault.
+/// Whether the pulses of each frame that reads well are where they may be, by the frames at the old
+/// places. If not, the first that is at fault.
 pub fn check_stand(
     session: &Session,
     opened: &Original,

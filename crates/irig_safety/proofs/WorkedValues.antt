@@ -191,7 +191,7 @@ g_functions_with_year = refl
 weights_double : map (λ r. r.weight) (rows_of (format E 1) control) ≡ map (λ k. 2 ^ k) (range_with_len 0 45)
 weights_double = refl
 
--- a tenth of an interval beside the middle of 20 elements, and a microsecond more
+-- a tenth of an interval from the middle of 20 elements, and a microsecond more
 abbrev anchor : ℕ → ℕ → Anchor
 anchor steps rise = record { steps = steps; rise = rise }
 

@@ -55,7 +55,7 @@ held_before f pulses marker w y j None = marker_before f w.before y j
 held_before f pulses marker w y j (Some i) =
     Some (record { steps = j - i; rise = rise_in pulses marker i })
 
--- what holds it from behind: the first anchor after it, or the marker of the frame after
+-- what holds it from after it: the first anchor after it, or the marker of the frame after
 abbrev pub held_after : FormatView → List Pulse → ℕ → Witnesses → Shown → ℕ → Option ℕ
     → Option Anchor
 held_after f pulses marker w y j None = marker_after f w.after y j

@@ -27,7 +27,7 @@ is_between f a t b =
     nat_le (apart ((t - a.rise) * (a.steps + b.steps)) (a.steps * (b.rise - a.rise)))
     ((a.steps + b.steps) * (interval_of f.kind / 10))
 
--- so many elements are as long as they nominally are, to a tenth of an interval and a thousandth
+-- that many elements are as long as they nominally are, to a tenth of an interval and a thousandth
 abbrev pub is_nominal : FormatView → ℕ → ℕ → Bool
 is_nominal f steps micros =
     nat_le (1000 * apart micros (steps * interval_of f.kind)) (100 * interval_of f.kind + micros)

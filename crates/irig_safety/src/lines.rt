@@ -103,7 +103,7 @@ fn is_between(format: Format, before: &Anchor, rise: u64, after: &Anchor) -> boo
     apart(found, wanted) <= whole * tenth(format)
 }
 
-/// Whether so many elements are as long as they nominally are, to a tenth of an interval and a
+/// Whether that many elements are as long as they nominally are, to a tenth of an interval and a
 /// thousandth.
 fn is_nominal(format: Format, steps: u128, micros: u128) -> bool
     requires { (steps ≤ 2 ^ 17) × (micros < 2 ^ 64) }

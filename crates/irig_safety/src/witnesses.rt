@@ -21,7 +21,7 @@ pub struct Witnesses {
 }
 
 /// Whether the frame before a frame leads to it, or it leads to the one after it; if both are there and
-/// agree, with no more than half an interval beside what they stray.
+/// agree, to half an interval and what they stray.
 fn is_led(format: Format, before: Option<Shown>, after: Option<Shown>, frame: &Shown) -> bool
     ensures { result ≡ is_led format before after frame.now }
 {

@@ -1,4 +1,4 @@
--- What holds of the times that frames tell holds of those of the frames that are believed.
+-- What holds of the times of frames holds of those of the frames that are believed.
 use Rattle.std.proofs.Common.{◌≡◌, ℕ, ◌+◌, ◌/◌, Bool, List, subst, arith}
 use Rattle.irig_codes.specs.{Format.FormatView, declared.fields.Fields.Fields}
 use Rattle.irig_recording.specs.declared.pulse.Pulse.{Pulse}

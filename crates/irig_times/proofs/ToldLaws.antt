@@ -1,4 +1,4 @@
--- What holds of the times that frames tell, believed or not.
+-- What holds of the times of frames, believed or not.
 use Rattle.std.specs.Prelude.{◌≡◌, ◌↔◌, ℕ, ◌+◌, ◌*◌, ◌/◌, ◌<◌, ◌≤◌, List, slice_get, Some}
 use Rattle.std.specs.Prelude.{is_some}
 use Rattle.irig_codes.specs.Format.{FormatView, frame_period_of, has_year, interval_of}

@@ -13,7 +13,7 @@ abbrev pub IsHeldElement : FormatView → List Record → List Bool → ℕ → 
 IsHeldElement f rs held number element g =
     (is : IsElement f rs number element g) × (slice_get held is.at ≡ Some true)
 
--- n / d microseconds after the start of a track the frame around it tells this time, and it is
+-- n / d microseconds after the start of a track the frame around it gives this time, and it is
 -- believed
 pub record HasTime (f : FormatView) (century : ℕ) (ps : List Pulse) (held : List Bool) (d n : ℕ)
     (time : Time) : Type 0 where
