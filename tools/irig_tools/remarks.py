@@ -81,7 +81,8 @@ def _of_vague(track: Track, zone: Zone) -> Remark:
     """A long hole on a clock that wanders."""
     places = zone.inner()
     seen = "%d elements are lost or damaged from there to %d, and the clock wanders: they can be %.3g milliseconds off what both sides say"
-    return Remark(track.rise_at(places[0]), seen % (len(places), track.rise_at(zone.last), zone.vague / 1000), LEFT_VAGUE, kind=DamageKind.STRETCH)
+    said = seen % (len(places), track.rise_at(zone.last), zone.vague / 1000)
+    return Remark(track.rise_at(places[0]), said, LEFT_VAGUE, kind=DamageKind.STRETCH)
 
 
 def _of_cut(track: Track, times: Times, left: List[Run], right: List[Run]) -> Remark:
