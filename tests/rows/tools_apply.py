@@ -55,9 +55,9 @@ def late_with_a_glitch(pulses):
 
 
 def two_in_a_frame(pulses):
-    """Once the position identifier is whole, the frame reads day 063."""
-    for number, width in ((331, 5000), (359, 2000)):
-        pulses[number][1] = pulses[number][0] + width
+    """Once the position identifier is there, the frame reads day 063."""
+    pulses[331][1] = pulses[331][0] + 5000
+    del pulses[359]
 
 
 def other_code(pulses):

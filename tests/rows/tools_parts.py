@@ -179,7 +179,7 @@ def of_vague():
     sound = wow(tools.recording(14), 0.03, 200)
     for name, first, beyond, kept, wanted in (
             ("12 elements", 530, 542, (), 12), ("150 elements", 530, 680, (), 0), ("two frames", 530, 730, (), 0),
-            ("70 elements, and four of seven are there", 530, 600, [at for at in range(530, 600) if at % 7 in (1, 3, 4, 6)], 30)):
+            ("84 elements, and four of seven are there", 530, 614, [at for at in range(530, 614) if at % 7 in (1, 3, 4, 6)], 36)):
         pulses = [pulse for at, pulse in enumerate(sound) if not first <= at < beyond or at in kept]
         found = analysis.examine(listing_of(pulses))
         part = found.parts[0]
