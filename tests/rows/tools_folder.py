@@ -171,6 +171,11 @@ exec '%s' "$@"
 """
 
 
+def takes_interrupts():
+    """A shell lets what it runs in the background ignore them."""
+    signal.signal(signal.SIGINT, signal.SIG_DFL)
+
+
 def ended():
     """A run that is ended goes on where it was, and leaves nothing but results."""
     def holds():
@@ -184,7 +189,8 @@ def ended():
         slow = dict(os.environ, IRIG_ED=os.path.abspath("irig_ed"), TMPDIR=os.path.abspath("tmp"))
         command = [sys.executable, "-S", os.path.join(TOP, "tools", "irig_mend"), *TO, "--jobs=1", "in"]
         for number, wanted in ((signal.SIGTERM, 143), (signal.SIGINT, 130), (signal.SIGKILL, -9)):
-            process = subprocess.Popen(command, env=slow, stdout=subprocess.DEVNULL, stderr=subprocess.PIPE, text=True)
+            process = subprocess.Popen(command, env=slow, stdout=subprocess.DEVNULL, stderr=subprocess.PIPE, text=True,
+                                       preexec_fn=takes_interrupts)
             done = len(outputs())
             while len(outputs()) == done and process.poll() is None:
                 time.sleep(0.05)
