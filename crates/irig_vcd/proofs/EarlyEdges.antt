@@ -2,7 +2,7 @@
 use Rattle.std.proofs.Common.{◌≡◌, ◌<◌, ◌≤◌, ◌∙◌, ℕ, zero, suc, Bool, true, false, List, Option, Some, None, refl, sym, arith}
 use Rattle.std.proofs.lemmas.Bool.{false≢true}
 use Rattle.irig_vcd.specs.Level.{Change, change, differs, level_before}
-use Rattle.irig_vcd.specs.{Code.Trace.EdgeBefore, Code.Trace.Follows, Scan.and_level, declared.trace.Trace.Trace}
+use Rattle.irig_vcd.specs.{Code.Trace.EdgeBefore, Code.Trace.Traces, Scan.and_level, declared.trace.Trace.Trace}
 use Rattle.irig_vcd.proofs.Levels.{level_kept}
 
 -- a high level before a time
@@ -16,7 +16,7 @@ differ_high true before time cs f g h = f refl
 differ_high false before time cs f g h = g h
 
 -- an edge at the time of a trace
-pub edge_before : (cs : List Change) (t : Trace) (time : ℕ) → Follows cs t → t.time < time → differs t.now t.before ≡ true → EdgeBefore time cs
+pub edge_before : (cs : List Change) (t : Trace) (time : ℕ) → Traces cs t → t.time < time → differs t.now t.before ≡ true → EdgeBefore time cs
 edge_before cs t time h lt =
     differ_high t.now t.before time cs (λ is. record { at = t.time; before = lt; high = sym h.now ∙ is })
     (λ is. high_before cs t.time time (omega (arith, lt)) (sym h.before ∙ is))

@@ -28,8 +28,11 @@ pub mod ScanSteps
 pub mod JournalPlaces
 pub mod Levels
 pub mod PulseSteps
+pub mod Followed
 pub mod Lawful
 pub mod LevelLaw
+pub mod Windows
+mod WindowLaws
 -- The whole of a dump.
 pub mod WholeDump
 pub mod Gathered

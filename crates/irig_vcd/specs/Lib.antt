@@ -14,4 +14,5 @@ pub mod Journals
 pub mod Scan
 pub mod Dump
 pub mod Parts
+pub mod Window
 pub mod Code

@@ -60,6 +60,7 @@ fn take(
         → Scans unit end result
         (λ now. Leads code.now unit end trace.new now journals.new pending.new tokens.new) }
     ensures fewer { length tokens.new ≤ length tokens.old }
+    ensures window { trace.new.window ≡ trace.old.window }
 {
     if is_hash(token.kind) {
         return time(unit, clock, digits_of(token.slice), token.offset);
@@ -87,6 +88,7 @@ fn resume(
         (λ _. Leads code.now unit (scan_words code.now unit s tokens.old) trace.new clock
         journals.new pending.new tokens.new) }
     ensures fewer { length tokens.new ≤ length tokens.old }
+    ensures window { trace.new.window ≡ trace.old.window }
 {
     if let Some(high) = take_open(code, tokens, journals, pending)? {
         trace.put(micros(unit, clock), high)?;
@@ -120,6 +122,7 @@ pub fn follow(
         → Scans unit (scan_words code.now unit s tokens.old) result
         (λ now. Leads code.now unit (scan_words code.now unit s tokens.old) trace.new now
         journals.new pending.new []) }
+    ensures window { trace.new.window ≡ trace.old.window }
 {
     match resume(tokens, unit, code, from, trace, journals, pending) {
         Ok(()) => follow_on(tokens, unit, code, from, trace, journals, pending),
@@ -144,6 +147,7 @@ fn follow_on(
         → Leads code.now unit end trace.old from journals.old pending.old tokens.old
         → Scans unit end result
         (λ now. Leads code.now unit end trace.new now journals.new pending.new []) }
+    ensures window { trace.new.window ≡ trace.old.window }
 {
     let is_plain = is_plain(code);
     let is_quick = is_quick(is_plain, unit, code);
@@ -170,7 +174,7 @@ pub fn changes(
     unit: Unit,
     code: &[u8],
 ) -> Result<Body, VcdFault>
-    ensures exact { KeepsEdges result
+    ensures exact { KeepsEdges None result
         (scan_ended unit (scan_words code.now unit start tokens.old)) }
     ensures journals { IfOk result
         (λ x. Holds (scan_words code.now unit start tokens.old).0.journals x.journals) }
@@ -179,7 +183,7 @@ pub fn changes(
     ensures memory { result ≡ Err OutOfMemory
         → HasEdge (scan_words code.now unit start tokens.old).0.changes }
 {
-    let mut reading = Reading::new(alloc);
+    let mut reading = Reading::new(alloc, None);
     match reading.read(tokens, unit, code) {
         Ok(()) => reading.finish(unit),
         Err(fault) => Err(fault),

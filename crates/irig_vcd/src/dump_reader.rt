@@ -9,7 +9,7 @@ ghost use Rattle.irig_vcd.specs.Code.NextPart.{HasReadEnough, IsReadUp, TakesMem
 ghost use Rattle.irig_vcd.specs.declared.fault.VcdFault.TheVariants.{OutOfMemory};
 ghost use Rattle.irig_vcd.specs.{Declarations.declarations_of, declared.fault.VcdFault.VcdFault};
 ghost use Rattle.irig_vcd.specs.{Code.Gathered.gathered, Code.Reached.IsOn, Dump.changes_before};
-ghost use Rattle.irig_vcd.specs.{Level.HasEdge, Parts.dump_parts, Words.words_of};
+ghost use Rattle.irig_vcd.specs.{Level.HasEdge, Window.parts_in, Words.words_of};
 
 use crate::changes::Body;
 use crate::fault::VcdFault;
@@ -18,6 +18,7 @@ use crate::progress::Progress;
 use crate::reader::kept;
 use crate::reading::Reading;
 use crate::unit::Unit;
+use crate::window::Window;
 use irig_recording::Recording;
 use std::alloc::{AllocError, Global};
 use std::marker::Model;
@@ -46,6 +47,20 @@ impl DumpReader {
     /// bit.
     pub fn new(alloc: Global, wire: Option<&[u8]>) -> Result<DumpReader, AllocError>
         ensures read { IfOk result (HasRead (name_of wire.entry) []) }
+        ensures whole { IfOk result (λ r. r.reading.trace.window ≡ None) }
+        ensures length { IfOk result (λ r. bytes_read r ≡ 0) }
+    {
+        DumpReader::of_window(alloc, wire, None)
+    }
+
+    /// A reader that has read nothing of a dump, and keeps only a window of it.
+    pub fn of_window(
+        alloc: Global,
+        wire: Option<&[u8]>,
+        window: Option<Window>,
+    ) -> Result<DumpReader, AllocError>
+        ensures read { IfOk result (HasRead (name_of wire.entry) []) }
+        ensures window { IfOk result (λ r. r.reading.trace.window ≡ window) }
         ensures length { IfOk result (λ r. bytes_read r ≡ 0) }
     {
         let wire = copied(alloc, wire)?;
@@ -54,7 +69,7 @@ impl DumpReader {
                 wire,
                 unit: None,
                 code: Vec::new(alloc),
-                reading: Reading::new(alloc),
+                reading: Reading::new(alloc, window),
                 gone: 0,
                 held: Vec::new(alloc),
                 wanted: 0,
@@ -84,12 +99,14 @@ impl DumpReader {
         ensures length { IfOk result (λ r. bytes_read r ≡ bytes_read self + length part.now) }
         ensures fault { IfErr result (λ e. (wire : Option (List ℕ)) (bytes more : List ℕ)
             → HasRead wire bytes self
-            → IsFaultOf e (dump_parts wire ((bytes ++ part.now) ++ more))) }
+            → IsFaultOf e (parts_in self.reading.trace.window wire
+            ((bytes ++ part.now) ++ more))) }
         ensures memory { result ≡ Err OutOfMemory
             → (wire : Option (List ℕ)) (bytes : List ℕ) → HasRead wire bytes self
             → (vec_capacity self.held < vec_len self.held + length part.now)
             ⊎ TakesMemory wire self.unit self.code self.journal (bytes ++ part.now) }
         ensures enough { IfOk result (HasReadEnough self.wanted) }
+        ensures window { IfOk result (λ r. r.reading.trace.window ≡ self.reading.trace.window) }
     {
         let mut progress = self.progress;
         match put_part(&mut progress, part) {
@@ -102,9 +119,11 @@ impl DumpReader {
     /// journal, from its first word up to its `$end`.
     pub fn end(self) -> Result<(Recording, Option<Vec<u8>>), VcdFault>
         ensures read { IfOk result (λ x. (wire : Option (List ℕ)) (bytes : List ℕ)
-            → HasRead wire bytes self → dump_parts wire bytes ≡ Ok (x.0, bytes_of x.1)) }
+            → HasRead wire bytes self
+            → parts_in self.reading.trace.window wire bytes ≡ Ok (x.0, bytes_of x.1)) }
         ensures fault { IfErr result (λ e. (wire : Option (List ℕ)) (bytes : List ℕ)
-            → HasRead wire bytes self → IsFaultOf e (dump_parts wire bytes)) }
+            → HasRead wire bytes self
+            → IsFaultOf e (parts_in self.reading.trace.window wire bytes)) }
         ensures heading { (wire : Option (List ℕ)) (bytes : List ℕ) (e : VcdFault)
             → HasRead wire bytes self → self.unit ≡ None
             → declarations_of wire (words_of bytes) ≡ Err e → result ≡ Err e }
@@ -133,13 +152,15 @@ fn put_part(progress: &mut Progress, part: &[u8]) -> Result<(), VcdFault>
         (bytes_read progress.new ≡ bytes_read progress.old + length part.now) }
     ensures fault { IfErr result (λ e. (wire : Option (List ℕ)) (bytes more : List ℕ)
         → HasRead wire bytes progress.old
-        → IsFaultOf e (dump_parts wire ((bytes ++ part.now) ++ more))) }
+        → IsFaultOf e (parts_in progress.old.reading.trace.window wire
+        ((bytes ++ part.now) ++ more))) }
     ensures memory { result ≡ Err OutOfMemory
         → (wire : Option (List ℕ)) (bytes : List ℕ) → HasRead wire bytes progress.old
         → (vec_capacity progress.old.held < vec_len progress.old.held + length part.now)
         ⊎ TakesMemory wire progress.old.unit progress.old.code progress.old.journal
         (bytes ++ part.now) }
     ensures enough { OnOk result (HasReadEnough progress.old.wanted progress.new) }
+    ensures window { progress.new.reading.trace.window ≡ progress.old.reading.trace.window }
 {
     progress.held.extend_from_slice(part)?;
     if progress.held.len() < progress.wanted {
@@ -157,9 +178,11 @@ fn read_held(progress: &mut Progress) -> Result<(), VcdFault>
         → HasRead wire bytes progress.old → HasRead wire bytes progress.new) }
     ensures length { OnOk result (bytes_read progress.new ≡ bytes_read progress.old) }
     ensures held { OnOk result (IsReadUp progress.new.unit progress.new) }
+    ensures window { progress.new.reading.trace.window ≡ progress.old.reading.trace.window }
     ensures wanted { OnOk result (progress.new.wanted ≡ 2 * vec_len progress.new.held) }
     ensures fault { IfErr result (λ e. (wire : Option (List ℕ)) (bytes more : List ℕ)
-        → HasRead wire bytes progress.old → IsFaultOf e (dump_parts wire (bytes ++ more))) }
+        → HasRead wire bytes progress.old
+        → IsFaultOf e (parts_in progress.old.reading.trace.window wire (bytes ++ more))) }
     ensures memory { result ≡ Err OutOfMemory
         → (wire : Option (List ℕ)) (bytes : List ℕ) → HasRead wire bytes progress.old
         → TakesMemory wire progress.old.unit progress.old.code progress.old.journal bytes }
@@ -182,6 +205,7 @@ fn read_held(progress: &mut Progress) -> Result<(), VcdFault>
 /// Reads all bytes that are held, which are the last ones of the dump, and returns the unit.
 fn read_rest(progress: &mut Progress) -> Result<Unit, VcdFault>
     requires reader { IsReader progress.old }
+    ensures window { progress.new.reading.trace.window ≡ progress.old.reading.trace.window }
     ensures time { IfOk result
         (λ unit. IsOn unit progress.new.reading.trace progress.new.reading.clock) }
     ensures read { IfOk result (λ unit. (wire : Option (List ℕ)) (bytes : List ℕ)
@@ -189,7 +213,8 @@ fn read_rest(progress: &mut Progress) -> Result<Unit, VcdFault>
         → HasReadWords wire (words_of bytes) unit progress.new.code.items progress.new.reading
         × (progress.new.journal.items ≡ gathered progress.new.reading bytes)) }
     ensures fault { IfErr result (λ e. (wire : Option (List ℕ)) (bytes : List ℕ)
-        → HasRead wire bytes progress.old → IsFaultOf e (dump_parts wire bytes)) }
+        → HasRead wire bytes progress.old
+        → IsFaultOf e (parts_in progress.old.reading.trace.window wire bytes)) }
     ensures heading { (wire : Option (List ℕ)) (bytes : List ℕ) (e : VcdFault)
         → HasRead wire bytes progress.old → progress.old.unit ≡ None
         → declarations_of wire (words_of bytes) ≡ Err e → result ≡ Err e }
@@ -219,11 +244,11 @@ fn finish(
     ensures read { IfOk result (λ x. (wire : Option (List ℕ)) (bytes code : List ℕ)
         → HasReadWords wire (words_of bytes) unit code reading
         → journal.items ≡ gathered reading bytes
-        → dump_parts wire bytes ≡ Ok (x.0, bytes_of x.1)) }
+        → parts_in reading.trace.window wire bytes ≡ Ok (x.0, bytes_of x.1)) }
     ensures fault { IfErr result (λ e. (wire : Option (List ℕ)) (bytes code : List ℕ)
         → HasReadWords wire (words_of bytes) unit code reading
         → journal.items ≡ gathered reading bytes
-        → IsFaultOf e (dump_parts wire bytes)) }
+        → IsFaultOf e (parts_in reading.trace.window wire bytes)) }
     ensures within { IfOk result
         (λ x. IfSome x.1 (λ kept. vec_len kept ≤ vec_len journal)) }
     ensures memory { result ≡ Err OutOfMemory → (wire : Option (List ℕ)) (bytes code : List ℕ)

@@ -26,10 +26,12 @@ mod token;
 mod trace;
 mod unit;
 mod variable;
+mod window;
 
 pub use dump_reader::DumpReader;
 pub use fault::VcdFault;
 pub use irig_recording::{Pulse, Recording, TextWriter, text};
-pub use law::{edges_tell_levels, read_back, read_back_parts};
+pub use law::{edges_tell_levels, read_back, read_back_parts, windows_tell_levels};
 pub use reader::{read, read_parts};
 pub use token::{Kind, Token, Tokens};
+pub use window::Window;

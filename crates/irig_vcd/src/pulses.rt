@@ -1,17 +1,16 @@
 //! Pulses that are read in one step: a rise and a fall, each a time line and a level line.
 
 ghost use Rattle.std.specs.Prelude.{◌≡◌, ◌≤◌, ◌<◌, ◌+◌, ◌^◌, ◌∷◌, [], true, false, length};
-ghost use Rattle.std.specs.Prelude.{slice_index, IfSome, IfOk};
-ghost use Rattle.irig_vcd.specs.Code.Along.{HasFallen, TakesEdge, at_micros};
+ghost use Rattle.std.specs.Prelude.{slice_index, IfSome, IfOk, OnErr};
+ghost use Rattle.irig_vcd.specs.Code.Along.{LiesOn, TakesEdge, at_micros};
 ghost use Rattle.irig_vcd.specs.Code.Scanned.{IsTraced, Passes};
 ghost use Rattle.irig_vcd.specs.{Scan.Scan, Scan.closed, Code.Time.IsTime, Words.is_code};
 
 use crate::lanes::lanes_end;
 use crate::time::{Clock, cut};
 use crate::token::Tokens;
-use crate::trace::Trace;
+use crate::trace::{Stretch, Trace};
 use crate::unit::Unit;
-use irig_recording::LENGTH_LIMIT;
 use std::alloc::AllocError;
 
 /// The most bytes that two edges have.
@@ -65,16 +64,24 @@ fn edge_at(source: &[u8], at: usize, high: bool, code: u8, unit: Unit) -> Option
     })
 }
 
-/// The rise and the fall at a place, each in a later microsecond than what is before it.
+/// The rise and the fall at a place, each in a later microsecond than what is before it, and none
+/// after a limit.
 #[inline(always)]
-fn pulse_at(source: &[u8], at: usize, code: u8, unit: Unit, after: u64) -> Option<(Edge, Edge)>
+fn pulse_at(
+    source: &[u8],
+    at: usize,
+    code: u8,
+    unit: Unit,
+    after: u64,
+    limit: u64,
+) -> Option<(Edge, Edge)>
     requires back { 16 ≤ at }
     requires room { at + 64 ≤ length source.now }
     requires dark { is_code (code ∷ []) ≡ true }
     ensures rise { IfSome result (λ p. TakesEdge source.now at true code unit p.0) }
     ensures fall { IfSome result (λ p. TakesEdge source.now p.0.end false code unit p.1) }
     ensures late { IfSome result (λ p. (after < p.0.time.whole)
-        × (p.0.time.whole < p.1.time.whole) × (p.1.time.whole ≤ 2 ^ 40)) }
+        × (p.0.time.whole < p.1.time.whole) × (p.1.time.whole ≤ limit)) }
 {
     let Some(rise) = edge_at(source, at, true, code, unit) else {
         return None;
@@ -83,7 +90,7 @@ fn pulse_at(source: &[u8], at: usize, code: u8, unit: Unit, after: u64) -> Optio
         return None;
     };
     let (up, down) = (rise.time.whole, fall.time.whole);
-    if up <= after || down <= up || down > LENGTH_LIMIT {
+    if up <= after || down <= up || down > limit {
         return None;
     }
     Some((rise, fall))
@@ -98,15 +105,18 @@ fn pulses_in(
     unit: Unit,
     from: Clock,
     trace: &mut Trace,
+    stretch: Stretch,
 ) -> Result<Clock, AllocError>
     requires unit { unit ≤ 9 }
     requires dark { is_code (code ∷ []) ≡ true }
-    requires fallen { HasFallen trace.old }
+    requires here { LiesOn stretch trace.old }
     requires late { trace.old.time ≤ from.whole }
     ensures passes { IfOk result (λ now. (s : Scan) → s.opened ≡ closed
         → IsTraced unit s trace.old from
         → Passes (code ∷ []) unit s tokens.old trace.new now tokens.new) }
     ensures fewer { length tokens.new ≤ length tokens.old }
+    ensures window { trace.new.window ≡ trace.old.window }
+    ensures kept { OnErr result (stretch.is_kept ≡ true) }
 {
     let source = tokens.source;
     let base = tokens.base;
@@ -116,13 +126,13 @@ fn pulses_in(
     }
     let mut clock = from;
     while source.len() - at >= LONGEST_PULSE {
-        let Some((rise, fall)) = pulse_at(source, at, code, unit, clock.whole) else {
+        let Some((rise, fall)) = pulse_at(source, at, code, unit, clock.whole, stretch.limit) else {
             break;
         };
-        if !trace.has_room() {
+        if stretch.is_kept && !trace.has_room() {
             break;
         }
-        trace.put_pulse(rise.time.whole, fall.time.whole)?;
+        trace.put_pulse(rise.time.whole, fall.time.whole, stretch)?;
         clock = fall.time;
         at = fall.end;
     }
@@ -138,20 +148,23 @@ fn pulses_in_micros(
     code: u8,
     from: u64,
     trace: &mut Trace,
+    stretch: Stretch,
 ) -> Result<u64, AllocError>
     requires dark { is_code (code ∷ []) ≡ true }
-    requires fallen { HasFallen trace.old }
+    requires here { LiesOn stretch trace.old }
     requires late { trace.old.time ≤ from }
     ensures passes { IfOk result (λ time. (s : Scan) → s.opened ≡ closed
         → IsTraced 9 s trace.old (at_micros from)
         → Passes (code ∷ []) 9 s tokens.old trace.new (at_micros time) tokens.new) }
     ensures fewer { length tokens.new ≤ length tokens.old }
+    ensures window { trace.new.window ≡ trace.old.window }
+    ensures kept { OnErr result (stretch.is_kept ≡ true) }
 {
     let from = Clock {
         whole: from,
         rest: 0,
     };
-    let clock = pulses_in(tokens, code, Unit::new(9), from, trace)?;
+    let clock = pulses_in(tokens, code, Unit::new(9), from, trace, stretch)?;
     Ok(clock.whole)
 }
 
@@ -164,23 +177,26 @@ pub fn pulses(
     unit: Unit,
     from: Clock,
     trace: &mut Trace,
+    stretch: Stretch,
 ) -> Result<Clock, AllocError>
     requires unit { unit ≤ 9 }
     requires dark { is_code (code ∷ []) ≡ true }
-    requires fallen { HasFallen trace.old }
+    requires here { LiesOn stretch trace.old }
     requires late { trace.old.time ≤ from.whole }
     requires time { IsTime unit from }
     ensures passes { IfOk result (λ now. (s : Scan) → s.opened ≡ closed
         → IsTraced unit s trace.old from
         → Passes (code ∷ []) unit s tokens.old trace.new now tokens.new) }
     ensures fewer { length tokens.new ≤ length tokens.old }
+    ensures window { trace.new.window ≡ trace.old.window }
+    ensures kept { OnErr result (stretch.is_kept ≡ true) }
 {
     if unit.is_microsecond() {
-        let whole = pulses_in_micros(tokens, code, from.whole, trace)?;
+        let whole = pulses_in_micros(tokens, code, from.whole, trace, stretch)?;
         return Ok(Clock { whole, rest: 0 });
     }
     if unit.is_nanosecond() {
-        return pulses_in(tokens, code, Unit::new(6), from, trace);
+        return pulses_in(tokens, code, Unit::new(6), from, trace, stretch);
     }
-    pulses_in(tokens, code, unit, from, trace)
+    pulses_in(tokens, code, unit, from, trace, stretch)
 }

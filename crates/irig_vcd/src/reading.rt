@@ -14,6 +14,7 @@ use crate::time::{Clock, micros};
 use crate::token::Tokens;
 use crate::trace::Trace;
 use crate::unit::Unit;
+use crate::window::{Window, moved};
 use std::alloc::Global;
 
 /// What was read after the declarations: the last time, the edges and the journals so far, and what
@@ -28,13 +29,14 @@ pub struct Reading {
 
 impl Reading {
     /// Nothing is read yet.
-    pub fn new(alloc: Global) -> Reading
+    pub fn new(alloc: Global, window: Option<Window>) -> Reading
         ensures start { (unit : ℕ) → StandsAt unit start result }
         ensures time { (unit : ℕ) → IsOn unit result.trace result.clock }
+        ensures window { result.trace.window ≡ window }
     {
         Reading {
             clock: Clock { whole: 0, rest: 0 },
-            trace: Trace::new(alloc),
+            trace: Trace::new(alloc, window),
             journals: Journals::new(),
             pending: Pending::Nothing,
         }
@@ -47,6 +49,7 @@ impl Reading {
         ensures time { OnOk result (IsOn unit self.new.trace self.new.clock) }
         ensures scans { (s : Scan) → StandsAt unit s self.old
             → HasScanned code.now unit s tokens.old result self.new }
+        ensures window { self.new.trace.window ≡ self.old.trace.window }
     {
         self.clock = follow(
             tokens,
@@ -63,7 +66,8 @@ impl Reading {
     /// What was read, if nothing comes after it.
     pub fn finish(self, unit: Unit) -> Result<Body, VcdFault>
         requires time { IsOn unit self.trace self.clock }
-        ensures exact { (s : Scan) → StandsAt unit s self → KeepsEdges result (scan_ended unit (s, None)) }
+        ensures exact { (s : Scan) → StandsAt unit s self
+            → KeepsEdges self.trace.window result (scan_ended unit (s, None)) }
         ensures journals { IfOk result (λ x. (s : Scan) → StandsAt unit s self
             → Holds s.journals x.journals) }
         ensures kept { IfOk result (λ x. (changes : List Change)
@@ -77,9 +81,10 @@ impl Reading {
             Ok(()) => {}
             Err(fault) => return Err(fault),
         }
-        let end = micros(unit, self.clock);
+        let last = micros(unit, self.clock);
         let journals = self.journals;
-        let edges = self.trace.finish(end)?;
+        let end = moved(self.trace.window, last);
+        let edges = self.trace.finish(last)?;
         Ok(Body {
             end,
             edges,

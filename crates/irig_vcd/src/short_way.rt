@@ -62,6 +62,7 @@ pub fn follow_short(
         → Scans unit end result
         (λ now. Leads code.now unit end trace.new now journals pending tokens.new) }
     ensures fewer { length tokens.new ≤ length tokens.old }
+    ensures window { trace.new.window ≡ trace.old.window }
 {
     let mut clock = from;
     'tokens: loop {
@@ -107,11 +108,15 @@ fn ahead(
         → IsTraced unit s trace.old clock
         → Passes code.now unit s tokens.old trace.new now tokens.new) }
     ensures fewer { length tokens.new ≤ length tokens.old }
+    ensures window { trace.new.window ≡ trace.old.window }
     ensures memory { OnErr result ((changes : List Change) → Follows changes trace.old
         → EdgeBefore (micros_of unit (units_of unit clock)) changes) }
 {
-    if is_quick && trace.has_fallen() && has_sign(tokens.source, tokens.at) {
-        let now = pulses(tokens, code[0], unit, clock, trace)?;
+    if is_quick && trace.is_low() && has_sign(tokens.source, tokens.at) {
+        let Some(stretch) = trace.stretch() else {
+            return Ok(clock);
+        };
+        let now = pulses(tokens, code[0], unit, clock, trace, stretch)?;
         return Ok(now);
     }
     Ok(clock)
@@ -140,6 +145,7 @@ fn take_bit(
         → Puts unit end result
         (λ now. Leads code.now unit end trace.new now journals pending tokens.new) }
     ensures fewer { length tokens.new ≤ length tokens.old }
+    ensures window { trace.new.window ≡ trace.old.window }
 {
     match trace.put(micros(unit, clock), high) {
         Ok(()) => ahead(is_quick, tokens, unit, code, clock, trace),

@@ -1,31 +1,46 @@
 //! A level that is given by its changes, traced.
 
 ghost use Rattle.std.specs.Prelude.{◌≡◌, ◌≤◌, ◌<◌, ◌+◌, ◌^◌, true, false, ◌∷◌, [], ◌++◌, ℕ, List};
-ghost use Rattle.std.specs.Prelude.{◌↔◌, OnOk, OnErr, IfOk, length, take, if◌then◌else◌};
-ghost use Rattle.irig_vcd.specs.Level.{Change, change, edges_up_to, differs};
-ghost use Rattle.irig_vcd.specs.{Code.Along.HasFallen, Code.Trace.EdgeBefore, Code.Trace.Follows};
+ghost use Rattle.std.specs.Prelude.{◌↔◌, OnOk, OnErr, IfOk, IfSome, length, take};
+ghost use Rattle.std.specs.Prelude.{if◌then◌else◌};
+ghost use Rattle.irig_vcd.specs.Level.{Change, change, differs};
+ghost use Rattle.irig_vcd.specs.{Code.Along.LiesOn, Code.Trace.EdgeBefore, Code.Trace.Follows};
+ghost use Rattle.irig_vcd.specs.{Code.Trace.IsKept, Window.moved, Window.within};
 ghost use Rattle.irig_recording.specs.Edges.{edges_kept};
 
-use irig_recording::Edges;
+use crate::window::{Window, moved};
+use irig_recording::{Edges, LENGTH_LIMIT};
 use std::alloc::{AllocError, Global};
 
-/// A level that was followed up to a time: the edges before it, the level before it, and the level
-/// from it on.
+/// A level that was followed up to a time of a dump: the edges before it, the level before it, and
+/// the level from it on. Edges and the level before it are those of a window of the dump.
 #[derive(Drop)]
 pub struct Trace {
+    pub window: Option<Window>,
     time: u64,
     before: bool,
     now: bool,
     edges: Edges,
 }
 
+/// What becomes of the next edges of a level that is low, up to a limit in microseconds: they are
+/// kept, each at its time less that of the begin of the window, or none of them is in the window.
+#[derive(Clone, Copy)]
+pub struct Stretch {
+    pub from: u64,
+    pub limit: u64,
+    pub is_kept: bool,
+}
+
 impl Trace {
     /// A trace that has followed no change.
-    pub fn new(alloc: Global) -> Trace
+    pub fn new(alloc: Global, window: Option<Window>) -> Trace
         ensures start { result.time ≡ 0 }
         ensures follows { Follows [] result }
+        ensures window { result.window ≡ window }
     {
         Trace {
+            window,
             time: 0,
             before: false,
             now: false,
@@ -39,14 +54,17 @@ impl Trace {
         ensures ok { OnOk result
             ((changes : List Change) → Follows changes self.old → Follows changes self.new) }
         ensures time { OnOk result (self.new.time ≡ time) }
+        ensures window { self.new.window ≡ self.old.window }
         ensures refused { OnErr result (length self.old.edges ≤ 2 ^ 23) }
         ensures memory { OnErr result
             ((changes : List Change) → Follows changes self.old → EdgeBefore time changes) }
     {
-        if time <= self.time {
+        let place = moved(self.window, self.time);
+        if moved(self.window, time) <= place {
+            self.time = time;
             return Ok(());
         }
-        keep(&mut self.edges, differ(self.now, self.before), self.time)?;
+        keep(&mut self.edges, differ(self.now, self.before), place)?;
         self.before = self.now;
         self.time = time;
         Ok(())
@@ -59,6 +77,7 @@ impl Trace {
             ((changes : List Change) → Follows changes self.old
             → Follows (changes ++ change time high ∷ []) self.new) }
         ensures time { OnOk result (self.new.time ≡ time) }
+        ensures window { self.new.window ≡ self.old.window }
         ensures refused { OnErr result (length self.old.edges ≤ 2 ^ 23) }
         ensures memory { OnErr result
             ((changes : List Change) → Follows changes self.old → EdgeBefore time changes) }
@@ -68,11 +87,38 @@ impl Trace {
         Ok(())
     }
 
-    /// Whether the level was high before the last change, and is low from it on.
-    pub fn has_fallen(&self) -> bool
-        ensures { result ≡ true → HasFallen self.entry.now }
+    /// Whether the level is low.
+    #[inline(always)]
+    pub fn is_low(&self) -> bool
+        ensures { result ≡ true → self.entry.now.now ≡ false }
     {
-        self.before && !self.now && self.edges.is_open()
+        !self.now
+    }
+
+    /// Up to where pulses are taken in one step from here on, if the level is low.
+    #[inline(always)]
+    pub fn stretch(&self) -> Option<Stretch>
+        requires { self.now.now ≡ false }
+        ensures { IfSome result (λ s. LiesOn s self.entry.now) }
+    {
+        let (from, to) = match self.window {
+            None => (0, LENGTH_LIMIT),
+            Some(window) => (window.from, window.to.min(LENGTH_LIMIT)),
+        };
+        if self.time < from {
+            return Some(apart(from.min(LENGTH_LIMIT)));
+        }
+        if self.time >= to {
+            return Some(apart(LENGTH_LIMIT));
+        }
+        if self.before && self.edges.is_open() {
+            return Some(Stretch {
+                from,
+                limit: to,
+                is_kept: true,
+            });
+        }
+        None
     }
 
     /// Whether two edges more are kept.
@@ -83,36 +129,56 @@ impl Trace {
         self.edges.has_room()
     }
 
-    /// Takes a rise and a fall after a fall, at times in microseconds.
+    /// Takes a rise and a fall on a stretch, at times in microseconds.
     #[inline(always)]
-    pub fn put_pulse(&mut self, rise: u64, fall: u64) -> Result<(), AllocError>
-        requires fallen { HasFallen self.old }
-        requires room { length self.old.edges + 2 ≤ edges_kept }
+    pub fn put_pulse(&mut self, rise: u64, fall: u64, stretch: Stretch) -> Result<(), AllocError>
+        requires here { LiesOn stretch self.old }
+        requires room { stretch.is_kept ≡ true → length self.old.edges + 2 ≤ edges_kept }
         requires first { self.old.time < rise }
         requires second { rise < fall }
+        requires within { fall ≤ stretch.limit }
         ensures ok { OnOk result
             ((changes : List Change) → Follows changes self.old
             → Follows (changes ++ change rise true ∷ change fall false ∷ []) self.new) }
         ensures time { OnOk result (self.new.time ≡ fall) }
-        ensures fallen { OnOk result (HasFallen self.new) }
+        ensures here { OnOk result (LiesOn stretch self.new) }
+        ensures window { self.new.window ≡ self.old.window }
+        ensures kept { OnErr result (stretch.is_kept ≡ true) }
     {
-        self.edges.close_and_open(self.time, rise)?;
+        if !stretch.is_kept {
+            self.time = fall;
+            return Ok(());
+        }
+        self.edges
+            .close_and_open(self.time - stretch.from, rise - stretch.from)?;
         self.time = fall;
         Ok(())
     }
 
-    /// The edges of a recording that ends at a time.
+    /// The edges of the recording of the window, of a dump that ends at a time.
     pub fn finish(mut self, end: u64) -> Result<Edges, AllocError>
         requires { self.time ≤ end }
         ensures edges { IfOk result
             (λ edges. (changes : List Change) → Follows changes self
-            → edges ≡ take edges_kept (edges_up_to changes end)) }
+            → IsKept (within self.window changes) (moved self.window end) edges) }
         ensures memory { OnErr result
             ((changes : List Change) → Follows changes self → EdgeBefore end changes) }
     {
         self.advance(end)?;
-        keep(&mut self.edges, self.before, end)?;
+        keep(&mut self.edges, self.before, moved(self.window, end))?;
         Ok(self.edges)
+    }
+}
+
+/// Up to a limit no edge is in the window.
+fn apart(limit: u64) -> Stretch
+    ensures limit { result.limit ≡ limit }
+    ensures apart { result.is_kept ≡ false }
+{
+    Stretch {
+        from: 0,
+        limit,
+        is_kept: false,
     }
 }
 

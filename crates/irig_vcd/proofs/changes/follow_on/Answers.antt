@@ -1,4 +1,4 @@
-use Rattle.std.proofs.Common.{◌≡◌, ◌∷◌, [], Option, rules}
+use Rattle.std.proofs.Common.{◌≡◌, ◌∙◌, ◌∷◌, [], Option, rules}
 use Rattle.irig_vcd.specs.{Code.Scanned.Leads, Code.Token.word_of, Scan.Scan, declared.fault.VcdFault.VcdFault}
 use Rattle.irig_vcd.proofs.{ScanSteps.leads_as, changes.follow_on.Goals.After-take}
 use Rattle.irig_vcd.proofs.changes.follow_on.Goals as goal
@@ -25,6 +25,7 @@ returns-in_default-clause-scans c = λ end l.
 pub tokens-preserved : goal.tokens-preserved
 tokens-preserved c = record {
   time = c.in-Ok-take.ensures.time;
+  window = c.take.ensures.window ∙ (c.follow_short.ensures.window ∙ c.tokens.invariant.window);
   leads = λ end l. c.in-Ok-take.ensures.scans end (at_token (goal.at.tokens-preserved c).After-take end l);
 }
 

@@ -15,11 +15,12 @@ loop-at-preserved c =
     record {
       back = omega (arith, up.after, down.after, i.back);
       within = omega (arith, up.near, down.near, c.loop-at-test.true);
-      fallen = put.fallen;
+      here = put.here;
+      window = put.window ∙ i.window;
       late = omega (arith, put.time);
       fewer = omega (arith, fewer_left b _ c.loop-at.at _ _ _ rise up, fewer_left b _ rise.end _ _ _ fall down, i.fewer);
       passes = λ s none traced.
           let p = i.passes s none traced in
           passes_then _ c.args.unit s _ _ _ _ _ _ _ p (passes_pulse b c.args.code c.args.unit c.loop-at.clock c.loop-at.trace c.put_pulse.new.self
-          _ c.loop-at.at rise fall p.now c.requires.unit up down late.0 late.1 late.2 put.ok put.time (p.opened ∙ none) p.traced);
+          _ c.loop-at.at rise fall p.now c.requires.unit up down late.0 late.1 (omega (arith, late.2, i.here.short)) put.ok put.time (p.opened ∙ none) p.traced);
     }

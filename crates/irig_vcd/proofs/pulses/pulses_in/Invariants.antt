@@ -1,5 +1,5 @@
 use Rattle.std.proofs.Common.{◌≡◌, ◌≤◌, ◌-◌, ◌∷◌, [], length}
-use Rattle.irig_vcd.specs.{Code.Along.HasFallen, Code.Scanned.IsTraced, Code.Scanned.Passes, Scan.Scan, Scan.closed}
+use Rattle.irig_vcd.specs.{Code.Along.LiesOn, Code.Scanned.IsTraced, Code.Scanned.Passes, Scan.Scan, Scan.closed}
 use Rattle.irig_vcd.proofs.PulseSteps.{words_here}
 use Rattle.irig_vcd.proofs.pulses.pulses_in.Given as goal
 
@@ -7,7 +7,8 @@ abbrev pub invariant-loop-at : goal.invariant-loop-at
 invariant-loop-at l = record {
   back : 16 ≤ l.at;
   within : l.at ≤ length l.source;
-  fallen : HasFallen l.trace;
+  here : LiesOn l.stretch l.trace;
+  window : l.trace.window ≡ l.fn.trace.window;
   late : l.trace.time ≤ l.clock.whole;
   fewer : length (words_here l.base l.source l.at) ≤ length l.fn.tokens;
   passes : (s : Scan) → s.opened ≡ closed → IsTraced l.unit s l.fn.trace l.fn.from

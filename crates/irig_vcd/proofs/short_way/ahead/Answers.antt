@@ -1,7 +1,7 @@
-use Rattle.std.proofs.Common.{◌≡◌, ℕ, List, refl, subst, sym, ◌∙◌}
+use Rattle.std.proofs.Common.{◌≡◌, ℕ, List, refl, subst}
 use Rattle.std.proofs.lemmas.Result.{err_from_is_err_and}
 use Rattle.irig_vcd.specs.{Code.Scanned.IsTraced, Code.Scanned.Passes, Scan.Scan, Scan.closed}
-use Rattle.irig_vcd.proofs.{PulseSteps.late_fine, PulseSteps.one_byte, EarlyEdges.high_before}
+use Rattle.irig_vcd.proofs.{PulseSteps.late_fine, PulseSteps.one_byte, Followed.high_in}
 use Rattle.irig_vcd.proofs.short_way.ahead.Goals as goal
 
 pub pulses-requires-clause-late : goal.pulses-requires-clause-late
@@ -20,5 +20,5 @@ returns-clause-passes c = λ s none traced. record { now = s; same = refl; trace
 pub returns-in_err-now-clause-memory : goal.returns-in_err-now-clause-memory
 returns-in_err-now-clause-memory c =
     let p = err_from_is_err_and c.from_residual.result c.from_residual.ensures.1 in
-    let fallen = c.has_fallen.ensures c.if-has_fallen.true in
-    rw p.1 (λ changes h. high_before changes c.args.trace.now.time _ c.requires.late (sym h.before ∙ fallen.before))
+    let kept = c.in-Some.ensures.kept c.in_err-now.ensures.kept in
+    rw p.1 (λ changes h. high_in changes c.args.trace.now _ h c.requires.late kept.0.before)

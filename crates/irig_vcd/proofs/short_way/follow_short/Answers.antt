@@ -1,4 +1,4 @@
-use Rattle.std.proofs.Common.{◌≡◌, ◌≤◌, Bool, ℕ, List, inl, inr, Ok, Err, length, ap, sym, arith}
+use Rattle.std.proofs.Common.{◌≡◌, ◌∙◌, ◌≤◌, Bool, ℕ, List, inl, inr, Ok, Err, length, ap, sym, arith}
 use Rattle.irig_vcd.specs.{Code.Short.Takes, Code.Time.units_of, Times.time_of, Words.Word, Words.rest_of, declared.short.Short.Short}
 use Rattle.irig_vcd.specs.declared.short.Short.TheVariants as short
 use Rattle.irig_vcd.proofs.ScanSteps.{leads_apart, leads_as, leads_time, on_later}
@@ -31,6 +31,7 @@ tokens-preserved-in-Ok c =
     record {
       time = on_later c.args.unit c.tokens.trace c.tokens.clock at i.time c.in-Ok.ensures.time c.in-Ok.ensures.forward;
       fewer = omega (arith, i.fewer, ap length n.left);
+      window = i.window;
       leads = λ end j p l.
           leads_time (Ok at) c.args.code.now c.args.unit end c.tokens.trace c.tokens.clock j p n.word c.next_short.new.self n.kind read
           c.in-Ok.ensures.time c.in-Ok.ensures.forward
@@ -45,6 +46,7 @@ tokens-preserved-in-Ok-take_bit c =
     record {
       time = bit.time;
       fewer = omega (arith, i.fewer, ap length b.left, bit.fewer);
+      window = bit.window ∙ i.window;
       leads = λ end j p l. bit.scans c.tokens.tokens end j p b (i.leads end j p l);
     }
 
@@ -58,6 +60,7 @@ tokens-preserved c =
     record {
       time = i.time;
       fewer = omega (arith, i.fewer, fewer_left c.tokens.tokens c.next_short.new.self c.args.code.now c.args.is_plain short.Apart c.in-Apart.ensures);
+      window = i.window;
       leads = λ end j p l. leads_apart c.args.code.now c.args.unit end c.tokens.trace c.tokens.clock j p
           c.tokens.tokens c.next_short.new.self c.in-Apart.ensures (i.leads end j p l);
     }

@@ -1,4 +1,4 @@
-use Rattle.std.proofs.Common.{◌≤◌, Option, length}
+use Rattle.std.proofs.Common.{◌≡◌, ◌≤◌, Option, length}
 use Rattle.irig_vcd.specs.declared.journals.Journals.{Journals}
 use Rattle.irig_vcd.specs.{Code.Reached.IsOn, Code.Scanned.Leads, Scan.Scan, declared.fault.VcdFault.VcdFault, declared.pending.Pending.Pending}
 use Rattle.irig_vcd.proofs.short_way.follow_short.Given as goal
@@ -7,6 +7,7 @@ abbrev pub invariant-tokens : goal.invariant-tokens
 invariant-tokens l = record {
   time : IsOn l.unit l.trace l.clock;
   fewer : length l.tokens ≤ length l.fn.tokens;
+  window : l.trace.window ≡ l.fn.trace.window;
   leads : (end : Scan × Option VcdFault) (journals : Journals) (pending : Pending)
       → Leads l.code l.unit end l.fn.trace l.fn.from journals pending l.fn.tokens
       → Leads l.code l.unit end l.trace l.clock journals pending l.tokens;

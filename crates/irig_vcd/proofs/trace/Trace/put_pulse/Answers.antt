@@ -1,16 +1,25 @@
-use Rattle.std.proofs.Common.{refl, ap, ◌∙◌}
+use Rattle.std.proofs.Common.{arith, refl, ap, ◌∙◌, ◌-◌}
 use Rattle.irig_recording.specs.Recording.{is_even_long}
-use Rattle.irig_vcd.proofs.{Lawful.even-push_two, PulseSteps.pulse_put}
+use Rattle.irig_vcd.proofs.{Followed.followed_apart, Followed.followed_pulse, Followed.is_not, Followed.is_so, Followed.stretch_goes_on, Lawful.even-push_two}
 use Rattle.irig_vcd.proofs.trace.Trace.put_pulse.Goals as goal
 
 pub returns-clause-ok : goal.returns-clause-ok
 returns-clause-ok c = λ changes h.
-    pulse_put changes c.args.self.now _ c.args.rise c.args.fall c.requires.fallen c.requires.room c.requires.first c.requires.second
-    c.in_ok-close_and_open.ensures refl c.requires.fallen.before c.requires.fallen.now h
+    followed_pulse changes c.args.stretch c.args.self.now _ c.args.rise c.args.fall c.requires.here (is_so c.args.stretch.is_kept c.if-not-stretch.false)
+    (c.requires.room (is_so c.args.stretch.is_kept c.if-not-stretch.false)) c.requires.first c.requires.second c.requires.within c.in_ok-close_and_open.ensures refl refl refl refl h
 
-pub returns-clause-fallen : goal.returns-clause-fallen
-returns-clause-fallen c = record {
-  before = c.requires.fallen.before;
-  now = c.requires.fallen.now;
-  risen = ap is_even_long c.in_ok-close_and_open.ensures ∙ even-push_two c.args.self.now.edges c.args.self.now.time c.args.rise ∙ c.requires.fallen.risen;
-}
+pub returns-then-not-stretch-clause-ok : goal.returns-then-not-stretch-clause-ok
+returns-then-not-stretch-clause-ok c = λ changes h.
+    followed_apart changes c.args.stretch c.args.self.now _ c.args.rise c.args.fall c.requires.here (is_not c.args.stretch.is_kept c.if-not-stretch.true)
+    c.requires.first c.requires.second c.requires.within refl refl refl refl refl h
+
+pub returns-clause-here : goal.returns-clause-here
+returns-clause-here c =
+    let is = is_so c.args.stretch.is_kept c.if-not-stretch.false in
+    let k = c.requires.here.kept is in
+    let s = c.args.stretch in
+    stretch_goes_on s c.args.self.now _ c.requires.here (omega (arith, c.requires.first, c.requires.second)) c.requires.within refl refl
+    (λ same. record {
+      before = k.0.before;
+      risen = ap is_even_long c.in_ok-close_and_open.ensures ∙ (even-push_two c.args.self.now.edges (c.args.self.now.time - s.from) (c.args.rise - s.from) ∙ k.0.risen);
+    })

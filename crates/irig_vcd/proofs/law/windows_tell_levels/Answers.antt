@@ -1,0 +1,10 @@
+use Rattle.irig_vcd.proofs.{WindowLaws.window_of_all, WindowLaws.windows_joined, Windows.window_told}
+use Rattle.irig_vcd.proofs.law.windows_tell_levels.Goals as goal
+
+pub returns : goal.returns
+returns c = record {
+  level = λ w wire bytes r is. window_told w wire bytes r is;
+  whole = λ w wire bytes r low high is. window_of_all w wire bytes r low high is;
+  meet = λ wire bytes from middle to first second both le also one two three.
+      windows_joined wire bytes from middle to first second both le also one two three;
+}

@@ -1,0 +1,23 @@
+//! A window of a dump: the part of it that is kept.
+
+ghost use Rattle.std.specs.Prelude.{◌≡◌};
+ghost use Rattle.irig_vcd.specs.Window.{moved};
+
+/// The part of a dump from one microsecond up to another, which is not in it.
+#[derive(Clone, Copy)]
+pub struct Window {
+    pub from: u64,
+    pub to: u64,
+}
+
+/// The microsecond of a window that a time falls on: 0 before the window, its length after it.
+/// Without a window it is the time.
+#[inline(always)]
+pub fn moved(window: Option<Window>, time: u64) -> u64
+    ensures { result ≡ moved window time }
+{
+    match window {
+        None => time,
+        Some(window) => time.min(window.to).saturating_sub(window.from),
+    }
+}
