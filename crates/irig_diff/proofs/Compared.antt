@@ -29,12 +29,12 @@ pub printed-frames : (chosen : Settings) (f : FormatView) (b a : RecordingView) 
     → PrintsIfRoom chosen (commented_text (framed f b) (framed f a)) b a old new e → PrintsIfRoom chosen (text_between chosen.frames b a) b a old new e
 printed-frames chosen f b a old new e some p = subst (λ (g : Option FormatView). PrintsIfRoom chosen (text_between g b a) b a old new e) (sym some) p
 
-no_room : (known wire : Option (List ℕ)) (fault : TrackFault) → fault ≡ File OutOfMemory → HasFault known wire fault
-no_room known wire fault e = subst (HasFault known wire) (sym e) (λ bad. absurd (cc))
+no_room : (known wire : Option (List ℕ)) (fault : TrackFault) → fault ≡ File OutOfMemory → HasFault None known wire fault
+no_room known wire fault e = subst (HasFault None known wire) (sym e) (λ bad. absurd (cc))
 
 -- of the tracks of two files
 pub obeyed : (held : Held) (chosen : Settings) (b a : RecordingView) (old new : Option (List ℕ)) (e : Ending)
-    → Says (held chosen.before.now) (name_in chosen.wire) b → Says (held chosen.after.now) (name_in chosen.wire_after) a
+    → Says None (held chosen.before.now) (name_in chosen.wire) b → Says None (held chosen.after.now) (name_in chosen.wire_after) a
     → PrintsIfRoom chosen (text_between chosen.frames b a) b a old new e → Obeys held chosen old new e
 obeyed held chosen b a old new (ending.Compared same) x y p = record { before = b; after = a; of_before = x; of_after = y; printed = p.0; told = p.1 }
 obeyed held chosen b a old new ending.Unprinted x y p = record { before = b; after = a; of_before = x; of_after = y; printed = p }

@@ -47,8 +47,8 @@ pub record Compares (held : Held) (chosen : Settings) (old new : Option (List �
     : Type 0 where
   pub before : RecordingView
   pub after : RecordingView
-  pub of_before : Says (held chosen.before.now) (name_in chosen.wire) before
-  pub of_after : Says (held chosen.after.now) (name_in chosen.wire_after) after
+  pub of_before : Says None (held chosen.before.now) (name_in chosen.wire) before
+  pub of_after : Says None (held chosen.after.now) (name_in chosen.wire_after) after
   pub printed : Appends old new (text_between chosen.frames before after)
   pub told : same ≡ true ↔ before ≡ after
 
@@ -56,15 +56,17 @@ pub record Compares (held : Held) (chosen : Settings) (old new : Option (List �
 pub record Breaks (held : Held) (chosen : Settings) (old new : Option (List ℕ)) : Type 0 where
   pub before : RecordingView
   pub after : RecordingView
-  pub of_before : Says (held chosen.before.now) (name_in chosen.wire) before
-  pub of_after : Says (held chosen.after.now) (name_in chosen.wire_after) after
+  pub of_before : Says None (held chosen.before.now) (name_in chosen.wire) before
+  pub of_after : Says None (held chosen.after.now) (name_in chosen.wire_after) after
   pub printed : AppendsFront old new (text_between chosen.frames before after)
 
 -- a track of the settings has this fault
 abbrev pub HasFaultAt : Held → Settings → List ℕ → TrackFault → Type 0
 HasFaultAt held chosen path fault =
-    ((path ≡ chosen.before.now) × HasFault (held chosen.before.now) (name_in chosen.wire) fault)
-    ⊎ ((path ≡ chosen.after.now) × HasFault (held chosen.after.now) (name_in chosen.wire_after) fault)
+    ((path ≡ chosen.before.now)
+    × HasFault None (held chosen.before.now) (name_in chosen.wire) fault)
+    ⊎ ((path ≡ chosen.after.now)
+    × HasFault None (held chosen.after.now) (name_in chosen.wire_after) fault)
 
 -- the tracks of the settings were compared; or one was not read, and nothing was printed
 abbrev pub Obeys : Held → Settings → Option (List ℕ) → Option (List ℕ) → Ending → Type 0

@@ -62,11 +62,11 @@ fn compare_with_block<'a, D: Disk, W: Write>(
 ) -> Ending<'a>
     ensures { Obeys (D.held disk.now) chosen.now (W.contents out.old) (W.contents out.new) result }
 {
-    let before = match read_track(alloc, disk, chosen.before, chosen.wire) {
+    let before = match read_track(alloc, disk, chosen.before, chosen.wire, None) {
         Ok(before) => before,
         Err(fault) => return Ending::Unread(chosen.before, fault),
     };
-    let after = match read_track(alloc, disk, chosen.after, chosen.wire_after) {
+    let after = match read_track(alloc, disk, chosen.after, chosen.wire_after, None) {
         Ok(after) => after,
         Err(fault) => return Ending::Unread(chosen.after, fault),
     };

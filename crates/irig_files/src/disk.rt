@@ -1,10 +1,10 @@
 //! What the program asks of files.
 
-ghost use Rattle.std.specs.Prelude.{◌≡◌, ◌<◌, ◌≤◌, ◌^◌, Bool, ℕ, List, Option, IfOk, IfSome};
+ghost use Rattle.std.specs.Prelude.{◌≡◌, ◌<◌, ◌≤◌, ◌^◌, Bool, ℕ, List, Option, Some, IfOk, IfSome};
 ghost use Rattle.std.specs.Prelude.{IsErr, IsErrOf, IsTrue, false, length, true};
 ghost use Rattle.irig_vcd.specs.Answer.{name_of};
 ghost use Rattle.irig_disk.specs.{Disk.Disk, Disk.MayLeave, Held.Held, Writing.IsUnchanged};
-ghost use Rattle.irig_files.specs.{Once.PutsText, Puts.count_of, Reads.IsReadOf};
+ghost use Rattle.irig_files.specs.{Once.PutsText, Puts.count_of, Reads.IsReadIn, Reads.IsReadOf};
 ghost use Rattle.irig_files.specs.{Apart.AreApart, Apart.LeadToOneFile, Taken.HasFile};
 
 use crate::dump_file::DumpFileFault;
@@ -12,7 +12,7 @@ use crate::intake::Parts;
 use crate::room::Room;
 use crate::written::Written;
 use irig_text::{ShelfFault, Text};
-use irig_vcd::VcdFault;
+use irig_vcd::{VcdFault, Window};
 use std::alloc::Global;
 
 /// Files by their paths. What a real file holds no contract can say; what is asked of one can.
@@ -46,6 +46,20 @@ pub trait Disk {
         ensures read { IfOk result (IsReadOf (held self.now path.now) (name_of wire.entry)) }
         ensures long { IsErrOf result DumpFileFault.TooLong
             → IfSome (held self.now path.now) (λ all. 2 ^ 28 < length all) }
+        ensures unread { IsErrOf result DumpFileFault.CannotBeRead → unread self.now path.now };
+
+    /// The same of a window of the dump. At most one more byte than 2^47 is read.
+    fn read_window(
+        &self,
+        alloc: Global,
+        path: &str,
+        wire: Option<&[u8]>,
+        window: Window,
+    ) -> Result<Result<Parts, VcdFault>, DumpFileFault>
+        ensures read { IfOk result
+            (IsReadIn (Some window) (held self.now path.now) (name_of wire.entry)) }
+        ensures long { IsErrOf result DumpFileFault.TooLong
+            → IfSome (held self.now path.now) (λ all. 2 ^ 47 < length all) }
         ensures unread { IsErrOf result DumpFileFault.CannotBeRead → unread self.now path.now };
 
     /// Writes a text to the file that a path leads to: a regular one, or none yet, is replaced

@@ -1,16 +1,16 @@
 //! The dump in a file, read in parts.
 
-ghost use Rattle.std.specs.Prelude.{◌≡◌, ◌≢◌, ◌<◌, ◌^◌, ◌↔◌, ℕ, List, None, IfOk, OnOk, IfErr};
-ghost use Rattle.std.specs.Prelude.{IfSome, IsErrOf, IsOk, IsTrue, MatchResult, true, false};
+ghost use Rattle.std.specs.Prelude.{◌≡◌, ◌≢◌, ◌<◌, ◌^◌, ◌↔◌, ℕ, List, Some, None, IfOk, OnOk};
+ghost use Rattle.std.specs.Prelude.{IfErr, IfSome, IsErrOf, IsOk, IsTrue, MatchResult, true, false};
 ghost use Rattle.std.specs.Prelude.{length};
 ghost use Rattle.std.specs.Io.KnownBytes.{Consumes, IsAtEnd};
 ghost use Rattle.std.specs.{IoError.error_kind, Fs.IsFile, Fs.file_type, Fs.metadata_len};
 ghost use Rattle.irig_vcd.specs.Answer.{name_of};
-ghost use Rattle.irig_files.specs.Reads.{IsCounted, IsReadOf, Takes};
+ghost use Rattle.irig_files.specs.Reads.{IsCounted, IsReadIn, IsReadOf, Takes, most_bytes};
 ghost use Rattle.irig_files.specs.declared.dump_file.DumpFileFault.TheVariants.{TooLong};
 
 use crate::intake::{DUMP_LIMIT, Intake, Parts};
-use irig_vcd::VcdFault;
+use irig_vcd::{VcdFault, Window};
 use std::alloc::Global;
 use std::fs::{Metadata, OpenFile};
 use std::io::{ErrorKind, Read};
@@ -90,6 +90,7 @@ fn take_part<R: Read>(
     ensures end { IfOk result (λ is_more. is_more ≡ false → 0 < length part.old
         → 0 < dump.new.left → IsAtEnd (R.remaining reader.new)) }
     ensures counted { OnOk result (IsCounted dump.new) }
+    ensures window { dump.new.window ≡ dump.old.window }
     ensures read { IfErr result (λ fault. fault ≢ TooLong) }
 {
     let wanted = dump.wanted(part.len());
@@ -115,6 +116,7 @@ fn take_all<R: Read>(
         × Consumes (R.remaining reader.old) (R.remaining reader.new) some) }
     ensures end { OnOk result (0 < dump.new.left → IsAtEnd (R.remaining reader.new)) }
     ensures counted { OnOk result (IsCounted dump.new) }
+    ensures window { dump.new.window ≡ dump.old.window }
     ensures read { IfErr result (λ fault. fault ≢ TooLong) }
 {
     for _ in 0..u64::MAX {
@@ -139,7 +141,22 @@ pub fn read_whole<R: Read + Drop>(
         → IfSome (R.remaining reader) (λ all. 2 ^ 28 < length all) }
 {
     let mut part = [0; PART];
-    read_by_parts(alloc, &mut reader, &mut part, wire)
+    read_by_parts(alloc, &mut reader, &mut part, wire, None)
+}
+
+/// Reads a window of a dump. Of one that is too long, one byte more is read than it has at most.
+pub fn read_window<R: Read + Drop>(
+    alloc: Global,
+    mut reader: R,
+    wire: Option<&[u8]>,
+    window: Window,
+) -> Result<Result<Parts, VcdFault>, DumpFileFault>
+    ensures read { IfOk result (IsReadIn (Some window) (R.remaining reader) (name_of wire.entry)) }
+    ensures long { IsErrOf result DumpFileFault.TooLong
+        → IfSome (R.remaining reader) (λ all. 2 ^ 47 < length all) }
+{
+    let mut part = [0; PART];
+    read_by_parts(alloc, &mut reader, &mut part, wire, Some(window))
 }
 
 /// The same, part by part.
@@ -148,13 +165,15 @@ fn read_by_parts<R: Read>(
     reader: &mut R,
     part: &mut [u8],
     wire: Option<&[u8]>,
+    window: Option<Window>,
 ) -> Result<Result<Parts, VcdFault>, DumpFileFault>
     requires { 0 < length part.old }
-    ensures read { IfOk result (IsReadOf (R.remaining reader.old) (name_of wire.entry)) }
+    ensures read { IfOk result
+        (IsReadIn window (R.remaining reader.old) (name_of wire.entry)) }
     ensures long { IsErrOf result DumpFileFault.TooLong
-        → IfSome (R.remaining reader.old) (λ all. 2 ^ 28 < length all) }
+        → IfSome (R.remaining reader.old) (λ all. most_bytes window < length all) }
 {
-    let Ok(mut dump) = Intake::new(alloc, wire) else {
+    let Ok(mut dump) = Intake::new(alloc, wire, window) else {
         return Err(DumpFileFault::OutOfMemory);
     };
     match take_all(&mut dump, reader, part) {
@@ -192,4 +211,18 @@ fn read_open<F: OpenFile + Read + Drop>(
         return Err(DumpFileFault::TooLong);
     }
     read_whole(alloc, file, wire)
+}
+
+/// Reads a window of the dump in the file at a path, whatever the size of the file.
+pub fn read_dump_window<R: Files>(
+    rt: &R,
+    alloc: Global,
+    path: &str,
+    wire: Option<&[u8]>,
+    window: Window,
+) -> Result<Result<Parts, VcdFault>, DumpFileFault>
+    ensures { IfOk result (IsReadIn (Some window) None (name_of wire.entry)) }
+{
+    let file = fs::open(rt, path)?;
+    read_window(alloc, file, wire, window)
 }

@@ -5,13 +5,14 @@ ghost use Rattle.std.specs.Prelude.{IsErrOf, IsTrue, MatchOption, OnOk, codes, f
 ghost use Rattle.std.specs.Prelude.{option_map, true, ⊤};
 ghost use Rattle.std.specs.Path.{path_buf_bytes};
 ghost use Rattle.irig_vcd.specs.Answer.{name_of};
-ghost use Rattle.irig_files.specs.{Apart.HasId, Paths.IsFolderOf, Paths.followed, Reads.IsReadOf};
+ghost use Rattle.irig_files.specs.{Apart.HasId, Paths.IsFolderOf, Paths.followed};
+ghost use Rattle.irig_files.specs.Reads.{IsReadIn, IsReadOf};
 
 use crate::described::Described;
 use crate::dump_file::DumpFileFault;
 use crate::intake::Parts;
 use crate::plain_calls::PlainCalls;
-use irig_vcd::VcdFault;
+use irig_vcd::{VcdFault, Window};
 use std::alloc::Global;
 use std::path::PathBuf;
 
@@ -45,6 +46,20 @@ pub trait FileSystem: PlainCalls {
         ensures read { IfOk result (IsReadOf (held self.now path.now) (name_of wire.entry)) }
         ensures long { IsErrOf result DumpFileFault.TooLong
             → IfSome (held self.now path.now) (λ all. 2 ^ 28 < length all) }
+        ensures unread { IsErrOf result DumpFileFault.CannotBeRead → unread self.now path.now };
+
+    /// The same of a window of the dump. At most one more byte than 2^47 is read.
+    fn read_window(
+        &self,
+        alloc: Global,
+        path: &str,
+        wire: Option<&[u8]>,
+        window: Window,
+    ) -> Result<Result<Parts, VcdFault>, DumpFileFault>
+        ensures read { IfOk result
+            (IsReadIn (Some window) (held self.now path.now) (name_of wire.entry)) }
+        ensures long { IsErrOf result DumpFileFault.TooLong
+            → IfSome (held self.now path.now) (λ all. 2 ^ 47 < length all) }
         ensures unread { IsErrOf result DumpFileFault.CannotBeRead → unread self.now path.now };
 
     /// What a path leads to; none if nothing is there.

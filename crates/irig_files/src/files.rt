@@ -12,7 +12,7 @@ use crate::room::Room;
 use crate::same_file::is_same_file;
 use crate::written::Written;
 use irig_text::{ShelfFault, Text};
-use irig_vcd::VcdFault;
+use irig_vcd::{VcdFault, Window};
 use std::alloc::Global;
 
 /// The files of a file system. `docs/FORMATS.md` says how one is written.
@@ -62,6 +62,16 @@ impl<C: FileSystem> Disk for Files<C> {
         wire: Option<&[u8]>,
     ) -> Result<Result<Parts, VcdFault>, DumpFileFault> {
         self.system.read(alloc, path, wire)
+    }
+
+    fn read_window(
+        &self,
+        alloc: Global,
+        path: &str,
+        wire: Option<&[u8]>,
+        window: Window,
+    ) -> Result<Result<Parts, VcdFault>, DumpFileFault> {
+        self.system.read_window(alloc, path, wire, window)
     }
 
     fn put<T: Text>(

@@ -4,13 +4,14 @@ ghost use Rattle.std.specs.Prelude.{◌≡◌, ◌≢◌, ◌≤◌, ◌<◌, �
 ghost use Rattle.std.specs.Prelude.{IfOk, IfErr, IsOk, IsErrOf, OnOk, OnErr, length, min};
 ghost use Rattle.irig_vcd.specs.declared.fault.VcdFault.TheVariants.{OutOfMemory};
 ghost use Rattle.irig_vcd.specs.{Declarations.declarations_of, declared.fault.VcdFault.VcdFault};
-ghost use Rattle.irig_vcd.specs.{Answer.Gives, Answer.name_of, Parts.dump_parts, Words.words_of};
-ghost use Rattle.irig_files.specs.Reads.{HasFewBytes, HasTaken, IsCounted, Takes, parts_of};
+ghost use Rattle.irig_vcd.specs.{Answer.Gives, Answer.name_of, Window.parts_in, Words.words_of};
+ghost use Rattle.irig_files.specs.Reads.{HasBytes, HasTaken, IsCounted, Takes, most_bytes};
+ghost use Rattle.irig_files.specs.Reads.{parts_of};
 ghost use Rattle.irig_files.specs.declared.dump_file.DumpFileFault.TheVariants as file;
 
 use crate::dump_file::DumpFileFault;
 use irig_recording::Recording;
-use irig_vcd::{DumpReader, VcdFault};
+use irig_vcd::{DumpReader, VcdFault, Window};
 use std::alloc::{AllocError, Global};
 use std::mem;
 
@@ -20,6 +21,19 @@ pub type Parts = (Recording, Option<Vec<u8>>);
 /// The most bytes of a dump.
 pub const DUMP_LIMIT: usize = 268_435_456;
 
+/// The most bytes of a dump, if a window of it is read.
+const LONG_LIMIT: usize = 1 << 47;
+
+/// The most bytes of a dump: of all of it, or of a window.
+fn most_bytes(window: Option<Window>) -> usize
+    ensures { result ≡ most_bytes window }
+{
+    match window {
+        None => DUMP_LIMIT,
+        Some(_) => LONG_LIMIT,
+    }
+}
+
 /// The dump in a file, as far as it is taken in.
 #[derive(Drop)]
 pub struct Intake {
@@ -27,17 +41,25 @@ pub struct Intake {
     dump: Result<DumpReader, VcdFault>,
     /// How many bytes are still taken: in all, one more than a dump has.
     left: usize,
+    /// The window of it that is read, or all.
+    window: Option<Window>,
 }
 
 impl Intake {
     /// No byte of a dump, for the wire of a name, or for the one wire of one bit.
-    pub fn new(alloc: Global, wire: Option<&[u8]>) -> Result<Intake, AllocError>
+    pub fn new(
+        alloc: Global,
+        wire: Option<&[u8]>,
+        window: Option<Window>,
+    ) -> Result<Intake, AllocError>
         ensures taken { IfOk result (HasTaken (name_of wire.entry) []) }
         ensures counted { IfOk result IsCounted }
+        ensures window { IfOk result (λ intake. intake.window ≡ window) }
     {
         Ok(Intake {
-            dump: Ok(DumpReader::new(alloc, wire)?),
-            left: DUMP_LIMIT + 1,
+            dump: Ok(DumpReader::of_window(alloc, wire, window)?),
+            left: most_bytes(window) + 1,
+            window,
         })
     }
 
@@ -54,6 +76,7 @@ impl Intake {
         requires counted { IsCounted self.old }
         ensures taken { OnOk result (Takes part.now self.old self.new) }
         ensures counted { OnOk result (IsCounted self.new) }
+        ensures window { self.new.window ≡ self.old.window }
         ensures memory { IfErr result (λ fault. fault ≡ file.OutOfMemory) }
     {
         self.left -= part.len();
@@ -74,8 +97,9 @@ impl Intake {
     pub fn end(self) -> Result<Result<Parts, VcdFault>, DumpFileFault>
         requires counted { IsCounted self }
         ensures read { IfOk result (λ read. (wire : Option (List ℕ)) (bytes : List ℕ)
-            → HasTaken wire bytes self → Gives parts_of read (dump_parts wire bytes)) }
-        ensures within { IfOk result HasFewBytes }
+            → HasTaken wire bytes self → Gives parts_of read
+            (parts_in self.window wire bytes)) }
+        ensures within { IfOk result (HasBytes (most_bytes self.window)) }
         ensures short { IfOk result (λ _. 0 < self.left) }
         ensures long { IsErrOf result file.TooLong → self.left ≡ 0 }
         ensures fault { IfErr result (λ fault. ((fault ≡ file.TooLong) × (self.left ≡ 0))

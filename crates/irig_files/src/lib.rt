@@ -23,7 +23,7 @@ mod written;
 
 pub use described::Described;
 pub use disk::Disk;
-pub use dump_file::{DumpFileFault, read_whole};
+pub use dump_file::{DumpFileFault, read_whole, read_window};
 pub use file_shelf::FileShelf;
 pub use file_system::FileSystem;
 pub use files::Files;

@@ -4,12 +4,12 @@ ghost use Rattle.std.specs.Prelude.{None, ⊤};
 ghost use Rattle.std.proofs.Common.{ap};
 
 use crate::described::Described;
-use crate::dump_file::{DumpFileFault, read_dump};
+use crate::dump_file::{DumpFileFault, read_dump, read_dump_window};
 use crate::file_system::FileSystem;
 use crate::intake::Parts;
 use crate::plain_calls::PlainCalls;
 use irig_disk::{SystemDir, SystemFault, SystemFolder};
-use irig_vcd::VcdFault;
+use irig_vcd::{VcdFault, Window};
 use std::alloc::Global;
 use std::fs::{Metadata, OpenFile, OpenOptions};
 use std::io::{ErrorKind, Write};
@@ -84,6 +84,16 @@ impl<R: Files + Print + AllocGlobal> FileSystem for SystemFolder<'_, R> {
         wire: Option<&[u8]>,
     ) -> Result<Result<Parts, VcdFault>, DumpFileFault> {
         read_dump(self.runtime(), alloc, path, wire)
+    }
+
+    fn read_window(
+        &self,
+        alloc: Global,
+        path: &str,
+        wire: Option<&[u8]>,
+        window: Window,
+    ) -> Result<Result<Parts, VcdFault>, DumpFileFault> {
+        read_dump_window(self.runtime(), alloc, path, wire, window)
     }
 
     fn describe(&self, path: &str) -> Result<Option<Described>, SystemFault> {

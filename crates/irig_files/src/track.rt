@@ -1,13 +1,13 @@
 //! The track of a wire in the dump at a path.
 
-ghost use Rattle.std.specs.Prelude.{◌≡◌};
+ghost use Rattle.std.specs.Prelude.{◌≡◌, None, Some};
 ghost use Rattle.irig_vcd.specs.Answer.{name_of};
 ghost use Rattle.irig_files.specs.Tracks.{IsTrackOf, name_in};
 
 use crate::disk::Disk;
 use crate::dump_file::DumpFileFault;
 use irig_recording::Recording;
-use irig_vcd::VcdFault;
+use irig_vcd::{VcdFault, Window};
 use std::alloc::Global;
 use thiserror::Error;
 
@@ -22,14 +22,47 @@ pub enum TrackFault {
     Dump(VcdFault),
 }
 
-/// The track of a wire in the dump at a path.
+/// The track of a wire in the dump at a path, or in a window of it.
 pub fn read_track<D: Disk>(
     alloc: Global,
     disk: &D,
     path: &str,
     wire: Option<&str>,
+    window: Option<Window>,
 ) -> Result<Recording, TrackFault>
-    ensures { IsTrackOf (D.held disk.now path.now) (name_in wire.entry) result }
+    ensures { IsTrackOf window (D.held disk.now path.now) (name_in wire.entry) result }
+{
+    match window {
+        None => read_all(alloc, disk, path, wire),
+        Some(window) => read_part(alloc, disk, path, wire, window),
+    }
+}
+
+/// The track of a wire in a window of the dump at a path.
+fn read_part<D: Disk>(
+    alloc: Global,
+    disk: &D,
+    path: &str,
+    wire: Option<&str>,
+    window: Window,
+) -> Result<Recording, TrackFault>
+    ensures { IsTrackOf (Some window) (D.held disk.now path.now) (name_in wire.entry) result }
+{
+    match disk.read_window(alloc, path, bytes_of(wire), window) {
+        Ok(Ok((recording, _))) => Ok(recording),
+        Ok(Err(fault)) => Err(TrackFault::Dump(fault)),
+        Err(fault) => Err(TrackFault::File(fault)),
+    }
+}
+
+/// The whole track of a wire in the dump at a path.
+fn read_all<D: Disk>(
+    alloc: Global,
+    disk: &D,
+    path: &str,
+    wire: Option<&str>,
+) -> Result<Recording, TrackFault>
+    ensures { IsTrackOf None (D.held disk.now path.now) (name_in wire.entry) result }
 {
     match disk.read(alloc, path, bytes_of(wire)) {
         Ok(Ok((recording, _))) => Ok(recording),

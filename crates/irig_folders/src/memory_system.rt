@@ -10,8 +10,10 @@ use crate::memory::{Memory, file_at};
 use crate::memory_fault::MemoryFault;
 use crate::seen_file::SeenFile;
 use irig_disk::is_name;
-use irig_files::{Described, DumpFileFault, FileSystem, Parts, PlainCalls, read_whole};
-use irig_vcd::VcdFault;
+use irig_files::{
+    Described, DumpFileFault, FileSystem, Parts, PlainCalls, read_whole, read_window,
+};
+use irig_vcd::{VcdFault, Window};
 use std::alloc::Global;
 use std::io;
 use std::io::{ErrorKind, Write};
@@ -94,6 +96,22 @@ impl FileSystem for Memory {
             return Err(DumpFileFault::OutOfMemory);
         };
         read_whole(alloc, bytes.as_slice(), wire)
+    }
+
+    fn read_window(
+        &self,
+        alloc: Global,
+        path: &str,
+        wire: Option<&[u8]>,
+        window: Window,
+    ) -> Result<Result<Parts, VcdFault>, DumpFileFault> {
+        let Some(file) = file_at(self.calls(), path.as_bytes()) else {
+            return Err(DumpFileFault::CannotBeRead);
+        };
+        let Ok(bytes) = bytes_of(alloc, self.calls(), file) else {
+            return Err(DumpFileFault::OutOfMemory);
+        };
+        read_window(alloc, bytes.as_slice(), wire, window)
     }
 
     fn describe(&self, path: &str) -> Result<Option<Described>, MemoryFault> {

@@ -14,7 +14,7 @@ use crate::seen_file::SeenFile;
 use crate::tree::{Plain, Tree, TreeDir};
 use crate::tree_paths::{end_at, find, link_text, path_of};
 use irig_files::{Described, DumpFileFault, FileSystem, Parts, PlainCalls};
-use irig_vcd::VcdFault;
+use irig_vcd::{VcdFault, Window};
 use std::alloc::Global;
 use std::io::{self, Write};
 use std::path::PathBuf;
@@ -130,6 +130,16 @@ impl FileSystem for Tree {
         _: Global,
         _: &str,
         _: Option<&[u8]>,
+    ) -> Result<Result<Parts, VcdFault>, DumpFileFault> {
+        Err(DumpFileFault::CannotBeRead)
+    }
+
+    fn read_window(
+        &self,
+        _: Global,
+        _: &str,
+        _: Option<&[u8]>,
+        _: Window,
     ) -> Result<Result<Parts, VcdFault>, DumpFileFault> {
         Err(DumpFileFault::CannotBeRead)
     }

@@ -1,5 +1,5 @@
 use Rattle.irig_vcd.specs.Answer.{bytes_of}
-use Rattle.irig_files.proofs.track.read_track.Goals as goal
+use Rattle.irig_files.proofs.track.read_part.Goals as goal
 
 pub returns-in-Ok-Ok : goal.returns-in-Ok-Ok
 returns-in-Ok-Ok g c =
