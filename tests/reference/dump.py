@@ -1,4 +1,5 @@
 """A value change dump read and written, as docs/FORMATS.md has it: the length and the edges of one wire."""
+import bisect
 import re
 import sys
 
@@ -163,6 +164,17 @@ def edges_of(levels, length):
             high = levels[time]
             edges.append(time)
     return edges + [length] if high else edges
+
+
+def window(length, edges, first, end):
+    """The length and the edges of a window of a recording: at each microsecond of it the level that the recording has there."""
+    inside, edges = max(0, min(length, end) - first), sorted(edges)
+
+    def is_high(micro):
+        return bisect.bisect_right(edges, micro) % 2 == 1
+
+    places = sorted({0, *(edge - first for edge in edges)})
+    return inside, edges_of({place: is_high(first + place) for place in places if place >= 0}, inside)
 
 
 def text(length, edges):

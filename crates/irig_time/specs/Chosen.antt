@@ -9,6 +9,7 @@ use Rattle.irig_stamps.specs.{declared.picos.Picos.Picos, declared.settings.Form
 use Rattle.irig_stamps.specs.declared.settings.Settings.{Settings}
 use Rattle.irig_time.specs.Values.{comma_named, digit_named, form_named, offset_named, places_named}
 use Rattle.irig_time.specs.Values.{text_or, whole_between}
+use Rattle.irig_time.specs.Windows.{EndsEarly, IsWindow, end_of, first_of}
 use Rattle.irig_time.specs.declared.chosen.OptionFault.{OptionFault}
 use Rattle.irig_time.specs.{declared.asked.Asked.Asked, declared.chosen.Chosen.Chosen}
 use Rattle.irig_time.specs.declared.chosen.OptionFault.TheVariants as fault
@@ -84,6 +85,7 @@ tells_of_lines a = is_some a.unit || (is_some a.offset || (is_some a.column || i
 pub record IsChosen (a : Asked) (c : Chosen) : Type 0 where
   pub track : c.track ≡ a.track
   pub wire : c.wire ≡ a.wire
+  pub window : IsWindow a c.window
   pub format : IsFormat a c.format
   pub settings : HasSettings a c.settings
   pub year : lacks_year c.format c.settings ≡ false
@@ -92,6 +94,9 @@ pub record IsChosen (a : Asked) (c : Chosen) : Type 0 where
 
 -- this option has a value that it cannot have
 abbrev pub HasFault : Asked → OptionFault → Type 0
+HasFault a fault.From = first_of a ≡ None
+HasFault a fault.To = end_of a ≡ None
+HasFault a fault.Early = EndsEarly a
 HasFault a fault.Format = kind_named (text_or a.format (codes "B")) ≡ None
 HasFault a fault.Expression =
     (digit_named (text_or a.expression (codes "2")) ≡ None)

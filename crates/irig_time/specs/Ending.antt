@@ -1,6 +1,6 @@
 -- What the program does for the words of its command line: from a dump and lines to the lines with
 -- their times, or from a dump to its table. This project's own.
-use Rattle.std.specs.Prelude.{◌≡◌, ◌<◌, ℕ, Bool, true, false, List, Option, None, Ok, Err}
+use Rattle.std.specs.Prelude.{◌≡◌, ◌<◌, ℕ, Bool, true, false, List, Option, Ok, Err}
 use Rattle.clap.specs.Words.{Text}
 use Rattle.irig_recording.specs.Recording.{RecordingView}
 use Rattle.irig_stamps.specs.{Aligned.Aligns, Aligned.outcome, Aligned.standing, Tables.ListsRecording}
@@ -58,14 +58,15 @@ RunsAs false chosen edges lines left from to ending =
 pub record RunsFile (held : Held) (chosen : Chosen) (lines left from to : Option (List ℕ))
     (ending : Ending) : Type 0 where
   pub recording : RecordingView
-  pub of_track : Says None (held chosen.track.now) (name_in chosen.wire) recording
+  pub of_track : Says chosen.window (held chosen.track.now) (name_in chosen.wire) recording
   pub ran : RunsAs chosen.table chosen recording.edges lines left from to ending
 
 -- what is asked for was done with the track; or it was not read, and nothing was read or printed
 abbrev pub Obeys : Held → Chosen → Option (List ℕ) → Option (List ℕ) → Option (List ℕ)
     → Option (List ℕ) → Ending → Type 0
 Obeys held chosen lines left from to (Unread path fault) =
-    (path ≡ chosen.track) × (HasFault None (held chosen.track.now) (name_in chosen.wire) fault
+    (path ≡ chosen.track)
+    × (HasFault chosen.window (held chosen.track.now) (name_in chosen.wire) fault
     × ((left ≡ lines) × (to ≡ from)))
 Obeys held chosen lines left from to (Usage error) = ⊥
 Obeys held chosen lines left from to (Value fault) = ⊥

@@ -1,4 +1,4 @@
--- The command line: eleven options and the track. This project's own.
+-- The command line: its options and the track. This project's own.
 use Rattle.std.specs.Prelude.{◌≡◌, List, codes, None, Some}
 use Rattle.clap.specs.Words.{App, Rule, Text, new_app, new_rule, with_rule, HasMatchesOf}
 use Rattle.clap.specs.declared.builder.ArgAction.TheVariants.{SetTrue}
@@ -13,11 +13,16 @@ table = record (new_rule (codes "table")) { long = Some (codes "table"); action 
 abbrev pub alone : Rule
 alone = record (new_rule (codes "alone")) { long = Some (codes "alone"); action = Some SetTrue }
 
--- how the track is read
+-- which part of the dump is read
+abbrev pub taking : App
+taking =
+    with_rule (with_rule (with_rule (new_app (codes "irig_time")) (option (codes "wire") None))
+    (option (codes "from") None)) (option (codes "to") None)
+
+-- and how the track is read
 abbrev pub reading : App
 reading =
-    with_rule (with_rule (with_rule (new_app (codes "irig_time")) (option (codes "wire") None))
-    (option (codes "format") None)) (option (codes "expression") None)
+    with_rule (with_rule taking (option (codes "format") None)) (option (codes "expression") None)
 
 -- and where the recorder's time is in a line
 abbrev pub placing : App
@@ -38,6 +43,9 @@ marking = with_rule (with_rule writing alone) table
 -- the command
 abbrev pub the_command : App
 the_command = with_rule marking (needed (codes "TRACK"))
+
+abbrev pub IsTaking : App → Type 0
+IsTaking app = app ≡ taking
 
 abbrev pub IsReading : App → Type 0
 IsReading app = app ≡ reading

@@ -7,6 +7,10 @@ pub struct Asked<'a> {
     pub track: &'a str,
     /// The name of its wire.
     pub wire: Option<&'a str>,
+    /// The first microsecond of the dump that is read.
+    pub from: Option<&'a str>,
+    /// The first one after it that is not.
+    pub to: Option<&'a str>,
     /// The letter of its format.
     pub format: Option<&'a str>,
     /// The number of its coded expression.

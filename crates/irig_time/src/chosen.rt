@@ -2,6 +2,7 @@
 
 use irig_codes::Format;
 use irig_stamps::Settings;
+use irig_vcd::Window;
 use thiserror::Error;
 
 /// What a command line asks for.
@@ -11,6 +12,8 @@ pub struct Chosen<'a> {
     pub track: &'a str,
     /// The name of its wire, if one is given.
     pub wire: Option<&'a str>,
+    /// The window of the dump that is read, if not all is.
+    pub window: Option<Window>,
     /// The format in which frames are read.
     pub format: Format,
     /// How lines are read and stamped.
@@ -22,6 +25,15 @@ pub struct Chosen<'a> {
 /// An option with a value that it cannot have.
 #[derive(Clone, Copy, Debug, Error)]
 pub enum OptionFault {
+    /// No time with which a window begins.
+    #[error("--from: not a whole number of microseconds")]
+    From,
+    /// No time with which a window ends.
+    #[error("--to: not a whole number of microseconds")]
+    To,
+    /// A window that ends before it begins.
+    #[error("--to: before --from")]
+    Early,
     /// The letter of no format.
     #[error("--format: not A, B, E or G")]
     Format,

@@ -4,7 +4,7 @@ ghost use Rattle.std.specs.Prelude.{◌≡◌, IfErr, IfOk, false, map, string_b
 ghost use Rattle.clap.specs.Words.{app_of, found_of, rule_of};
 ghost use Rattle.irig_time.specs.Chosen.{IsSound};
 ghost use Rattle.irig_time.specs.Options.{IsCommand, IsMarking, IsParsed, IsPlacing, IsReading};
-ghost use Rattle.irig_time.specs.Options.{IsWriting, alone, table, the_command};
+ghost use Rattle.irig_time.specs.Options.{IsTaking, IsWriting, alone, table, the_command};
 ghost use Rattle.irig_time.specs.Settings.{AreValues, Reads, Values};
 ghost use Rattle.irig_words.specs.Errors.{IsMistake, MayRefuse, WantsMemory};
 
@@ -68,6 +68,8 @@ fn values_of<'a>(matches: &ArgMatches<'a>) -> Result<Asked<'a>, Error>
     Ok(Asked {
         track,
         wire: matches.get_str("wire"),
+        from: matches.get_str("from"),
+        to: matches.get_str("to"),
         format: matches.get_str("format"),
         expression: matches.get_str("expression"),
         unit: matches.get_str("unit"),
@@ -147,17 +149,31 @@ fn placing<'a>(alloc: Global) -> Result<Command<'a>, AllocError>
         .arg(comma)
 }
 
-/// Its options: how the track is read.
+/// Its options: also how the track is read.
 fn reading<'a>(alloc: Global) -> Result<Command<'a>, AllocError>
     ensures { IfOk result (λ c. IsReading (app_of c)) }
 {
-    let wire = option_arg(alloc, "wire", "NAME", "the wire of the dump");
     let format = option_arg(alloc, "format", "FORMAT", "A, B, E or G: B");
     let expression = option_arg(alloc, "expression", "NUMBER", "of the format: 2");
+    taking(alloc)?.arg(format)?.arg(expression)
+}
+
+/// Its options: which part of the dump is read.
+fn taking<'a>(alloc: Global) -> Result<Command<'a>, AllocError>
+    ensures { IfOk result (λ c. IsTaking (app_of c)) }
+{
+    let wire = option_arg(alloc, "wire", "NAME", "the wire of the dump");
+    let from = option_arg(alloc, "from", "TIME", "in microseconds, is the new 0: 0");
+    let to = option_arg(
+        alloc,
+        "to",
+        "TIME",
+        "in microseconds, ends the part that is read",
+    );
     Command::new(alloc, "irig_time")
         .arg(wire)?
-        .arg(format)?
-        .arg(expression)
+        .arg(from)?
+        .arg(to)
 }
 
 /// The option that believes each fine frame.

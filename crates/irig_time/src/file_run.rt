@@ -43,7 +43,7 @@ fn run_file<'a, D: Disk, R: Read, W: Write>(
     ensures { Obeys (D.held disk.now) chosen.now (R.remaining lines.old) (R.remaining lines.new)
         (W.contents out.old) (W.contents out.new) result }
 {
-    match read_track(alloc, disk, chosen.track, chosen.wire, None) {
+    match read_track(alloc, disk, chosen.track, chosen.wire, chosen.window) {
         Ok(recording) => run_track(alloc, chosen, recording, lines, out),
         Err(fault) => Ending::Unread(chosen.track, fault),
     }

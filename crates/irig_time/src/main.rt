@@ -8,6 +8,7 @@ mod ending;
 mod file_run;
 mod options;
 mod statuses;
+mod window;
 
 ghost use Rattle.std.specs.Prelude.{◌≡◌, map, string_bytes};
 ghost use Rattle.std.specs.Process.{exit_status};

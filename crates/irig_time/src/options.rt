@@ -12,6 +12,7 @@ ghost use Rattle.irig_time.specs.declared.chosen.OptionFault.TheVariants.{Comma}
 
 use crate::asked::Asked;
 use crate::chosen::{Chosen, OptionFault};
+use crate::window::window_of;
 use irig_codes::{Format, kind_named};
 use irig_stamps::{Form, Picos, Settings, number, whole};
 
@@ -36,6 +37,7 @@ pub fn chosen_of<'a>(asked: &Asked<'a>) -> Result<Chosen<'a>, OptionFault>
     ensures sound { IfOk result (λ c. IsSound c.settings) }
     ensures fault { IfErr result (HasFault asked.now) }
 {
+    let window = window_of(asked)?;
     let format = format_of(asked)?;
     let settings = settings_of(asked)?;
     if lacks_year(format, &settings) {
@@ -48,6 +50,7 @@ pub fn chosen_of<'a>(asked: &Asked<'a>) -> Result<Chosen<'a>, OptionFault>
     Ok(Chosen {
         track: asked.track,
         wire: asked.wire,
+        window,
         format,
         settings,
         table,
@@ -199,7 +202,7 @@ fn lacks_year(format: Format, settings: &Settings) -> bool
 }
 
 /// The bytes of an option, or others if it is not given.
-fn text_or<'a>(value: Option<&'a str>, other: &'a str) -> &'a [u8]
+pub fn text_or<'a>(value: Option<&'a str>, other: &'a str) -> &'a [u8]
     ensures { result.now ≡ text_or value.entry other.entry.now }
 {
     match value {
@@ -219,7 +222,7 @@ fn digit_named(text: &[u8]) -> Option<u8>
 }
 
 /// A whole number from the first to the last.
-fn whole_between(first: u128, last: u128, text: &[u8]) -> Option<u128>
+pub fn whole_between(first: u128, last: u128, text: &[u8]) -> Option<u128>
     requires { last < 2 ^ 120 }
     ensures value { result ≡ whole_between first last text.now }
     ensures range { IfSome result (λ v. (first ≤ v) × (v ≤ last)) }
