@@ -8,3 +8,5 @@ pub mod LeftSteps
 pub mod SameFrames
 pub mod Countings
 pub mod FineFrames
+pub mod ShortTexts
+pub mod ShortSides

@@ -11,6 +11,7 @@ use Rattle.irig_comments.specs.Parts.{AreComments, Part, begun_by, comment_part,
 use Rattle.irig_comments.specs.Parts.{line_part, lines, not_begun_by, notes, parts_of, stretch_line}
 use Rattle.irig_comments.specs.Comments.{IsComment}
 use Rattle.irig_comments.proofs.{FramedViews.frames_rise, FramedViews.framed-by, PlainTexts.comment_is, PlainTexts.counts_are, SameFrames.none_change}
+use Rattle.irig_comments.proofs.ShortSides.{AreShort, short-begun_by, short-changes, short-not_begun_by}
 use Rattle.irig_comments.proofs.PartSteps.{comments-append, comments-parts_of, lines-append, lines-parts_of}
 
 module _ (b a : FramedView) where
@@ -33,17 +34,17 @@ module _ (b a : FramedView) where
       ∙ ap (λ (l : List ℕ). l ++ (last_text b a ++ [])) (comments-parts_of (changes b a) (stretches_between b.recording a.recording))
       ∙ ap (λ (l : List ℕ). comments (notes (changes b a)) ++ l) (append-nil (last_text b a))
 
-notes_are : (ss : List Sides) (rest : List Part) → AreComments rest → AreComments (notes ss ++ rest)
-notes_are [] rest h = h
-notes_are (s ∷ ss) rest h = (comment_is s, notes_are ss rest h)
+notes_are : (ss : List Sides) (rest : List Part) → AreShort ss → AreComments rest → AreComments (notes ss ++ rest)
+notes_are [] rest k h = h
+notes_are (s ∷ ss) rest k h = (comment_is s k.0.0 k.0.1, notes_are ss rest k.1 h)
 
-parts_are : (ss : List Sides) (ps : List Pulse) (rest : List Part) → AreComments rest → AreComments (parts_of ss ps ++ rest)
-parts_are ss [] rest h = notes_are ss rest h
-parts_are ss (p ∷ ps) rest h =
+parts_are : (ss : List Sides) (ps : List Pulse) (rest : List Part) → AreShort ss → AreComments rest → AreComments (parts_of ss ps ++ rest)
+parts_are ss [] rest k h = notes_are ss rest k h
+parts_are ss (p ∷ ps) rest k h =
     let later = parts_of (not_begun_by p.fall ss) ps in
-    (λ (e : (notes (begun_by p.fall ss) ++ (line_part (stretch_line p) ∷ later)) ++ rest ≡ notes (begun_by p.fall ss) ++ (line_part (stretch_line p) ∷ (later ++ rest))).
-    subst AreComments (sym e) (notes_are (begun_by p.fall ss) (line_part (stretch_line p) ∷ (later ++ rest)) (inl refl, parts_are (not_begun_by p.fall ss) ps rest h)))
-    (append_assoc (notes (begun_by p.fall ss)) (line_part (stretch_line p) ∷ later) rest)
+    let line = line_part (stretch_line p) in
+    subst AreComments (sym (append_assoc (notes (begun_by p.fall ss)) (line ∷ later) rest))
+    (notes_are (begun_by p.fall ss) (line ∷ (later ++ rest)) (short-begun_by p.fall ss k) (inl refl, parts_are (not_begun_by p.fall ss) ps rest (short-not_begun_by p.fall ss k) h))
 
 last_is : (b a : FramedView) → IsComment (last_text b a)
 last_is b a = elim (is_other b.recording a.recording) as (λ v. IsComment (if v then counts_text (counts_between b a) else [])) [
@@ -52,8 +53,9 @@ last_is b a = elim (is_other b.recording a.recording) as (λ v. IsComment (if v 
 ]
 
 -- what is before the lines are comments
-pub comments_are : (b a : FramedView) → AreComments (commented_parts b a)
-comments_are b a = (inl refl, parts_are (changes b a) (stretches_between b.recording a.recording) (comment_part (last_text b a) ∷ []) (last_is b a, tt))
+pub comments_are : (b a : FramedView) → IsFramed b → IsFramed a → AreComments (commented_parts b a)
+comments_are b a x y =
+    (inl refl, parts_are (changes b a) (stretches_between b.recording a.recording) (comment_part (last_text b a) ∷ []) (short-changes b a x y) (last_is b a, tt))
 
 -- two texts that have no byte together
 none_first : (xs ys : List ℕ) → xs ++ ys ≡ [] → xs ≡ []

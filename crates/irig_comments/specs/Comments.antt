@@ -1,6 +1,6 @@
 -- The comment that says what became of frames. This project's own.
-use Rattle.std.specs.Prelude.{◌≡◌, ◌⊎◌, ◌==◌, ◌++◌, ℕ, List, [], ◌∷◌, codes, decimal, Option, Some}
-use Rattle.std.specs.Prelude.{None, not, true}
+use Rattle.std.specs.Prelude.{◌≡◌, ◌⊎◌, ◌==◌, ◌<◌, ◌++◌, ℕ, List, [], ◌∷◌, codes, decimal, length}
+use Rattle.std.specs.Prelude.{Option, Some, None, not, true}
 use Rattle.std.specs.List.{list_all}
 use Rattle.irig_script.specs.Print.FrameLine.{verdict_text}
 use Rattle.irig_comments.specs.{declared.shown.Shown.Shown, declared.sides.Sides.Sides}
@@ -32,7 +32,7 @@ comment_text s =
 abbrev pub IsPlain : List ℕ → Type 0
 IsPlain text = list_all (λ b. not (b == 10)) text ≡ true
 
--- nothing, or a line that begins with `#`: the editor passes over it
+-- nothing, or a line of at most 1,000 bytes that begins with `#`: the editor passes over it
 abbrev pub IsComment : List ℕ → Type 0
-IsComment text =
-    (text ≡ []) ⊎ ((inside : List ℕ) × IsPlain inside × (text ≡ 35 ∷ (inside ++ 10 ∷ [])))
+IsComment text = (text ≡ []) ⊎ ((inside : List ℕ) × IsPlain inside × (length inside < 1000)
+    × (text ≡ 35 ∷ (inside ++ 10 ∷ [])))

@@ -19,7 +19,7 @@ pub returns-clause-frames : goal.returns-clause-frames
 returns-clause-frames c = comments-commented_parts c.args.before.now c.args.after.now
 
 pub returns-clause-comments : goal.returns-clause-comments
-returns-clause-comments c = comments_are c.args.before.now c.args.after.now
+returns-clause-comments c = comments_are c.args.before.now c.args.after.now c.len.ensures.framed c.len-2.ensures.framed
 
 pub returns-clause-same : goal.returns-clause-same
 returns-clause-same c =
