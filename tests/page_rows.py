@@ -69,8 +69,8 @@ def repaired() -> Sheet:
     whose halves are joined, one that is late by its width and so has an edge that stays, and a stretch without a place."""
     lines = ["# frame 1 at 0: broken 50 step, then 061 12:00:00 fine", "invert 500000 502000",
              "# frame 11 at 10000000: broken 50 step, then 061 12:00:10 fine", "invert 10500900 10500940",
-             "# frame 31 at 30000000: broken 19 class, then frame 32 at 30100000: 061 12:00:30 fine",
-             "invert 30190000 30194000", "# no frame, then none", "invert 59999000 59999990"]
+             "# no frame, then frame 32 at 30100000: 061 12:00:30 fine", "invert 30190000 30194000", "invert 59999000 59999990",
+             "# frames: 57 fine before, 60 fine after, 1 made, 0 lost, 2 changed"]
     command = "irig_diff --frames --format=B --expression=4 'a <b>.vcd' new.vcd"
     changes = Changes(command, lines, [0, 0, 2, 1], [], 4, 7030)
     return dataclasses.replace(recording(60, 6), changes=changes)

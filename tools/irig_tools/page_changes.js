@@ -2,7 +2,8 @@
 
 const MARKS = 22;       // height of the marks below the strip
 
-// The stretches of the lines, each with the last frame that the comment before it names.
+// The stretches of the lines, each with the last frame that a comment before it names, if it begins in this frame. A stretch in
+// a frame with the same report has none.
 function readChanges({lines, levels}) {
   const found = [];
   let [frame, about] = [null, ""];
@@ -14,8 +15,10 @@ function readChanges({lines, levels}) {
       continue;
     }
     const level = levels[found.length];
-    found.push({start: Number(ends[1]), end: Number(ends[2]), level: level % 2, kept: Math.floor(level / 2), line,
-      frame, about});
+    const start = Number(ends[1]);
+    const isInFrame = frame !== null && start < frame + 100 * held.interval;
+    found.push({start, end: Number(ends[2]), level: level % 2, kept: Math.floor(level / 2), line,
+      frame: isInFrame ? frame : null, about: isInFrame ? about : ""});
   }
   return found;
 }

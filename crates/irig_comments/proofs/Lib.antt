@@ -1,4 +1,12 @@
-pub mod Begun
 pub mod FramedViews
+pub mod SidesSteps
+pub mod PlaceLaws
+pub mod PartSteps
 pub mod PlainTexts
 pub mod PartTexts
+pub mod LeftSteps
+pub mod SameFrames
+pub mod Countings
+pub mod FineFrames
+pub mod ShortTexts
+pub mod ShortSides

@@ -1,6 +1,6 @@
 -- Comments have no newline but the one that ends them.
 use Rattle.std.proofs.Common.{◌≡◌, ℕ, zero, suc, ◌-◌, ◌/◌, ◌%◌, ◌==◌, ◌++◌, ◌∙◌, Bool, true, false, not, List, [], ◌∷◌, Option, Some, None, length, codes}
-use Rattle.std.proofs.Common.{decimal, refl, inr, arith, replicate}
+use Rattle.std.proofs.Common.{decimal, refl, sym, ap, inr, arith, replicate, append_assoc, length-append}
 use Rattle.std.specs.Prelude.{if◌then◌else◌}
 use Rattle.std.specs.Fmt.{digit_glyph, digits, digits_onto}
 use Rattle.std.proofs.lemmas.{Bool.and_from, Bool.Decides.nat_tests, List.Folds.list_all-append}
@@ -12,8 +12,9 @@ use Rattle.irig_index.specs.declared.record.Cause.TheVariants as cause
 use Rattle.irig_index.specs.declared.record.Verdict.TheVariants as verdict
 use Rattle.irig_script.specs.Print.FrameLine.{cause_word, clock_text, hundredths_text, name_word, note_text, part_text, parts_text, time_text, verdict_text}
 use Rattle.irig_script.specs.Print.Row.{hexadecimal, padded}
-use Rattle.irig_comments.specs.Comments.{IsComment, IsPlain, after_text, before_text, change_text, comment_text, whole_text}
-use Rattle.irig_comments.specs.declared.shown.Shown.{Shown}
+use Rattle.irig_comments.specs.Comments.{IsComment, IsPlain, after_text, before_text, comment_text, whole_text}
+use Rattle.irig_comments.proofs.ShortTexts.{IsShort, short_both, short_counted, short_sides}
+use Rattle.irig_comments.specs.{Counts.counts_text, declared.counts.Counts.Counts, declared.shown.Shown.Shown, declared.sides.Sides.Sides}
 
 -- two texts, one after the other
 both : (a b : List ℕ) → IsPlain a → IsPlain b → IsPlain (a ++ b)
@@ -123,24 +124,49 @@ plain_before : (b : Option Shown) → IsPlain (before_text b)
 plain_before None = refl
 plain_before (Some b) = plain_whole b
 
-plain_change : (b a : Shown) → IsPlain (change_text b a)
-plain_change b a = one_of (b.rise == a.rise) (verdict_text a.verdict) (whole_text a) (plain_verdict a.verdict) (plain_whole a)
-
 plain_after : (b a : Option Shown) → IsPlain (after_text b a)
 plain_after None None = refl
 plain_after (Some b) None = refl
 plain_after None (Some a) = plain_whole a
-plain_after (Some b) (Some a) = plain_change b a
+plain_after (Some b) (Some a) = plain_verdict a.verdict
 
 -- a comment is one
-pub comment_is : (b a : Option Shown) → IsComment (comment_text b a)
-comment_is b a =
+pub comment_is : (s : Sides) → IsShort s.before → IsShort s.after → IsComment (comment_text s)
+comment_is s b a =
     let space = codes " " in
-    let was = before_text b in
+    let was = before_text s.before in
     let between = codes ", then " in
-    let now = after_text b a in
+    let now = after_text s.before s.after in
+    let front = short_both (space ++ was) between (length (space ++ was)) 7 (omega arith) (omega arith) in
     inr (
       space ++ was ++ between ++ now,
-      both (space ++ was ++ between) now (both (space ++ was) between (both space was refl (plain_before b)) refl) (plain_after b a),
+      both (space ++ was ++ between) now (both (space ++ was) between (both space was refl (plain_before s.before)) refl) (plain_after s.before s.after),
+      omega (arith, short_sides s.before s.after b a, length-append (space ++ was ++ between) now, front, length-append space was),
       refl,
+    )
+
+-- a number after other words
+counted : (before after : List ℕ) (n : ℕ) → IsPlain before → IsPlain after → IsPlain (before ++ decimal n ++ after)
+counted before after n h k = both (before ++ decimal n) after (both before (decimal n) h (plain_digits 10 n)) k
+
+-- the last line is one
+pub counts_are : (n : Counts) → IsComment (counts_text n)
+counts_are n =
+    let one = codes " frames: " ++ decimal n.fine_before ++ codes " fine before, " in
+    let two = one ++ decimal n.fine_after ++ codes " fine after, " in
+    let three = two ++ decimal n.made ++ codes " made, " in
+    let four = three ++ decimal n.lost ++ codes " lost, " in
+    let short_one = short_counted (codes " frames: ") (codes " fine before, ") n.fine_before 9 14 (omega arith) (omega arith) in
+    let short_two = short_counted one (codes " fine after, ") n.fine_after 87 13 short_one (omega arith) in
+    let short_three = short_counted two (codes " made, ") n.made 164 7 short_two (omega arith) in
+    let short_four = short_counted three (codes " lost, ") n.lost 235 7 short_three (omega arith) in
+    inr (
+      four ++ decimal n.changed ++ codes " changed",
+      counted four (codes " changed") n.changed
+          (counted three (codes " lost, ") n.lost
+          (counted two (codes " made, ") n.made (counted one (codes " fine after, ") n.fine_after (counted (codes " frames: ") (codes " fine before, ") n.fine_before refl refl) refl) refl)
+          refl)
+          refl,
+      omega (arith, short_counted four (codes " changed") n.changed 306 8 short_four (omega arith)),
+      ap (λ (l : List ℕ). 35 ∷ l) (sym (append_assoc (four ++ decimal n.changed) (codes " changed") (10 ∷ []))),
     )

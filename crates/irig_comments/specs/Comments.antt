@@ -1,9 +1,9 @@
--- The comment that says what stretches do to the frames. This project's own.
-use Rattle.std.specs.Prelude.{◌≡◌, ◌⊎◌, ◌==◌, ◌++◌, ℕ, List, [], ◌∷◌, codes, decimal, Option, Some}
-use Rattle.std.specs.Prelude.{None, if◌then◌else◌, not, true}
+-- The comment that says what became of frames. This project's own.
+use Rattle.std.specs.Prelude.{◌≡◌, ◌⊎◌, ◌==◌, ◌<◌, ◌++◌, ℕ, List, [], ◌∷◌, codes, decimal, length}
+use Rattle.std.specs.Prelude.{Option, Some, None, not, true}
 use Rattle.std.specs.List.{list_all}
 use Rattle.irig_script.specs.Print.FrameLine.{verdict_text}
-use Rattle.irig_comments.specs.declared.shown.Shown.{Shown}
+use Rattle.irig_comments.specs.{declared.shown.Shown.Shown, declared.sides.Sides.Sides}
 
 -- a frame with its number, from 1, and the rise of its marker in microseconds
 abbrev pub whole_text : Shown → List ℕ
@@ -16,26 +16,23 @@ abbrev pub before_text : Option Shown → List ℕ
 before_text None = codes "no frame"
 before_text (Some b) = whole_text b
 
--- the frame after one: what is reported of it, if both begin at the same time
-abbrev pub change_text : Shown → Shown → List ℕ
-change_text b a = if b.rise == a.rise then verdict_text a.verdict else whole_text a
-
--- the frame after
+-- the frame after one at the same place: only what is reported of it
 abbrev pub after_text : Option Shown → Option Shown → List ℕ
 after_text _ None = codes "none"
 after_text None (Some a) = whole_text a
-after_text (Some b) (Some a) = change_text b a
+after_text (Some b) (Some a) = verdict_text a.verdict
 
--- the comment of stretches that are in these two frames
-abbrev pub comment_text : Option Shown → Option Shown → List ℕ
-comment_text b a =
-    codes "# " ++ before_text b ++ codes ", then " ++ after_text b a ++ codes "\n"
+-- the comment on the frames at one place
+abbrev pub comment_text : Sides → List ℕ
+comment_text s =
+    codes "# " ++ before_text s.before ++ codes ", then " ++ after_text s.before s.after
+    ++ codes "\n"
 
 -- the text has no newline in it
 abbrev pub IsPlain : List ℕ → Type 0
 IsPlain text = list_all (λ b. not (b == 10)) text ≡ true
 
--- nothing, or a line that begins with `#`: the editor passes over it
+-- nothing, or a line of at most 1,000 bytes that begins with `#`: the editor passes over it
 abbrev pub IsComment : List ℕ → Type 0
-IsComment text =
-    (text ≡ []) ⊎ ((inside : List ℕ) × IsPlain inside × (text ≡ 35 ∷ (inside ++ 10 ∷ [])))
+IsComment text = (text ≡ []) ⊎ ((inside : List ℕ) × IsPlain inside × (length inside < 1000)
+    × (text ≡ 35 ∷ (inside ++ 10 ∷ [])))

@@ -1,40 +1,33 @@
--- The frames of a recording by their numbers, and how many have begun by a time. This project's own.
-use Rattle.std.specs.Prelude.{◌≡◌, ℕ, zero, suc, ◌+◌, List, [], ◌∷◌, cond, nat_lt, Option, None}
-use Rattle.std.specs.Prelude.{option_map, slice_get, unwrap_or}
+-- The frames of a recording, as lines show them. This project's own.
+use Rattle.std.specs.Prelude.{◌≡◌, ◌≤◌, ◌+◌, ℕ, suc, List, [], ◌∷◌, option_map, slice_get}
+use Rattle.std.specs.Prelude.{unwrap_or}
 use Rattle.irig_codes.specs.Format.{FormatView}
 use Rattle.irig_recording.specs.{Recording.RecordingView, declared.pulse.Pulse.Pulse}
-use Rattle.irig_track.specs.Splices.{risen_by}
+use Rattle.irig_track.specs.{Edges.edges_of, Track.IsTrack}
 use Rattle.irig_index.specs.{Frames.frames, declared.record.Record.Record}
 use Rattle.irig_difference.specs.Stretches.{pairs}
 use Rattle.irig_comments.specs.declared.shown.Shown.{Shown}
 
--- what a contract sees: a recording, its pulses, and the records of its frames
+-- what a contract sees: a recording, its pulses, a format, and the records of its frames in it
 pub record FramedView : Type 0 where
   pub recording : RecordingView
   pub pulses : List Pulse
+  pub format : FormatView
   pub records : List Record
 
--- the three parts put together
-abbrev pub framed_view : RecordingView → List Pulse → List Record → FramedView
-framed_view r ps rs = record { recording = r; pulses = ps; records = rs }
+-- the four parts put together
+abbrev pub framed_view : RecordingView → List Pulse → FormatView → List Record → FramedView
+framed_view r ps f rs = record { recording = r; pulses = ps; format = f; records = rs }
 
 -- a recording with its pulses and its frames in a format
 abbrev pub framed : FormatView → RecordingView → FramedView
-framed f r = framed_view r (pairs r.edges) (frames f (pairs r.edges))
+framed f r = framed_view r (pairs r.edges) f (frames f (pairs r.edges))
 
--- the records are the frames of the pulses in some format
-pub record AreFramesOf (pulses : List Pulse) (records : List Record) : Type 0 where
-  pub format : FormatView
-  pub are : records ≡ frames format pulses
-
--- how many of some records have their marker among the first pulses, this many
-abbrev pub begun_among : ℕ → List Record → ℕ
-begun_among count [] = 0
-begun_among count (r ∷ rs) = cond (nat_lt r.marker count) 1 0 + begun_among count rs
-
--- how many frames have begun by a time: their markers rise at or before it
-abbrev pub begun_by : ℕ → FramedView → ℕ
-begun_by t x = begun_among (risen_by t x.pulses) x.records
+-- the pulses are those of the recording, and the records are their frames
+pub record IsFramed (x : FramedView) : Type 0 where
+  pub track : IsTrack x.recording.micros x.pulses
+  pub edges : x.recording.edges ≡ edges_of x.pulses
+  pub are : x.records ≡ frames x.format x.pulses
 
 -- when the pulse with a number, from 0, rises
 abbrev pub rise_of : ℕ → List Pulse → ℕ
@@ -45,7 +38,16 @@ abbrev pub shown_as : ℕ → List Pulse → Record → Shown
 shown_as number ps r =
     record { number = number; rise = rise_of r.marker ps; verdict = r.verdict }
 
--- the frame with a number, from 1; none with 0
-abbrev pub shown_frame : FramedView → ℕ → Option Shown
-shown_frame x zero = None
-shown_frame x (suc k) = option_map (shown_as (suc k) x.pulses) (slice_get x.records k)
+-- some records of pulses, the first of them with this number
+abbrev pub shown_from : ℕ → List Pulse → List Record → List Shown
+shown_from number ps [] = []
+shown_from number ps (r ∷ rs) = shown_as number ps r ∷ shown_from (suc number) ps rs
+
+-- the frames of a recording, numbered from 1
+abbrev pub shown_frames : FramedView → List Shown
+shown_frames x = shown_from 1 x.pulses x.records
+
+-- the frames begin at places that rise, from one on
+abbrev pub FramesRise : ℕ → List Shown → Type 0
+FramesRise low [] = Unit {0}
+FramesRise low (s ∷ ss) = (low ≤ s.rise) × FramesRise (s.rise + 1) ss

@@ -1,52 +1,74 @@
--- The patch with comments: lines, each with what is written before it. This project's own.
-use Rattle.std.specs.Prelude.{◌==◌, ◌&&◌, ◌++◌, ℕ, Bool, false, List, [], ◌∷◌, codes, Option, Some}
-use Rattle.std.specs.Prelude.{None, if◌then◌else◌}
+-- The patch with comments: lines, some of them comments. This project's own.
+use Rattle.std.specs.Prelude.{◌==◌, ◌||◌, ◌++◌, ℕ, Bool, true, false, not, List, [], ◌∷◌, codes}
+use Rattle.std.specs.Prelude.{map, nat_le, if◌then◌else◌}
 use Rattle.std.specs.List.{AllByRecursion}
 use Rattle.irig_recording.specs.declared.pulse.Pulse.{Pulse}
 use Rattle.irig_difference.specs.PatchText.{length_note, line_of}
 use Rattle.irig_difference.specs.Stretches.{stretches_between}
-use Rattle.irig_comments.specs.{Comments.IsComment, Comments.comment_text, Framed.FramedView}
-use Rattle.irig_comments.specs.{Framed.begun_by, Framed.shown_frame, declared.place.Place.Place}
+use Rattle.irig_recording.specs.Recording.{RecordingView}
+use Rattle.irig_comments.specs.{Comments.IsComment, Comments.comment_text, Counts.counts_between}
+use Rattle.irig_comments.specs.{Counts.counts_text, Framed.FramedView, Sides.changes, Sides.place}
+use Rattle.irig_comments.specs.declared.sides.Sides.{Sides}
 
--- a line, and the comment before it, or nothing
+-- a comment on frames, or a line of the patch
 pub record Part : Type 0 where
   pub comment : List ℕ
   pub line : List ℕ
 
--- the two put together
-abbrev pub part : List ℕ → List ℕ → Part
-part comment line = record { comment = comment; line = line }
+-- a comment
+abbrev pub comment_part : List ℕ → Part
+comment_part text = record { comment = text; line = [] }
+
+-- a line
+abbrev pub line_part : List ℕ → Part
+line_part text = record { comment = []; line = text }
 
 -- the line that inverts the level in a stretch
 abbrev pub stretch_line : Pulse → List ℕ
 stretch_line p = line_of (codes "invert") p.rise p.fall
 
--- a stretch is in the last frame on each side that has begun by its end
-abbrev pub place_of : FramedView → FramedView → Pulse → Place
-place_of b a p = record { before = begun_by p.fall b; after = begun_by p.fall a }
+-- the comments on some changes
+abbrev pub notes : List Sides → List Part
+notes = map (λ s. comment_part (comment_text s))
 
--- the last stretch, if there is one, is in these frames
-abbrev pub is_in : Option Place → Place → Bool
-is_in None place = false
-is_in (Some last) place = (last.before == place.before) && (last.after == place.after)
+-- the changes that begin by a time, up to the first that does not
+abbrev pub begun_by : ℕ → List Sides → List Sides
+begun_by t [] = []
+begun_by t (s ∷ ss) = if nat_le (place s) t then s ∷ begun_by t ss else []
 
--- the comment before a stretch, unless the last one has the same
-abbrev pub comment_of : FramedView → FramedView → Option Place → Pulse → List ℕ
-comment_of b a last p =
-    if is_in last (place_of b a p) then []
-    else comment_text (shown_frame b (begun_by p.fall b)) (shown_frame a (begun_by p.fall a))
+-- the others
+abbrev pub not_begun_by : ℕ → List Sides → List Sides
+not_begun_by t [] = []
+not_begun_by t (s ∷ ss) = if nat_le (place s) t then not_begun_by t ss else s ∷ ss
 
--- stretches in order, if the one before them is in the frames of `last`
-abbrev pub parts_of : FramedView → FramedView → Option Place → List Pulse → List Part
-parts_of b a last [] = []
-parts_of b a last (p ∷ ps) =
-    part (comment_of b a last p) (stretch_line p) ∷ parts_of b a (Some (place_of b a p)) ps
+-- changes and stretches by time: a frame comes before the first stretch that does not end before it
+abbrev pub parts_of : List Sides → List Pulse → List Part
+parts_of cs [] = notes cs
+parts_of cs (p ∷ ps) =
+    notes (begun_by p.fall cs)
+    ++ line_part (stretch_line p) ∷ parts_of (not_begun_by p.fall cs) ps
 
--- the patch: the comment with two lengths, if they differ, and the stretches
+-- there is a stretch
+abbrev pub has_some : List Pulse → Bool
+has_some [] = false
+has_some (p ∷ ps) = true
+
+-- two recordings differ, in their lengths or in a stretch
+abbrev pub is_other : RecordingView → RecordingView → Bool
+is_other b a = not (b.micros == a.micros) || has_some (stretches_between b a)
+
+-- the last line, if the recordings differ
+abbrev pub last_text : FramedView → FramedView → List ℕ
+last_text b a =
+    if is_other b.recording a.recording then counts_text (counts_between b a) else []
+
+-- the patch: the comment with two lengths, if they differ, the stretches with the frames that
+-- differ, and the numbers
 abbrev pub commented_parts : FramedView → FramedView → List Part
 commented_parts b a =
-    part [] (length_note b.recording.micros a.recording.micros)
-    ∷ parts_of b a None (stretches_between b.recording a.recording)
+    line_part (length_note b.recording.micros a.recording.micros)
+    ∷ parts_of (changes b a) (stretches_between b.recording a.recording)
+    ++ comment_part (last_text b a) ∷ []
 
 -- all of it
 abbrev pub joined : List Part → List ℕ
@@ -58,17 +80,15 @@ abbrev pub lines : List Part → List ℕ
 lines [] = []
 lines (x ∷ xs) = x.line ++ lines xs
 
--- what is written before each line is a comment, or nothing
+-- the comments alone
+abbrev pub comments : List Part → List ℕ
+comments [] = []
+comments (x ∷ xs) = x.comment ++ comments xs
+
+-- each comment is one, or nothing
 abbrev pub AreComments : List Part → Type 0
 AreComments parts = AllByRecursion (λ x. IsComment x.comment) parts
 
 -- the text of the patch with comments
 abbrev pub commented_text : FramedView → FramedView → List ℕ
 commented_text b a = joined (commented_parts b a)
-
--- what of it is still to come: the comment with the lengths, unless it was written, and the
--- stretches left
-abbrev pub commented_left : Bool → FramedView → FramedView → Option Place → List Pulse → List ℕ
-commented_left is_told b a last left =
-    (if is_told then [] else length_note b.recording.micros a.recording.micros)
-    ++ joined (parts_of b a last left)

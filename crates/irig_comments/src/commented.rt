@@ -1,59 +1,62 @@
 //! The patch between two recordings with comments, as a text in parts.
 
-ghost use Rattle.std.specs.Prelude.{◌≡◌, ◌↔◌, ◌≤◌, ◌++◌, [], true, false, IfOk, OnOk, Some};
+ghost use Rattle.std.specs.Prelude.{◌≡◌, ◌↔◌, ◌≤◌, ◌<◌, ◌++◌, [], true, false, IfOk, OnOk};
 ghost use Rattle.std.specs.Prelude.{vec_len};
-ghost use Rattle.irig_difference.specs.PatchText.{patch_text};
-ghost use Rattle.irig_comments.specs.Parts.{AreComments, comment_of, commented_parts};
-ghost use Rattle.irig_comments.specs.Parts.{commented_text, is_in, joined, lines, parts_of};
-ghost use Rattle.irig_comments.specs.Parts.{place_of, stretch_line};
+ghost use Rattle.irig_difference.specs.PatchText.{length_note, patch_text};
+ghost use Rattle.irig_comments.specs.{Parts.AreComments, Parts.commented_parts, Parts.comments};
+ghost use Rattle.irig_comments.specs.{Parts.commented_text, Parts.last_text, Parts.lines};
+ghost use Rattle.irig_comments.specs.{Parts.notes, Sides.changes};
 
-use crate::comments::put_comment;
 use crate::framed::Framed;
-use crate::place::Place;
-use irig_difference::{Differences, Pulse, put_line, put_note};
+use crate::lines_left::LinesLeft;
+use irig_difference::put_note;
 use irig_text::Text;
 use std::alloc::AllocError;
 use std::marker::Model;
 
-/// The patch between two recordings, as lines of the editor's language. Before the line of a stretch
-/// a comment shows the frames that it is in, unless they are those of the stretch before it.
+/// The patch between two recordings, as lines of the editor's language, with comments on the frames
+/// that differ. A comment comes before the first stretch that ends at or after the place of its
+/// frame. The last line has the numbers of frames.
 #[derive(Drop)]
 pub struct CommentedPatch<'a> {
     is_told: bool,
-    before: &'a Framed,
-    after: &'a Framed,
-    last: Option<Place>,
-    left: Differences<'a>,
+    before: u64,
+    after: u64,
+    left: LinesLeft<'a>,
 }
 
 impl<'a> Model for CommentedPatch<'a> {
     ghost use Rattle.std.specs.Prelude.{ℕ, List};
-    ghost use Rattle.irig_comments.specs.Parts.{commented_left};
+    ghost use Rattle.irig_comments.specs.Left.{text_left};
 
     ghost Value = { List ℕ };
 
-    ghost view = { λ p. commented_left p.is_told p.before.now p.after.now p.last p.left };
+    ghost view = { λ p. text_left p.is_told p.before p.after p.left };
 }
 
 impl<'a> CommentedPatch<'a> {
-    /// The patch that makes the one recording of the other, with comments.
+    /// The patch that makes the one recording of the other, with comments. Both frames are of one
+    /// format.
     pub fn between(before: &'a Framed, after: &'a Framed) -> CommentedPatch<'a>
+        requires { before.now.format ≡ after.now.format }
         ensures text { result ≡ commented_text before.now after.now }
         // Without the comments it is the patch.
         ensures plain { lines (commented_parts before.now after.now)
             ≡ patch_text before.now.recording after.now.recording }
+        // The comments are those on the frames that differ, in their order, and the last line.
+        ensures frames { comments (commented_parts before.now after.now)
+            ≡ comments (notes (changes before.now after.now)) ++ last_text before.now after.now }
         ensures comments { AreComments (commented_parts before.now after.now) }
         // Nothing is written of two recordings that are the same, and of no others.
         ensures same { result ≡ [] ↔ before.now.recording ≡ after.now.recording }
     {
         // Read for their laws alone.
-        let _lengths = (before.recording().length(), after.recording().length());
+        let _counts = (before.len(), after.len());
         CommentedPatch {
             is_told: false,
-            before,
-            after,
-            last: None,
-            left: Differences::between(before.recording(), after.recording()),
+            before: before.recording().length(),
+            after: after.recording().length(),
+            left: LinesLeft::between(before, after),
         }
     }
 }
@@ -63,80 +66,27 @@ impl Text for CommentedPatch<'_> {
 
     fn fill(&mut self, block: &mut Vec<u8>, enough: usize) -> Result<bool, AllocError> {
         if !self.is_told {
-            let before = self.before.recording().length();
-            put_note(block, before, self.after.recording().length())?;
+            put_note(block, self.before, self.after)?;
             self.is_told = true;
         }
-        put_parts(
-            block,
-            self.before,
-            self.after,
-            &mut self.last,
-            &mut self.left,
-            enough,
-        )
+        put_lines(block, &mut self.left, enough)
     }
 }
 
-/// Writes lines of stretches, with their comments, until a block has `enough` bytes. Returns
-/// whether none is left.
-fn put_parts(
+/// Writes lines until a block has `enough` bytes. Returns whether none is left.
+fn put_lines(
     block: &mut Vec<u8>,
-    before: &Framed,
-    after: &Framed,
-    last: &mut Option<Place>,
-    left: &mut Differences<'_>,
+    left: &mut LinesLeft<'_>,
     enough: usize,
 ) -> Result<bool, AllocError>
-    ensures bytes { OnOk result
-        (block.new.items ++ joined (parts_of before.now after.now last.new left.new)
-        ≡ block.old.items ++ joined (parts_of before.now after.now last.old left.old)) }
+    ensures bytes { OnOk result (block.new.items ++ left.new ≡ block.old.items ++ left.old) }
     ensures end { IfOk result (λ ended. ended ≡ true → left.new ≡ []) }
     ensures full { IfOk result (λ ended. ended ≡ false → enough ≤ vec_len block.new) }
 {
     while block.len() < enough {
-        match left.next() {
-            Some(stretch) => put_part(block, before, after, last, stretch)?,
-            None => return Ok(true),
+        if left.put_next(block)? {
+            return Ok(true);
         }
     }
     Ok(false)
-}
-
-/// Writes the line of a stretch, and before it its comment, unless the stretch before it, whose
-/// place is `last`, has the same.
-fn put_part(
-    block: &mut Vec<u8>,
-    before: &Framed,
-    after: &Framed,
-    last: &mut Option<Place>,
-    stretch: Pulse,
-) -> Result<(), AllocError>
-    ensures bytes { OnOk result (block.new.items ≡ block.old.items
-        ++ (comment_of before.now after.now last.old stretch ++ stretch_line stretch)) }
-    ensures last { OnOk result (last.new ≡ Some (place_of before.now after.now stretch)) }
-{
-    let place = Place {
-        before: before.begun_by(stretch.fall),
-        after: after.begun_by(stretch.fall),
-    };
-    if !is_in(*last, place) {
-        put_comment(
-            block,
-            &before.frame(place.before),
-            &after.frame(place.after),
-        )?;
-    }
-    *last = Some(place);
-    put_line(block, b"invert", stretch.rise, stretch.fall)
-}
-
-/// Whether the last stretch, if there is one, is in the frames of a place.
-fn is_in(last: Option<Place>, place: Place) -> bool
-    ensures { result ≡ is_in last place }
-{
-    match last {
-        None => false,
-        Some(last) => last.before == place.before && last.after == place.after,
-    }
 }

@@ -1,27 +1,22 @@
-//! The comment before the lines of some stretches.
+//! The comment on the frames at one place.
 
 ghost use Rattle.std.specs.Prelude.{◌≡◌, ◌++◌, OnOk};
-ghost use Rattle.irig_comments.specs.Comments.{after_text, before_text, change_text, comment_text};
-ghost use Rattle.irig_comments.specs.Comments.{whole_text};
+ghost use Rattle.irig_comments.specs.Comments.{after_text, before_text, comment_text, whole_text};
 
 use crate::shown::Shown;
+use crate::sides::Sides;
 use irig_difference::put_number;
 use irig_script::put_verdict_text;
 use std::alloc::AllocError;
 
-/// Writes the comment of stretches that are in these two frames.
-pub fn put_comment(
-    block: &mut Vec<u8>,
-    before: &Option<Shown>,
-    after: &Option<Shown>,
-) -> Result<(), AllocError>
-    ensures { OnOk result
-        (block.new.items ≡ block.old.items ++ comment_text before.now after.now) }
+/// Writes the comment on the frames at one place.
+pub(crate) fn put_comment(block: &mut Vec<u8>, sides: &Sides) -> Result<(), AllocError>
+    ensures { OnOk result (block.new.items ≡ block.old.items ++ comment_text sides.now) }
 {
     block.extend_from_slice(b"# ")?;
-    put_before(block, before)?;
+    put_before(block, &sides.before)?;
     block.extend_from_slice(b", then ")?;
-    put_after(block, before, after)?;
+    put_after(block, &sides.before, &sides.after)?;
     block.extend_from_slice(b"\n")
 }
 
@@ -35,7 +30,7 @@ fn put_before(block: &mut Vec<u8>, before: &Option<Shown>) -> Result<(), AllocEr
     }
 }
 
-/// Writes the frame after.
+/// Writes the frame after: only what is reported of it, if there is one before.
 fn put_after(
     block: &mut Vec<u8>,
     before: &Option<Shown>,
@@ -47,23 +42,11 @@ fn put_after(
     match (before, after) {
         (_, None) => block.extend_from_slice(b"none"),
         (None, Some(after)) => put_whole(block, after),
-        (Some(before), Some(after)) => put_change(block, before, after),
+        (Some(_), Some(after)) => put_verdict_text(block, &after.verdict),
     }
 }
 
-/// Writes the frame after one: only what is reported of it, if both begin at the same time.
-fn put_change(block: &mut Vec<u8>, before: &Shown, after: &Shown) -> Result<(), AllocError>
-    ensures { OnOk result
-        (block.new.items ≡ block.old.items ++ change_text before.now after.now) }
-{
-    if before.rise == after.rise {
-        put_verdict_text(block, &after.verdict)
-    } else {
-        put_whole(block, after)
-    }
-}
-
-/// Writes a frame with its number and its rise.
+/// Writes a frame with its number and its place.
 fn put_whole(block: &mut Vec<u8>, frame: &Shown) -> Result<(), AllocError>
     ensures { OnOk result (block.new.items ≡ block.old.items ++ whole_text frame.now) }
 {

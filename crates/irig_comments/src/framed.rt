@@ -1,13 +1,13 @@
 //! A recording and its frames.
 
-ghost use Rattle.std.specs.Prelude.{◌≡◌, ◌≤◌, IfOk, length};
-ghost use Rattle.irig_comments.specs.Framed.{begun_by, framed, shown_frame};
+ghost use Rattle.std.specs.Prelude.{◌≡◌, ◌<◌, ◌^◌, IfOk, IfSome, length, slice_get};
+ghost use Rattle.irig_comments.specs.Counts.{fine_frames, is_fine};
+ghost use Rattle.irig_comments.specs.Framed.{FramesRise, IsFramed, framed, shown_frames};
 
 use crate::shown::Shown;
-use irig_codes::Format;
-use irig_index::Index;
+use irig_codes::{Format, Note};
+use irig_index::{Index, Verdict};
 use irig_recording::Recording;
-use irig_times::FrameLens;
 use irig_track::Track;
 use std::alloc::{AllocError, Global};
 use std::marker::Model;
@@ -17,17 +17,19 @@ use std::marker::Model;
 pub struct Framed {
     recording: Recording,
     track: Track,
+    format: Format,
     index: Index,
 }
 
 impl Model for Framed {
-    ghost use Rattle.irig_comments.specs.Framed.{AreFramesOf, FramedView, framed_view};
+    ghost use Rattle.irig_comments.specs.Framed.{FramedView, IsFramed, framed_view};
 
     ghost Value = { FramedView };
 
-    ghost view = { λ f. framed_view f.recording f.track.pulses f.index.records };
+    ghost view = { λ f. framed_view f.recording f.track.pulses f.format f.index.records };
 
-    ghost invariant = { λ f. AreFramesOf f.track.pulses f.index.records };
+    ghost invariant = { λ f.
+        IsFramed (framed_view f.recording f.track.pulses f.format f.index.records) };
 }
 
 impl Framed {
@@ -38,9 +40,12 @@ impl Framed {
         let track = Track::new(recording)?;
         let recording = track.recording(alloc)?;
         let index = Index::build(alloc, &mut track.lens(), format)?;
+        // Read for its law alone.
+        let _count = track.len();
         Ok(Framed {
             recording,
             track,
+            format,
             index,
         })
     }
@@ -52,32 +57,53 @@ impl Framed {
         &self.recording
     }
 
-    /// How many frames have begun by a time, in microseconds: their markers rise at or before it.
-    pub(crate) fn begun_by(&self, time: u64) -> usize
-        ensures count { result ≡ begun_by time self.now }
-        ensures within { result ≤ length self.now.records }
+    /// How many frames there are.
+    pub(crate) fn len(&self) -> usize
+        ensures count { result ≡ length (shown_frames self.now) }
+        ensures few { result < 2 ^ 31 }
+        ensures order { FramesRise 0 (shown_frames self.now) }
+        ensures framed { IsFramed self.now }
     {
-        let risen = self.track.find(time);
-        if risen == 0 {
-            return 0;
-        }
-        FrameLens::new(&self.index).find(risen - 1)
+        // Read for its law alone.
+        let _count = self.track.len();
+        self.index.len()
     }
 
-    /// The frame with a number, from 1, and none with 0.
-    pub(crate) fn frame(&self, number: usize) -> Option<Shown>
-        requires { number ≤ length self.now.records }
-        ensures { result ≡ shown_frame self.now number }
+    /// The frame at a place of their list, from 0, if there is one.
+    pub(crate) fn shown(&self, place: usize) -> Option<Shown>
+        ensures value { result ≡ slice_get (shown_frames self.now) place }
+        ensures few { IfSome result (λ s. place < 2 ^ 31) }
+        ensures order { FramesRise 0 (shown_frames self.now) }
     {
-        if number == 0 {
+        if place >= self.len() {
             return None;
         }
-        let record = self.index.record(number - 1);
+        let record = self.index.record(place);
         let rise = self.track.pulse(record.marker).rise;
         Some(Shown {
-            number,
+            number: place + 1,
             rise,
             verdict: record.verdict,
         })
     }
+
+    /// How many frames are fine.
+    pub(crate) fn fine(&self) -> usize
+        ensures { result ≡ fine_frames self.now }
+    {
+        let mut count = 0;
+        for place in 0..self.index.len() {
+            if is_fine(&self.index.record(place).verdict) {
+                count += 1;
+            }
+        }
+        count
+    }
+}
+
+/// Whether a frame is read, and fine.
+fn is_fine(verdict: &Verdict) -> bool
+    ensures { result ≡ is_fine verdict.now }
+{
+    matches!(verdict, Verdict::Read(_, Note::Fine))
 }

@@ -1,13 +1,13 @@
-//! A frame, as a comment shows it.
+//! A frame, as a line shows it.
 
 use irig_index::Verdict;
 
-/// A frame, as a comment shows it.
+/// A frame, as a line shows it.
 #[derive(Clone, Copy)]
 pub struct Shown {
     /// Its number, from 1.
     pub number: usize,
-    /// When its marker rises, in microseconds.
+    /// When its marker rises, in microseconds: its place.
     pub rise: u64,
     /// What it says, or where it is broken.
     pub verdict: Verdict,

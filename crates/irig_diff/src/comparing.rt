@@ -120,6 +120,7 @@ fn print_frames<'a, W: Write>(
     out: &mut W,
     block: &mut Vec<u8>,
 ) -> Ending<'a>
+    requires { before.now.format ≡ after.now.format }
     ensures { PrintsText (commented_text before.now after.now) before.now.recording
         after.now.recording (W.contents out.old) (W.contents out.new) result }
 {

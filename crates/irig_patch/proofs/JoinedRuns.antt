@@ -1,11 +1,11 @@
 -- A patch that was printed, and run with `write` after it.
-use Rattle.std.proofs.Common.{◌≡◌, ◌+◌, ◌<◌, ◌≤◌, ◌^◌, ◌++◌, ◌∷◌, ◌∙◌, ℕ, Bool, true, false, List, [], Option, Some, None, Ok, Err, codes, refl, sym, ap, subst}
-use Rattle.std.proofs.Common.{arith, inl, inr, append_assoc, Result, if◌then◌else◌}
+use Rattle.std.proofs.Common.{◌≡◌, ◌^◌, ◌++◌, ◌∷◌, ◌∙◌, ℕ, Bool, true, false, List, [], Option, None, Ok, Err, codes, refl, sym, ap, subst}
+use Rattle.std.proofs.Common.{arith, inl, inr, Result, if◌then◌else◌}
 use Rattle.std.specs.List.{AllByRecursion}
 use Rattle.std.proofs.lemmas.Option.{none-some}
 use Rattle.irig_text.specs.Shelved.{Puts}
 use Rattle.irig_codes.specs.Format.{FormatView}
-use Rattle.irig_recording.specs.{FileText.file_text, Recording.RecordingView, Recording.UpTo, declared.pulse.Pulse.Pulse}
+use Rattle.irig_recording.specs.{Recording.RecordingView, Recording.UpTo, declared.pulse.Pulse.Pulse}
 use Rattle.irig_track.specs.Edges.{edges_of}
 use Rattle.irig_vcd.specs.{Parts.dump_parts, declared.fault.VcdFault.VcdFault}
 use Rattle.irig_edit.specs.{Opened.Openings.IsOpened, Session.Calls.Edit.Invert, State.State.recording_of}
@@ -16,10 +16,10 @@ use Rattle.irig_script.specs.Obey.Desk.{failures_in, failures_of, is_refusal, st
 use Rattle.irig_script.specs.declared.obey.status.Status.TheVariants.{AllAccepted, SomeRefused}
 use Rattle.irig_script.specs.declared.print.reply.Reply.TheVariants.{Silent, Refused, Written, WriteFailed}
 use Rattle.irig_script.specs.{Obey.Answer.Answered, Obey.Machine.Machine, Obey.Obeying.Obeys, Obey.Replies.Makes, Obey.Replies.Writes, Obey.Replies.dump_text}
-use Rattle.irig_script.specs.{Obey.Run.Runs, Print.Printed.Answer, declared.obey.status.Status.Status, declared.print.reply.Reply.Reply}
+use Rattle.irig_script.specs.{Obey.Run.Runs, Print.Printed.Answer, declared.print.reply.Reply.Reply}
 use Rattle.irig_difference.specs.Stretches.{stretches_between}
 use Rattle.irig_patch.specs.Scripts.{AreGranted, IsGranted, RunOf, patch_and_write}
-use Rattle.irig_patch.specs.{Joined.JoinedRun, Joined.PatchesJoin, Patched.made_of}
+use Rattle.irig_patch.specs.{Joined.PatchesJoin}
 use Rattle.irig_patch.proofs.ScriptLines.{answered, invert_lines, write_means}
 use Rattle.irig_patch.proofs.ScriptRuns.{run_writes_by, small, write_its}
 

@@ -3,3 +3,4 @@ pub mod InvertLines
 pub mod ScriptLines
 pub mod ScriptRuns
 pub mod JoinedRuns
+pub mod CommentedRuns

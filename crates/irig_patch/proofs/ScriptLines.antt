@@ -50,7 +50,7 @@ script_lines-note m n rest h k =
           ∙ until_obeyed line (lines_of rest) (note_goes_on m n a b)
     ]
 
-none_put : (reply : Reply) → texts_put [] reply ≡ []
+pub none_put : (reply : Reply) → texts_put [] reply ≡ []
 none_put (Written count) = refl
 none_put _ = refl
 

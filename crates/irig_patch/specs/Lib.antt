@@ -1,3 +1,4 @@
 pub mod Patched
 pub mod Scripts
 pub mod Joined
+pub mod Commented

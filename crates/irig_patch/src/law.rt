@@ -1,5 +1,6 @@
 //! What holds of patches as scripts.
 
+ghost use Rattle.irig_patch.specs.Commented.{CommentsMake, CommentsStop, CommentsWrite};
 ghost use Rattle.irig_patch.specs.Joined.{PatchesJoin};
 ghost use Rattle.irig_patch.specs.Scripts.{AsLong, PatchesMake, PatchesStop, PatchesWrite};
 
@@ -17,4 +18,13 @@ pub fn patches_are_scripts()
     ensures write { PatchesWrite }
     ensures joined { PatchesJoin }
     ensures as_long { AsLong }
+{}
+
+/// Does nothing. Its contract: the text of a patch with comments does as a script what it does
+/// without them, as `patches_are_scripts` says. So what `irig_diff --frames` prints is obeyed, too:
+/// each comment is a valid line that is short enough.
+pub fn commented_patches_are_scripts()
+    ensures make { CommentsMake }
+    ensures stop { CommentsStop }
+    ensures write { CommentsWrite }
 {}

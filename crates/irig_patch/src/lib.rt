@@ -4,5 +4,5 @@
 mod law;
 mod patching;
 
-pub use law::patches_are_scripts;
+pub use law::{commented_patches_are_scripts, patches_are_scripts};
 pub use patching::patch;

@@ -1,0 +1,121 @@
+//! The lines of a patch with comments that are still to come.
+
+ghost use Rattle.std.specs.Prelude.{◌≡◌, ◌<◌, ◌++◌, [], true, false, IfOk, OnOk};
+ghost use Rattle.std.specs.Prelude.{vec_len};
+ghost use Rattle.irig_comments.specs.Left.{first_change, last_counts, last_if, last_left};
+ghost use Rattle.irig_comments.specs.Left.{lines_text};
+ghost use Rattle.irig_comments.specs.Sides.{changes};
+ghost use Rattle.irig_difference.specs.Stretches.{stretches_between};
+
+use crate::changes::Changes;
+use crate::comments::put_comment;
+use crate::counts::{Counts, put_counts};
+use crate::framed::Framed;
+use crate::sides::Sides;
+use irig_difference::{Differences, Pulse, put_line};
+use std::alloc::AllocError;
+use std::marker::Model;
+
+/// The comments on frames and the lines of stretches that are still to come, and the last line.
+#[derive(Drop)]
+pub struct LinesLeft<'a> {
+    // What comes next, and what comes after it.
+    change: Option<Sides>,
+    changes: Changes<'a>,
+    stretch: Option<Pulse>,
+    stretches: Differences<'a>,
+    // The last line, unless it was written.
+    last: Option<Counts>,
+}
+
+impl<'a> Model for LinesLeft<'a> {
+    ghost use Rattle.std.specs.Prelude.{ℕ, List};
+    ghost use Rattle.irig_comments.specs.Left.{lines_text, with_change, with_stretch};
+
+    ghost Value = { List ℕ };
+
+    ghost view = { λ l. lines_text (with_change l.change l.changes)
+        (with_stretch l.stretch l.stretches) l.last };
+}
+
+impl<'a> LinesLeft<'a> {
+    /// All lines of the patch that makes the one recording of the other, but that with the lengths.
+    pub fn between(before: &'a Framed, after: &'a Framed) -> LinesLeft<'a>
+        ensures { result ≡ lines_text (changes before.now after.now)
+            (stretches_between before.now.recording after.now.recording)
+            (last_counts before.now after.now) }
+    {
+        let mut changes = Changes::between(before, after);
+        let mut stretches = Differences::between(before.recording(), after.recording());
+        let stretch = stretches.next();
+        LinesLeft {
+            change: changes.next(),
+            changes,
+            stretch,
+            stretches,
+            last: last_of(before, after, &stretch),
+        }
+    }
+
+    /// Writes the next line. Returns whether none is left.
+    pub fn put_next(&mut self, block: &mut Vec<u8>) -> Result<bool, AllocError>
+        ensures bytes { OnOk result (block.new.items ++ self.new ≡ block.old.items ++ self.old) }
+        ensures end { IfOk result (λ ended. ended ≡ true → self.new ≡ []) }
+        ensures more { IfOk result (λ ended. ended ≡ false
+            → vec_len block.old < vec_len block.new) }
+    {
+        if let Some(change) = first_change(&self.change, &self.stretch) {
+            put_comment(block, &change)?;
+            self.change = self.changes.next();
+            return Ok(false);
+        }
+        let Some(stretch) = self.stretch else {
+            return put_last(block, &mut self.last);
+        };
+        put_line(block, b"invert", stretch.rise, stretch.fall)?;
+        self.stretch = self.stretches.next();
+        Ok(false)
+    }
+}
+
+/// The next change, if no stretch comes before it.
+fn first_change(change: &Option<Sides>, stretch: &Option<Pulse>) -> Option<Sides>
+    ensures { result ≡ first_change change.now stretch.now }
+{
+    match (change, stretch) {
+        (None, _) => None,
+        (Some(change), None) => Some(*change),
+        (Some(change), Some(stretch)) => {
+            if change.place() <= stretch.fall {
+                Some(*change)
+            } else {
+                None
+            }
+        }
+    }
+}
+
+/// The last line, if the recordings differ: in their lengths, or in the first stretch.
+fn last_of(before: &Framed, after: &Framed, stretch: &Option<Pulse>) -> Option<Counts>
+    ensures { result ≡ last_if before.now after.now stretch.now }
+{
+    if before.recording().length() == after.recording().length() && stretch.is_none() {
+        None
+    } else {
+        Some(Counts::between(before, after))
+    }
+}
+
+/// Writes the last line, unless it was written. None is left then.
+fn put_last(block: &mut Vec<u8>, last: &mut Option<Counts>) -> Result<bool, AllocError>
+    ensures bytes { OnOk result
+        (block.new.items ++ last_left last.new ≡ block.old.items ++ last_left last.old) }
+    ensures end { IfOk result (λ ended. ended ≡ true) }
+    ensures none { OnOk result (last.new ≡ None) }
+{
+    if let Some(counts) = last {
+        put_counts(block, counts)?;
+        *last = None;
+    }
+    Ok(true)
+}
