@@ -103,16 +103,42 @@ class Bearing:
         return self.is_shown(one, other) and 100 * self.stray(one, other) <= 8 * self.count(one, other) * self.frame
 
     def is_own_clock(self, near: Near) -> bool:
-        """Whether the frames on both sides show the clock that the two before show, or the two after, to half an interval."""
-        if near.before is None or near.after is None or not self.shows_any_clock(near.before, near.after):
+        """Whether the frames on both sides show the clock that the two before show, or the two after, to half an interval. It is off by
+        8 in 100 at most, and they are no more than a hundred times as far from each other as those two."""
+        if near.before is None or near.after is None:
+            return False
+        many = self.count(near.before, near.after)
+        if not many or 100 * self.stray(near.before, near.after) > 8 * many * self.frame:
             return False
         others = [pair for pair in ((near.before_last, near.before), (near.after, near.after_next)) if pair[0] and pair[1]]
-        return any(self.shows_any_clock(*pair) and self.in_time(pair, near.before, near.after) for pair in others)
+        return self.is_amid(near, many) or any(
+            self.shows_any_clock(*pair) and many <= 100 * self.count(*pair) and self.in_time(pair, near.before, near.after)
+            for pair in others
+        )
+
+    def is_amid(self, near: Near, many: int) -> bool:
+        """Whether the clock wanders: the frames on both sides are as far apart as lies between what the clock of the two before says and
+        that of the two after, to half an interval, and these differ by six intervals at most."""
+        first, last = (near.before_last, near.before), (near.after, near.after_next)
+        if first[0] is None or last[1] is None or not self.shows_any_clock(*first) or not self.shows_any_clock(*last):
+            return False
+        if many > 100 * self.count(*first):
+            return False
+        one, other = (many * (pair[1].rise - pair[0].rise) // self.count(*pair) for pair in (first, last))
+        distance, half = near.after.rise - near.before.rise, self.interval // 2
+        return abs(one - other) <= 6 * self.interval and min(one, other) - half <= distance <= max(one, other) + half
+
+    def is_own(self, near: Near, frame: Shown) -> bool:
+        """Whether a frame is where the recording's own clock has it, from both sides."""
+        if not self.is_own_clock(near):
+            return False
+        two = near.before, near.after
+        return self.in_time(two, near.before, frame) and self.in_time(two, frame, near.after)
 
     def by_clock(self, near: Near, frame: Shown) -> bool:
-        """Whether a frame is where the clock of the two nearest has it, which is off by a fortieth at most or is the recording's own."""
+        """Whether a frame is where the clock of the two nearest has it, which is off by a fortieth at most."""
         two = near.two()
-        if two is None or not (self.shows_clock(*two) or self.is_own_clock(near)):
+        if two is None or not self.shows_clock(*two):
             return False
         return self.in_time(two, near.before, frame) if near.before else self.in_time(two, frame, two[0])
 
@@ -144,7 +170,8 @@ class Bearing:
     # what is borne out
 
     def is_borne(self, near: Near, frame: Shown) -> bool:
-        """Whether the time of a frame is borne out: something supports it, and neither neighbour contradicts it."""
+        """Whether the time of a frame is borne out: something supports it, and neither neighbour contradicts it; or it is where the
+        recording's own clock has it."""
         near = self.heard(near)
         before, after = near.before, near.after
         supported = (
@@ -156,7 +183,8 @@ class Bearing:
             after is not None and not self.allows(frame, after)
         )
         alone = before is None or after is None
-        return supported and not contradicted and not (frame.values["seconds"] == 60 and alone)
+        borne = supported and not contradicted or self.is_own(near, frame)
+        return borne and not (frame.values["seconds"] == 60 and alone)
 
     def is_contradicted(self, near: Near, frame: Shown) -> bool:
         """Whether the frames on both sides contradict its time."""

@@ -6,6 +6,7 @@ from reference import language, machine, timecode
 from reference.bearing import Bearing, Near, Shown, clock
 
 LONGEST_LINE, LONGEST_COMMENT = 1000, 900
+LONGEST_COUNT = 500  # frames
 LEAST_ANCHORS = 60  # of a frame, if nothing was fine
 NOTHING_FINE, NOT_KEPT = b"# nothing to go by: no frame of the recording is fine", b"# not kept: "
 NO_REPAIR, REFUSED = "not a repair", "refused: "
@@ -236,15 +237,20 @@ class Anchors:
         return True
 
     def _before(self, near: Near, frame: Shown) -> Optional[Point]:
-        """The marker of the nearest frame before, if both agree."""
-        if near.before is None or not self.bearing.agrees(near.before, frame):
+        """The marker of the nearest frame before, if it is counted."""
+        if near.before is None or not self._is_counted(near, frame, near.before, frame):
             return None
         return -100 * self.bearing.count(near.before, frame), near.before.rise
 
     def _after(self, near: Near, frame: Shown) -> Optional[Point]:
-        if near.after is None or not self.bearing.agrees(frame, near.after):
+        if near.after is None or not self._is_counted(near, frame, frame, near.after):
             return None
         return 100 * self.bearing.count(frame, near.after), near.after.rise
+
+    def _is_counted(self, near: Near, frame: Shown, one: Shown, other: Shown) -> bool:
+        """Whether the distance of a frame from one next to it says how many elements it is: both agree, or the frame is where the
+        recording's own clock has it, 500 frames away at most."""
+        return self.bearing.agrees(one, other) or (self.bearing.is_own(near, frame) and self.bearing.count(one, other) <= LONGEST_COUNT)
 
     def _is_on_line(self, near: Near, before: Optional[Point], point: Point, after: Optional[Point]) -> bool:
         if before is not None and after is not None:

@@ -137,6 +137,27 @@ ALONE = without(SOUND, 343, *range(201, 300), *range(401, 500))  # frame 3, with
 TENTH = ["begin", "insert 3400900 3405900", "insert 3410000 3412000", "insert 3419100 3421100", "end"]  # elements 40 to 42
 
 
+LONE = without(steady(many=16), 843, *range(301, 800), *range(901, 1300))  # frame 8, so between frames 2 and 13
+SLOW_LONE = moved(LONE, lambda at: at * 21 // 20)  # five intervals of a hundred
+LONE_PULSE = "insert 8841000 8843100"
+SLIPPED_LONE = SLOW_LONE[:400] + moved(SLOW_LONE[400:], lambda at: at + 105000)  # ten intervals more after it
+
+
+def wander(at: int) -> int:
+    """A time on a clock that is 5 % slow, and gets slower: each second takes 1.9 milliseconds more than the one before it."""
+    return at * 21 // 20 + 19 * at * at // 20000000000
+
+
+WANDERING = moved(without(SOUND, 343, *range(401, 500)), wander)  # frame 3, and none after it
+WANDERING_PULSE = "insert %d %d" % (wander(3420000), wander(3422000))
+SLIPPED_WANDERING = WANDERING[:399] + moved(WANDERING[399:], lambda at: at + 30000)  # three intervals more after it
+
+
+def lone(micros: int) -> List[str]:
+    """The lost pulse of frame 8 of SLOW_LONE, and the whole frame moved."""
+    return ["begin", LONE_PULSE, "301,401 shift %d" % micros, "end"]
+
+
 def moves(micros: int) -> List[str]:
     """Element 42 of frame 3 of ALONE, and the whole frame moved."""
     return ["begin", "insert 3420000 3422000", "201,301 shift %d" % micros, "end"]
@@ -185,6 +206,14 @@ ROWS = (
     Row("the last frame, by a clock that is 2 % slow", "B4", without(SLOW, 643),
         ["insert 6548400 6550440"], ["insert 6548400 6550440"]),
     Row("a clock that is 5 % slow", "B4", without(SLOWER, 343), ["insert 3591000 3593100"], ["insert 3591000 3593100"]),
+    Row("a clock that is 5 % slow, and eleven frames from one fine frame to the next", "B4", SLOW_LONE, [LONE_PULSE], [LONE_PULSE]),
+    Row("the same ten intervals later, and a nominal six seconds after the one before it", "B4", SLOW_LONE, [*lone(105000), *lone(-300000)],
+        [*unsafe("138 12:34:58", 8505000, UNSUPPORTED, *lone(105000)), *unsafe("138 12:34:58", 8100000, UNSUPPORTED, *lone(-300000))]),
+    Row("a clock that wanders, between what the frames before and after show", "B4", WANDERING, [WANDERING_PULSE], [WANDERING_PULSE]),
+    Row("a slip of 3 intervals on a clock that wanders", "B4", SLIPPED_WANDERING, [WANDERING_PULSE],
+        unsafe("138 12:34:53", wander(3000000), UNSUPPORTED, WANDERING_PULSE)),
+    Row("a slip of 10 intervals on such a clock", "B4", SLIPPED_LONE, [LONE_PULSE],
+        unsafe("138 12:34:58", 8400000, UNSUPPORTED, LONE_PULSE)),
     Row("a slip of 10 intervals, like a clock that is 5 % slow", "B4", SLIPPED, SLIP, unsafe("138 12:34:53", 3066667, UNSUPPORTED, *SLIP)),
     Row("second 60 between others", "B4", without(leap(), 443), ["insert 4420000 4422000"], ["insert 4420000 4422000"]),
     Row("the first second after second 60", "B4", without(leap(), 543),

@@ -1,11 +1,12 @@
 -- Anchors of a frame, element by element.
-use Rattle.std.proofs.Common.{◌≡◌, ◌+◌, ◌-◌, ◌<◌, ◌≤◌, ◌∙◌, ◌||◌, ℕ, zero, suc, Bool, true, false, List, Option, Some, None, ap, arith, inl, inr, refl, subst, sym}
-use Rattle.std.specs.Prelude.{◌⊎◌, IfSome}
+use Rattle.std.proofs.Common.{◌≡◌, ◌+◌, ◌-◌, ◌*◌, ◌<◌, ◌≤◌, ◌∙◌, ◌||◌, ℕ, zero, suc, Bool, true, false, List, Option, Some, None, ap, arith, inl, inr, refl, subst, sym}
+use Rattle.std.specs.Prelude.{◌⊎◌, IfSome, if◌then◌else◌}
 use Rattle.std.proofs.lemmas.Bool.{cases_lt}
 use Rattle.irig_codes.specs.Format.{FormatView}
 use Rattle.irig_recording.specs.declared.pulse.Pulse.{Pulse}
 use Rattle.irig_safety.specs.Anchors.{anchors_among, is_anchored, is_held, is_placed, last_anchor, next_anchor}
-use Rattle.irig_safety.specs.{declared.shown.Shown.Shown, declared.witnesses.Witnesses.Witnesses}
+use Rattle.irig_safety.specs.Lines.{from_after, from_before, is_counted}
+use Rattle.irig_safety.specs.{Bearing.periods, declared.lines.Anchor.Anchor, declared.shown.Shown.Shown, declared.witnesses.Witnesses.Witnesses}
 
 module _ (recorded pulses : List Pulse) (marker : ℕ) where
   -- the first anchor from an element on that is one
@@ -96,3 +97,42 @@ module _ (f : FormatView) (recorded pulses : List Pulse) (marker : ℕ) (w : Wit
   pub placed_as : (n : ℕ) (last next one other : Option ℕ) → one ≡ last → other ≡ next → IsPlacedUpTo f recorded pulses marker w y n last next
       → IsPlacedUpTo f recorded pulses marker w y n one other
   placed_as n last next one other p q h = subst (λ (T : Type 0). T) (λ i. IsPlacedUpTo f recorded pulses marker w y n (sym p i) (sym q i)) h
+
+-- the markers next to a frame as they are seen from a later element of it
+some_is : (c : Bool) (a b : Anchor) → Some a ≡ (if c then Some b else None) → (c ≡ true) × (a ≡ b)
+some_is true a b e = (refl, cc)
+some_is false a b e = let bad : Some a ≡ None = e in absurd (cc)
+
+pub later_before : (f : FormatView) (w : Witnesses) (y : Shown) (j : ℕ) (o : Option Shown) (a : Anchor) → Some a ≡ from_before f w y 0 o
+    → Some (record { steps = a.steps + j; rise = a.rise }) ≡ from_before f w y j o
+later_before f w y j None a e = let bad : Some a ≡ None = e in absurd (cc)
+later_before f w y j (Some b) a e =
+    let n = periods f b y in
+    let is = some_is (is_counted f w y b y) a (record { steps = 100 * n + 0; rise = b.rise }) e in
+    let steps : a.steps + j ≡ 100 * n + j = omega (arith, ap (λ (x : Anchor). x.steps) is.1) in
+    let same : record { steps = a.steps + j; rise = a.rise } ≡ record { steps = 100 * n + j; rise = b.rise } =
+    λ i. record { steps = steps i; rise = (is.1 i).rise } in
+    ap (λ (x : Anchor). Some x) same ∙ sym (ap (λ c. if c then Some (record { steps = 100 * n + j; rise = b.rise }) else None) is.0)
+
+pub later_after : (f : FormatView) (w : Witnesses) (y : Shown) (j : ℕ) (o : Option Shown) (a : Anchor) → Some a ≡ from_after f w y 0 o
+    → Some (record { steps = a.steps - j; rise = a.rise }) ≡ from_after f w y j o
+later_after f w y j None a e = let bad : Some a ≡ None = e in absurd (cc)
+later_after f w y j (Some b) a e =
+    let n = periods f y b in
+    let is = some_is (is_counted f w y y b) a (record { steps = 100 * n - 0; rise = b.rise }) e in
+    let steps : a.steps - j ≡ 100 * n - j = omega (arith, ap (λ (x : Anchor). x.steps) is.1) in
+    let same : record { steps = a.steps - j; rise = a.rise } ≡ record { steps = 100 * n - j; rise = b.rise } =
+    λ i. record { steps = steps i; rise = (is.1 i).rise } in
+    ap (λ (x : Anchor). Some x) same ∙ sym (ap (λ c. if c then Some (record { steps = 100 * n - j; rise = b.rise }) else None) is.0)
+
+none_is : (c : Bool) (a b : Anchor) → None ≡ (if c then Some a else None) → None ≡ (if c then Some b else None)
+none_is true a b e = let bad : None ≡ Some a = e in absurd (cc)
+none_is false a b e = refl
+
+pub none_before : (f : FormatView) (w : Witnesses) (y : Shown) (j : ℕ) (o : Option Shown) → None ≡ from_before f w y 0 o → None ≡ from_before f w y j o
+none_before f w y j None e = refl
+none_before f w y j (Some b) e = none_is (is_counted f w y b y) _ _ e
+
+pub none_after : (f : FormatView) (w : Witnesses) (y : Shown) (j : ℕ) (o : Option Shown) → None ≡ from_after f w y 0 o → None ≡ from_after f w y j o
+none_after f w y j None e = refl
+none_after f w y j (Some b) e = none_is (is_counted f w y y b) _ _ e

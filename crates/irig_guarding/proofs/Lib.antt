@@ -4,7 +4,9 @@ pub mod ControlLemmas
 pub mod DropLemmas
 pub mod FillingLemmas
 pub mod GuardLemmas
+pub mod KnownLemmas
 pub mod PaddedLemmas
+pub mod PlaceLemmas
 pub mod PrintedLemmas
 pub mod PulseLemmas
 pub mod ReasonLemmas

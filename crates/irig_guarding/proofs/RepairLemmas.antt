@@ -1,6 +1,6 @@
 -- What the calls of a repair leave.
 use Rattle.std.proofs.Common.{◌≡◌, ◌+◌, ◌-◌, ◌++◌, ℕ, Bool, true, false, List, [], ◌∷◌, Option, Some, None, option_map, Result, Ok, Err, length, drop, refl, ap}
-use Rattle.std.proofs.Common.{sym, ◌∙◌, subst, arith, append_assoc, length-append, ◌<◌, get_or, map, take}
+use Rattle.std.proofs.Common.{sym, ◌∙◌, subst, arith, append_assoc, length-append, ◌<◌, ◌≤◌, get_or, map, take}
 use Rattle.std.specs.Prelude.{IsTrue, IsFalse, is_some, not}
 use Rattle.std.proofs.lemmas.List.{map-append, take_more}
 use Rattle.std.proofs.Math.Seq.{drop-append_seam}
@@ -20,7 +20,8 @@ use Rattle.irig_lines.specs.declared.command.Command.TheVariants as command
 use Rattle.irig_script.specs.{Obey.Asked.Asked, Obey.Asked.asked, Obey.Asked.edited, Obey.Asked.Asked.Called, Obey.Machine.Machine, Obey.Machine.present_in}
 use Rattle.irig_script.specs.{Obey.Obeying.Gives, Obey.Obeying.Obeys, Obey.Replies.Calls, Obey.Replies.Makes, declared.print.reply.Reply.Reply}
 use Rattle.irig_script.specs.declared.print.reply.Reply.TheVariants as told
-use Rattle.irig_guarding.specs.Repair.{Agrees, IsBeyond, IsPrinted, IsRepair, Obeyed, ObeyedAll}
+use Rattle.irig_guarding.specs.Repair.{Agrees, IsBeyond, IsPrinted, IsRepair, Obeyed, ObeyedAll, texts}
+use Rattle.irig_guarding.specs.declared.line.Line.{Line}
 
 pub agrees_work : (new old : Machine) → work_in new ≡ work_in old → Agrees new old
 agrees_work new old e = record {
@@ -308,3 +309,10 @@ refused_end a b why h = (closed why h, refused_same End (work_in a) (work_in b) 
     closed refusal.GroupOpen h = not_some a.floor refusal.GroupOpen h.0
     closed refusal.NoGroup h = not_some a.floor refusal.NoGroup h.0
     closed refusal.GroupFloor h = not_some a.floor refusal.GroupFloor h.0
+
+-- one line alone
+pub one_obeyed : (xs : List Line) (x : Line) (a b : Machine) → 1 ≤ length xs → length xs < 2 → x ≡ get_or xs 0 x → Obeyed a x.bytes.items b
+    → ObeyedAll a (texts xs) b
+one_obeyed [] x a b least below is h = absurd (omega (arith, least))
+one_obeyed (y ∷ []) x a b least below is h = (b, subst (λ (z : Line). Obeyed a z.bytes.items b) is h, refl)
+one_obeyed (y ∷ z ∷ ys) x a b least below is h = absurd (omega (arith, below))

@@ -2,6 +2,7 @@ pub mod Controls
 pub mod Fillings
 pub mod Guarded
 pub mod GuardedRun
+pub mod Known
 pub mod Meaning
 pub mod Pulses
 pub mod Reading

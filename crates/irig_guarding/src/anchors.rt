@@ -3,6 +3,10 @@
 ghost use Rattle.std.specs.Prelude.{◌≡◌, ◌↔◌, ◌-◌, ◌≤◌, ◌<◌, ◌^◌, IfSome, IsTrue};
 ghost use Rattle.irig_safety.specs.Anchors.{anchors_among, held_after, held_before, is_anchored};
 ghost use Rattle.irig_safety.specs.Anchors.{is_held, next_anchor};
+ghost use Rattle.irig_safety.specs.Lines.{marker_after, marker_before};
+ghost use Rattle.irig_safety.specs.declared.shown.Shown.{Shown as ShownFrame};
+ghost use Rattle.irig_safety.specs.declared.witnesses.Witnesses.{Witnesses as SomeWitnesses};
+ghost use Rattle.irig_codes.specs.Format.{FormatView};
 ghost use Rattle.irig_guarding.specs.Pulses.{IsRooted, Stands};
 
 use crate::controls::pulse_at;
@@ -11,10 +15,34 @@ use crate::seen::Seen;
 use irig_edit::Session;
 use irig_safety::{Anchor, Original, Witnesses, is_on_line, marker_after, marker_before};
 
+/// The markers of the frames next to a frame, as they are seen from its own.
+#[derive(Clone, Copy)]
+struct Ends {
+    before: Option<Anchor>,
+    after: Option<Anchor>,
+}
+
+/// Those of the frames next to a frame.
+fn ends_of(session: &Session, near: &Witnesses, frame: &Seen) -> Ends
+    ensures before { result.before
+        ≡ marker_before session.now.state.format near.now frame.now.shown 0 }
+    ensures after { result.after
+        ≡ marker_after session.now.state.format near.now frame.now.shown 0 }
+    ensures few_before { IfSome result.before (λ a. a.steps ≤ 2 ^ 16) }
+    ensures few_after { IfSome result.after (λ a. a.steps ≤ 2 ^ 16) }
+{
+    let format = session.current_format();
+    Ends {
+        before: marker_before(format, near, &frame.shown, 0),
+        after: marker_after(format, near, &frame.shown, 0),
+    }
+}
+
 /// Whether each pulse of a frame is an anchor, or on the line between those next to it.
 pub fn are_placed(session: &Session, opened: &Original, near: &Witnesses, frame: &Seen) -> bool
     ensures { IsTrue result ↔ Stands opened.now session.now.state near.now frame.now }
 {
+    let ends = ends_of(session, near, frame);
     let mut place = 0;
     let mut last = None;
     let mut next = next_anchor(session, opened, frame.marker, 0, place);
@@ -22,7 +50,7 @@ pub fn are_placed(session: &Session, opened: &Original, near: &Witnesses, frame:
         if is_anchored(session, opened, frame.marker, element, &mut place) {
             last = Some(element);
             next = next_anchor(session, opened, frame.marker, element + 1, place);
-        } else if !is_held(session, near, frame, element, last, next) {
+        } else if !is_held(session, near, &ends, frame, element, last, next) {
             return false;
         }
     }
@@ -90,11 +118,18 @@ fn next_anchor(
 fn is_held(
     session: &Session,
     near: &Witnesses,
+    ends: &Ends,
     frame: &Seen,
     element: usize,
     last: Option<usize>,
     next: Option<usize>,
 ) -> bool
+    requires before { ends.now.before
+        ≡ marker_before session.now.state.format near.now frame.now.shown 0 }
+    requires after { ends.now.after
+        ≡ marker_after session.now.state.format near.now frame.now.shown 0 }
+    requires few_before { IfSome ends.now.before (λ a. a.steps ≤ 2 ^ 16) }
+    requires few_after { IfSome ends.now.after (λ a. a.steps ≤ 2 ^ 16) }
     requires element { element < 100 }
     requires next { IfSome next (λ k. k < 100) }
     ensures { result ≡ is_held session.now.state.format session.now.state.pulses frame.now.marker
@@ -103,9 +138,9 @@ fn is_held(
     is_on_line(
         session.current_format(),
         near,
-        held_before(session, near, frame, element, last),
+        held_before(session, near, ends.before, frame, element, last),
         rise_at(session, frame.marker, element),
-        held_after(session, near, frame, element, next),
+        held_after(session, near, ends.after, frame, element, next),
     )
 }
 
@@ -113,11 +148,15 @@ fn is_held(
 fn held_before(
     session: &Session,
     near: &Witnesses,
+    before: Option<Anchor>,
     frame: &Seen,
     element: usize,
     last: Option<usize>,
 ) -> Option<Anchor>
-    requires { element < 100 }
+    requires before { before
+        ≡ marker_before session.now.state.format near.now frame.now.shown 0 }
+    requires few { IfSome before (λ a. a.steps ≤ 2 ^ 16) }
+    requires element { element < 100 }
     ensures value { result ≡ held_before session.now.state.format session.now.state.pulses
         frame.now.marker near.now frame.now.shown element last }
     ensures few { IfSome result (λ a. a.steps ≤ 2 ^ 17) }
@@ -127,7 +166,7 @@ fn held_before(
             steps: element.saturating_sub(place) as u128,
             rise: rise_at(session, frame.marker, place),
         }),
-        None => marker_before(session.current_format(), near.before, &frame.shown, element),
+        None => later(before, element),
     }
 }
 
@@ -135,11 +174,14 @@ fn held_before(
 fn held_after(
     session: &Session,
     near: &Witnesses,
+    after: Option<Anchor>,
     frame: &Seen,
     element: usize,
     next: Option<usize>,
 ) -> Option<Anchor>
-    requires { IfSome next (λ k. k < 100) }
+    requires after { after ≡ marker_after session.now.state.format near.now frame.now.shown 0 }
+    requires few { IfSome after (λ a. a.steps ≤ 2 ^ 16) }
+    requires next { IfSome next (λ k. k < 100) }
     ensures value { result ≡ held_after session.now.state.format session.now.state.pulses
         frame.now.marker near.now frame.now.shown element next }
     ensures few { IfSome result (λ a. a.steps ≤ 2 ^ 17) }
@@ -149,6 +191,38 @@ fn held_after(
             steps: place.saturating_sub(element) as u128,
             rise: rise_at(session, frame.marker, place),
         }),
-        None => marker_after(session.current_format(), near.after, &frame.shown, element),
+        None => sooner(after, element),
+    }
+}
+
+/// The marker before a frame as it is seen from a later element.
+fn later(before: Option<Anchor>, element: usize) -> Option<Anchor>
+    requires { IfSome before (λ a. a.steps ≤ 2 ^ 16) × (element < 100) }
+    ensures value { (f : FormatView) (w : SomeWitnesses) (y : ShownFrame)
+        → before ≡ marker_before f w y 0 → result ≡ marker_before f w y element }
+    ensures few { IfSome result (λ a. a.steps ≤ 2 ^ 17) }
+{
+    match before {
+        Some(anchor) => Some(Anchor {
+            steps: anchor.steps + element as u128,
+            rise: anchor.rise,
+        }),
+        None => None,
+    }
+}
+
+/// The marker after a frame as it is seen from a later element.
+fn sooner(after: Option<Anchor>, element: usize) -> Option<Anchor>
+    requires { IfSome after (λ a. a.steps ≤ 2 ^ 16) }
+    ensures value { (f : FormatView) (w : SomeWitnesses) (y : ShownFrame)
+        → after ≡ marker_after f w y 0 → result ≡ marker_after f w y element }
+    ensures few { IfSome result (λ a. a.steps ≤ 2 ^ 17) }
+{
+    match after {
+        Some(anchor) => Some(Anchor {
+            steps: anchor.steps.saturating_sub(element as u128),
+            rise: anchor.rise,
+        }),
+        None => None,
     }
 }

@@ -4,22 +4,24 @@ ghost use Rattle.std.specs.Prelude.{◌≡◌, ◌<◌, ◌≤◌, ◌-◌, [], 
 ghost use Rattle.std.specs.Prelude.{is_none, length, take, if◌then◌else◌};
 ghost use Rattle.irig_guarding.specs.Guarded.{IsGuarded, IsSafeAfter, Stands};
 ghost use Rattle.irig_guarding.specs.Trials.{IsCutBefore, IsTried, IsTriedBefore, Shows, Tries};
-ghost use Rattle.irig_guarding.specs.{Controls.IsSafeBy, Fillings.Fills, Reading.original_of};
+ghost use Rattle.irig_guarding.specs.{Controls.IsSafeBy, Fillings.Fills, Known.AreKnown};
+ghost use Rattle.irig_guarding.specs.{Reading.original_of};
 ghost use Rattle.irig_guarding.specs.{Reasons.head_lines, Repair.texts};
 ghost use Rattle.irig_script.specs.Obey.Run.{unlines};
 ghost use Rattle.irig_script.specs.declared.obey.status.Status.TheVariants.{SomeRefused};
 
 use crate::commands::{are_remarks, begins, closes};
 use crate::fillings::filled_frames;
+use crate::known::{learn, unknown};
 use crate::line::Line;
 use crate::lines::lines_of;
 use crate::mending::take;
 use crate::opening::original_of;
 use crate::printing::{put_head, put_lines, put_remarks};
 use crate::product::Kept;
-use crate::reading::fine_frames;
 use crate::reason::Reason;
 use crate::reason_text::put_reason;
+use crate::seen::{seen_frames, shown_of};
 use irig_edit::Session;
 use irig_safety::Original;
 use irig_script::Status;
@@ -47,7 +49,15 @@ pub fn guard(
     let lines = lines_of(alloc, script)?;
     let mut out = Vec::new(alloc);
     put_head(&mut out, opened.frames())?;
-    let status = guard_lines(alloc, session, &opened, lines.as_slice(), &mut out)?;
+    let mut known = unknown(alloc, opened.frames().len())?;
+    let status = guard_lines(
+        alloc,
+        session,
+        &opened,
+        &mut known,
+        lines.as_slice(),
+        &mut out,
+    )?;
     let filled = filled_frames(alloc, session, &opened)?;
     Ok((out, Kept { status, filled }))
 }
@@ -57,10 +67,12 @@ fn guard_lines(
     alloc: Global,
     session: &mut Session,
     opened: &Original,
+    known: &mut Vec<Option<usize>>,
     lines: &[Line],
     out: &mut Vec<u8>,
 ) -> Result<Status, AllocError>
     requires closed { session.old.floor ≡ None }
+    requires known { AreKnown opened.now session.old.state.pulses known.old.items }
     requires opened { opened.now ≡ original_of opened.now.moved session.old.state }
     requires head { out.old.items ≡ unlines (head_lines opened.now.frames) }
     ensures stands { OnOk result (Stands session.old out.new.items session.new) }
@@ -73,7 +85,7 @@ fn guard_lines(
     let mut status = Status::AllAccepted;
     while at < lines.len() {
         let end = repair_end(lines, at);
-        let dropped = guard_repair(alloc, session, opened, &lines[at..end], out)?;
+        let dropped = guard_repair(alloc, session, opened, known, &lines[at..end], out)?;
         status = status_with(status, dropped);
         at = end;
     }
@@ -114,20 +126,23 @@ fn guard_repair(
     alloc: Global,
     session: &mut Session,
     opened: &Original,
+    known: &mut Vec<Option<usize>>,
     repair: &[Line],
     out: &mut Vec<u8>,
 ) -> Result<Option<Reason>, AllocError>
     requires closed { session.old.floor ≡ None }
+    requires known { AreKnown opened.now session.old.state.pulses known.old.items }
     requires safe { IsSafeBy opened.now session.old.state }
     ensures safe { IsSafeBy opened.now session.new.state }
     ensures closed { session.new.floor ≡ None }
     ensures format { session.new.state.format ≡ session.old.state.format }
+    ensures known { AreKnown opened.now session.new.state.pulses known.new.items }
     ensures tried { IfOk result (λ dropped. Tries opened.now session.old (texts repair.now) dropped
         session.new) }
     ensures printed { IfOk result (λ dropped. Shows (texts repair.now) dropped out.old.items
         out.new.items) }
 {
-    let dropped = try_repair(alloc, session, opened, repair)?;
+    let dropped = try_repair(alloc, session, opened, known, repair)?;
     put_repair(out, repair, dropped)?;
     Ok(dropped)
 }
@@ -137,22 +152,31 @@ fn try_repair(
     alloc: Global,
     session: &mut Session,
     opened: &Original,
+    known: &mut Vec<Option<usize>>,
     repair: &[Line],
 ) -> Result<Option<Reason>, AllocError>
     requires closed { session.old.floor ≡ None }
+    requires known { AreKnown opened.now session.old.state.pulses known.old.items }
     requires safe { IsSafeBy opened.now session.old.state }
     ensures safe { IsSafeBy opened.now session.new.state }
     ensures closed { session.new.floor ≡ None }
     ensures format { session.new.state.format ≡ session.old.state.format }
+    ensures known { AreKnown opened.now session.new.state.pulses known.new.items }
     ensures tried { IfOk result (λ dropped. Tries opened.now session.old (texts repair.now) dropped
         session.new) }
 {
     if are_remarks(repair) {
         return Ok(None);
     }
-    let last = fine_frames(alloc, session)?;
-    match take(alloc, session, opened, last.as_slice(), repair) {
-        Ok(()) => Ok(None),
+    let seen = seen_frames(alloc, session)?;
+    let last = shown_of(alloc, session, seen.as_slice())?;
+    learn(session, opened, seen.as_slice(), known);
+    let mut tried = known.clone()?;
+    match take(alloc, session, opened, &mut tried, last.as_slice(), repair) {
+        Ok(()) => {
+            *known = tried;
+            Ok(None)
+        }
         Err(reason) => Ok(Some(reason)),
     }
 }

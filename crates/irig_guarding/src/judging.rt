@@ -3,6 +3,7 @@
 ghost use Rattle.std.specs.Prelude.{◌≡◌, IfErr, OnErr, OnOk, false, true};
 ghost use Rattle.irig_safety.specs.Original.{with_frames};
 ghost use Rattle.irig_guarding.specs.Controls.{AreBorneBy, IsUnborneBy};
+ghost use Rattle.irig_guarding.specs.Known.{AreKnown};
 ghost use Rattle.irig_guarding.specs.Pulses.{StandBy, StrayBy};
 ghost use Rattle.irig_guarding.specs.Trials.{HasFaultAt, MayStay, StaysAt, Sways};
 ghost use Rattle.irig_guarding.specs.{Reading.fine_frames, Reading.seen_frames};
@@ -21,8 +22,10 @@ pub fn check(
     alloc: Global,
     session: &Session,
     opened: &Original,
+    known: &[Option<usize>],
     before: &[Shown],
 ) -> Result<(), Reason>
+    requires { AreKnown opened.now session.now.state.pulses known.now }
     ensures stays { OnOk result (MayStay opened.now before.now session.now.state) }
     ensures sways { IfErr result (Sways opened.now before.now session.now.state) }
 {
@@ -37,12 +40,20 @@ pub fn check(
             alloc,
             session,
             opened,
+            known,
             before,
             frames.as_slice(),
             seen.as_slice(),
         )
     } else {
-        check_unmoved(session, opened, before, frames.as_slice(), seen.as_slice())
+        check_unmoved(
+            session,
+            opened,
+            known,
+            before,
+            frames.as_slice(),
+            seen.as_slice(),
+        )
     }
 }
 
@@ -50,6 +61,7 @@ pub fn check(
 fn check_unmoved(
     session: &Session,
     opened: &Original,
+    known: &[Option<usize>],
     before: &[Shown],
     now: &[Shown],
     seen: &[Seen],
@@ -57,10 +69,11 @@ fn check_unmoved(
     requires now { now.now ≡ fine_frames session.now.state }
     requires seen { seen.now ≡ seen_frames session.now.state }
     requires unmoved { opened.now.moved ≡ false }
+    requires known { AreKnown opened.now session.now.state.pulses known.now }
     ensures stays { OnOk result (MayStay opened.now before.now session.now.state) }
     ensures sways { IfErr result (Sways opened.now before.now session.now.state) }
 {
-    match check_frames(session, opened, opened.frames(), before, now, seen) {
+    match check_frames(session, opened, known, opened.frames(), before, now, seen) {
         Ok(()) => Ok(()),
         Err(why) => Err(Reason::NotSafe(why)),
     }
@@ -71,6 +84,7 @@ fn check_moved(
     alloc: Global,
     session: &Session,
     opened: &Original,
+    known: &[Option<usize>],
     before: &[Shown],
     now: &[Shown],
     seen: &[Seen],
@@ -78,6 +92,7 @@ fn check_moved(
     requires now { now.now ≡ fine_frames session.now.state }
     requires seen { seen.now ≡ seen_frames session.now.state }
     requires moved { opened.now.moved ≡ true }
+    requires known { AreKnown opened.now session.now.state.pulses known.now }
     ensures stays { OnOk result (MayStay opened.now before.now session.now.state) }
     ensures sways { IfErr result (Sways opened.now before.now session.now.state) }
 {
@@ -87,7 +102,15 @@ fn check_moved(
     let Ok(last) = moved_in(alloc, before, now) else {
         return Err(Reason::OutOfMemory);
     };
-    match check_frames(session, opened, old.as_slice(), last.as_slice(), now, seen) {
+    match check_frames(
+        session,
+        opened,
+        known,
+        old.as_slice(),
+        last.as_slice(),
+        now,
+        seen,
+    ) {
         Ok(()) => Ok(()),
         Err(why) => Err(Reason::NotSafe(why)),
     }
@@ -98,6 +121,7 @@ fn check_moved(
 fn check_frames(
     session: &Session,
     opened: &Original,
+    known: &[Option<usize>],
     old: &[Shown],
     last: &[Shown],
     now: &[Shown],
@@ -105,6 +129,7 @@ fn check_frames(
 ) -> Result<(), Fault>
     requires now { now.now ≡ fine_frames session.now.state }
     requires seen { seen.now ≡ seen_frames session.now.state }
+    requires known { AreKnown opened.now session.now.state.pulses known.now }
     ensures stays { OnOk result (StaysAt (with_frames old.now opened.now) last.now
         session.now.state) }
     ensures unsafe_so { OnErr result (StaysAt (with_frames old.now opened.now) last.now
@@ -118,7 +143,7 @@ fn check_frames(
     if let Err(why) = check_borne(session, opened, old, seen) {
         return Err(why);
     }
-    if let Err(why) = check_pulses(session, opened, old, seen) {
+    if let Err(why) = check_pulses(session, opened, known, old, seen) {
         return Err(why);
     }
     check_unspoiled(last, now)
@@ -149,10 +174,12 @@ fn check_borne(
 fn check_pulses(
     session: &Session,
     opened: &Original,
+    known: &[Option<usize>],
     old: &[Shown],
     seen: &[Seen],
 ) -> Result<(), Fault>
-    requires { seen.now ≡ seen_frames session.now.state }
+    requires seen { seen.now ≡ seen_frames session.now.state }
+    requires known { AreKnown opened.now session.now.state.pulses known.now }
     ensures stand { OnOk result (StandBy old.now (with_frames old.now opened.now)
         session.now.state) }
     ensures stray { OnErr result (StandBy old.now (with_frames old.now opened.now)
@@ -163,5 +190,5 @@ fn check_pulses(
     if old.is_empty() {
         return check_rooted(session, opened, seen);
     }
-    check_stand(session, opened, old, seen)
+    check_stand(session, opened, known, old, seen)
 }

@@ -2,16 +2,20 @@
 
 ghost use Rattle.std.specs.Prelude.{◌≡◌, ◌≢◌, ◌∷◌, ◌++◌, [], ℕ, List, None, IfErr, OnErr, OnOk};
 ghost use Rattle.irig_edit.specs.{Session.Calls.Call, Session.Session.work_in};
+ghost use Rattle.irig_guarding.specs.Known.{AreKnown};
 ghost use Rattle.irig_guarding.specs.Repair.{Agrees, Asks, IsBeyond, IsGroup, IsRepair, Obeyed};
 ghost use Rattle.irig_guarding.specs.Repair.{ObeyedAll, texts};
 ghost use Rattle.irig_guarding.specs.Trials.{Drops, Holds, IsIdle, MayStay, StopsAt, StopsIn};
 ghost use Rattle.irig_lines.specs.declared.command.Command.TheVariants as command;
+ghost use Rattle.irig_safety.specs.Original.{OriginalView};
 ghost use Rattle.irig_script.specs.declared.print.reply.Reply.TheVariants.{Silent};
 ghost use Rattle.irig_script.specs.{Obey.Obeying.Obeys, Obey.Replies.Calls};
 
 use crate::commands::{begins, command_of, ends, is_repair};
 use crate::judging::check;
+use crate::known::follow;
 use crate::line::Line;
+use crate::place::place_of;
 use crate::reason::Reason;
 use irig_edit::Session;
 use irig_lines::Command;
@@ -19,58 +23,84 @@ use irig_safety::{Original, Shown};
 use irig_script::{Reply, obey_command};
 use std::alloc::Global;
 
-/// Obeys an edit. If it is refused, nothing has changed.
-fn edit(session: &mut Session, command: Command) -> Result<(), Reason>
+/// Obeys an edit. If it is refused, nothing has changed. What is known of the pulses of former frames
+/// stays true.
+fn edit(
+    session: &mut Session,
+    known: &mut Vec<Option<usize>>,
+    command: Command,
+) -> Result<(), Reason>
     requires { IsRepair command }
     ensures made { OnOk result (Obeys command session.old Silent session.new) }
     ensures stops { (line : List ℕ) → Asks command line
         → IfErr result (StopsAt session.old line) }
     ensures unmade { OnErr result (work_in session.new ≡ work_in session.old) }
+    ensures known { (o : OriginalView) → AreKnown o session.old.state.pulses known.old.items
+        → OnOk result (AreKnown o session.new.state.pulses known.new.items) }
 {
+    let place = place_of(session, &command);
+    let before = session.len();
     match obey_command(command, session) {
-        Reply::Silent => Ok(()),
+        Reply::Silent => {
+            follow(known, place, before, session.len());
+            Ok(())
+        }
         Reply::Refused(why) => Err(Reason::Refused(why)),
         _ => unreachable!(),
     }
 }
 
 /// Obeys a line in a group: an edit or a comment.
-fn mend(session: &mut Session, line: &Line) -> Result<(), Reason>
+fn mend(session: &mut Session, known: &mut Vec<Option<usize>>, line: &Line) -> Result<(), Reason>
     ensures made { OnOk result (Obeyed session.old line.now.bytes.items session.new) }
     ensures stops { IfErr result (StopsAt session.old line.now.bytes.items) }
     ensures beyond { IsBeyond session.old session.new }
+    ensures known { (o : OriginalView) → AreKnown o session.old.state.pulses known.old.items
+        → OnOk result (AreKnown o session.new.state.pulses known.new.items) }
 {
     match command_of(line) {
         Some(Command::Nothing) => Ok(()),
-        Some(command) => mend_by(session, command),
+        Some(command) => mend_by(session, known, command),
         None => Err(Reason::NoRepair),
     }
 }
 
 /// Obeys a command in a group if it is an edit.
-fn mend_by(session: &mut Session, command: Command) -> Result<(), Reason>
+fn mend_by(
+    session: &mut Session,
+    known: &mut Vec<Option<usize>>,
+    command: Command,
+) -> Result<(), Reason>
     requires { command ≢ Command.Nothing }
     ensures made { (line : List ℕ) → Asks command line
         → OnOk result (Obeyed session.old line session.new) }
     ensures stops { (line : List ℕ) → Asks command line
         → IfErr result (StopsAt session.old line) }
     ensures beyond { IsBeyond session.old session.new }
+    ensures known { (o : OriginalView) → AreKnown o session.old.state.pulses known.old.items
+        → OnOk result (AreKnown o session.new.state.pulses known.new.items) }
 {
     if is_repair(&command) {
-        edit(session, command)
+        edit(session, known, command)
     } else {
         Err(Reason::NoRepair)
     }
 }
 
 /// Obeys lines in a group up to the first that stops it.
-fn mend_all(session: &mut Session, lines: &[Line]) -> Result<(), Reason>
+fn mend_all(
+    session: &mut Session,
+    known: &mut Vec<Option<usize>>,
+    lines: &[Line],
+) -> Result<(), Reason>
     ensures made { OnOk result (ObeyedAll session.old (texts lines.now) session.new) }
     ensures stops { IfErr result (StopsIn session.old (texts lines.now)) }
     ensures beyond { IsBeyond session.old session.new }
+    ensures known { (o : OriginalView) → AreKnown o session.old.state.pulses known.old.items
+        → OnOk result (AreKnown o session.new.state.pulses known.new.items) }
 {
     for line in lines {
-        if let Err(reason) = mend(session, line) {
+        if let Err(reason) = mend(session, known, line) {
             return Err(reason);
         }
     }
@@ -82,14 +112,16 @@ fn end_safely(
     alloc: Global,
     session: &mut Session,
     opened: &Original,
+    known: &[Option<usize>],
     before: &[Shown],
 ) -> Result<(), Reason>
+    requires { AreKnown opened.now session.old.state.pulses known.now }
     ensures ended { OnOk result (Calls Call.End session.old Silent session.new) }
     ensures stays { OnOk result (MayStay opened.now before.now session.old.state) }
     ensures holds { IfErr result (Holds opened.now before.now session.old) }
     ensures open { OnErr result (work_in session.new ≡ work_in session.old) }
 {
-    check(alloc, session, opened, before)?;
+    check(alloc, session, opened, known, before)?;
     match session.end() {
         Ok(()) => Ok(()),
         Err(why) => Err(Reason::Refused(why)),
@@ -102,10 +134,12 @@ fn mend_group(
     alloc: Global,
     session: &mut Session,
     opened: &Original,
+    known: &mut Vec<Option<usize>>,
     before: &[Shown],
     lines: &[Line],
 ) -> Result<(), Reason>
-    requires { session.old.floor ≡ None }
+    requires closed { session.old.floor ≡ None }
+    requires known { AreKnown opened.now session.old.state.pulses known.old.items }
     ensures made { OnOk result (IsGroup session.old (texts lines.now) session.new) }
     ensures stays { OnOk result (MayStay opened.now before.now session.new.state) }
     ensures drops { (first last : List ℕ) → Asks command.Begin first → Asks command.End last
@@ -114,15 +148,16 @@ fn mend_group(
     ensures undone { OnErr result (Agrees session.new session.old) }
     ensures closed { session.new.floor ≡ None }
     ensures format { session.new.state.format ≡ session.old.state.format }
+    ensures known { OnOk result (AreKnown opened.now session.new.state.pulses known.new.items) }
 {
     if let Err(why) = session.begin() {
         return Err(Reason::Refused(why));
     }
-    if let Err(reason) = mend_all(session, lines) {
+    if let Err(reason) = mend_all(session, known, lines) {
         let _ = session.abort();
         return Err(reason);
     }
-    if let Err(reason) = end_safely(alloc, session, opened, before) {
+    if let Err(reason) = end_safely(alloc, session, opened, known.as_slice(), before) {
         let _ = session.abort();
         return Err(reason);
     }
@@ -135,11 +170,13 @@ fn mend_one(
     alloc: Global,
     session: &mut Session,
     opened: &Original,
+    known: &mut Vec<Option<usize>>,
     before: &[Shown],
     command: Command,
 ) -> Result<(), Reason>
     requires one { IsRepair command }
     requires closed { session.old.floor ≡ None }
+    requires known { AreKnown opened.now session.old.state.pulses known.old.items }
     ensures made { OnOk result (Obeys command session.old Silent session.new) }
     ensures stays { OnOk result (MayStay opened.now before.now session.new.state) }
     ensures drops { (line : List ℕ) → Asks command line
@@ -147,11 +184,12 @@ fn mend_one(
     ensures undone { OnErr result (Agrees session.new session.old) }
     ensures closed { session.new.floor ≡ None }
     ensures format { session.new.state.format ≡ session.old.state.format }
+    ensures known { OnOk result (AreKnown opened.now session.new.state.pulses known.new.items) }
 {
-    if let Err(reason) = edit(session, command) {
+    if let Err(reason) = edit(session, known, command) {
         return Err(reason);
     }
-    if let Err(reason) = check(alloc, session, opened, before) {
+    if let Err(reason) = check(alloc, session, opened, known.as_slice(), before) {
         let _ = session.undo();
         return Err(reason);
     }
@@ -163,10 +201,12 @@ fn take_line(
     alloc: Global,
     session: &mut Session,
     opened: &Original,
+    known: &mut Vec<Option<usize>>,
     before: &[Shown],
     line: &Line,
 ) -> Result<(), Reason>
-    requires { session.old.floor ≡ None }
+    requires closed { session.old.floor ≡ None }
+    requires known { AreKnown opened.now session.old.state.pulses known.old.items }
     ensures made { OnOk result (Obeyed session.old line.now.bytes.items session.new) }
     ensures stays { OnOk result (MayStay opened.now before.now session.new.state) }
     ensures drops { (Asks command.Nothing line.now.bytes.items → ⊥)
@@ -174,11 +214,12 @@ fn take_line(
     ensures undone { OnErr result (Agrees session.new session.old) }
     ensures closed { session.new.floor ≡ None }
     ensures format { session.new.state.format ≡ session.old.state.format }
+    ensures known { OnOk result (AreKnown opened.now session.new.state.pulses known.new.items) }
 {
     match command_of(line) {
         Some(command) => {
             if is_repair(&command) {
-                mend_one(alloc, session, opened, before, command)
+                mend_one(alloc, session, opened, known, before, command)
             } else {
                 Err(Reason::NoRepair)
             }
@@ -193,10 +234,12 @@ pub fn take(
     alloc: Global,
     session: &mut Session,
     opened: &Original,
+    known: &mut Vec<Option<usize>>,
     before: &[Shown],
     repair: &[Line],
 ) -> Result<(), Reason>
-    requires { session.old.floor ≡ None }
+    requires closed { session.old.floor ≡ None }
+    requires known { AreKnown opened.now session.old.state.pulses known.old.items }
     ensures made { OnOk result (ObeyedAll session.old (texts repair.now) session.new) }
     ensures stays { OnOk result (MayStay opened.now before.now session.new.state) }
     ensures drops { (IsIdle (texts repair.now) → ⊥)
@@ -204,16 +247,17 @@ pub fn take(
     ensures undone { OnErr result (Agrees session.new session.old) }
     ensures closed { session.new.floor ≡ None }
     ensures format { session.new.state.format ≡ session.old.state.format }
+    ensures known { OnOk result (AreKnown opened.now session.new.state.pulses known.new.items) }
 {
     match repair {
-        [line] => take_line(alloc, session, opened, before, line),
+        [line] => take_line(alloc, session, opened, known, before, line),
         [first, inner @ .., last] => {
             if !begins(first) {
                 Err(Reason::NoRepair)
             } else if !ends(last) {
                 Err(Reason::NoRepair)
             } else {
-                mend_group(alloc, session, opened, before, inner)
+                mend_group(alloc, session, opened, known, before, inner)
             }
         }
         [] => Err(Reason::NoRepair),

@@ -7,23 +7,27 @@ ghost use Rattle.irig_safety.specs.Rises.{KeepsRises, rise_in};
 ghost use Rattle.irig_safety.specs.declared.fault.Fault.{Fault as SomeFault};
 ghost use Rattle.irig_guarding.specs.Pulses.{Comes, IsRooted, PulsesAt, StandFrom, StandsAs};
 ghost use Rattle.irig_guarding.specs.Pulses.{StrayFrom, UnrootedFrom};
+ghost use Rattle.irig_guarding.specs.Known.{AreKnown};
 ghost use Rattle.std.specs.List.{AllByRecursion};
 ghost use Rattle.irig_guarding.specs.declared.seen.Seen.{Seen as SeenFrame};
 
 use crate::anchors::{are_placed, is_rooted};
 use crate::controls::pulse_at;
+use crate::known::is_known;
 use crate::seen::Seen;
 use irig_edit::Session;
 use irig_safety::{Fault, Original, Shown, Witnesses, frame_at, near_in, rise_or};
 
 /// Whether the pulses of each frame that reads well are where they may be, by the frames at the old
-/// places. If not, the first that is at fault.
+/// places. If not, the first that is at fault. Those of known frames are not looked at.
 pub fn check_stand(
     session: &Session,
     opened: &Original,
+    known: &[Option<usize>],
     old: &[Shown],
     frames: &[Seen],
 ) -> Result<(), Fault>
+    requires { AreKnown opened.now session.now.state.pulses known.now }
     ensures stand { OnOk result (StandFrom (with_frames old.now opened.now) session.now.state
         opened.now.markers None None old.now frames.now) }
     ensures stray { OnErr result (StandFrom (with_frames old.now opened.now) session.now.state
@@ -33,7 +37,7 @@ pub fn check_stand(
 {
     let mut passed = 0;
     for frame in frames {
-        match pass(session, opened, old, passed, frame) {
+        match pass(session, opened, known, old, passed, frame) {
             Ok(place) => passed = place,
             Err(why) => return Err(why),
         }
@@ -45,11 +49,13 @@ pub fn check_stand(
 fn pass(
     session: &Session,
     opened: &Original,
+    known: &[Option<usize>],
     old: &[Shown],
     passed: usize,
     frame: &Seen,
 ) -> Result<usize, Fault>
-    requires { passed ≤ length old.now }
+    requires within { passed ≤ length old.now }
+    requires known { AreKnown opened.now session.now.state.pulses known.now }
     ensures within { IfOk result (λ place. place ≤ length old.now) }
     ensures stand { (rest : List SeenFrame) (found : Option SomeFault) → IfOk result (λ place.
         PulsesAt (with_frames old.now opened.now) session.now.state place rest found
@@ -80,7 +86,7 @@ fn pass(
     if former.rise < frame.shown.rise {
         return Err(Fault::Lost(former));
     }
-    if stands_as(session, opened, passed, frame) {
+    if stands_as(session, opened, known, passed, frame) {
         Ok(passed + 1)
     } else {
         Err(Fault::Moved(frame.shown))
@@ -122,15 +128,25 @@ pub fn check_rooted(session: &Session, opened: &Original, frames: &[Seen]) -> Re
 }
 
 /// Whether the pulses of a frame rise as those of the former one at a place.
-fn stands_as(session: &Session, opened: &Original, place: usize, frame: &Seen) -> bool
+fn stands_as(
+    session: &Session,
+    opened: &Original,
+    known: &[Option<usize>],
+    place: usize,
+    frame: &Seen,
+) -> bool
+    requires { AreKnown opened.now session.now.state.pulses known.now }
     ensures { IsTrue result
         ↔ StandsAs opened.now session.now.state (drop place opened.now.markers) frame.now }
 {
+    if is_known(known, place, frame.marker) {
+        return true;
+    }
     keeps_rises(session, opened, opened.marker(place), frame.marker)
 }
 
 /// Whether the pulses of the frame of a marker rise as those of the former one of another.
-fn keeps_rises(session: &Session, opened: &Original, former: usize, marker: usize) -> bool
+pub fn keeps_rises(session: &Session, opened: &Original, former: usize, marker: usize) -> bool
     ensures { IsTrue result ↔ KeepsRises opened.now.pulses former session.now.state.pulses marker }
 {
     let from = opened.rise(former, 0);

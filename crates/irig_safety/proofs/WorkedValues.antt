@@ -6,7 +6,7 @@ use Rattle.irig_codes.specs.{Format.FormatView, Format.control_count_of, declare
 use Rattle.irig_codes.specs.{Layout.control, Layout.rows_of, declared.format.Kind.TheVariants.A, declared.format.Kind.TheVariants.B}
 use Rattle.irig_codes.specs.declared.format.Kind.TheVariants.{E, G}
 use Rattle.irig_safety.specs.Bearing.{clock_of, is_far, is_later, leads, periods, slack, stray}
-use Rattle.irig_safety.specs.Clocks.{is_by_own_clock, shows_clock}
+use Rattle.irig_safety.specs.{Clocks.shows_clock, OwnClock.is_by_own_clock}
 use Rattle.irig_recording.specs.declared.pulse.Pulse.{Pulse}
 use Rattle.irig_safety.specs.{Anchors.is_anchor, Lines.is_between, Lines.is_nominal, Rises.rise_in, declared.lines.Anchor.Anchor}
 use Rattle.irig_safety.specs.{Heard.is_overruled, Witnesses.is_led}

@@ -51,14 +51,14 @@ anchors_among recorded pulses marker (suc n) =
 -- what holds an element from before: the last anchor of its frame, or the marker of the frame before
 abbrev pub held_before : FormatView → List Pulse → ℕ → Witnesses → Shown → ℕ → Option ℕ
     → Option Anchor
-held_before f pulses marker w y j None = marker_before f w.before y j
+held_before f pulses marker w y j None = marker_before f w y j
 held_before f pulses marker w y j (Some i) =
     Some (record { steps = j - i; rise = rise_in pulses marker i })
 
 -- what holds it from after it: the first anchor after it, or the marker of the frame after
 abbrev pub held_after : FormatView → List Pulse → ℕ → Witnesses → Shown → ℕ → Option ℕ
     → Option Anchor
-held_after f pulses marker w y j None = marker_after f w.after y j
+held_after f pulses marker w y j None = marker_after f w y j
 held_after f pulses marker w y j (Some k) =
     Some (record { steps = k - j; rise = rise_in pulses marker k })
 

@@ -1,5 +1,5 @@
 -- When a frame begins by the clock that other frames show. This project's own.
-use Rattle.std.specs.Prelude.{◌*◌, ◌&&◌, ◌||◌, Bool, false, nat_le, Option, Some, None}
+use Rattle.std.specs.Prelude.{◌*◌, ◌&&◌, Bool, nat_le}
 use Rattle.irig_codes.specs.Format.{FormatView, frame_period_of, interval_of}
 use Rattle.irig_safety.specs.Bearing.{apart, distance, is_later, is_shown, periods, stray}
 use Rattle.irig_safety.specs.declared.shown.Shown.{Shown}
@@ -26,22 +26,3 @@ is_by_clock f p q x y = shows_clock f p q && is_in_time f p q x y
 abbrev pub shows_any_clock : FormatView → Shown → Shown → Bool
 shows_any_clock f p q =
     is_shown f p q && nat_le (25 * stray f p q) (2 * (periods f p q * frame_period_of f.kind))
-
--- x and y show the clock that p and q show, to half an interval
-abbrev pub is_same_clock : FormatView → Shown → Shown → Shown → Shown → Bool
-is_same_clock f p q x y =
-    shows_any_clock f p q && shows_any_clock f x y && is_in_time f p q x y
-
--- the frames on both sides show the clock of the two before, or of the two after
-abbrev pub is_own_from : FormatView → Option Shown → Shown → Shown → Bool
-is_own_from f None a b = false
-is_own_from f (Some a2) a b = is_same_clock f a2 a a b
-
-abbrev pub is_own_to : FormatView → Shown → Shown → Option Shown → Bool
-is_own_to f a b None = false
-is_own_to f a b (Some b2) = is_same_clock f b b2 a b
-
--- so it is the recording's own: by that clock y begins when it should after the first
-abbrev pub is_by_own_clock : FormatView → Option Shown → Shown → Shown → Option Shown → Shown → Bool
-is_by_own_clock f a2 a b b2 y =
-    (is_own_from f a2 a b || is_own_to f a b b2) && is_in_time f a b a y

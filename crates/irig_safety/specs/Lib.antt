@@ -9,6 +9,7 @@ pub mod Meaning
 pub mod Mended
 pub mod Moved
 pub mod Original
+pub mod OwnClock
 pub mod Rises
 pub mod Safety
 pub mod Witnesses

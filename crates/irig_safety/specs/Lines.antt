@@ -3,23 +3,36 @@ use Rattle.std.specs.Prelude.{◌+◌, ◌-◌, ◌*◌, ◌/◌, ◌&&◌, ◌|
 use Rattle.std.specs.Prelude.{Option, Some, None, if◌then◌else◌}
 use Rattle.irig_codes.specs.Format.{FormatView, interval_of}
 use Rattle.irig_safety.specs.{Bearing.agrees, Bearing.apart, Bearing.distance, Bearing.periods}
-use Rattle.irig_safety.specs.Clocks.{shows_clock}
+use Rattle.irig_safety.specs.{Clocks.shows_clock, OwnClock.is_own}
 use Rattle.irig_safety.specs.declared.lines.Anchor.{Anchor}
 use Rattle.irig_safety.specs.{declared.shown.Shown.Shown, declared.witnesses.Witnesses.Witnesses}
 
--- the marker of the frame before a frame, as it is seen from an element of that, if both agree
-abbrev pub marker_before : FormatView → Option Shown → Shown → ℕ → Option Anchor
-marker_before f None y j = None
-marker_before f (Some a) y j =
-    if agrees f a y
+-- the distance of a frame y from one next to it says how many elements it is: both agree, or y is where
+-- the recording's own clock has it; and it is 500 frames at most
+abbrev pub is_counted : FormatView → Witnesses → Shown → Shown → Shown → Bool
+is_counted f w y p q =
+    (agrees f p q || is_own f w.before2 w.before w.after w.after2 y) && nat_le (periods f p q) 500
+
+-- the marker of a frame before a frame, as it is seen from an element of that, if it is counted
+abbrev pub from_before : FormatView → Witnesses → Shown → ℕ → Option Shown → Option Anchor
+from_before f w y j None = None
+from_before f w y j (Some a) =
+    if is_counted f w y a y
     then Some (record { steps = 100 * periods f a y + j; rise = a.rise }) else None
 
--- so the marker of the frame after it
-abbrev pub marker_after : FormatView → Option Shown → Shown → ℕ → Option Anchor
-marker_after f None y j = None
-marker_after f (Some b) y j =
-    if agrees f y b
+-- so of a frame after it
+abbrev pub from_after : FormatView → Witnesses → Shown → ℕ → Option Shown → Option Anchor
+from_after f w y j None = None
+from_after f w y j (Some b) =
+    if is_counted f w y y b
     then Some (record { steps = 100 * periods f y b - j; rise = b.rise }) else None
+
+-- those of the nearest frames
+abbrev pub marker_before : FormatView → Witnesses → Shown → ℕ → Option Anchor
+marker_before f w y j = from_before f w y j w.before
+
+abbrev pub marker_after : FormatView → Witnesses → Shown → ℕ → Option Anchor
+marker_after f w y j = from_after f w y j w.after
 
 -- a time is on the line between two anchors, to a tenth of an interval
 abbrev pub is_between : FormatView → Anchor → ℕ → Anchor → Bool

@@ -1,8 +1,9 @@
 //! When a frame begins by the clock that other frames show.
 
-ghost use Rattle.std.specs.Prelude.{◌≡◌};
-ghost use Rattle.irig_safety.specs.Clocks.{is_by_clock, is_by_own_clock, is_in_time, is_own_from};
-ghost use Rattle.irig_safety.specs.Clocks.{is_own_to, is_same_clock, shows_any_clock, shows_clock};
+ghost use Rattle.std.specs.Prelude.{◌≡◌, ◌<◌, ◌^◌, Some};
+ghost use Rattle.irig_safety.specs.Clocks.{is_by_clock, is_in_time, shows_any_clock, shows_clock};
+ghost use Rattle.irig_safety.specs.OwnClock.{is_amid, is_amidst, is_by_own_clock, is_off};
+ghost use Rattle.irig_safety.specs.OwnClock.{is_own_from, is_own_to, is_same_clock, long_by};
 
 use crate::bearing::{apart, distance, is_later, is_shown, periods, stray};
 use crate::shown::Shown;
@@ -44,12 +45,23 @@ fn shows_any_clock(format: Format, one: &Shown, other: &Shown) -> bool
             <= 2 * (periods(format, one, other) * u128::from(format.frame_period()))
 }
 
-/// Whether two frames show the clock that two others show, to half an interval.
+/// Whether the times of two frames are whole frame periods apart, on a clock that is off by 8 in 100 at
+/// most.
+fn is_off(format: Format, one: &Shown, other: &Shown) -> bool
+    ensures { result ≡ is_off format one.now other.now }
+{
+    let whole = periods(format, one, other) * u128::from(format.frame_period());
+    is_later(format, one, other) && 25 * stray(format, one, other) <= 2 * whole
+}
+
+/// Whether two frames show the clock that two others show, to half an interval, and are no more than a
+/// hundred times as far from each other.
 fn is_same_clock(format: Format, one: &Shown, other: &Shown, from: &Shown, to: &Shown) -> bool
     ensures { result ≡ is_same_clock format one.now other.now from.now to.now }
 {
     shows_any_clock(format, one, other)
-        && shows_any_clock(format, from, to)
+        && is_off(format, from, to)
+        && periods(format, from, to) <= 100 * periods(format, one, other)
         && is_in_time(format, one, other, from, to)
 }
 
@@ -73,8 +85,75 @@ fn is_own_to(format: Format, before: &Shown, after: &Shown, after2: Option<Shown
     }
 }
 
+/// How many microseconds that many frame periods take on the clock of two frames.
+fn long_by(format: Format, one: &Shown, other: &Shown, many: u128) -> u128
+    requires { many < 2 ^ 61 }
+    ensures { result ≡ long_by format one.now other.now many }
+{
+    let whole = periods(format, one, other);
+    if whole == 0 {
+        0
+    } else {
+        many * distance(one, other) / whole
+    }
+}
+
+/// Whether a distance is between what two clocks say, to half an interval, and they differ by six
+/// intervals at most.
+fn is_amidst(interval: u64, one: u128, other: u128, micros: u128) -> bool
+    requires { micros < 2 ^ 64 }
+    ensures { result ≡ is_amidst interval one other micros }
+{
+    let (whole, half) = (u128::from(interval), u128::from(interval / 2));
+    let (most, least) = (micros + half, micros.saturating_sub(half));
+    apart(one, other) <= 6 * whole
+        && (one <= most || other <= most)
+        && (least <= one || least <= other)
+}
+
+/// Whether the clock wanders: the frames on both sides are as far apart as lies between what the clock of
+/// the two before says and that of the two after.
+fn is_amid(
+    format: Format,
+    before2: Option<Shown>,
+    before: &Shown,
+    after: &Shown,
+    after2: Option<Shown>,
+) -> bool
+    ensures { result ≡ is_amid format before2 before.now after.now after2 }
+{
+    match (before2, after2) {
+        (Some(before2), Some(after2)) => is_amid_of(format, &before2, before, after, &after2),
+        _ => false,
+    }
+}
+
+/// The same of four frames.
+fn is_amid_of(
+    format: Format,
+    before2: &Shown,
+    before: &Shown,
+    after: &Shown,
+    after2: &Shown,
+) -> bool
+    ensures { result
+        ≡ is_amid format (Some before2.now) before.now after.now (Some after2.now) }
+{
+    let many = periods(format, before, after);
+    shows_any_clock(format, before2, before)
+        && shows_any_clock(format, after, after2)
+        && is_off(format, before, after)
+        && many <= 100 * periods(format, before2, before)
+        && is_amidst(
+            format.interval(),
+            long_by(format, before2, before, many),
+            long_by(format, after, after2, many),
+            distance(before, after),
+        )
+}
+
 /// Whether the frames on both sides show the clock of the recording, and by that a frame begins when
-/// it should.
+/// it should, and the one after it.
 pub fn is_by_own_clock(
     format: Format,
     before2: Option<Shown>,
@@ -85,6 +164,9 @@ pub fn is_by_own_clock(
 ) -> bool
     ensures { result ≡ is_by_own_clock format before2 before.now after.now after2 frame.now }
 {
-    (is_own_from(format, before2, before, after) || is_own_to(format, before, after, after2))
+    (is_own_from(format, before2, before, after)
+        || is_own_to(format, before, after, after2)
+        || is_amid(format, before2, before, after, after2))
         && is_in_time(format, before, after, before, frame)
+        && is_in_time(format, before, after, frame, after)
 }

@@ -1,15 +1,16 @@
 //! Whether a pulse is on the line between two whose place is known.
 
-ghost use Rattle.std.specs.Prelude.{◌≡◌, ◌≤◌, ◌<◌, ◌+◌, ◌-◌, ◌*◌, ◌/◌, ◌^◌, IfSome};
+ghost use Rattle.std.specs.Prelude.{◌≡◌, ◌≤◌, ◌<◌, ◌+◌, ◌-◌, ◌*◌, ◌/◌, ◌^◌, IfSome, IsTrue};
 ghost use Rattle.irig_codes.specs.Format.{interval_of};
+ghost use Rattle.irig_safety.specs.Bearing.{periods};
 ghost use Rattle.irig_safety.specs.Lines.{is_along, is_at_clock, is_at_clock_of, is_between};
-ghost use Rattle.irig_safety.specs.Lines.{is_clocked, is_nominal, is_on_line, marker_after};
-ghost use Rattle.irig_safety.specs.Lines.{marker_before};
+ghost use Rattle.irig_safety.specs.Lines.{is_clocked, is_counted, is_nominal, is_on_line};
+ghost use Rattle.irig_safety.specs.Lines.{marker_after, marker_before};
 
 use crate::bearing::{agrees, apart, distance, periods};
 use crate::clocks::shows_clock;
 use crate::shown::Shown;
-use crate::witnesses::Witnesses;
+use crate::witnesses::{Witnesses, is_own};
 use irig_codes::Format;
 
 /// A pulse whose place is known: how many elements it is away from another, and when it rises.
@@ -27,21 +28,31 @@ fn elements(frames: u128) -> u128
     100 * frames
 }
 
-/// The marker of the frame before a frame, as it is seen from an element of that, if both agree.
+/// Whether the distance of two frames, of which one is next to a frame and the other is that, says how
+/// many elements it is: they agree, or the recording's own clock has the frame there.
+fn is_counted(format: Format, near: &Witnesses, frame: &Shown, one: &Shown, other: &Shown) -> bool
+    ensures value { result ≡ is_counted format near.now frame.now one.now other.now }
+    ensures few { IsTrue result → periods format one.now other.now ≤ 500 }
+{
+    (agrees(format, one, other) || is_own(format, near, frame))
+        && periods(format, one, other) <= 500
+}
+
+/// The marker of the frame before a frame, as it is seen from an element of that, if it is counted.
 pub fn marker_before(
     format: Format,
-    before: Option<Shown>,
+    near: &Witnesses,
     frame: &Shown,
     element: usize,
 ) -> Option<Anchor>
     requires { element ≤ 100 }
-    ensures value { result ≡ marker_before format before frame.now element }
-    ensures few { IfSome result (λ a. a.steps ≤ 2 ^ 17) }
+    ensures value { result ≡ marker_before format near.now frame.now element }
+    ensures few { IfSome result (λ a. a.steps ≤ 2 ^ 16 + element) }
 {
-    let Some(before) = before else {
+    let Some(before) = near.before else {
         return None;
     };
-    if agrees(format, &before, frame) {
+    if is_counted(format, near, frame, &before, frame) {
         let many = periods(format, &before, frame);
         Some(Anchor {
             steps: elements(many) + element as u128,
@@ -55,17 +66,17 @@ pub fn marker_before(
 /// So the marker of the frame after it.
 pub fn marker_after(
     format: Format,
-    after: Option<Shown>,
+    near: &Witnesses,
     frame: &Shown,
     element: usize,
 ) -> Option<Anchor>
-    ensures value { result ≡ marker_after format after frame.now element }
-    ensures few { IfSome result (λ a. a.steps ≤ 2 ^ 17) }
+    ensures value { result ≡ marker_after format near.now frame.now element }
+    ensures few { IfSome result (λ a. a.steps ≤ 2 ^ 16) }
 {
-    let Some(after) = after else {
+    let Some(after) = near.after else {
         return None;
     };
-    if agrees(format, frame, &after) {
+    if is_counted(format, near, frame, frame, &after) {
         let many = periods(format, frame, &after);
         Some(Anchor {
             steps: elements(many).saturating_sub(element as u128),

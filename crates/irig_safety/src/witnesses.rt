@@ -2,6 +2,7 @@
 
 ghost use Rattle.std.specs.Prelude.{◌≡◌, Some};
 ghost use Rattle.irig_safety.specs.Heard.{heard, is_disputed, is_overruled};
+ghost use Rattle.irig_safety.specs.OwnClock.{is_own};
 ghost use Rattle.irig_safety.specs.Witnesses.{allows_from, allows_to, bears, is_borne, is_led};
 ghost use Rattle.irig_safety.specs.Witnesses.{is_timed, is_timed_from, is_timed_to};
 ghost use Rattle.irig_safety.specs.Witnesses.{may_stand};
@@ -87,13 +88,23 @@ fn is_timed(format: Format, near: &Witnesses, frame: &Shown) -> bool
         ≡ is_timed format near.now.before2 near.now.before near.now.after near.now.after2 frame.now }
 {
     match (near.before, near.after) {
-        (Some(before), Some(after)) => {
-            is_by_clock(format, &before, &after, &before, frame)
-                || is_by_own_clock(format, near.before2, &before, &after, near.after2, frame)
-        }
+        (Some(before), Some(after)) => is_by_clock(format, &before, &after, &before, frame),
         (Some(before), None) => is_timed_from(format, near.before2, &before, frame),
         (None, Some(after)) => is_timed_to(format, frame, &after, near.after2),
         (None, None) => false,
+    }
+}
+
+/// Whether a frame is where the recording's own clock has it, between the frames next to it.
+pub fn is_own(format: Format, near: &Witnesses, frame: &Shown) -> bool
+    ensures { result
+        ≡ is_own format near.now.before2 near.now.before near.now.after near.now.after2 frame.now }
+{
+    match (near.before, near.after) {
+        (Some(before), Some(after)) => {
+            is_by_own_clock(format, near.before2, &before, &after, near.after2, frame)
+        }
+        _ => false,
     }
 }
 
@@ -105,12 +116,13 @@ fn may_stand(near: &Witnesses, frame: &Shown) -> bool
 }
 
 /// Whether the frames next to a frame bear out its time: one of them leads to it, or it is in time
-/// by their clock, and none contradicts it.
+/// by their clock, and none contradicts it; or it is where the recording's own clock has it.
 fn bears(format: Format, near: &Witnesses, frame: &Shown) -> bool
     ensures { result ≡ bears format near.now frame.now }
 {
-    (is_led(format, near.before, near.after, frame) || is_timed(format, near, frame))
+    ((is_led(format, near.before, near.after, frame) || is_timed(format, near, frame))
         && (allows_from(format, near.before, frame) && allows_to(format, frame, near.after))
+        || is_own(format, near, frame))
         && may_stand(near, frame)
 }
 

@@ -13,6 +13,7 @@ pub use memory_shelf::MemoryShelf;
 pub use obey::dump_run::{DumpRunFault, run_on_dump, run_on_parts};
 pub use obey::engine::run;
 pub use obey::obeying::obey as obey_command;
+pub use obey::pulse_numbers::{ends, number_at, time};
 pub use obey::status::{RunFault, Status};
 pub use print::reply::Reply;
 pub use print::screen::Screen;

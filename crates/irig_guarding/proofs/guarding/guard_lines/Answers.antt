@@ -10,6 +10,7 @@ loop-at-init c = (
   refl,
   c.requires.closed,
   omega arith,
+  c.requires.known,
   tried_none c.args.session.now c.args.opened.now _ _ c.requires.opened c.requires.head,
 )
 
@@ -21,7 +22,8 @@ loop-at-preserved c =
       c.guard_repair.ensures.format ∙ s.2,
       c.guard_repair.ensures.closed,
       c.repair_end-end.ensures.within,
-      tried_step c.args.session.now c.args.opened.now c.args.lines.now _ _ _ _ _ _ _ _ _ c.requires.opened c.repair_end-end.ensures.more s.5 c.repair_end-end.ensures.cut
+      c.guard_repair.ensures.known,
+      tried_step c.args.session.now c.args.opened.now c.args.lines.now _ _ _ _ _ _ _ _ _ c.requires.opened c.repair_end-end.ensures.more s.6 c.repair_end-end.ensures.cut
           c.in_ok-dropped.ensures.tried c.in_ok-dropped.ensures.printed c.status_with-status.ensures,
     )
 
@@ -30,4 +32,4 @@ returns-clause-safe c =
     let s = c.loop-at.invariant in safe_then c.args.session.now.state _ c.args.opened.now c.requires.opened s.2 s.1
 
 pub returns-clause-tried : goal.returns-clause-tried
-returns-clause-tried c = tried_all c.args.opened.now.moved c.args.session.now c.args.lines.now _ _ _ _ c.loop-at-test.false c.loop-at.invariant.5
+returns-clause-tried c = tried_all c.args.opened.now.moved c.args.session.now c.args.lines.now _ _ _ _ c.loop-at-test.false c.loop-at.invariant.6

@@ -1,5 +1,5 @@
 use Rattle.std.proofs.Common.{◌≡◌, ◌-◌, ◌≤◌, None, drop, length, take}
-use Rattle.irig_guarding.specs.{Controls.IsSafeBy, Guarded.Stands, Repair.texts, Trials.IsTriedBefore}
+use Rattle.irig_guarding.specs.{Controls.IsSafeBy, Guarded.Stands, Known.AreKnown, Repair.texts, Trials.IsTriedBefore}
 use Rattle.irig_guarding.proofs.guarding.guard_lines.Given as goal
 
 abbrev pub decreases-loop-at : goal.decreases-loop-at
@@ -11,4 +11,5 @@ invariant-loop-at l = Stands l.fn.session l.out.items l.session
     × (l.session.state.format ≡ l.fn.session.state.format)
     × (l.session.floor ≡ None)
     × (l.at ≤ length l.lines)
+    × AreKnown l.opened l.session.state.pulses l.known.items
     × IsTriedBefore l.opened.moved l.fn.session (texts (take l.at l.lines)) (texts (drop l.at l.lines)) l.out.items l.status l.session

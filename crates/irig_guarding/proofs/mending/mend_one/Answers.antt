@@ -1,4 +1,5 @@
-use Rattle.std.proofs.Common.{refl}
+use Rattle.std.proofs.Common.{ap, refl}
+use Rattle.irig_edit.specs.State.State.{State}
 use Rattle.irig_guarding.proofs.{DropLemmas.line_stopped, DropLemmas.line_swayed, RepairLemmas.printed_repair, RepairLemmas.undone_agrees}
 use Rattle.irig_guarding.proofs.mending.mend_one.Goals as goal
 
@@ -12,3 +13,8 @@ returns-in-Err-check-clause-drops c = λ line asks.
 
 pub returns-in-Err-check-clause-undone : goal.returns-in-Err-check-clause-undone
 returns-in-Err-check-clause-undone c = undone_agrees c.args.command _ _ _ _ c.requires.one c.requires.closed c.in_default.ensures.made c.undo.ensures.step
+
+pub returns-in-Err-check-clause-format : goal.returns-in-Err-check-clause-format
+returns-in-Err-check-clause-format c =
+    ap (λ (s : State). s.format)
+    (undone_agrees c.args.command c.args.session.now c.edit.new.session c.undo.new.self c.undo.result c.requires.one c.requires.closed c.in_default.ensures.made c.undo.ensures.step).state

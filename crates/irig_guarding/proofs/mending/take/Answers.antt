@@ -1,7 +1,7 @@
 use Rattle.std.proofs.Common.{◌≡◌, ◌∙◌, List, ℕ, true, false, subst, sym}
 use Rattle.std.specs.Prelude.{IfErr, OnOk}
 use Rattle.irig_guarding.specs.{Repair.ObeyedAll, Trials.Drops, Trials.MayBeKept}
-use Rattle.irig_guarding.proofs.{DropLemmas.group_no_repair, GuardLemmas.ends_of, GuardLemmas.group_obeyed, GuardLemmas.on_ok, GuardLemmas.texts_of_ends}
+use Rattle.irig_guarding.proofs.{DropLemmas.group_no_repair, GuardLemmas.ends_of, GuardLemmas.group_obeyed, GuardLemmas.on_ok, GuardLemmas.texts_of_ends, RepairLemmas.one_obeyed}
 use Rattle.irig_guarding.proofs.mending.take.Goals as goal
 
 pub returns-then-not-begins-clause-drops : goal.returns-then-not-begins-clause-drops
@@ -35,3 +35,8 @@ returns-else-not-ends-clause-drops c = λ other.
     let all = texts_of_ends xs _ c.first-item.result c.last-item.result cut in
     subst (λ (l : List (List ℕ)). IfErr c.mend_group.result (Drops c.args.opened.now c.args.before.now c.args.session.now l)) (sym all)
     (c.mend_group.ensures.drops _ _ (c.begins.ensures.0 c.if-not-begins.false) (c.ends.ensures.0 c.if-not-ends.false))
+
+pub returns-in-len1-clause-made : goal.returns-in-len1-clause-made
+returns-in-len1-clause-made c =
+    on_ok c.take_line.result c.take_line.ensures.made
+    (λ k. one_obeyed c.args.repair.now c.line-item.result _ _ c.in-len1.len_at_least c.in-len1.len_below c.line-item.is k)

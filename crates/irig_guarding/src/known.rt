@@ -1,0 +1,142 @@
+//! The former frames whose pulses are known to rise as they did.
+
+ghost use Rattle.std.specs.Prelude.{◌≡◌, List, None, IfOk, IfSome, IsTrue, Some, get_or, length};
+ghost use Rattle.irig_guarding.specs.Known.{AreKnown, Became, Follows};
+ghost use Rattle.irig_recording.specs.declared.pulse.Pulse.{Pulse as SomePulse};
+ghost use Rattle.irig_safety.specs.Original.{OriginalView};
+
+use crate::place::Place;
+use crate::pulses::keeps_rises;
+use crate::seen::Seen;
+use irig_edit::Session;
+use irig_safety::{Original, Shown};
+use std::alloc::{AllocError, Global};
+
+/// Nothing is known of that many former frames.
+pub fn unknown(alloc: Global, many: usize) -> Result<Vec<Option<usize>>, AllocError>
+    ensures { (o : OriginalView) (ps : List SomePulse)
+        → IfOk result (λ known. AreKnown o ps known.items) }
+{
+    let mut known = Vec::with_capacity(alloc, many)?;
+    for _index in 0..many {
+        known.push(None)?;
+    }
+    Ok(known)
+}
+
+/// Whether a marker is known of a former frame.
+pub fn is_known(known: &[Option<usize>], place: usize, marker: usize) -> bool
+    ensures { IsTrue result → get_or known.now place None ≡ Some marker }
+{
+    if place < known.len() {
+        is_marker(known[place], marker)
+    } else {
+        false
+    }
+}
+
+/// Whether a marker is this one.
+fn is_marker(known: Option<usize>, marker: usize) -> bool
+    ensures { IsTrue result → known ≡ Some marker }
+{
+    match known {
+        Some(at) => at == marker,
+        None => false,
+    }
+}
+
+/// Compares the pulses of the frames with those of the former ones of which nothing is known.
+pub fn learn(session: &Session, opened: &Original, frames: &[Seen], known: &mut Vec<Option<usize>>)
+    requires { AreKnown opened.now session.now.state.pulses known.old.items }
+    ensures { AreKnown opened.now session.now.state.pulses known.new.items }
+{
+    let mut place = 0;
+    for frame in frames {
+        place = place_from(opened.frames(), place, frame.shown.rise);
+        learn_one(session, opened, frame, place, known);
+    }
+}
+
+/// The first place from one on of a former frame that does not begin before a time.
+fn place_from(old: &[Shown], from: usize, rise: u64) -> usize {
+    for place in from..old.len() {
+        if rise <= old[place].rise {
+            return place;
+        }
+    }
+    old.len()
+}
+
+/// Compares the pulses of a frame with those of the former one at a place, if nothing is known of that.
+fn learn_one(
+    session: &Session,
+    opened: &Original,
+    frame: &Seen,
+    place: usize,
+    known: &mut Vec<Option<usize>>,
+)
+    requires { AreKnown opened.now session.now.state.pulses known.old.items }
+    ensures { AreKnown opened.now session.now.state.pulses known.new.items }
+{
+    if place < known.len()
+        && known[place].is_none()
+        && keeps_rises(session, opened, opened.marker(place), frame.marker)
+    {
+        known[place] = Some(frame.marker);
+    }
+}
+
+/// What is still known after pulses became others: how many there were before that, and are after it.
+pub fn follow(known: &mut Vec<Option<usize>>, place: Option<Place>, before: usize, after: usize)
+    ensures { (o : OriginalView) (ps qs : List SomePulse)
+        → IfSome place (λ p. Became p.at p.come ps qs) → length ps ≡ before → length qs ≡ after
+        → AreKnown o ps known.old.items → AreKnown o qs known.new.items }
+{
+    for index in 0..known.len() {
+        known[index] = followed(known[index], place, before, after);
+    }
+}
+
+/// The marker that is known after that, if one is.
+fn followed(
+    known: Option<usize>,
+    place: Option<Place>,
+    before: usize,
+    after: usize,
+) -> Option<usize>
+    ensures none { place ≡ None → result ≡ None }
+    ensures some { IfSome place (λ p. Follows p.at p.come before after known result) }
+{
+    match (known, place) {
+        (Some(marker), Some(place)) => followed_by(marker, &place, before, after),
+        _ => None,
+    }
+}
+
+/// The marker that is known after pulses from a place on became others.
+fn followed_by(marker: usize, place: &Place, before: usize, after: usize) -> Option<usize>
+    ensures { Follows place.now.at place.now.come before after (Some marker) result }
+{
+    if place.at >= 100 && marker <= place.at - 100 {
+        return Some(marker);
+    }
+    if place.come > u128::from(u64::MAX) {
+        return None;
+    }
+    let (marker, before, after) = (marker as u128, before as u128, after as u128);
+    if place.at as u128 + before + place.come <= marker + after {
+        number(marker + after - before)
+    } else {
+        None
+    }
+}
+
+/// A number, if it is that of a pulse.
+fn number(value: u128) -> Option<usize>
+    ensures { IfSome result (λ n. n ≡ value) }
+{
+    match usize::try_from(value) {
+        Ok(number) => Some(number),
+        Err(_) => None,
+    }
+}
