@@ -3,9 +3,10 @@ from __future__ import annotations
 
 from collections import Counter
 from dataclasses import dataclass, field
-from typing import Dict, Iterator, List, Optional, Tuple
+from typing import Callable, Dict, Iterator, List, Optional, Tuple
 
 from .dump_header import BODY, HEADS, Header, shown
+from .dump_run import RunReader, WireRun
 from .dump_source import Source
 
 Change = Tuple[int, int, str]  # a time in the dump's unit, a signal, a letter of 0 1 x z
@@ -30,6 +31,11 @@ class Wanted:
     def add(self, signal: int, code: bytes, place: int) -> None:
         self.signals.setdefault(code, []).append((signal, place))
 
+    def alone(self) -> Optional[bytes]:
+        """The code of the signal, if one is looked for and it is a wire of one bit, or the last bit of a vector."""
+        pairs = [(code, place) for code, found in self.signals.items() for _, place in found]
+        return pairs[0][0] if len(pairs) == 1 and pairs[0][1] == 0 else None
+
     def drop(self, signal: int, code: bytes) -> None:
         """This signal is not looked for any more."""
         self.signals[code] = [pair for pair in self.signals[code] if pair[0] != signal]
@@ -50,8 +56,11 @@ class Wanted:
 class Body:
     """The changes of one dump, up to its end, the next header or a time below the last."""
 
-    def __init__(self, source: Source, wanted: Wanted) -> None:
+    def __init__(self, source: Source, wanted: Wanted, take_run: Optional[Callable[[WireRun], bool]] = None) -> None:
+        """`take_run` can take the changes of whole parts, if one wire of one bit is wanted; they are not among `changes` then."""
         self.source, self.wanted = source, wanted
+        alone = wanted.alone() if take_run else None
+        self.runs, self.take_run = RunReader(alone) if alone else None, take_run
         self.now = 0  # the last time
         self.begun = 0  # the first time that is not 0
         self.more = ""  # "header" or "backward" if something follows, "cut" if the file ends within a time or a value
@@ -62,7 +71,8 @@ class Body:
 
     def changes(self) -> Iterator[Change]:
         """The wanted changes; `now` is the last time that was read."""
-        scalars, word = self.wanted.scalars, b"$"
+        scalars, word, at_once = self.wanted.scalars, b"$", self._at_once if self.runs else None
+        self.source.at_once = at_once
         for word in self.source.words():
             found = scalars.get(word)
             if found is None:
@@ -70,17 +80,30 @@ class Body:
                     if word[0] == 35:
                         self._time(word)
                     else:
+                        self.source.at_once = None  # the words that belong to this one are read one by one
                         yield from self._other(word)
+                        self.source.at_once = at_once
                     if self.more:
-                        return
+                        break
                     continue
                 found = self.wanted.meaning(word)
             if found:
                 self.counts["letters"] += word[0] not in b"01xXzZ"
                 for signal, value in found:
                     yield self.now, signal, value
-        if self.source.ends_within_word and word[0] in SCALAR:
+        self.source.at_once = None
+        if not self.more and self.source.ends_within_word and word[0] in SCALAR:
             self.last_code = word[1:]
+
+    def _at_once(self, part: bytes) -> bool:
+        """Whether a part was read at once, and its changes were taken."""
+        run = self.runs.read(part, self.now) if self.runs else None
+        if run is None or self.take_run is None:
+            return False
+        self.begun = self.begun or run.first
+        is_taken = self.take_run(run)
+        self.now = run.last if is_taken else self.now
+        return is_taken
 
     def ends_within(self, header: Header) -> str:
         """What the file ends within: `time`, `value`, or nothing. A code that no wire has is a part of one."""

@@ -3,13 +3,19 @@ from __future__ import annotations
 
 import re
 from itertools import chain
-from typing import IO, Iterator, List
+from typing import IO, Iterator, List, Optional
 
-from .dump_source import LONGEST_WORD, Source
+from .dump_source import LONGEST_WORD, Source, end_of_words
 from .editor import Problem
 
 TOKEN = re.compile(rb"\S+\s*")
 MOST_TAKEN = 1 << 12  # words that are copied at once
+MOST_LOOKED_AT = 80  # bytes, for a time
+
+
+def _end_before_a_time(data: bytes) -> int:
+    """How many bytes come before the last time but one, so that a whole word follows; 0 if there is none."""
+    return data.rfind(b"\n#", 0, max(0, data.rfind(b"\n#"))) + 1
 
 
 class Copied(Source):
@@ -22,11 +28,17 @@ class Copied(Source):
         self.out = out
         self.taken: List[bytes] = []
         self.free = True
+        self.rest = b""  # what was read and is no word yet
 
     def copy(self, many: int) -> None:
         """Copies that many words."""
         self.out.write(b"".join(self.taken[:many]))
         del self.taken[:many]
+
+    def next_time(self) -> Optional[int]:
+        """The time that comes after the part that is read at once, if one does."""
+        words = self.rest[:MOST_LOOKED_AT].split(None, 1)
+        return int(words[0][1:]) if len(words) == 2 and words[0][:1] == b"#" and words[0][1:].isdigit() else None
 
     def give_back(self, word: bytes) -> None:
         self._words = chain(self._again(self.taken.pop(), word), self._words)
@@ -36,19 +48,22 @@ class Copied(Source):
         yield word
 
     def _parts(self) -> Iterator[List[bytes]]:
-        """The words with the white space after them, block by block."""
-        rest = b""
+        """The words with the white space after them, part by part."""
         for block in self.unpacked():
-            data = rest + block
-            found = TOKEN.findall(data)
-            if not rest:
+            data = self.rest + block
+            if not self.rest:
                 self.out.write(data[:len(data) - len(data.lstrip())])
-            rest = found.pop() if found else b""
-            if len(rest) > LONGEST_WORD:
+                data = data.lstrip()
+            end = _end_before_a_time(data) or end_of_words(data)
+            part, self.rest = data[:end], data[end:]
+            if len(self.rest) > LONGEST_WORD:
                 raise Problem("%s: is no dump: a word has more than %d bytes" % (self.path, LONGEST_WORD))
-            yield found
-        self.ends_within_word = not rest[-1:].isspace()
-        yield [rest] if rest else []
+            if self.at_once is None or not self.at_once(part):
+                yield TOKEN.findall(part)
+        found = TOKEN.findall(self.rest)
+        yield found[:-1]
+        self.ends_within_word = not self.rest[-1:].isspace()
+        yield found[-1:]
 
     def _all_words(self) -> Iterator[bytes]:
         taken = self.taken

@@ -7,7 +7,7 @@ import io
 import sys
 import zlib
 from itertools import chain
-from typing import IO, Callable, Iterator, List, Tuple, cast
+from typing import IO, Callable, Iterator, List, Optional, Tuple, cast
 
 from . import dump_packed, sigrok
 from .editor import Problem
@@ -57,6 +57,13 @@ def _buffered(head: bytes, stream: IO[bytes]) -> IO[bytes]:
     return cast(IO[bytes], io.BufferedReader(_Joined(head, stream), DUMP_BLOCK))
 
 
+def end_of_words(data: bytes) -> int:
+    """How many bytes of a part of a dump have whole words for sure: those before its last time, or else before its last word."""
+    times = data.rfind(b"\n#") + 1
+    words = data.rstrip()
+    return times or len(words) - len(words.rsplit(None, 1)[-1] if words else b"")
+
+
 class Source:
     """A dump as words. `notes` says what was done to its bytes."""
 
@@ -64,6 +71,7 @@ class Source:
         self.path = path
         self.notes: List[str] = []
         self.ends_within_word = False  # the last word was read, and no white space follows it
+        self.at_once: Optional[Callable[[bytes], bool]] = None  # takes a part of whole words, if it is one that it can read
         self._words: Iterator[bytes] = self._all_words()
 
     def __iter__(self) -> Iterator[bytes]:
@@ -83,14 +91,19 @@ class Source:
     def _all_words(self) -> Iterator[bytes]:
         rest = b""
         for block in self.unpacked():
-            words = (rest + block).split()
-            rest = b"" if block[-1:].isspace() or not words else words.pop()
+            data = rest + block
+            end = end_of_words(data)
+            part, rest = data[:end], data[end:]
             if len(rest) > LONGEST_WORD:
                 raise Problem("%s: is no dump: a word has more than %d bytes" % (self.path, LONGEST_WORD))
-            yield from words
-        if rest:
+            if self.at_once is None or not self.at_once(part):
+                yield from part.split()
+        words = rest.split()
+        if words and not rest[-1:].isspace():
+            yield from words[:-1]
             self.ends_within_word = True
-            yield rest
+            del words[:-1]
+        yield from words
 
     def unpacked(self) -> Iterator[bytes]:
         """The bytes of the dump, block by block."""

@@ -4,6 +4,7 @@ from __future__ import annotations
 from typing import Callable, List, NamedTuple, Optional, Sequence, Tuple
 
 from .dump_copied import MOST_TAKEN, Copied
+from .dump_run import WireRun
 from .dump_units import MICROSECOND, Unit
 from .editor import Problem
 from .wire_words import Own, Scalars
@@ -73,6 +74,39 @@ class Merger:
         else:
             self.flush(at, False)
             self.begin, self.times = now, [(0, now)]
+
+    def take_run(self, run: WireRun) -> bool:
+        """Whether a part of the dump stays as it is, since the wire has the level of the track there, or the track is not there."""
+        after = self.source.next_time()
+        if self.place is None or not self.is_known or not self.words.is_alone or after is None:
+            return False
+        if self.micro_of(run.first) == self.micro_of(self.begin) or self.micro_of(run.last) == self.micro_of(after):
+            return False
+        self.flush(len(self.source.taken), False)
+        is_out = self.is_over or self.micro_of(run.last) < 0
+        if not is_out and not self._has_edges(run):
+            return False
+        if run.marks:
+            self.own = self.written = run.letter(len(run.marks) - 1)
+        if not is_out:
+            self.next, self.is_high = self.next + len(run.marks), self._reads(self.own)
+        self.begin, self.times, self.calm = run.last, [], self._calm()
+        return True
+
+    def _has_edges(self, run: WireRun) -> bool:
+        """Whether the changes of a part are the next edges of the track, and the wire had its level before."""
+        assert self.place is not None
+        edges, beyond, last = self.level.edges, self.next + len(run.marks), self.micro_of(run.last)
+        if not self.is_begun or self.written != self.own or self._reads(self.own) != self.is_high or last >= self.level.length:
+            return False
+        if beyond > len(edges) or (beyond < len(edges) and edges[beyond] <= last):
+            return False
+        if run.marks and self._reads(run.letter(0)) == self.is_high:
+            return False
+        start, scale, times = self.place.start, self.scale, run.times()
+        if start or scale != MICROSECOND:
+            times = [(time - start) * scale // MICROSECOND for time in times]
+        return list(edges[self.next:beyond]) == times
 
     def micro_of(self, time: int) -> int:
         """The microsecond of the track at a time, negative before it."""

@@ -14,6 +14,7 @@ from .dump_copied import Copied
 from .dump_header import Header
 from .dump_offset import Offset
 from .dump_parts import each_dump
+from .dump_run import WireRun
 from .dump_source import Source
 from .dump_units import MICROSECOND
 from .editor import Problem
@@ -30,30 +31,47 @@ class TrackEdges:
     def __init__(self, path: str, name: Optional[str]) -> None:
         self.level, self.offset = Level((), 0), None  # type: Level, Optional[Offset]
         self.source, self.name = Source(path), name
+        self.edges: "array[int]" = array("q")
         each_dump(self.source, 1, self._read)
 
     def _read(self, header: Header) -> Body:
         unit, signal, wanted = unit_in(header, None, self.source.path), choose(header, self.name), Wanted()
         wanted.add(0, signal.code, signal.place)
-        body, scale = Body(self.source, wanted), unit.femtoseconds * unit.factor
-        edges: "array[int]" = array("q")
+        self.scale = unit.femtoseconds * unit.factor
+        body = Body(self.source, wanted, self._take_run)
         for time, _, letter in body.changes():
-            if (letter == "1") != bool(len(edges) % 2):
-                at = time * scale // MICROSECOND
-                if edges and edges[-1] == at:
-                    edges.pop()
-                else:
-                    edges.append(at)
-        self.level, self.offset = Level(edges, body.now * scale // MICROSECOND), header.offset
+            self._take(time, letter)
+        self.level, self.offset = Level(self.edges, body.now * self.scale // MICROSECOND), header.offset
         return body
+
+    def _take(self, time: int, letter: str) -> None:
+        if (letter == "1") != bool(len(self.edges) % 2):
+            at = time * self.scale // MICROSECOND
+            if self.edges and self.edges[-1] == at:
+                self.edges.pop()
+            else:
+                self.edges.append(at)
+
+    def _take_run(self, run: WireRun) -> bool:
+        """The changes of a part; if each is in a microsecond of its own, all after the second are edges."""
+        times = run.times()
+        alone = 2 if self.scale >= MICROSECOND else len(times)
+        for number, time in enumerate(times[:alone]):
+            self._take(time, run.letter(number))
+        factor = self.scale // MICROSECOND
+        if self.scale % MICROSECOND:
+            self.edges.extend(time * self.scale // MICROSECOND for time in times[alone:])
+        else:
+            self.edges.extend(times[alone:] if factor == 1 else [time * factor for time in times[alone:]])
+        return True
 
 
 class _Body(Body):
     """The changes of the wire; the merger hears of each time before what follows it."""
 
     def __init__(self, source: Copied, wanted: Wanted, put: PutBack) -> None:
-        super().__init__(source, wanted)
-        self.put = put
+        super().__init__(source, wanted, put.merger.take_run)
+        self.put, self.out = put, source.out
         self.value = ""  # the word of a vector, if the change is one
 
     def _time(self, word: bytes) -> None:
@@ -61,6 +79,12 @@ class _Body(Body):
         super()._time(word)
         if self.now != before:
             self.put.time(self)
+
+    def _at_once(self, part: bytes) -> bool:
+        is_taken = super()._at_once(part)
+        if is_taken:
+            self.out.write(part)
+        return is_taken
 
     def _vector(self, word: str, signals: List[Tuple[int, int]]) -> Iterator[Change]:
         for change in super()._vector(word, signals):

@@ -1,6 +1,7 @@
 """Makes of any dump the dump of one wire, as a stream."""
 from __future__ import annotations
 
+from bisect import bisect_right
 from dataclasses import dataclass, field
 from typing import IO, List, Optional, Sequence
 
@@ -9,6 +10,7 @@ from .dump_choice import Signal, choose
 from .dump_header import Header
 from .dump_parts import each_dump
 from .dump_offset import Offset, offset_of
+from .dump_run import WireRun
 from .dump_source import Source
 from .dump_units import MICROSECOND, Unit, unit_of
 from .editor import Problem
@@ -77,8 +79,11 @@ class Writer:
 
     def flush(self) -> None:
         data = "".join(line + "\n" for line in self.lines).encode("utf-8", "replace")
-        self.size += len(data)
         self.lines = []
+        self._write(data)
+
+    def _write(self, data: bytes) -> None:
+        self.size += len(data)
         self.out.write(data)
 
     def place(self, time: int, body: Body) -> int:
@@ -93,6 +98,32 @@ class Writer:
         """One change, if it is one up to the end."""
         if letter != self.letter and (self.wish.end is None or time <= self.wish.end):
             self._change(self.place(time, body), letter)
+
+    def take_run(self, run: WireRun, body: Body) -> bool:
+        """The changes of a part, if they are up to the end: the first two one by one, since the first can be none."""
+        start, last = first_of(body, self.unit) if self.offset is None else self.offset, self.wish.end
+        if run.last <= start and (last is None or run.last <= last):
+            self.letter = run.letter(len(run.marks) - 1) if run.marks else self.letter
+        elif run.marks and (last is None or int(run.marks[0][1:]) <= last):
+            times = run.times()
+            first, beyond = bisect_right(times, start), len(times) if last is None else bisect_right(times, last)
+            for number in range(max(0, min(first, beyond) - 1), min(first + 2, beyond)):
+                self.take(times[number], run.letter(number), body)
+            if first + 2 < beyond:
+                self._take_rest(times[first + 2:beyond], run.letter(first))
+        return True
+
+    def _take_rest(self, times: Sequence[int], letter: str) -> None:
+        """Changes of which each is one: to this letter, to the other, and so on."""
+        self.flush()
+        offset, factor = self.offset or 0, self.unit.factor
+        written = times if not offset and factor == 1 else [(time - offset) * factor for time in times]
+        other = SWAPPED[letter]
+        pair = ["#%%d\n%s!\n" % (SWAPPED[each] if self.wish.invert else each) for each in (letter, other)]
+        half, rest = divmod(len(times), 2)
+        self._write(("".join(pair) * half + pair[0] * rest).encode() % tuple(written))
+        self.edges += len(times)
+        self.letter, self.at = letter if rest else other, written[-1]
 
     def finish(self, body: Body) -> None:
         """What comes after the last change."""
@@ -217,7 +248,7 @@ def extract_all(path: str, number: int, extracts: Sequence[Extract]) -> None:
 def _written(source: Source, header: Header, extracts: Sequence[Extract]) -> Body:
     wanted = Wanted()
     writers = [extract.begin(header, wanted, place) for place, extract in enumerate(extracts)]
-    body = Body(source, wanted)
+    body = Body(source, wanted, lambda run: writers[0].take_run(run, body))
     for time, place, letter in body.changes():
         writers[place].take(time, letter, body)
     for extract, writer in zip(extracts, writers):
