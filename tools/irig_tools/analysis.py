@@ -22,7 +22,7 @@ from .slots import link, parts, sure_parts
 from .steps import Step, apart, cut_by_a_step, step_zones, turned
 from .threshold import level
 from .track import Track
-from .units import Hundredths, Microseconds, number_of
+from .units import ELEMENTS, Hundredths, Microseconds, number_of
 
 START = Microseconds(0)
 OTHER_WIRE = "is it another wire?"
@@ -148,7 +148,7 @@ def _examine_parts(clock: Clock, findings: Findings, move: bool) -> None:
 
 def _remark_unsure(findings: Findings, clock: Clock, run: Run) -> None:
     """A run is left alone, since nothing decides its place."""
-    elements = " or ".join(map(str, sorted({run.place % 100, *run.others})))
+    elements = " or ".join(map(str, sorted({run.place % ELEMENTS, *run.others})))
     ends = number_of(run.first), number_of(run.last)
     seen = "pulses %d to %d may begin with element %s, and nothing decides which" % (*ends, elements)
     choice = "they are left, and what comes before and after them is mended for itself"

@@ -12,7 +12,7 @@ from .grouping import grouped
 from .interval import Clock
 from .kinds import DamageKind
 from .script import Repair
-from .units import Microseconds, PlaceNumber, PulseIndex, frame_of, plus
+from .units import ELEMENTS, Microseconds, PlaceNumber, PulseIndex, frame_of, plus
 
 THE_WHOLE = "the whole recording"
 NO_FRAME = "pulses that belong to no frame"
@@ -127,7 +127,7 @@ def _of_places(faults: Faults, group: Sequence[PlaceNumber]) -> List[Damage]:
         kind, seen = DamageKind.MISSING, "%d elements without a pulse" % empty
     else:
         kind, seen = DamageKind.STRETCH, "%d damaged elements, %d without a pulse" % (len(group), empty)
-    end = faults.name(last) if frame_of(first) != frame_of(last) else str(last % 100)
+    end = faults.name(last) if frame_of(first) != frame_of(last) else str(last % ELEMENTS)
     return [_of_stretch(faults, group, "%s to %s" % (faults.name(first), end), seen, kind)]
 
 

@@ -11,7 +11,7 @@ from . import limits
 from .editor import Listing
 from .phases import Turn, turn_near, turns
 from .sampling import are_often_off, spacing_of_samples
-from .units import Microseconds, PlaceNumber, PulseIndex, plus
+from .units import ELEMENTS, Microseconds, PlaceNumber, PulseIndex, plus
 from .wander import AS_STEADY, Sample, Sides, Wander, curve, is_curved
 
 
@@ -273,7 +273,7 @@ class Clock:
         the one after it."""
         if run.count < limits.LONG_RUN or run.lead < limits.LEAST_LEAD or run.glued or run.ends:
             return [run]
-        found = _parts(run, turn_near(self.text(run), run.place % 100, begins))
+        found = _parts(run, turn_near(self.text(run), run.place % ELEMENTS, begins))
         return list(map(self.fit, found)) if len(found) > 1 else [run]
 
     def text(self, run: Run) -> str:

@@ -7,6 +7,7 @@ from typing import Iterable, List, Sequence, Set
 from .grouping import grouped
 from .layout import INTERVAL
 from .script import Repair
+from .units import ELEMENTS
 
 AT_FAULT = re.compile(r"# not kept: frame .* at ([0-9]+)(?: would|: its pulses would) ")
 UNSUPPORTED = "# not kept: fine frames would not support each other"
@@ -24,7 +25,7 @@ def joined(script: Sequence[Repair], frames: Set[int], kind: str) -> List[Repair
     interval = INTERVAL[kind]
 
     def begins(later: Repair, each: Repair) -> bool:
-        ends = ((begin - interval, begin + 100 * interval) for begin in frames)
+        ends = ((begin - interval, begin + ELEMENTS * interval) for begin in frames)
         return FROM_END_TO_END not in frames and not any(low <= each.at and later.at < high for low, high in ends)
 
     return [one_of(group) for group in grouped(script, begins)]

@@ -5,6 +5,8 @@ import re
 from operator import itemgetter
 from typing import Dict, Iterable, List, Optional, Tuple
 
+from .units import ELEMENTS
+
 INTERVAL = {"A": 1000, "B": 10000, "E": 100000, "G": 100}  # microseconds from element to element
 PERIOD = {"A": 10, "B": 100, "E": 1000, "G": 1}  # hundredths of a second from frame to frame
 POSITIONS = (0, 9, 19, 29, 39, 49, 59, 69, 79, 89, 99)
@@ -33,7 +35,7 @@ class Layout:
         self.control = [ten + unit for ten in tens for unit in range(9)]
         self.carried = sorted(element for rows in self.fields.values() for element, _ in rows)
         used = {*self.carried, *self.control, *POSITIONS}
-        self.unused = [element for element in range(100) if element not in used]
+        self.unused = [element for element in range(ELEMENTS) if element not in used]
         self._carried_of = itemgetter(*self.carried)
         self._unused_of = itemgetter(*self.unused)
 
@@ -91,7 +93,7 @@ class Layout:
 
     def encode(self, told: Fields) -> List[str]:
         """The 100 classes of a frame with these fields; `.` for a control function, which no field says."""
-        text = ["P" if element in POSITIONS else "0" for element in range(100)]
+        text = ["P" if element in POSITIONS else "0" for element in range(ELEMENTS)]
         for element in self.control:
             text[element] = "."
         for name, rows in self.fields.items():

@@ -9,6 +9,7 @@ from .apply import Refused, run_guarded
 from .joining import frames_at_fault
 from .layout import INTERVAL
 from .script import Repair
+from .units import ELEMENTS
 
 
 def once_more(script: List[Repair], refused: Refused, propose_again: Callable[[], Sequence[Repair]], command: List[str], out: str,
@@ -33,7 +34,7 @@ def _left(reasons: Sequence[str], kept: Sequence[Repair], interval: int) -> List
     """The reasons without those of frames that are mended now."""
 
     def is_mended(begin: int) -> bool:
-        return any(begin - interval <= each.at < begin + 100 * interval for each in kept)
+        return any(begin - interval <= each.at < begin + ELEMENTS * interval for each in kept)
 
     return [reason for reason in reasons if not any(map(is_mended, frames_at_fault([reason])))]
 
