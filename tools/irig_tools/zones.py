@@ -88,7 +88,7 @@ class Zone:
         onward = self.left.last_place + self.straight()
         back = self.right.place - self.straight() - len(tail) + 1
         behind = faults_along(tail, back % ELEMENTS)
-        return faults_along(head, onward % 100).count(0) - 1, behind.count(behind[-1]) - 1
+        return faults_along(head, onward % ELEMENTS).count(0) - 1, behind.count(behind[-1]) - 1
 
     def straight(self) -> int:
         """The elements from run to run by the distance alone."""
