@@ -324,7 +324,8 @@ def steady():
         found = text_of("new.vcd").partition("$dumpvars")[2]
         edges = [int(word[1:]) for word in found.split() if word[0] == "#"]
         wanted = [edge for pulse in recorded() for edge in pulse if 0 < edge < END]
-        yield same("--steady", (status, len(printed.splitlines()), said), (0, 1, ""))
+        yield same("--steady", (status, printed.splitlines()[1:], said),
+                   (0, [b"rec.vcd: control functions of 1 frame are not in the recording"], ""))
         yield same("--steady, edges", [edge for edge in edges if edge < END], wanted)
 
     return in_folder(lambda: list(holds()), rec=damages.dump(recorded(function), END))
@@ -360,7 +361,13 @@ def guesses():
     def holds():
         status, printed, _ = run("irig_mend", ["--expression=4", "--apply", "new.vcd", "rec.vcd"])
         lines = printed.decode().splitlines()
-        yield same("a guess", (status, "1 repaired (1 by a guess), 0 undecided" in lines[0], len(lines)), (0, True, 2))
+        yield same("a guess", (status, "1 repaired (1 by a guess), 0 undecided" in lines[0], len(lines)), (0, True, 3))
+        yield same("its control functions", lines[1], "rec.vcd: control functions of 1 frame are not in the recording")
+        for words, wanted in ((["--page", "new.html"], 1), (["--move"], None)):
+            printed = run("irig_mend", ["--expression=4", "--json", *words, "--apply", "new.vcd", "rec.vcd"])[1]
+            yield same("for programs", json.loads(printed)["summary"]["filled"], wanted)
+        with open("new.html", encoding="utf-8") as file:
+            yield same("on the page", "<p>control functions of 1 frame are not in the recording</p>" in file.read(), True)
         os.symlink(os.path.abspath(os.environ["IRIG_ED"]), "irig_ed")
         with open("irig_guard", "w", encoding="ascii") as file:
             file.write('#!/bin/sh\nwhile [ "$1" != --out ]; do shift; done; cp "$3" "$2"\n'
@@ -425,8 +432,8 @@ def objects():
         yield same("its script", found[1]["script"], [line for line in lines if line[0] != "#"])
         done = json.loads(run("irig_mend", ["--expression=4", "--json", "--apply", "new.vcd", "rec.vcd"])[1])
         yield same("the summary", done["summary"], {
-            "found": 2, "repaired": 1, "undecided": 0, "left": 0, "steps": 1, "guessed": 0, "refused": 0, "sound_before": 5,
-            "sound_after": 6})
+            "found": 2, "repaired": 1, "undecided": 0, "left": 0, "steps": 1, "guessed": 0, "filled": 0, "refused": 0,
+            "sound_before": 5, "sound_after": 6})
         yield same("what irig_time needs", [done[name] for name in ("recording", "wire", "format", "expression")],
                    ["rec.vcd", "code", "B", 4])
         yield same("why something is left", [each.partition(":")[0] for each in done["reasons"]], ["stays"])

@@ -68,7 +68,7 @@ class Findings:
         return next((part.times.rule for part in self.parts if part.times.rule), None)
 
     def remark(self, at: Microseconds, seen: str, choice: str, kind: DamageKind = DamageKind.FORMAT) -> None:
-        self.remarks.append(Remark(at, seen, choice, kind=kind))
+        self.remarks.append(Remark(at, seen, choice, kind=kind, is_question=kind == DamageKind.FORMAT))
 
 
 def looks(obeyed: Callable[[], Listing], progress: Progress, script: Sequence[Repair], steady: bool = False,

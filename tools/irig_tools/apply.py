@@ -8,13 +8,14 @@ from bisect import bisect_left, bisect_right
 from contextlib import ExitStack
 from dataclasses import dataclass
 from functools import cached_property
-from typing import Dict, List, Optional, Sequence, Set
+from typing import Dict, List, Optional, Sequence, Set, Tuple
 
 from .damage import Damage
 from .dump_header import Reader
 from .dump_choice import singles
 from .dump_source import Source
-from .editor import CUT_OFF, Listing, Problem, find_beside, find_editor
+from .editor import CUT_OFF, Listing, Problem, find_beside, find_editor, other_release
+from .guard_words import NOTHING_FINE, Reason, filled_frames, filled_text, reason_of
 from .joining import frames_at_fault, joined
 from .kinds import STEPS, DamageKind
 from .named import wire_named, wire_or_none
@@ -26,7 +27,6 @@ from .temporary import temporary_script
 from .wire import Wish
 
 HEAD = b"$timescale 1 us $end\n"  # how a dump of the editor begins
-REASONS = "# not kept: ", "# nothing to go by: "  # how the comments of irig_guard begin
 
 
 @dataclass(frozen=True)
@@ -39,6 +39,7 @@ class Summary:
     left: int
     steps: int  # of the recorder's clock; they stay
     guessed: int  # of those that are repaired
+    filled: Optional[int]  # frames with control functions that are not in the recording; None if they were not counted
     refused: int  # lines that were refused
     sound_before: int
     sound_after: int
@@ -52,17 +53,23 @@ class Summary:
             self.sound_after)
 
     @property
+    def notes(self) -> List[str]:
+        """What is said after the sums: nothing in the recording supports these control functions."""
+        return [filled_text(self.filled)] if self.filled else []
+
+    @property
     def is_whole(self) -> bool:
         return not (self.undecided or self.left or self.steps or self.refused)
 
 
 @dataclass(frozen=True)
 class Refused:
-    """How many lines of a script were refused, the comments of irig_guard that say why, and all that it printed."""
+    """How many lines of a script were refused, why irig_guard did so, and all that it printed."""
 
     lines: int
-    reasons: Sequence[str] = ()
+    reasons: Sequence[Reason] = ()
     printed: Sequence[str] = ()
+    filled: Optional[int] = None  # frames with control functions that are not in the recording, if they are counted
 
     @cached_property
     def dropped(self) -> Set[str]:
@@ -72,6 +79,10 @@ class Refused:
     def drops(self, repair: Repair) -> bool:
         """Whether a repair is dropped: its lines are comments."""
         return bool(repair.edits) and self.dropped.issuperset(repair.edits)
+
+    def filled_with(self, after: Refused) -> Optional[int]:
+        """How many frames of both runs have such control functions; the second one is on what the first wrote."""
+        return None if self.filled is None else self.filled + (after.filled or 0)
 
     def drops_moves(self, script: Sequence[Repair]) -> bool:
         """Whether a repair that moves what follows was refused."""
@@ -88,7 +99,8 @@ def summary(before: Sequence[Damage], after: Sequence[Damage], script: Sequence[
     repaired = max(0, found - there)
     guesses = [each for each in script if each.edits and each.undecided and not refused.drops(each)]
     guessed = min(repaired, _places_of(guesses, [each for each in before if not each.is_remark]))
-    return Summary(found, repaired, undecided, max(0, there - steps - undecided), steps, guessed, refused.lines, frames[0], frames[1])
+    left = max(0, there - steps - undecided)
+    return Summary(found, repaired, undecided, left, steps, guessed, refused.filled, refused.lines, frames[0], frames[1])
 
 
 def _places_of(repairs: Sequence[Repair], damages: Sequence[Damage]) -> int:
@@ -153,8 +165,18 @@ def run_guarded(command: List[str], path: str, script: Sequence[Repair], out: st
 
 def _run_guard(command: List[str], path: str, script: Sequence[Repair], out: str) -> Refused:
     lines = lines_of_all(script)
-    printed = _run(command, path, lines, out)
-    return Refused(_refused_by_guard(lines, printed), [line for line in printed if line.startswith(REASONS)], printed)
+    printed, said = _run(command, path, lines, out)
+    reasons = [_reason(command[0], line) for line in printed]
+    is_counted = "--moved" not in command and NOTHING_FINE not in printed
+    return Refused(_refused_by_guard(lines, printed, reasons), [each for each in reasons if each], printed,
+                   filled_frames(said) if is_counted else None)
+
+
+def _reason(program: str, line: str) -> Optional[Reason]:
+    try:
+        return reason_of(line)
+    except ValueError as error:
+        raise other_release(program, line.encode()) from error
 
 
 def _turning(script: Sequence[Repair]) -> int:
@@ -166,8 +188,8 @@ def lines_of_all(script: Sequence[Repair]) -> List[str]:
     return [line for each in script for line in each.lines()]
 
 
-def _run(command: List[str], path: str, lines: Sequence[str], out: str) -> List[str]:
-    """The lines that a program prints that runs a script on a track and writes a file."""
+def _run(command: List[str], path: str, lines: Sequence[str], out: str) -> Tuple[List[str], str]:
+    """The lines that a program prints that runs a script on a track and writes a file, and what it says on the standard error."""
     with temporary_script("".join(line + "\n" for line in lines)) as script:
         try:
             done = subprocess.run([*command, "--out", out, path], stdin=script, capture_output=True, check=False)
@@ -176,12 +198,12 @@ def _run(command: List[str], path: str, lines: Sequence[str], out: str) -> List[
     said = done.stderr.decode(errors="replace").strip()
     if done.returncode not in (0, 1) or not os.path.exists(out):
         raise Problem("%s (it writes %s)" % (said or "%s ended with status %d" % (command[0], done.returncode), out))
-    return done.stdout.decode(errors="replace").splitlines()
+    return done.stdout.decode(errors="replace").splitlines(), said
 
 
-def _refused_by_guard(lines: Sequence[str], kept: Sequence[str]) -> int:
+def _refused_by_guard(lines: Sequence[str], kept: Sequence[str], reasons: Sequence[Optional[Reason]]) -> int:
     """How many lines of the script it printed as comments; its own comments, which say why, are passed over."""
-    printed = (line for line in kept if not line.startswith(REASONS))
+    printed = (line for line, reason in zip(kept, reasons) if not reason)
     return sum(not line.startswith("#") and line not in ("begin", "end") and after == "# " + line
                for line, after in zip(lines, printed))
 

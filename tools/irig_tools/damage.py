@@ -80,7 +80,7 @@ def _rest(listing: Listing, findings: Findings) -> List[Damage]:
 
 def _asked(remark: Remark) -> str:
     """What is seen, and whether the recording is another one than was said."""
-    return remark.seen + ("; " + remark.choice if remark.choice.startswith("is it another") else "")
+    return remark.seen + ("; " + remark.choice if remark.is_question else "")
 
 
 def _of_clock(clock: Clock) -> List[Damage]:

@@ -25,6 +25,7 @@ class Remark:
     choice: str = ""
     name: str = ""  # its frame and element, if they are to be named
     kind: DamageKind = DamageKind.OTHER
+    is_question: bool = False  # the choice asks whether the recording is another one than was said
 
     def comment(self) -> str:
         """A step of the recorder's clock stays; of all else nothing decides what is right."""

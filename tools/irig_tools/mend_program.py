@@ -211,7 +211,7 @@ def apply(given: Given, track: Opened, editor: Editor, script: List[Repair], pro
 def reasons_of(track: Opened, script: List[Repair], refused: Refused) -> List[str]:
     """Why something is left: repairs that are not kept, steps that stay, what nothing decides, and a file that is cut."""
     left = [comment for repair in script if not refused.drops(repair) for comment in left_by(repair)]
-    return [reason.removeprefix("# ") for reason in refused.reasons] + left + cut_notes(track)
+    return [reason.text for reason in refused.reasons] + left + cut_notes(track)
 
 
 def left_by(repair: Repair) -> List[str]:
@@ -227,7 +227,8 @@ def drawing(given: Given, track: Opened, script: List[Repair], seen: Tuple[Seen,
     changes = changes_of(track, before.listing, repaired)
     changes.command = again(names, track, before.listing)
     sheet = sheet_of(os.path.basename(given.names[0]), wire_or_none(track), before, script, after.listing, changes)
-    return page(of_program(sheet, COMMAND.name, "%s: %s" % (name_of(given.names[0]), done.text())))
+    noted = replace(sheet, notes=(*sheet.notes, *done.notes))
+    return page(of_program(noted, COMMAND.name, "%s: %s" % (name_of(given.names[0]), done.text())))
 
 
 def report(given: Given, done: Summary, code: Code, reasons: Sequence[str]) -> None:
@@ -237,7 +238,7 @@ def report(given: Given, done: Summary, code: Code, reasons: Sequence[str]) -> N
     if given.has(JSON):
         stream.write(json_lines([as_object(done, code, reasons)]))
         return
-    for line in (done.text(), *(reason for reason in reasons if reason not in ENDS_WITHIN.values())):
+    for line in (done.text(), *done.notes, *(reason for reason in reasons if reason not in ENDS_WITHIN.values())):
         stream.write("%s: %s\n" % (given.names[0].translate(ESCAPED), line))
 
 

@@ -40,12 +40,16 @@ def remarks(track: Track, times: Times) -> List[Remark]:
 def of_no_frame(track: Track) -> Remark:
     """What is said if no part of the recording has a frame that can be read; the track is its first part."""
     seen = "no frame can be read with expression %d, and only position identifiers are looked at" % track.layout.expression
-    return Remark(track.rises[track.runs[0].first], seen, OTHER_EXPRESSION, kind=DamageKind.FORMAT)
+    return _another(track, seen)
+
+
+def _another(track: Track, seen: str) -> Remark:
+    return Remark(track.rises[track.runs[0].first], seen, OTHER_EXPRESSION, kind=DamageKind.FORMAT, is_question=True)
 
 
 def _of_expression(track: Track, times: Times) -> List[Remark]:
     seen = "many frames have ones that expression %d does not use" % track.layout.expression
-    return [Remark(track.rises[track.runs[0].first], seen, OTHER_EXPRESSION, kind=DamageKind.FORMAT)] if times.doubtful else []
+    return [_another(track, seen)] if times.doubtful else []
 
 
 def _of_elsewhere(track: Track) -> List[Remark]:
