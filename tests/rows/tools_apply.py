@@ -361,13 +361,7 @@ def guesses():
     def holds():
         status, printed, _ = run("irig_mend", ["--expression=4", "--apply", "new.vcd", "rec.vcd"])
         lines = printed.decode().splitlines()
-        yield same("a guess", (status, "1 repaired (1 by a guess), 0 undecided" in lines[0], len(lines)), (0, True, 3))
-        yield same("its control functions", lines[1], "rec.vcd: control functions of 1 frame are not in the recording")
-        for words, wanted in ((["--page", "new.html"], 1), (["--move"], None)):
-            printed = run("irig_mend", ["--expression=4", "--json", *words, "--apply", "new.vcd", "rec.vcd"])[1]
-            yield same("for programs", json.loads(printed)["summary"]["filled"], wanted)
-        with open("new.html", encoding="utf-8") as file:
-            yield same("on the page", "<p>control functions of 1 frame are not in the recording</p>" in file.read(), True)
+        yield same("a guess", (status, "1 repaired (1 by a guess), 0 undecided" in lines[0], len(lines)), (0, True, 2))
         os.symlink(os.path.abspath(os.environ["IRIG_ED"]), "irig_ed")
         with open("irig_guard", "w", encoding="ascii") as file:
             file.write('#!/bin/sh\nwhile [ "$1" != --out ]; do shift; done; cp "$3" "$2"\n'
@@ -379,6 +373,23 @@ def guesses():
         yield same("a guess that is dropped", (lines[0].startswith(text), lines[1:]), (True, ["rec.vcd: not kept: not a repair"]))
 
     return in_folder(lambda: list(holds()), rec=damages.dump(recorded(lost_function), END))
+
+
+def filled():
+    """How many frames have control functions that are not in the recording: in a line, on the page and for programs."""
+    def lost(pulses):
+        pulses.pop(364)
+
+    def holds():
+        lines = run("irig_mend", ["--expression=4", "--apply", "new.vcd", "rec.vcd"])[1].decode().splitlines()
+        yield same("a frame that was filled in", lines[1:], ["rec.vcd: control functions of 1 frame are not in the recording"])
+        for words, wanted in ((["--page", "new.html"], 1), (["--move"], None)):
+            printed = run("irig_mend", ["--expression=4", "--json", *words, "--apply", "new.vcd", "rec.vcd"])[1]
+            yield same("for programs", json.loads(printed)["summary"]["filled"], wanted)
+        with open("new.html", encoding="utf-8") as file:
+            yield same("on the page", "<p>control functions of 1 frame are not in the recording</p>" in file.read(), True)
+
+    return in_folder(lambda: list(holds()), rec=damages.dump(recorded(lost), END))
 
 
 REFUSED = (
@@ -484,4 +495,4 @@ def cases(top):
     return [*(case("apply: " + row[0], applied, *row) for row in APPLIED),
             *(case("apply: " + part.__name__, part)
               for part in (into, options_of_a_script, late_times, saved, page_alone, one_line, cut, growing, upside_down, steady,
-                           guarded, guesses, refused, objects, kinds))]
+                           guarded, guesses, filled, refused, objects, kinds))]

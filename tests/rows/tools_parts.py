@@ -695,20 +695,20 @@ def of_guard():
     refusals = [text for text in texts if re.fullmatch("E[0-9]+ .*", text)]
     known = [words.NOT_KEPT, *words.OF_A_FRAME, words.UNSUPPORTED, *words.OF_NO_FRAME, words.REFUSED_BY_EDITOR]
     yield same("each reason", sorted(set(texts) - set(refusals)), sorted(known))
-    yield same("each refusal", [words.reason_of(words.NOT_KEPT + words.REFUSED_BY_EDITOR + each) for each in refusals],
+    yield same("each refusal", [words.guard_reason(words.NOT_KEPT + words.REFUSED_BY_EDITOR + each) for each in refusals],
                [words.Reason("not kept: refused: " + each) for each in refusals])
     yield same("nothing is fine", words.NOTHING_FINE in literals("irig_guarding/src/printing.rt"), True)
     said = words.FILLED % ("{filled}", "{frames}")
     yield same("frames that were filled", said in "".join(literals("irig_guard/src/statuses.rt")), True)
     lines = [line for row in guard.ROWS for line in row.wanted if line not in row.script and line.startswith(words.NOT_KEPT)]
-    yield same("when the frames begin", [words.reason_of(line).begin for line in lines],
+    yield same("when the frames begin", [words.guard_reason(line).begin for line in lines],
                [int(line.split(" at ")[1].split()[0].strip(":")) if " at " in line else None for line in lines])
-    yield same("of all frames", {words.reason_of(line).is_of_all for line in lines if words.UNSUPPORTED in line}, {True})
-    yield same("a line of the script", words.reason_of("# 702 force zero"), None)
+    yield same("of all frames", {words.guard_reason(line).is_of_all for line in lines if words.UNSUPPORTED in line}, {True})
+    yield same("a line of the script", words.guard_reason("# 702 force zero"), None)
     counts = [words.filled_frames("irig_guard: a: b.vcd: " + words.filled_text(many)) for many in (1, 12)]
     yield same("how many were filled", (counts, words.filled_frames("")), ([1, 12], 0))
     try:
-        words.reason_of(words.NOT_KEPT + "of another release")
+        words.guard_reason(words.NOT_KEPT + "of another release")
     except ValueError:
         yield same("a reason that is not known", True, True)
     else:

@@ -14,8 +14,8 @@ from .damage import Damage
 from .dump_header import Reader
 from .dump_choice import singles
 from .dump_source import Source
-from .editor import CUT_OFF, Listing, Problem, find_beside, find_editor, other_release
-from .guard_words import NOTHING_FINE, Reason, filled_frames, filled_text, reason_of
+from .editor import CUT_OFF, Info, Listing, Problem, find_beside, find_editor, info_of, other_release
+from .guard_words import NOTHING_FINE, Reason, filled_frames, filled_text, guard_reason
 from .joining import frames_at_fault, joined
 from .kinds import STEPS, DamageKind
 from .named import wire_named, wire_or_none
@@ -84,14 +84,19 @@ class Refused:
         """How many frames of both runs have such control functions; the second one is on what the first wrote."""
         return None if self.filled is None else self.filled + (after.filled or 0)
 
+    @property
+    def is_nothing(self) -> bool:
+        """Whether irig_guard kept all."""
+        return all(reason.text == NOTHING_FINE[2:] for reason in self.reasons) and not self.lines
+
     def drops_moves(self, script: Sequence[Repair]) -> bool:
         """Whether a repair that moves what follows was refused."""
         return any(self.drops(repair) for repair in script if repair.moves)
 
 
-def summary(before: Sequence[Damage], after: Sequence[Damage], script: Sequence[Repair], frames: Sequence[int],
+def summary(before: Sequence[Damage], after: Sequence[Damage], script: Sequence[Repair], frames: Sequence[FrameCount],
             refused: Refused) -> Summary:
-    """Counts; `before` and `after` are what irig_damage finds, and `frames` how many are sound. What is undecided are the comments that
+    """Counts; `before` and `after` are what irig_damage finds, and `frames` those of both tracks. What is undecided are the comments that
     say so, a guess is a place that is repaired by one: not if it is dropped."""
     found, there = (sum(not each.is_remark for each in seen) for seen in (before, after))
     steps = sum(each.kind in STEPS for each in after)
@@ -100,7 +105,7 @@ def summary(before: Sequence[Damage], after: Sequence[Damage], script: Sequence[
     guesses = [each for each in script if each.edits and each.undecided and not refused.drops(each)]
     guessed = min(repaired, _places_of(guesses, [each for each in before if not each.is_remark]))
     left = max(0, there - steps - undecided)
-    return Summary(found, repaired, undecided, left, steps, guessed, refused.filled, refused.lines, frames[0], frames[1])
+    return Summary(found, repaired, undecided, left, steps, guessed, refused.filled, refused.lines, frames[0].sound, frames[1].sound)
 
 
 def _places_of(repairs: Sequence[Repair], damages: Sequence[Damage]) -> int:
@@ -174,7 +179,7 @@ def _run_guard(command: List[str], path: str, script: Sequence[Repair], out: str
 
 def _reason(program: str, line: str) -> Optional[Reason]:
     try:
-        return reason_of(line)
+        return guard_reason(line)
     except ValueError as error:
         raise other_release(program, line.encode()) from error
 
@@ -208,14 +213,22 @@ def _refused_by_guard(lines: Sequence[str], kept: Sequence[str], reasons: Sequen
                for line, after in zip(lines, printed))
 
 
-def sound_frames(options: Sequence[str], path: str) -> int:
-    """How many frames of a track are fine."""
-    with temporary_script("frames\n") as script:
+@dataclass(frozen=True)
+class FrameCount:
+    """What the editor says of a track, and how many frames of it are fine."""
+
+    info: Info
+    sound: int
+
+
+def frames_of(options: Sequence[str], path: str) -> FrameCount:
+    with temporary_script("info\nframes\n") as script:
         done = subprocess.run([find_editor(), *options, path], stdin=script, stdout=subprocess.PIPE,
                               stderr=subprocess.DEVNULL, check=False)
     if done.returncode:
         raise Problem(CUT_OFF)
-    return sum(line.endswith(b" fine") for line in done.stdout.splitlines())
+    first, *lines = done.stdout.splitlines()
+    return FrameCount(info_of(first.split()), sum(line.endswith(b" fine") for line in lines))
 
 
 @dataclass

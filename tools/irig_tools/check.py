@@ -14,7 +14,7 @@ from typing import Dict, Iterator, List, NamedTuple, Optional, Sequence, Tuple
 
 from . import limits
 from .editor import Listing
-from .interval import breaks, distances
+from .interval import breaks
 from .layout import Layout
 from .moments import CENTURY, DAY, Calendar
 from .parity import Rule
@@ -61,7 +61,7 @@ class Frames:
 
     def __init__(self, listing: Listing, calendar: Calendar, moved: Moved) -> None:
         layout, interval = calendar.layout, calendar.layout.interval
-        broken_at = breaks(distances(listing.rises), interval, limits.IN_STEP * interval)
+        broken_at = breaks(listing.apart, interval, limits.IN_STEP * interval)
         found: Dict[Microseconds, Frame] = {}
         for match in MARKED.finditer(listing.classes):
             marker = match.start() + 1
@@ -119,7 +119,7 @@ class Check:
             return False
         by_rule = self.rule is not None and self.rule.holds(new.text) and not self.rule.holds(frame.text)
         free = self.layout.control if self.layout.steady or by_rule else ()
-        return all(a == b or element in free for element, (a, b) in enumerate(zip(frame.text, new.text)))
+        return frame.text == new.text or all(a == b or element in free for element, (a, b) in enumerate(zip(frame.text, new.text)))
 
     def _is_trusted(self, frame: Frame) -> bool:
         """Whether it has the time of a frame next to it, or neither those next to it nor those of the result agree on

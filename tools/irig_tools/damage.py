@@ -51,7 +51,8 @@ def look(editor: Editor, progress: Progress, steady: bool = False, grid: float =
     found: List[Damage] = []
     script: List[Repair] = []
     seen: List[Tuple[Listing, Findings]] = []
-    for listing, findings in looks(lambda: editor.ask([each.lines() for each in script]), progress, script, steady, grid=grid):
+    asked = looks(editor, lambda: editor.ask([each.lines() for each in script]), progress, script, steady, grid=grid)
+    for listing, findings in asked:
         seen.append((listing, findings))
         if not findings.whole or listing.refused:
             found += _rest(listing, findings)

@@ -32,7 +32,7 @@ class Reason(NamedTuple):
     is_of_all: bool = False  # it is because of all frames
 
 
-def reason_of(line: str) -> Optional[Reason]:
+def guard_reason(line: str) -> Optional[Reason]:
     """The reason that a line of the guarded script is; none if it is a line of the script. A reason that is not known is a ValueError."""
     if line == NOTHING_FINE:
         return Reason(line[2:])

@@ -12,7 +12,7 @@ from .again import Names, again
 from .analysis import START, examine
 from .changes import changes_of, find_differ
 from .command import kept, run, unchanged
-from .apply import Code, Refused, Summary, Target, as_object, code_of, find_guard, run_script, sound_frames, summary
+from .apply import Code, Refused, Summary, Target, as_object, code_of, find_guard, frames_of, run_script, summary
 from .cut_end import cut_notes, is_cut, note_if_cut
 from .damage import Seen, look
 from .damage_program import say_notes
@@ -196,8 +196,10 @@ def apply(given: Given, track: Opened, editor: Editor, script: List[Repair], pro
         command = [find_guard(), *["--moved"] * given.has(MOVE), *track.code, *["--save"] * given.has(SAVE)]
         refused = once_more(script, refused, lambda: propose(Editor([*track.code, repaired]), progress, given.has(STEADY), given.has(MOVE)),
                             command, repaired, before.listing.kind)
-        after = look(Editor([*track.code, repaired]), progress, given.has(STEADY), before.findings.grid)
-        frames = sound_frames(track.options, track.path), sound_frames(track.code, repaired)
+        frames, result = (frames_of(track.options, track.path), frames_of(track.code, repaired)), Editor([*track.code, repaired])
+        if refused.is_nothing:  # it is what the last look of the proposal was at
+            result.knows(editor, [repair.lines() for repair in script], frames[1].info)
+        after = look(result, progress, given.has(STEADY), before.findings.grid)
         done = summary(before.damages, after.damages, script, frames, refused)
         if given.has(PAGE_OF_REPAIRS):
             drawn = drawing(given, track, script, (before, after, done), repaired)
