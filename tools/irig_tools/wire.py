@@ -2,7 +2,7 @@
 from __future__ import annotations
 
 from dataclasses import dataclass, field
-from typing import IO, List, Optional, Sequence
+from typing import IO, List, Optional, Sequence, Tuple
 
 from .dump_body import Body, Wanted
 from .dump_choice import Signal, choose
@@ -42,6 +42,11 @@ class Report:
     length: int = 0  # in microseconds
     edges: int = 0
     size: int = 0
+
+    def over(self) -> List[Tuple[str, int, int]]:
+        """What it has more of than the editor reads."""
+        most = ("microseconds", self.length, LONGEST_TIME), ("edges", self.edges, MOST_EDGES), ("bytes", self.size, MOST_BYTES)
+        return [each for each in most if each[1] > each[2]]
 
 
 def first_of(body: Body, unit: Unit) -> int:
@@ -93,6 +98,15 @@ class Writer:
         """One change, if it is one up to the end."""
         if letter != self.letter and (self.wish.end is None or time <= self.wish.end):
             self._change(self.place(time, body), letter)
+
+    def take_pulses(self, times: Sequence[int], pulse: str) -> None:
+        """A rise, a fall and so on, each at a later time; something was written before, and there is no end."""
+        self.flush()
+        offset, factor = self.offset or 0, self.unit.factor
+        written = times if not offset and factor == 1 else [(time - offset) * factor for time in times]
+        self.lines = [(pulse * (len(times) // 2) % tuple(written))[:-1]]
+        self.edges += len(times)
+        self.letter, self.at = "0", written[-1]
 
     def finish(self, body: Body) -> None:
         """What comes after the last change."""
@@ -200,12 +214,9 @@ class Extract:
         report = self.report
         report.length = writer.at * writer.unit.femtoseconds // MICROSECOND
         report.edges, report.size = writer.edges, writer.size
-        most = ("microseconds", report.length, LONGEST_TIME), ("edges", report.edges, MOST_EDGES), (
-            "bytes", report.size, MOST_BYTES)
-        for what, has, limit in most:
-            if has > limit:
-                text = "it has %d %s, and irig_ed reads at most %d: take a part by --from and --to"
-                report.doubtful.append(text % (has, what, limit))
+        for what, has, limit in report.over():
+            text = "it has %d %s, and irig_ed reads at most %d: take a part by --from and --to"
+            report.doubtful.append(text % (has, what, limit))
 
 
 def extract_all(path: str, number: int, extracts: Sequence[Extract]) -> None:
