@@ -324,7 +324,8 @@ def steady():
         found = text_of("new.vcd").partition("$dumpvars")[2]
         edges = [int(word[1:]) for word in found.split() if word[0] == "#"]
         wanted = [edge for pulse in recorded() for edge in pulse if 0 < edge < END]
-        yield same("--steady", (status, len(printed.splitlines()), said), (0, 1, ""))
+        yield same("--steady", (status, printed.splitlines()[1:], said),
+                   (0, [b"rec.vcd: control functions of 1 frame are not in the recording"], ""))
         yield same("--steady, edges", [edge for edge in edges if edge < END], wanted)
 
     return in_folder(lambda: list(holds()), rec=damages.dump(recorded(function), END))
@@ -372,6 +373,23 @@ def guesses():
         yield same("a guess that is dropped", (lines[0].startswith(text), lines[1:]), (True, ["rec.vcd: not kept: not a repair"]))
 
     return in_folder(lambda: list(holds()), rec=damages.dump(recorded(lost_function), END))
+
+
+def filled():
+    """How many frames have control functions that are not in the recording: in a line, on the page and for programs."""
+    def lost(pulses):
+        pulses.pop(364)
+
+    def holds():
+        lines = run("irig_mend", ["--expression=4", "--apply", "new.vcd", "rec.vcd"])[1].decode().splitlines()
+        yield same("a frame that was filled in", lines[1:], ["rec.vcd: control functions of 1 frame are not in the recording"])
+        for words, wanted in ((["--page", "new.html"], 1), (["--move"], None)):
+            printed = run("irig_mend", ["--expression=4", "--json", *words, "--apply", "new.vcd", "rec.vcd"])[1]
+            yield same("for programs", json.loads(printed)["summary"]["filled"], wanted)
+        with open("new.html", encoding="utf-8") as file:
+            yield same("on the page", "<p>control functions of 1 frame are not in the recording</p>" in file.read(), True)
+
+    return in_folder(lambda: list(holds()), rec=damages.dump(recorded(lost), END))
 
 
 REFUSED = (
@@ -425,8 +443,8 @@ def objects():
         yield same("its script", found[1]["script"], [line for line in lines if line[0] != "#"])
         done = json.loads(run("irig_mend", ["--expression=4", "--json", "--apply", "new.vcd", "rec.vcd"])[1])
         yield same("the summary", done["summary"], {
-            "found": 2, "repaired": 1, "undecided": 0, "left": 0, "steps": 1, "guessed": 0, "refused": 0, "sound_before": 5,
-            "sound_after": 6})
+            "found": 2, "repaired": 1, "undecided": 0, "left": 0, "steps": 1, "guessed": 0, "filled": 0, "refused": 0,
+            "sound_before": 5, "sound_after": 6})
         yield same("what irig_time needs", [done[name] for name in ("recording", "wire", "format", "expression")],
                    ["rec.vcd", "code", "B", 4])
         yield same("why something is left", [each.partition(":")[0] for each in done["reasons"]], ["stays"])
@@ -477,4 +495,4 @@ def cases(top):
     return [*(case("apply: " + row[0], applied, *row) for row in APPLIED),
             *(case("apply: " + part.__name__, part)
               for part in (into, options_of_a_script, late_times, saved, page_alone, one_line, cut, growing, upside_down, steady,
-                           guarded, guesses, refused, objects, kinds))]
+                           guarded, guesses, filled, refused, objects, kinds))]

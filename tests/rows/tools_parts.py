@@ -10,7 +10,7 @@ import re
 
 from built import TOP
 from cases import case
-from irig_tools import analysis, edit, limits, mend, phases, polarity, slots, spans, steadiness, threshold, zones
+from irig_tools import analysis, edit, guard_words, limits, mend, phases, polarity, slots, spans, steadiness, threshold, zones
 from irig_tools.copies import take_out
 from irig_tools.editor import Listing
 from irig_tools.frames import Times
@@ -21,7 +21,7 @@ from irig_tools.pieces import pieced
 from irig_tools.track import Track
 from irig_tools.votes import Votes
 from reference import timecode
-from rows import tools
+from rows import guard, tools
 
 NOON = tools.DAY * timecode.DAY + tools.NOON  # of the first frame, in hundredths of a second
 
@@ -683,6 +683,38 @@ def of_threshold():
     yield same("a sound recording", threshold.level(listing_of(tools.recording()), Layout("B", 4)), [])
 
 
+def literals(path):
+    """The texts of bytes in a source of the programs."""
+    with open(os.path.join(TOP, "crates", path), encoding="utf-8") as file:
+        return re.findall(r'b?"([^"]*)"', re.sub("//.*", "", file.read()))
+
+
+def of_guard():
+    """The tools know each text that irig_guard can say, and no other, and read each reason of its worked rows."""
+    words, texts = guard_words, literals("irig_guarding/src/reason_text.rt")
+    refusals = [text for text in texts if re.fullmatch("E[0-9]+ .*", text)]
+    known = [words.NOT_KEPT, *words.OF_A_FRAME, words.UNSUPPORTED, *words.OF_NO_FRAME, words.REFUSED_BY_EDITOR]
+    yield same("each reason", sorted(set(texts) - set(refusals)), sorted(known))
+    yield same("each refusal", [words.guard_reason(words.NOT_KEPT + words.REFUSED_BY_EDITOR + each) for each in refusals],
+               [words.Reason("not kept: refused: " + each) for each in refusals])
+    yield same("nothing is fine", words.NOTHING_FINE in literals("irig_guarding/src/printing.rt"), True)
+    said = words.FILLED % ("{filled}", "{frames}")
+    yield same("frames that were filled", said in "".join(literals("irig_guard/src/statuses.rt")), True)
+    lines = [line for row in guard.ROWS for line in row.wanted if line not in row.script and line.startswith(words.NOT_KEPT)]
+    yield same("when the frames begin", [words.guard_reason(line).begin for line in lines],
+               [int(line.split(" at ")[1].split()[0].strip(":")) if " at " in line else None for line in lines])
+    yield same("of all frames", {words.guard_reason(line).is_of_all for line in lines if words.UNSUPPORTED in line}, {True})
+    yield same("a line of the script", words.guard_reason("# 702 force zero"), None)
+    counts = [words.filled_frames("irig_guard: a: b.vcd: " + words.filled_text(many)) for many in (1, 12)]
+    yield same("how many were filled", (counts, words.filled_frames("")), ([1, 12], 0))
+    try:
+        words.guard_reason(words.NOT_KEPT + "of another release")
+    except ValueError:
+        yield same("a reason that is not known", True, True)
+    else:
+        yield same("a reason that is not known", False, True)
+
+
 def of_limits():
     """Each cost and limit is used, has a comment, and is written as a number nowhere else."""
     with open(limits.__file__, encoding="utf-8") as file:
@@ -706,4 +738,4 @@ def cases():
         ("votes", of_votes),
         ("spans", of_spans), ("pieces", of_pieces), ("leap seconds", of_leap), ("moments", of_moments), ("times", of_times),
         ("contrary elements", of_contrary), ("steadiness", of_steadiness), ("copies", of_copies), ("cuts", of_cuts),
-        ("edits", of_edits), ("checks", of_checks), ("threshold", of_threshold), ("limits", of_limits))]
+        ("edits", of_edits), ("checks", of_checks), ("threshold", of_threshold), ("words of irig_guard", of_guard), ("limits", of_limits))]

@@ -9,6 +9,7 @@ from unittest import mock
 
 from built import TOP
 from cases import case
+from irig_tools import search
 from reference import timecode
 from rows.in_process import run
 
@@ -160,7 +161,8 @@ def piped(top):
 
 
 def passes():
-    """A dump is read twice, with several wires that carry time code, and if it names no unit."""
+    """A dump is read once, with several wires that carry time code, and if it names no unit; twice if they have too many edges to keep
+    them all, with the same answer."""
     wires = "".join("$var wire 1 %s wire_%s $end " % (code, code) for code in "abcdefgh")
     text = dump(*B, unit="", scale=1000, declared=wires + "$var wire 1 ! irig $end")
     text = "".join(line.replace("0!", "0! " + " ".join("0" + code for code in "abcdefgh")).replace(
@@ -169,12 +171,15 @@ def passes():
         path = os.path.join(folder, "one.vcd")
         with open(path, "w", encoding="ascii") as file:
             file.write(text)
-        opened = mock.Mock(side_effect=open)
-        with mock.patch("irig_tools.dump_source.open", opened, create=True):
-            _, printed, said = run("irig_what", [path])
-    shown = printed.decode()
-    good = opened.call_count == 2 and shown.count("expression 2: 4 of 4") == 8 and "1 ns makes time code of it" in shown
-    good or print("FAILED irig_what, passes: %d\n%s%s" % (opened.call_count, shown, said))
+        found = []
+        for most in (search.MOST_KEPT_EDGES, 2000):
+            opened = mock.Mock(side_effect=open)
+            with mock.patch("irig_tools.dump_source.open", opened, create=True), mock.patch.object(search, "MOST_KEPT_EDGES", most):
+                found.append((run("irig_what", [path]), opened.call_count))
+    (answer, _), (again, _) = found
+    shown, counts = answer[1].decode(), [count for _, count in found]
+    good = counts == [1, 2] and answer == again and shown.count("expression 2: 4 of 4") == 8 and "1 ns makes time code of it" in shown
+    good or print("FAILED irig_what, passes: %s\n%s%s" % (counts, shown, answer[2]))
     return good
 
 
@@ -201,5 +206,5 @@ def cases(top):
     parts = ["wire TOP.bench.irig (code $), upright, format A", "expression 2: 1 of 1", "109 12:34:56.70"]
     simulated = "a simulator's dump", verilator(top), [], 0, parts, 1
     return [*(case("what: " + row[0], row_holds, top, *row) for row in (*ROWS, simulated)),
-            case("what: in a pipe", piped, top), case("what: two passes", passes), case("what: silent wires", silent),
+            case("what: in a pipe", piped, top), case("what: one pass", passes), case("what: silent wires", silent),
             case("what: help", lambda: run("irig_what", ["--help"])[0] == 0)]

@@ -8,12 +8,12 @@ from . import limits
 from .confirmed import faults_of
 from .copies import settled, take_out
 from .edit import Edit, repair_of
-from .editor import Listing, Progress
+from .editor import Editor, Listing, Progress
 from .faults import Faults, Remark
 from .frames import Times
 from .interval import Clock, Run, share_in_step
 from .kinds import DamageKind
-from .layout import Layout
+from .layout import Layout, layout_of
 from .parity import Rule
 from .polarity import upside_down
 from .remarks import of_no_frame, remarks
@@ -22,7 +22,7 @@ from .slots import link, parts, sure_parts
 from .steps import Step, apart, cut_by_a_step, step_zones, turned
 from .threshold import level
 from .track import Track
-from .units import Hundredths, Microseconds, number_of
+from .units import ELEMENTS, Hundredths, Microseconds, number_of
 
 START = Microseconds(0)
 OTHER_WIRE = "is it another wire?"
@@ -68,10 +68,10 @@ class Findings:
         return next((part.times.rule for part in self.parts if part.times.rule), None)
 
     def remark(self, at: Microseconds, seen: str, choice: str, kind: DamageKind = DamageKind.FORMAT) -> None:
-        self.remarks.append(Remark(at, seen, choice, kind=kind))
+        self.remarks.append(Remark(at, seen, choice, kind=kind, is_question=kind == DamageKind.FORMAT))
 
 
-def looks(obeyed: Callable[[], Listing], progress: Progress, script: Sequence[Repair], steady: bool = False,
+def looks(editor: Editor, obeyed: Callable[[], Listing], progress: Progress, script: Sequence[Repair], steady: bool = False,
           move: bool = False, grid: float = 0) -> Iterator[Tuple[Listing, Findings]]:
     """The track as it is after a script, and what is found in it; again as long as the script has grown since. How far apart
     samples are stays as it was first seen: what is repaired knows none."""
@@ -80,7 +80,7 @@ def looks(obeyed: Callable[[], Listing], progress: Progress, script: Sequence[Re
         progress("reading the track" + (" as it is after %d repairs" % repairs if repairs else ""))
         listing = obeyed()
         progress("looking at %d pulses" % len(listing.rises))
-        findings = examine(listing, steady, move, grid)
+        findings = editor.judged(listing, examine, steady, move, grid)
         grid = findings.grid
         yield listing, findings
         if len(script) == repairs:
@@ -90,7 +90,7 @@ def looks(obeyed: Callable[[], Listing], progress: Progress, script: Sequence[Re
 def examine(listing: Listing, steady: bool = False, move: bool = False, grid: float = 0) -> Findings:
     """What is found; if `move`, a rest that comes late is to be moved, and else both sides of a step are parts of their
     own. `grid` is how far apart samples are, if it is known."""
-    findings = Findings(Layout(listing.kind, listing.expression, steady))
+    findings = Findings(layout_of(listing.kind, listing.expression, steady))
     interval, many = findings.layout.interval, len(listing.rises)
     upright, turned_share = (share_in_step(times, interval) for times in (listing.rises, listing.falls))
     if many < limits.SURE_RUN:
@@ -148,7 +148,7 @@ def _examine_parts(clock: Clock, findings: Findings, move: bool) -> None:
 
 def _remark_unsure(findings: Findings, clock: Clock, run: Run) -> None:
     """A run is left alone, since nothing decides its place."""
-    elements = " or ".join(map(str, sorted({run.place % 100, *run.others})))
+    elements = " or ".join(map(str, sorted({run.place % ELEMENTS, *run.others})))
     ends = number_of(run.first), number_of(run.last)
     seen = "pulses %d to %d may begin with element %s, and nothing decides which" % (*ends, elements)
     choice = "they are left, and what comes before and after them is mended for itself"

@@ -8,13 +8,14 @@ from bisect import bisect_left, bisect_right
 from contextlib import ExitStack
 from dataclasses import dataclass
 from functools import cached_property
-from typing import Dict, List, Optional, Sequence, Set
+from typing import Dict, List, Optional, Sequence, Set, Tuple
 
 from .damage import Damage
 from .dump_header import Reader
 from .dump_choice import singles
 from .dump_source import Source
-from .editor import CUT_OFF, Listing, Problem, find_beside, find_editor
+from .editor import CUT_OFF, Info, Listing, Problem, find_beside, find_editor, info_of, other_release
+from .guard_words import NOTHING_FINE, Reason, filled_frames, filled_text, guard_reason
 from .joining import frames_at_fault, joined
 from .kinds import STEPS, DamageKind
 from .named import wire_named, wire_or_none
@@ -26,7 +27,6 @@ from .temporary import temporary_script
 from .wire import Wish
 
 HEAD = b"$timescale 1 us $end\n"  # how a dump of the editor begins
-REASONS = "# not kept: ", "# nothing to go by: "  # how the comments of irig_guard begin
 
 
 @dataclass(frozen=True)
@@ -39,6 +39,7 @@ class Summary:
     left: int
     steps: int  # of the recorder's clock; they stay
     guessed: int  # of those that are repaired
+    filled: Optional[int]  # frames with control functions that are not in the recording; None if they were not counted
     refused: int  # lines that were refused
     sound_before: int
     sound_after: int
@@ -52,17 +53,23 @@ class Summary:
             self.sound_after)
 
     @property
+    def notes(self) -> List[str]:
+        """What is said after the sums: nothing in the recording supports these control functions."""
+        return [filled_text(self.filled)] if self.filled else []
+
+    @property
     def is_whole(self) -> bool:
         return not (self.undecided or self.left or self.steps or self.refused)
 
 
 @dataclass(frozen=True)
 class Refused:
-    """How many lines of a script were refused, the comments of irig_guard that say why, and all that it printed."""
+    """How many lines of a script were refused, why irig_guard did so, and all that it printed."""
 
     lines: int
-    reasons: Sequence[str] = ()
+    reasons: Sequence[Reason] = ()
     printed: Sequence[str] = ()
+    filled: Optional[int] = None  # frames with control functions that are not in the recording, if they are counted
 
     @cached_property
     def dropped(self) -> Set[str]:
@@ -73,14 +80,23 @@ class Refused:
         """Whether a repair is dropped: its lines are comments."""
         return bool(repair.edits) and self.dropped.issuperset(repair.edits)
 
+    def filled_with(self, after: Refused) -> Optional[int]:
+        """How many frames of both runs have such control functions; the second one is on what the first wrote."""
+        return None if self.filled is None else self.filled + (after.filled or 0)
+
+    @property
+    def is_nothing(self) -> bool:
+        """Whether irig_guard kept all."""
+        return all(reason.text == NOTHING_FINE[2:] for reason in self.reasons) and not self.lines
+
     def drops_moves(self, script: Sequence[Repair]) -> bool:
         """Whether a repair that moves what follows was refused."""
         return any(self.drops(repair) for repair in script if repair.moves)
 
 
-def summary(before: Sequence[Damage], after: Sequence[Damage], script: Sequence[Repair], frames: Sequence[int],
+def summary(before: Sequence[Damage], after: Sequence[Damage], script: Sequence[Repair], frames: Sequence[FrameCount],
             refused: Refused) -> Summary:
-    """Counts; `before` and `after` are what irig_damage finds, and `frames` how many are sound. What is undecided are the comments that
+    """Counts; `before` and `after` are what irig_damage finds, and `frames` those of both tracks. What is undecided are the comments that
     say so, a guess is a place that is repaired by one: not if it is dropped."""
     found, there = (sum(not each.is_remark for each in seen) for seen in (before, after))
     steps = sum(each.kind in STEPS for each in after)
@@ -88,7 +104,8 @@ def summary(before: Sequence[Damage], after: Sequence[Damage], script: Sequence[
     repaired = max(0, found - there)
     guesses = [each for each in script if each.edits and each.undecided and not refused.drops(each)]
     guessed = min(repaired, _places_of(guesses, [each for each in before if not each.is_remark]))
-    return Summary(found, repaired, undecided, max(0, there - steps - undecided), steps, guessed, refused.lines, frames[0], frames[1])
+    left = max(0, there - steps - undecided)
+    return Summary(found, repaired, undecided, left, steps, guessed, refused.filled, refused.lines, frames[0].sound, frames[1].sound)
 
 
 def _places_of(repairs: Sequence[Repair], damages: Sequence[Damage]) -> int:
@@ -153,8 +170,18 @@ def run_guarded(command: List[str], path: str, script: Sequence[Repair], out: st
 
 def _run_guard(command: List[str], path: str, script: Sequence[Repair], out: str) -> Refused:
     lines = lines_of_all(script)
-    printed = _run(command, path, lines, out)
-    return Refused(_refused_by_guard(lines, printed), [line for line in printed if line.startswith(REASONS)], printed)
+    printed, said = _run(command, path, lines, out)
+    reasons = [_reason(command[0], line) for line in printed]
+    is_counted = "--moved" not in command and NOTHING_FINE not in printed
+    return Refused(_refused_by_guard(lines, printed, reasons), [each for each in reasons if each], printed,
+                   filled_frames(said) if is_counted else None)
+
+
+def _reason(program: str, line: str) -> Optional[Reason]:
+    try:
+        return guard_reason(line)
+    except ValueError as error:
+        raise other_release(program, line.encode()) from error
 
 
 def _turning(script: Sequence[Repair]) -> int:
@@ -166,8 +193,8 @@ def lines_of_all(script: Sequence[Repair]) -> List[str]:
     return [line for each in script for line in each.lines()]
 
 
-def _run(command: List[str], path: str, lines: Sequence[str], out: str) -> List[str]:
-    """The lines that a program prints that runs a script on a track and writes a file."""
+def _run(command: List[str], path: str, lines: Sequence[str], out: str) -> Tuple[List[str], str]:
+    """The lines that a program prints that runs a script on a track and writes a file, and what it says on the standard error."""
     with temporary_script("".join(line + "\n" for line in lines)) as script:
         try:
             done = subprocess.run([*command, "--out", out, path], stdin=script, capture_output=True, check=False)
@@ -176,24 +203,32 @@ def _run(command: List[str], path: str, lines: Sequence[str], out: str) -> List[
     said = done.stderr.decode(errors="replace").strip()
     if done.returncode not in (0, 1) or not os.path.exists(out):
         raise Problem("%s (it writes %s)" % (said or "%s ended with status %d" % (command[0], done.returncode), out))
-    return done.stdout.decode(errors="replace").splitlines()
+    return done.stdout.decode(errors="replace").splitlines(), said
 
 
-def _refused_by_guard(lines: Sequence[str], kept: Sequence[str]) -> int:
+def _refused_by_guard(lines: Sequence[str], kept: Sequence[str], reasons: Sequence[Optional[Reason]]) -> int:
     """How many lines of the script it printed as comments; its own comments, which say why, are passed over."""
-    printed = (line for line in kept if not line.startswith(REASONS))
+    printed = (line for line, reason in zip(kept, reasons) if not reason)
     return sum(not line.startswith("#") and line not in ("begin", "end") and after == "# " + line
                for line, after in zip(lines, printed))
 
 
-def sound_frames(options: Sequence[str], path: str) -> int:
-    """How many frames of a track are fine."""
-    with temporary_script("frames\n") as script:
+@dataclass(frozen=True)
+class FrameCount:
+    """What the editor says of a track, and how many frames of it are fine."""
+
+    info: Info
+    sound: int
+
+
+def frames_of(options: Sequence[str], path: str) -> FrameCount:
+    with temporary_script("info\nframes\n") as script:
         done = subprocess.run([find_editor(), *options, path], stdin=script, stdout=subprocess.PIPE,
                               stderr=subprocess.DEVNULL, check=False)
     if done.returncode:
         raise Problem(CUT_OFF)
-    return sum(line.endswith(b" fine") for line in done.stdout.splitlines())
+    first, *lines = done.stdout.splitlines()
+    return FrameCount(info_of(first.split()), sum(line.endswith(b" fine") for line in lines))
 
 
 @dataclass

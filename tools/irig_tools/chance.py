@@ -7,7 +7,7 @@ from .edit import of_pulse
 from .edits import Item
 from .faults import Faults
 from .layout import READABLE
-from .units import PlaceNumber, PulseIndex, frame_of, place_in, plus, through
+from .units import ELEMENTS, PlaceNumber, PulseIndex, frame_of, place_in, plus, through
 from .zones import Zone
 
 
@@ -29,7 +29,7 @@ def _markers(faults: Faults, zone: Zone) -> List[PulseIndex]:
     if not (left and right and right.glued and right.first - left.last == zone.straight()):
         return []
     near = through(max(plus(left.first, 1), plus(left.last, -98)), left.last)
-    return [pulse for pulse in near if classes[pulse - 1] == "P" and READABLE.fullmatch(classes, pulse, pulse + 100)]
+    return [pulse for pulse in near if classes[pulse - 1] == "P" and READABLE.fullmatch(classes, pulse, pulse + ELEMENTS)]
 
 
 def _place_by_count(zone: Zone, pulse: PulseIndex) -> PlaceNumber:
@@ -40,7 +40,7 @@ def _place_by_count(zone: Zone, pulse: PulseIndex) -> PlaceNumber:
 
 def _other(faults: Faults, zone: Zone, marker: PulseIndex) -> Optional[PulseIndex]:
     """The first pulse, in a frame that shows a time, that is not of the time that its neighbours lead to."""
-    text, number = faults.track.classes[marker:marker + 100], frame_of(_place_by_count(zone, marker))
+    text, number = faults.track.classes[marker:marker + ELEMENTS], frame_of(_place_by_count(zone, marker))
     moment = faults.times.moment(number)
     if faults.layout.decode(text) is None or moment is None:
         return None

@@ -14,12 +14,12 @@ from typing import Dict, Iterator, List, NamedTuple, Optional, Sequence, Tuple
 
 from . import limits
 from .editor import Listing
-from .interval import breaks, distances
+from .interval import breaks
 from .layout import Layout
 from .moments import CENTURY, DAY, Calendar
 from .parity import Rule
 from .script import Repair
-from .units import Hundredths, Microseconds, plus
+from .units import ELEMENTS, Hundredths, Microseconds, plus
 
 MARKED = re.compile("P(?=P[01]{8}P(?:[01]{9}P){9})")
 
@@ -61,13 +61,13 @@ class Frames:
 
     def __init__(self, listing: Listing, calendar: Calendar, moved: Moved) -> None:
         layout, interval = calendar.layout, calendar.layout.interval
-        broken_at = breaks(distances(listing.rises), interval, limits.IN_STEP * interval)
+        broken_at = breaks(listing.apart, interval, limits.IN_STEP * interval)
         found: Dict[Microseconds, Frame] = {}
         for match in MARKED.finditer(listing.classes):
             marker = match.start() + 1
-            text, broken = listing.classes[marker:marker + 100], bisect_left(broken_at, marker)
+            text, broken = listing.classes[marker:marker + ELEMENTS], bisect_left(broken_at, marker)
             at, told = moved.time(listing.rises[marker]), layout.shown(text)
-            if at is not None and told and broken_at[broken] >= marker + 100:
+            if at is not None and told and broken_at[broken] >= marker + ELEMENTS:
                 found[at] = Frame(at, calendar.moment_of(told), text)
         self.all = [found[at] for at in sorted(found)]
 
@@ -110,7 +110,7 @@ class Check:
                 yield Harm(begin, begin, "the frames before and after it would not follow each other")
 
     def _harm(self, frame: Frame, seen: str) -> Harm:
-        return Harm(plus(frame.at, -round(self.interval)), plus(frame.at, round(100 * self.interval)), seen)
+        return Harm(plus(frame.at, -round(self.interval)), plus(frame.at, round(ELEMENTS * self.interval)), seen)
 
     def _stays(self, frame: Frame) -> bool:
         """Whether it is there after the script, but for control functions that are said to be steady, or that their rule says."""
@@ -119,7 +119,7 @@ class Check:
             return False
         by_rule = self.rule is not None and self.rule.holds(new.text) and not self.rule.holds(frame.text)
         free = self.layout.control if self.layout.steady or by_rule else ()
-        return all(a == b or element in free for element, (a, b) in enumerate(zip(frame.text, new.text)))
+        return frame.text == new.text or all(a == b or element in free for element, (a, b) in enumerate(zip(frame.text, new.text)))
 
     def _is_trusted(self, frame: Frame) -> bool:
         """Whether it has the time of a frame next to it, or neither those next to it nor those of the result agree on
@@ -154,4 +154,4 @@ class Check:
         stepped = bisect_left(self.steps, low.at) != bisect_left(self.steps, high.at)
         most = limits.AT_STEP if stepped else min(limits.AT_STEP, limits.ON_CLOCK + self.drift * elements)
         years = (0, CENTURY) if self.layout.with_year else (0, 365 * DAY, 366 * DAY)
-        return any(abs(elements - 100 * (apart + year) / self.layout.period) <= most for year in years)
+        return any(abs(elements - ELEMENTS * (apart + year) / self.layout.period) <= most for year in years)

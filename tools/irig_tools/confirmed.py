@@ -9,7 +9,7 @@ from .kinds import DamageKind
 from .layout import NAMES
 from .parity import Rule
 from .track import Track
-from .units import FrameNumber, PlaceNumber, place_in
+from .units import ELEMENTS, FrameNumber, PlaceNumber, place_in
 
 BY_HAND = "force the one that is wrong"
 OTHER = {"0": "1", "1": "0"}
@@ -74,7 +74,7 @@ class _Frame:
     def _repair(self, suspects: List[PlaceNumber]) -> None:
         """The only one that is not as in the frames next to it is damage."""
         if len(suspects) == 1:
-            self._take(suspects[0], OTHER[self.text[suspects[0] % 100]])
+            self._take(suspects[0], OTHER[self.text[suspects[0] % ELEMENTS]])
         else:
             told = NAMES[self.rule.follows(self.text)]
             self._say("element %d: by the elements before it this has to be a %s" % (self.rule.element, told), BY_HAND)
@@ -102,7 +102,7 @@ class _Frame:
 
     def _leave(self) -> None:
         """Nothing of the frame is changed."""
-        faults, own = self.faults, range(place_in(self.number), place_in(self.number) + 100)
+        faults, own = self.faults, range(place_in(self.number), place_in(self.number) + ELEMENTS)
         faults.wanted = {place: target for place, target in faults.wanted.items() if place not in own}
         self._say("reads well by itself, and another time than the frames next to it lead to", LEFT_FRAME)
 

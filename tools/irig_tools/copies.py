@@ -14,7 +14,7 @@ from .kinds import DamageKind
 from .script import Repair
 from .spans import Span
 from .track import Track
-from .units import PulseIndex, frame_of, place_in, plus
+from .units import ELEMENTS, PulseIndex, frame_of, place_in, plus
 from .zones import Zone
 
 
@@ -34,10 +34,10 @@ def settled(track: Track, times: Times) -> List[Run]:
     stretches = track.stretches()
     for left, right in zip(stretches, stretches[1:]):
         frames, skipped = times.frames_between(left, right), track.zone_before(right[0]).skipped()
-        if frames is not None and skipped + 100 * frames > 0:
-            gone[right[0].first] = skipped + 100 * frames
-            if frames and skipped + 100 * frames <= limits.LONGEST_CUT:
-                on[right[0].first] = 100 * frames
+        if frames is not None and skipped + ELEMENTS * frames > 0:
+            gone[right[0].first] = skipped + ELEMENTS * frames
+            if frames and skipped + ELEMENTS * frames <= limits.LONGEST_CUT:
+                on[right[0].first] = ELEMENTS * frames
     on = on or _late_frames(track, times)
     moved, found = 0, []
     for run in track.runs:
@@ -57,9 +57,9 @@ def _late_frames(track: Track, times: Times) -> Dict[PulseIndex, int]:
             zone for zone in track.zones if before.last <= frame_of(zone.first) and frame_of(zone.last) <= after.first
         ]
         rights = [zone.right for zone in between if zone.right and not zone.right.glued]
-        late = [run for run in rights if run.step > 100 * frames > 0]
+        late = [run for run in rights if run.step > ELEMENTS * frames > 0]
         if late:
-            found[late[-1].first] = -100 * frames
+            found[late[-1].first] = -ELEMENTS * frames
     return found
 
 
@@ -94,9 +94,9 @@ def _copied(track: Track, zone: Zone, many: int) -> Optional[PulseIndex]:
 
 def again_within(track: Track, times: Times, before: Span, after: Span) -> Optional[Again]:
     """Whether the times of two spans say that whole frames are there twice, and the elements do; None if they do not."""
-    many = 100 * times.calendar.apart(after.base, before.base) // track.layout.period
+    many = ELEMENTS * times.calendar.apart(after.base, before.base) // track.layout.period
     low = max(place_in(before.last), plus(track.first, many))
-    high = min(place_in(after.first, 99), plus(track.last, -many))
+    high = min(place_in(after.first, ELEMENTS - 1), plus(track.last, -many))
     if many <= 0 or low >= high or max(many, high - low) > limits.LONGEST_CUT:
         return None
     text, begin = track.told, low - track.first
@@ -107,7 +107,7 @@ def again_within(track: Track, times: Times, before: Span, after: Span) -> Optio
     first, rest = track.pulses_at(place), track.pulses_at(plus(place, many))
     if least > many // limits.UNLIKE_IN_COPY or len(first) != 1 or len(rest) != 1 or rest[0] - first[0] != many:
         return None
-    return Again(first[0], many, min(faults[-low % 100:: 100], default=9) > least + 1)
+    return Again(first[0], many, min(faults[-low % ELEMENTS:: ELEMENTS], default=9) > least + 1)
 
 
 def without_copy(track: Track, again: Optional[Again]) -> Optional[Repair]:
@@ -131,7 +131,7 @@ def without_copy(track: Track, again: Optional[Again]) -> Optional[Repair]:
 def copy_between(track: Track, times: Times, left: List[Run], right: List[Run]) -> Optional[Again]:
     """The stretch that is as the one before it, between these runs; None if there is none."""
     frames, zone = times.frames_between(left, right), track.zone_before(right[0])
-    many = 0 if frames is None else -zone.skipped() - 100 * frames
+    many = 0 if frames is None else -zone.skipped() - ELEMENTS * frames
     first = _copied(track, zone, many) if 0 < many <= limits.LONGEST_CUT else None
     return None if first is None else Again(first, many)
 

@@ -16,7 +16,7 @@ CUT = 0.05  # of a cycle at the ends of a recording can be missing
 NEAR_LEVEL = 0.2  # of the way from low to high: the half cycles before and after a sharp step are that near
 WAITING = 15  # cycles that are decided with those after them
 FEWEST_CYCLES = 10  # cycles that have a low and a high amplitude
-ELEMENTS = 4  # elements that always have them; fewer are read by those of before
+FEWEST_ELEMENTS = 4  # elements that always have them; fewer are read by those of before
 FAST = 0.15  # cycles: the speed changes fast if that puts the phase so far off in half a window
 PART = 3  # there one in three of the cycles around says what the phase is ahead, since it is not the same over all of them
 
@@ -92,9 +92,9 @@ class Cycles:
         """The edges of the cycles; the last cycles wait for the next."""
         heights = [value.real for value in self.values]
         end = len(heights) - (0 if closes else WAITING)
-        if end <= self.known or len(heights) < (FEWEST_CYCLES if closes else ELEMENTS * self.element):
+        if end <= self.known or len(heights) < (FEWEST_CYCLES if closes else FEWEST_ELEMENTS * self.element):
             return
-        few = len(heights) - self.known < ELEMENTS * self.element and self.high > 0
+        few = len(heights) - self.known < FEWEST_ELEMENTS * self.element and self.high > 0
         low, high, noise = (self.low, self.high, self.noise) if few else levels_of(heights)
         if high < LEAST_RATIO * max(low, 0) or high <= 0:
             yield from self._end(self.known)

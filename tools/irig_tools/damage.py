@@ -12,7 +12,7 @@ from .grouping import grouped
 from .interval import Clock
 from .kinds import DamageKind
 from .script import Repair
-from .units import Microseconds, PlaceNumber, PulseIndex, frame_of, plus
+from .units import ELEMENTS, Microseconds, PlaceNumber, PulseIndex, frame_of, plus
 
 THE_WHOLE = "the whole recording"
 NO_FRAME = "pulses that belong to no frame"
@@ -51,7 +51,8 @@ def look(editor: Editor, progress: Progress, steady: bool = False, grid: float =
     found: List[Damage] = []
     script: List[Repair] = []
     seen: List[Tuple[Listing, Findings]] = []
-    for listing, findings in looks(lambda: editor.ask([each.lines() for each in script]), progress, script, steady, grid=grid):
+    asked = looks(editor, lambda: editor.ask([each.lines() for each in script]), progress, script, steady, grid=grid)
+    for listing, findings in asked:
         seen.append((listing, findings))
         if not findings.whole or listing.refused:
             found += _rest(listing, findings)
@@ -80,7 +81,7 @@ def _rest(listing: Listing, findings: Findings) -> List[Damage]:
 
 def _asked(remark: Remark) -> str:
     """What is seen, and whether the recording is another one than was said."""
-    return remark.seen + ("; " + remark.choice if remark.choice.startswith("is it another") else "")
+    return remark.seen + ("; " + remark.choice if remark.is_question else "")
 
 
 def _of_clock(clock: Clock) -> List[Damage]:
@@ -127,7 +128,7 @@ def _of_places(faults: Faults, group: Sequence[PlaceNumber]) -> List[Damage]:
         kind, seen = DamageKind.MISSING, "%d elements without a pulse" % empty
     else:
         kind, seen = DamageKind.STRETCH, "%d damaged elements, %d without a pulse" % (len(group), empty)
-    end = faults.name(last) if frame_of(first) != frame_of(last) else str(last % 100)
+    end = faults.name(last) if frame_of(first) != frame_of(last) else str(last % ELEMENTS)
     return [_of_stretch(faults, group, "%s to %s" % (faults.name(first), end), seen, kind)]
 
 

@@ -7,17 +7,20 @@ import subprocess
 import tempfile
 from contextlib import contextmanager
 from dataclasses import dataclass, field
-from functools import lru_cache
-from typing import IO, Callable, Iterator, List, Optional, Sequence, Set
+from functools import cached_property, lru_cache
+from itertools import islice
+from operator import sub
+from typing import IO, Any, Callable, Dict, Iterable, Iterator, List, Optional, Sequence, Set, Tuple, TypeVar, cast
 
 from .temporary import temporary_script
 from .units import Microseconds
 
-CLASSES = {b"zero": "0", b"one": "1", b"position": "P", b"bad": "b"}
+CLASSES = {b"zero": b"0", b"one": b"1", b"position": b"P", b"bad": b"b"}
 CUT_OFF = "irig_ed ended before its answer did"
-ANSWER_BLOCK = 1 << 22  # bytes that are read at once
+ANSWER_BLOCK = 1 << 16  # bytes that are read at once: what is made of more is not at hand in the fastest memory
 
 Progress = Callable[[str], None]
+Judgement = TypeVar("Judgement")
 
 
 class Problem(Exception):
@@ -45,6 +48,16 @@ class Listing:
     falls: List[Microseconds] = field(default_factory=list)
     classes: str = ""  # a letter each pulse: 0, 1, P, b
     refused: Set[int] = field(default_factory=set)  # which of the blocks, from 0, had a refused line
+
+    @property
+    def info(self) -> Info:
+        return Info(self.length, self.pulses, self.kind, self.expression)
+
+    @cached_property
+    def apart(self) -> Sequence[int]:
+        """From each rise to the next; those that are the same are one object, as they are millions."""
+        found = list(map(sub, islice(self.rises, 1, None), self.rises))
+        return list(map({each: each for each in set(found)}.__getitem__, found))
 
 
 def find_editor() -> str:
@@ -114,21 +127,50 @@ def other_release(program: str, line: bytes) -> Problem:
     return Problem("%s is of another release: it answers '%s'; let IRIG_ED name the editor of these tools" % (program, said))
 
 
+@dataclass
+class _Asked:
+    """A listing, and what was found in it, by what was looked for."""
+
+    listing: Listing
+    found: Dict[Tuple[object, ...], Any] = field(default_factory=dict)
+
+
+def _edits_of(blocks: Sequence[Sequence[str]]) -> Tuple[str, ...]:
+    """The lines on which a listing depends: no comments, and no groups."""
+    return tuple(line for block in blocks for line in block if line not in ("begin", "end") and not line.startswith("#"))
+
+
 class Editor:
     """One track, opened with the editor's options as often as needed; nothing is ever written."""
 
     def __init__(self, options: Sequence[str]) -> None:
         self.command = [find_editor(), *options]
-        self._as_it_is: Optional[Listing] = None  # which is asked for again and again
+        self._asked: Dict[Tuple[str, ...], _Asked] = {}  # by the edits: of the track as it is, and after the edits that came last
 
     def ask(self, blocks: Sequence[Sequence[str]]) -> Listing:
         """The listing of the track after these blocks of lines."""
-        if not blocks and self._as_it_is:
-            return self._as_it_is
+        edits = _edits_of(blocks)
+        if edits in self._asked:
+            return self._asked[edits].listing
+        if edits:
+            self._asked = {each: asked for each, asked in self._asked.items() if not each}
         found = self._ask(blocks)
-        if not blocks:
-            self._as_it_is = found
+        if not found.refused:
+            self._asked[edits] = _Asked(found)
         return found
+
+    def judged(self, listing: Listing, judge: Callable[..., Judgement], *how: object) -> Judgement:
+        """What is found in a listing; what was found in the same way is not looked for again."""
+        asked = next((each for each in self._asked.values() if each.listing is listing), _Asked(listing))
+        if how not in asked.found:
+            asked.found[how] = judge(listing, *how)
+        return cast(Judgement, asked.found[how])
+
+    def knows(self, other: Editor, blocks: Sequence[Sequence[str]], info: Info) -> None:
+        """The track is that of another editor after these lines, if that was asked for and all that `info` says is the same."""
+        asked = other._asked.get(_edits_of(blocks))
+        if asked and asked.listing.info == info:
+            self._asked[()] = asked
 
     def _ask(self, blocks: Sequence[Sequence[str]]) -> Listing:
         lines = [line for block in blocks for line in (*block, "info")]
@@ -183,13 +225,23 @@ def _read_pulses(answers: IO[bytes], listing: Listing) -> Optional[str]:
         if not words or words[0] == b"?":
             break
         try:
-            listing.rises.extend(map(Microseconds, map(int, words[1::4])))
-            listing.falls.extend(map(Microseconds, map(int, words[2::4])))
-            blocks.append("".join(map(CLASSES.__getitem__, words[3::4])))
-        except (KeyError, ValueError) as error:
+            listing.rises += cast(Iterable[Microseconds], map(int, words[1::4]))
+            listing.falls += cast(Iterable[Microseconds], map(int, words[2::4]))
+            blocks.append(_letters(words[3::4]))
+        except ValueError as error:
             raise _other_release(words[:4]) from error
     listing.classes = "".join(blocks)
     return None if len(listing.classes) == listing.pulses else CUT_OFF
+
+
+def _letters(names: Sequence[bytes]) -> str:
+    """The letters of some classes; a ValueError if one is none."""
+    found = b"".join(names)
+    for name, letter in CLASSES.items():
+        found = found.replace(name, letter)
+    if len(found) != len(names) or found.translate(None, b"".join(CLASSES.values())):
+        raise ValueError
+    return found.decode("ascii")
 
 
 def progress_to(stream: IO[str]) -> Progress:

@@ -11,7 +11,7 @@ from .kinds import STEPS, DamageKind
 from .layout import NAMES, POSITIONS, READABLE, SHARE
 from .texts import counted
 from .track import Track
-from .units import FrameNumber, Microseconds, PlaceNumber, PulseIndex, frame_of, number_of, place_in, plus, through
+from .units import ELEMENTS, FrameNumber, Microseconds, PlaceNumber, PulseIndex, frame_of, number_of, place_in, plus, through
 
 LEFT_FRAME = "the frame is left as it is; regen gives it the time to which the others lead"
 
@@ -25,6 +25,7 @@ class Remark:
     choice: str = ""
     name: str = ""  # its frame and element, if they are to be named
     kind: DamageKind = DamageKind.OTHER
+    is_question: bool = False  # the choice asks whether the recording is another one than was said
 
     def comment(self) -> str:
         """A step of the recorder's clock stays; of all else nothing decides what is right."""
@@ -124,7 +125,7 @@ class Faults:
     def _decide(self, place: PlaceNumber, control: bool) -> Optional[str]:
         """Zero or one if nothing follows for a place: by its shape, else by its neighbours, else a guess that is named as
         one."""
-        pulses, number, element = self.track.pulses_at(place), frame_of(place), place % 100
+        pulses, number, element = self.track.pulses_at(place), frame_of(place), place % ELEMENTS
         if element in self.usual:
             return self.usual[element]
         near = self.times.neighbours(number, element) if control else None
@@ -201,7 +202,7 @@ class Faults:
     # in words
 
     def name(self, place: PlaceNumber) -> str:
-        return "%s, element %d" % (self.times.name(frame_of(place)), place % 100)
+        return "%s, element %d" % (self.times.name(frame_of(place)), place % ELEMENTS)
 
     def where(self, place: PlaceNumber) -> str:
         """The frame, the element, and the pulses with their numbers, or else when one should rise."""
@@ -212,7 +213,7 @@ class Faults:
 
     def reason(self, place: PlaceNumber) -> str:
         """Why this class has to be there."""
-        target, element = NAMES[self.wanted[place]], place % 100
+        target, element = NAMES[self.wanted[place]], place % ELEMENTS
         if place in self.guesses:
             return "undecided whether zero or one: nothing says it, so this %s is a guess" % target
         if element in self.usual:

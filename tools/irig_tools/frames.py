@@ -15,7 +15,7 @@ from .spans import Bases, Span, fit
 from .splices import spliced
 from .steadiness import Steadiness
 from .track import Track
-from .units import Base, FrameNumber, Hundredths, frame_of, plus
+from .units import ELEMENTS, Base, FrameNumber, Hundredths, frame_of, plus
 from .votes import Votes
 
 
@@ -89,7 +89,7 @@ class Times(Votes):
 
     def _read_within(self, runs: Sequence[Run]) -> List[FrameNumber]:
         """The frames that could be read from the first to the last of these runs."""
-        first, last = -(-runs[0].place // 100), (runs[-1].last_place + 1) // 100
+        first, last = -(-runs[0].place // ELEMENTS), (runs[-1].last_place + 1) // ELEMENTS
         return [number for number in self.own if first <= number < last]
 
     def frames_between(self, left: Sequence[Run], right: Sequence[Run]) -> Optional[int]:

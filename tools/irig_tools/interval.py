@@ -5,13 +5,13 @@ import statistics
 from dataclasses import dataclass, replace
 from itertools import compress, count, islice
 from operator import sub
-from typing import Iterator, List, Optional, Sequence, Tuple
+from typing import Callable, Iterator, List, Optional, Sequence, Tuple
 
 from . import limits
 from .editor import Listing
 from .phases import Turn, turn_near, turns
 from .sampling import are_often_off, spacing_of_samples
-from .units import Microseconds, PlaceNumber, PulseIndex, plus
+from .units import ELEMENTS, Microseconds, PlaceNumber, PulseIndex, plus
 from .wander import AS_STEADY, Sample, Sides, Wander, curve, is_curved
 
 
@@ -65,11 +65,20 @@ def distances(times: Sequence[Microseconds]) -> List[int]:
     return list(map(sub, islice(times, 1, None), times))
 
 
+def are_odd(values: Sequence[int], is_odd: Callable[[int], bool]) -> Iterator[bool]:
+    """Whether that is true of each value; those that are the same are looked at once."""
+    return map(set(filter(is_odd, set(values))).__contains__, values)
+
+
+def places_of(values: Sequence[int], is_odd: Callable[[int], bool]) -> Iterator[int]:
+    """Where the values are for which that is true."""
+    return compress(count(), are_odd(values, is_odd))
+
+
 def breaks(apart: Sequence[int], interval: float, margin: float) -> List[PulseIndex]:
     """The pulses that do not follow the one before by an interval, and in the end the one after the last."""
     low, high = interval - margin, interval + margin
-    odd = {each for each in set(apart) if not low <= each <= high}
-    return [PulseIndex(each) for each in (*compress(count(1), map(odd.__contains__, apart)), len(apart) + 1)]
+    return [PulseIndex(each + 1) for each in (*places_of(apart, lambda each: not low <= each <= high), len(apart))]
 
 
 def breaks_near(apart: Sequence[int], near: Sequence[float], margin: float) -> List[PulseIndex]:
@@ -81,21 +90,21 @@ def breaks_near(apart: Sequence[int], near: Sequence[float], margin: float) -> L
 def share_in_step(times: Sequence[Microseconds], interval: int) -> float:
     """In which share of the time neighbours are one interval apart: 0 to 1. A hole counts as one interval, since nothing in it is of
     another code; noise counts for as long as it is, however many pulses it has."""
-    apart = distances(times)
-    near = len(_in_step(apart, interval)) * interval
-    least, most = (1 - limits.IN_STEP) * interval, (1 + limits.IN_STEP) * interval
-    return near / max(1, near + sum([min(each, interval) for each in _sampled(apart) if not least <= each <= most]))
+    sampled, (least, most) = _sampled(times), ((1 - limits.IN_STEP) * interval, (1 + limits.IN_STEP) * interval)
+    near = len([each for each in sampled if least <= each <= most]) * interval
+    return near / max(1, near + sum([min(each, interval) for each in sampled if not least <= each <= most]))
 
 
-def _sampled(apart: Sequence[int]) -> Sequence[int]:
+def _sampled(times: Sequence[Microseconds]) -> List[int]:
     """The distances that are looked at, if they are very many."""
-    return apart[:: len(apart) // limits.MOST_SAMPLED + 1]
+    every = max(0, len(times) - 1) // limits.MOST_SAMPLED + 1
+    return list(map(sub, times[1::every], times[::every]))
 
 
-def _in_step(apart: Sequence[int], interval: int) -> List[int]:
+def _in_step(times: Sequence[Microseconds], interval: int) -> List[int]:
     """Those of them that are about one interval."""
     least, most = (1 - limits.IN_STEP) * interval, (1 + limits.IN_STEP) * interval
-    return [each for each in _sampled(apart) if least <= each <= most]
+    return [each for each in _sampled(times) if least <= each <= most]
 
 
 class Clock:
@@ -105,8 +114,8 @@ class Clock:
         """`grid` is how far apart samples are, if it is known."""
         self.listing, self.nominal = listing, nominal
         self.rises, self.classes = listing.rises, listing.classes
-        apart = distances(listing.rises)
-        between = _in_step(apart, nominal)
+        apart = listing.apart
+        between = _in_step(listing.rises, nominal)
         self.interval: float = statistics.median_low(between) if between else nominal
         self.noise: float = statistics.median([abs(each - self.interval) for each in between]) if between else 0
         self.curve = self._find_curve(apart)  # the interval at each distance, if it changes so much that this shows at once
@@ -247,16 +256,19 @@ class Clock:
             return self.least_step
         return max(self.least_step, self.margin, limits.SPREADS * self.wander.spread.get(True, 0))
 
-    def _is_odd(self, at: int, distance: int) -> bool:
-        """Whether a distance may be that of a step."""
-        return not -self.least_step < distance - (self.curve[at] if self.curve else self.interval) < self.least_step
+    def _after_odd(self, run: Run, apart: Sequence[int]) -> List[PulseIndex]:
+        """The pulses of a run after distances that may be those of a step."""
+        interval, least, own = self.interval, self.least_step, apart[run.first:run.last]
+        if self.curve:
+            near = self.curve[run.first:run.last]
+            return [PulseIndex(at) for at, (each, usual) in enumerate(zip(own, near), run.first + 1) if not -least < each - usual < least]
+        return [plus(run.first, at + 1) for at in places_of(own, lambda each: not -least < each - interval < least)]
 
     def _stepped(self, run: Run, apart: Sequence[int]) -> List[Run]:
         """The run, or its parts if all that follow a pulse come late or early by a step too small to end a run."""
         found: List[Run] = []
         first = run.first
-        odd = [PulseIndex(at + 1) for at, each in enumerate(apart[run.first:run.last], run.first) if self._is_odd(at, each)]
-        for after in odd:
+        for after in self._after_odd(run, apart):
             if min(after - first, run.last - after + 1) >= limits.SIDE:
                 fewest = min(after - first, run.last - after + 1)
                 if abs(self._step_at(first, after, run.last)) >= self._least_step_beside(fewest):
@@ -273,7 +285,7 @@ class Clock:
         the one after it."""
         if run.count < limits.LONG_RUN or run.lead < limits.LEAST_LEAD or run.glued or run.ends:
             return [run]
-        found = _parts(run, turn_near(self.text(run), run.place % 100, begins))
+        found = _parts(run, turn_near(self.text(run), run.place % ELEMENTS, begins))
         return list(map(self.fit, found)) if len(found) > 1 else [run]
 
     def text(self, run: Run) -> str:
@@ -324,11 +336,12 @@ class Clock:
                 due = begin + way * far * (interval or self.near(first))
                 if abs(rises[first + way * far] - due) > least and rises[first + way * far] > 0:
                     yield plus(first, way * far), Microseconds(round(due))
-        for at in range(run.first + side, run.last - side + 1):
-            if not -least <= rises[at - 1] - 2 * rises[at] + rises[at + 1] <= least:
-                due = statistics.median([(rises[at - far] + rises[at + far]) / 2 for far in range(1, side + 1)])
-                if abs(rises[at] - due) > least:
-                    yield PulseIndex(at), Microseconds(round(due))
+        low, beyond = run.first + side, run.last - side + 1
+        bends = list(map(sub, self.listing.apart[low:beyond], self.listing.apart[low - 1:beyond - 1]))
+        for at in map(low.__add__, places_of(bends, lambda each: not -least <= each <= least)):
+            due = statistics.median([(rises[at - far] + rises[at + far]) / 2 for far in range(1, side + 1)])
+            if abs(rises[at] - due) > least:
+                yield PulseIndex(at), Microseconds(round(due))
 
     def near(self, pulse: int) -> float:
         """The interval after a pulse, as far as all distances near it say it."""

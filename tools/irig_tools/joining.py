@@ -1,22 +1,21 @@
 """Repairs of a frame as one, for irig_guard: a frame with two damages can read another time after one repair alone."""
 from __future__ import annotations
 
-import re
 from typing import Iterable, List, Sequence, Set
 
 from .grouping import grouped
+from .guard_words import Reason
 from .layout import INTERVAL
 from .script import Repair
+from .units import ELEMENTS
 
-AT_FAULT = re.compile(r"# not kept: frame .* at ([0-9]+)(?: would|: its pulses would) ")
-UNSUPPORTED = "# not kept: fine frames would not support each other"
 FROM_END_TO_END = -1  # instead of where a frame begins: no frame was fine, so it is all of the recording
 
 
-def frames_at_fault(reasons: Iterable[str]) -> Set[int]:
-    """Where the frames begin because of which irig_guard drops repairs, by its comments."""
-    found = {int(match[1]) for match in map(AT_FAULT.match, reasons) if match}
-    return found | {FROM_END_TO_END for reason in reasons if reason == UNSUPPORTED}
+def frames_at_fault(reasons: Iterable[Reason]) -> Set[int]:
+    """Where the frames begin because of which irig_guard drops repairs."""
+    found = {reason.begin for reason in reasons if reason.begin is not None}
+    return found | {FROM_END_TO_END for reason in reasons if reason.is_of_all}
 
 
 def joined(script: Sequence[Repair], frames: Set[int], kind: str) -> List[Repair]:
@@ -24,7 +23,7 @@ def joined(script: Sequence[Repair], frames: Set[int], kind: str) -> List[Repair
     interval = INTERVAL[kind]
 
     def begins(later: Repair, each: Repair) -> bool:
-        ends = ((begin - interval, begin + 100 * interval) for begin in frames)
+        ends = ((begin - interval, begin + ELEMENTS * interval) for begin in frames)
         return FROM_END_TO_END not in frames and not any(low <= each.at and later.at < high for low, high in ends)
 
     return [one_of(group) for group in grouped(script, begins)]

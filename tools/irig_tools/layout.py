@@ -2,8 +2,11 @@
 from __future__ import annotations
 
 import re
+from functools import lru_cache
 from operator import itemgetter
 from typing import Dict, Iterable, List, Optional, Tuple
+
+from .units import ELEMENTS
 
 INTERVAL = {"A": 1000, "B": 10000, "E": 100000, "G": 100}  # microseconds from element to element
 PERIOD = {"A": 10, "B": 100, "E": 1000, "G": 1}  # hundredths of a second from frame to frame
@@ -14,9 +17,10 @@ LARGEST_IN = {"hundredths": 99, "seconds": 60, "minutes": 59, "hours": 23, "days
 CONTROL = {"A": (50, 60, 70), "B": (50, 60, 70), "E": (50, 60, 70, 80, 90), "G": (60, 70, 80, 90)}
 READABLE = re.compile("P[01]{8}P(?:[01]{9}P){9}")
 WITH_CONTROL, WITH_BINARY, WITH_YEAR = (0, 1, 4, 5), (0, 3, 4, 7), (4, 5, 6, 7)  # coded expressions
+MOST_DECODED = 100000  # frames that are kept as they were decoded: twice those of the longest track
 DECIMAL = (1, 2, 4, 8, 10, 20, 40, 80, 100, 200)
 
-Fields = Dict[str, int]
+Fields = Dict[str, int]  # which nobody changes
 
 
 class Layout:
@@ -28,12 +32,14 @@ class Layout:
         self.interval, self.period = INTERVAL[kind], PERIOD[kind]
         self.fields: Dict[str, List[Tuple[int, int]]] = {}
         self._known: Dict[Tuple[str, str], int] = {}
+        self._decoded: Dict[str, Optional[Fields]] = {}  # of the frames that were decoded
         self._add_fields()
+        self.with_year = "year" in self.fields
         tens = CONTROL[kind][expression in WITH_YEAR:] if expression in WITH_CONTROL else ()
         self.control = [ten + unit for ten in tens for unit in range(9)]
         self.carried = sorted(element for rows in self.fields.values() for element, _ in rows)
         used = {*self.carried, *self.control, *POSITIONS}
-        self.unused = [element for element in range(100) if element not in used]
+        self.unused = [element for element in range(ELEMENTS) if element not in used]
         self._carried_of = itemgetter(*self.carried)
         self._unused_of = itemgetter(*self.unused)
 
@@ -57,10 +63,6 @@ class Layout:
     def _add(self, name: str, elements: Iterable[int], weights: Iterable[int]) -> None:
         self.fields.setdefault(name, []).extend(zip(elements, weights))
 
-    @property
-    def with_year(self) -> bool:
-        return "year" in self.fields
-
     def value(self, name: str, text: str) -> int:
         """The number in a field, or -1 if one of its decimal digits is above 9."""
         rows = self.fields[name]
@@ -75,6 +77,13 @@ class Layout:
 
     def decode(self, text: str) -> Optional[Fields]:
         """The fields of a frame, or None if an element is damaged, a field is out of range, or two fields disagree."""
+        if text not in self._decoded:
+            if len(self._decoded) >= MOST_DECODED:
+                self._decoded.clear()
+            self._decoded[text] = self._decode(text)
+        return self._decoded[text]
+
+    def _decode(self, text: str) -> Optional[Fields]:
         if not set(self._carried_of(text)) <= {"0", "1"}:
             return None
         told = {name: self.value(name, text) for name in self.fields}
@@ -91,7 +100,7 @@ class Layout:
 
     def encode(self, told: Fields) -> List[str]:
         """The 100 classes of a frame with these fields; `.` for a control function, which no field says."""
-        text = ["P" if element in POSITIONS else "0" for element in range(100)]
+        text = ["P" if element in POSITIONS else "0" for element in range(ELEMENTS)]
         for element in self.control:
             text[element] = "."
         for name, rows in self.fields.items():
@@ -106,3 +115,9 @@ class Layout:
         """The class of a pulse of this width, in microseconds."""
         share = width / self.interval
         return "b" if share < 0.05 or share >= 0.95 else "0" if share < 0.35 else "1" if share < 0.65 else "P"
+
+
+@lru_cache(None)
+def layout_of(kind: str, expression: int, steady: bool) -> Layout:
+    """The layout for all looks at a recording: what a frame shows is worked out once."""
+    return Layout(kind, expression, steady)

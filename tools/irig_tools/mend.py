@@ -64,7 +64,7 @@ class _Mending:
     after: Listing = field(default_factory=Listing)
 
     def run(self) -> None:
-        rounds = looks(lambda: obeyed(self.editor, self.script, self.refused), self.progress, self.script, self.steady,
+        rounds = looks(self.editor, lambda: obeyed(self.editor, self.script, self.refused), self.progress, self.script, self.steady,
                        self.move)
         for turn, (listing, findings) in enumerate(rounds):
             self.after = listing

@@ -12,7 +12,7 @@ from .again import Names, again
 from .analysis import START, examine
 from .changes import changes_of, find_differ
 from .command import kept, run, unchanged
-from .apply import Code, Refused, Summary, Target, as_object, code_of, find_guard, run_script, sound_frames, summary
+from .apply import Code, Refused, Summary, Target, as_object, code_of, find_guard, frames_of, run_script, summary
 from .cut_end import cut_notes, is_cut, note_if_cut
 from .damage import Seen, look
 from .damage_program import say_notes
@@ -196,8 +196,10 @@ def apply(given: Given, track: Opened, editor: Editor, script: List[Repair], pro
         command = [find_guard(), *["--moved"] * given.has(MOVE), *track.code, *["--save"] * given.has(SAVE)]
         refused = once_more(script, refused, lambda: propose(Editor([*track.code, repaired]), progress, given.has(STEADY), given.has(MOVE)),
                             command, repaired, before.listing.kind)
-        after = look(Editor([*track.code, repaired]), progress, given.has(STEADY), before.findings.grid)
-        frames = sound_frames(track.options, track.path), sound_frames(track.code, repaired)
+        frames, result = (frames_of(track.options, track.path), frames_of(track.code, repaired)), Editor([*track.code, repaired])
+        if refused.is_nothing:  # it is what the last look of the proposal was at
+            result.knows(editor, [repair.lines() for repair in script], frames[1].info)
+        after = look(result, progress, given.has(STEADY), before.findings.grid)
         done = summary(before.damages, after.damages, script, frames, refused)
         if given.has(PAGE_OF_REPAIRS):
             drawn = drawing(given, track, script, (before, after, done), repaired)
@@ -211,7 +213,7 @@ def apply(given: Given, track: Opened, editor: Editor, script: List[Repair], pro
 def reasons_of(track: Opened, script: List[Repair], refused: Refused) -> List[str]:
     """Why something is left: repairs that are not kept, steps that stay, what nothing decides, and a file that is cut."""
     left = [comment for repair in script if not refused.drops(repair) for comment in left_by(repair)]
-    return [reason.removeprefix("# ") for reason in refused.reasons] + left + cut_notes(track)
+    return [reason.text for reason in refused.reasons] + left + cut_notes(track)
 
 
 def left_by(repair: Repair) -> List[str]:
@@ -227,7 +229,8 @@ def drawing(given: Given, track: Opened, script: List[Repair], seen: Tuple[Seen,
     changes = changes_of(track, before.listing, repaired)
     changes.command = again(names, track, before.listing)
     sheet = sheet_of(os.path.basename(given.names[0]), wire_or_none(track), before, script, after.listing, changes)
-    return page(of_program(sheet, COMMAND.name, "%s: %s" % (name_of(given.names[0]), done.text())))
+    noted = replace(sheet, notes=(*sheet.notes, *done.notes))
+    return page(of_program(noted, COMMAND.name, "%s: %s" % (name_of(given.names[0]), done.text())))
 
 
 def report(given: Given, done: Summary, code: Code, reasons: Sequence[str]) -> None:
@@ -237,7 +240,7 @@ def report(given: Given, done: Summary, code: Code, reasons: Sequence[str]) -> N
     if given.has(JSON):
         stream.write(json_lines([as_object(done, code, reasons)]))
         return
-    for line in (done.text(), *(reason for reason in reasons if reason not in ENDS_WITHIN.values())):
+    for line in (done.text(), *done.notes, *(reason for reason in reasons if reason not in ENDS_WITHIN.values())):
         stream.write("%s: %s\n" % (given.names[0].translate(ESCAPED), line))
 
 

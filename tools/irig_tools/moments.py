@@ -3,6 +3,7 @@ from __future__ import annotations
 
 import datetime
 from dataclasses import dataclass
+from functools import cached_property
 from typing import Optional
 
 from .layout import Fields, Layout
@@ -28,12 +29,12 @@ class Calendar:
     def with_year(self) -> bool:
         return self.layout.with_year
 
-    @property
+    @cached_property
     def circle(self) -> int:
         """After how long the times begin again: with a year from 99 to 00, else after the last day."""
         return CENTURY if self.with_year else self.days * DAY
 
-    @property
+    @cached_property
     def _begin(self) -> int:
         return FIRST_DAYS[0] * DAY if self.with_year else DAY
 

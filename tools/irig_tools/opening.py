@@ -11,6 +11,7 @@ from .dump_offset import Offset
 from .dump_source import Source
 from .editor import Problem, called, find_editor
 from .ending import Usage
+from .kept_wire import write_kept
 from .options import DUMP, EXPRESSION, FORMAT, TIMESCALE, WIRE, Given
 from .readings import EXPRESSIONS, is_opened, is_read, read
 from .search import Found, Probe, search
@@ -184,8 +185,12 @@ def _read(path: str, found: Found, probe: Probe, dump: int) -> Taken:
     wish = Wish(wire_name(found.header, probe.signal), found.unit, dump, invert=inverted)
     with temporary_track() as track:
         with named_if_no_room():
-            Extract(path, wish, track).run()
+            if not write_kept(found, probe, Extract(path, wish, track)):
+                track.seek(0)
+                track.truncate()
+                Extract(path, wish, track).run()
             track.flush()
+        probe.forget()
         readings = read(track.name, kind)
     row = readings.best
     if row is None:

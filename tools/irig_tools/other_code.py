@@ -6,7 +6,7 @@ from typing import NamedTuple, Optional, Sequence
 
 from . import limits
 from .layout import INTERVAL, POSITIONS, SHARE
-from .units import PlaceNumber, PulseIndex
+from .units import ELEMENTS, PlaceNumber, PulseIndex
 
 ONE_SECOND = 1000000
 
@@ -47,7 +47,7 @@ def _kind(interval: int, widths: Sequence[int]) -> str:
 
 def survives(places: Sequence[PlaceNumber], classes: str) -> bool:
     """Whether most of these pulses are position identifiers in their places: the wide ones are seen where the signal is weak."""
-    own = sum(place % 100 in POSITIONS and name == "P" for place, name in zip(places, classes))
+    own = sum(place % ELEMENTS in POSITIONS and name == "P" for place, name in zip(places, classes))
     return own >= limits.STEADY_CODE * len(classes)
 
 

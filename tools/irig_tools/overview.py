@@ -15,7 +15,7 @@ from .script import Repair
 from .sheet import DAMAGED, LOST, SOUND, STATES, Changes, Place, Sheet, Stretch, Wave, cut, merged
 from .spans import Span
 from .steps import cut_by_a_step
-from .units import FrameNumber, PlaceNumber, frame_of, place_in, plus
+from .units import ELEMENTS, FrameNumber, PlaceNumber, frame_of, place_in, plus
 from .version import version
 
 AROUND = 4  # intervals that are shown on both sides of a place
@@ -58,12 +58,12 @@ def _clock_of(seen: Seen) -> Iterator[Tuple[int, ...]]:
     spans = [(part, span) for part in reversed(seen.findings.parts) for span in part.times.spans]
     every = max(1, sum(span.last - span.first + 1 for _, span in spans) // MOST_KNOWN)
     for part, span in spans:
-        track, element = part.track, part.times.layout.period * HUNDREDTH // 100
+        track, element = part.track, part.times.layout.period * HUNDREDTH // ELEMENTS
         numbers = (*range(span.first, span.last + 1, every), span.last + 1)
         found: List[int] = []
         last = place_in(span.first)
         for place in sorted({track.within(place_in(FrameNumber(number))) for number in numbers}):
-            day = _of_day(part, span, place) + element * (place % 100)
+            day = _of_day(part, span, place) + element * (place % ELEMENTS)
             if found and (day - found[-1] - element * (place - last)) % (DAY * HUNDREDTH):
                 yield tuple(found)
                 found = []
@@ -121,8 +121,8 @@ def _frame_stretches(part: Part, length: int) -> Iterator[Stretch]:
     damaged = {*map(frame_of, part.faults.wanted), *cut_by_a_step(track)}
     undecided = [remark.at for remark in part.remarks + part.faults.remarks]
     for number in track.frames():
-        start, end = (track.rise_at(track.within(place_in(number, element))) for element in (0, 100))
-        if place_in(number, 100) > track.last:
+        start, end = (track.rise_at(track.within(place_in(number, element))) for element in (0, ELEMENTS))
+        if place_in(number, ELEMENTS) > track.last:
             end = plus(end, min(round(part.faults.clock.interval), max(0, length - end)))
         is_damaged = number in damaged or any(start <= at < end for at in undecided)
         start = max(start, done)

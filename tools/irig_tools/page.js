@@ -83,7 +83,7 @@ function pick(change) {
   select(placeOf(change));
   writeAddress(`#changed-${stretches.indexOf(change) + 1}`);
   const start = change.frame === null ? change.start : Math.min(change.frame, change.start);
-  view.show(start - 2 * held.interval, Math.max(change.end, start + 100 * held.interval) + 2 * held.interval);
+  view.show(start - 2 * held.interval, Math.max(change.end, start + held.frame) + 2 * held.interval);
   view.ask();
 }
 
@@ -150,7 +150,7 @@ function open(place) {
 }
 
 function locate() {
-  const wide = Math.max(100 * held.interval, 4 * (selected.end - selected.at));
+  const wide = Math.max(held.frame, 4 * (selected.end - selected.at));
   const middle = (selected.at + selected.end) / 2;
   view.show(middle - 2 * wide, middle + 2 * wide);
 }

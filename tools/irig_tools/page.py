@@ -11,6 +11,7 @@ from pathlib import Path
 
 from .sheet import STATES, Changes, Place, Sheet, Wave, facts_of, frames_in, merged, window
 from .texts import counted, escaped, plain
+from .units import ELEMENTS
 
 FILES = Path(__file__).resolve().parent
 CODE = ("page_time.js", "page_strip.js", "page_wave.js", "page_place.js", "page_changes.js", "page.js")
@@ -89,6 +90,7 @@ def data(sheet: Sheet, most: int) -> str:
     found: dict[str, object] = {
         "length": max(1, sheet.length),
         "interval": sheet.interval,
+        "frame": ELEMENTS * sheet.interval,
         "strip": strip_words(sheet),
         "places": [place_data(sheet, place, start, pulses) for place, start in zip(places, starts)],
         "more": len(sheet.places) - len(places),

@@ -11,10 +11,11 @@ from typing import Callable, Container, Iterable, List, Sequence, Tuple
 
 from . import limits
 from .layout import POSITIONS
+from .units import ELEMENTS
 
 ONLY_P = str.maketrans("01b", "---")
 NO_DIGITS = str.maketrans("01", "--")
-PATTERN = "".join("P" if element in POSITIONS else "-" for element in range(100))
+PATTERN = "".join("P" if element in POSITIONS else "-" for element in range(ELEMENTS))
 
 Turn = Tuple[int, int]  # the first and the last place in a text at which the phase may change
 
@@ -24,9 +25,9 @@ def whole_frames(classes: str) -> List[int]:
     text, found, wanted = classes.translate(NO_DIGITS), [], "P" + PATTERN
     at = text.find(wanted)
     while at >= 0:
-        if text[at + 101:at + 102] in ("P", ""):
+        if text[at + ELEMENTS + 1:at + ELEMENTS + 2] in ("P", ""):
             found.append(at + 1)
-            at += 99
+            at += ELEMENTS - 1
         at = text.find(wanted, at + 1)
     return found
 
@@ -36,17 +37,17 @@ class Marks:
 
     def __init__(self, text: str) -> None:
         self.count = len(text)
-        self.places = [text[place::100].count("P") for place in range(100)]
+        self.places = [text[place::ELEMENTS].count("P") for place in range(ELEMENTS)]
         self.many = sum(self.places)
-        self.whole: Container[int] = {-start % 100 for start in whole_frames(text)} if self.count > 100 else ()
+        self.whole: Container[int] = {-start % ELEMENTS for start in whole_frames(text)} if self.count > ELEMENTS else ()
 
     def faults(self, phase: int) -> int:
         """How many pulses are position identifiers by mistake, or are none by mistake, if the first is element `phase`;
         some more if frames that are whole say otherwise."""
-        cycles, rest = divmod(self.count, 100)
+        cycles, rest = divmod(self.count, ELEMENTS)
         hits = wanted = 0
         for element in POSITIONS:
-            place = (element - phase) % 100
+            place = (element - phase) % ELEMENTS
             hits += self.places[place]
             wanted += cycles + (place < rest)
         against = self.whole and phase not in self.whole
@@ -54,7 +55,7 @@ class Marks:
 
     def best(self, within: int, most: int) -> List[int]:
         """The phases with the fewest faults, and with at most `within` more."""
-        faults = sorted((self.faults(phase), phase) for phase in range(100))
+        faults = sorted((self.faults(phase), phase) for phase in range(ELEMENTS))
         return [phase for fault, phase in faults if fault <= faults[0][0] + within][:most]
 
 
@@ -63,12 +64,12 @@ class Usual:
 
     def __init__(self, unused: Iterable[int], runs: Iterable[Tuple[str, int]] = ()) -> None:
         """From elements that are always zero, and from texts of classes, each with its phase."""
-        counted: List[Counter[str]] = [Counter() for _ in range(100)]
+        counted: List[Counter[str]] = [Counter() for _ in range(ELEMENTS)]
         for element in unused:
             counted[element]["0"] = 2
         for text, phase in runs:
-            for element in range(100):
-                part = text[(element - phase) % 100::100]
+            for element in range(ELEMENTS):
+                part = text[(element - phase) % ELEMENTS::ELEMENTS]
                 for name in "01":
                     counted[element][name] += part.count(name)
         self.zeros, self.ones = (_mask(counted, name) for name in "01")
@@ -103,7 +104,7 @@ def parting(text: str, lefts: Iterable[int], rights: Iterable[int]) -> Tuple[int
 
 def _has_marker(phase: int, count: int) -> bool:
     """Whether that many elements from `phase` on have both position identifiers of a marker."""
-    return (99 - phase) % 100 + 1 < count
+    return (ELEMENTS - 1 - phase) % ELEMENTS + 1 < count
 
 
 def _turn(text: str, lefts: Sequence[int], rights: Sequence[int], at: int = 0) -> List[Turn]:
@@ -114,27 +115,27 @@ def _turn(text: str, lefts: Sequence[int], rights: Sequence[int], at: int = 0) -
     if whole < 2 or len(text) > limits.LONGEST_TURN:
         return []
     least, low, high, left, right = parting(text, lefts, rights)
-    one_known = len(lefts) + len(rights) == 101
+    one_known = len(lefts) + len(rights) == ELEMENTS + 1
     if whole - least >= (limits.FEWER_AFTER_ONE if one_known else limits.FEWER_FAULTS):
         return [(at + low, at + high)]
     # position identifiers that are ten apart agree on both sides but for the marker
     ten_apart = left != right and (left - right) % 10 == 0 and least == 0 and one_known
     # what is before `high` agrees on both sides, so the first position identifier of a marker is there
     begin = high - 1
-    marked = _has_marker(left, low) if len(lefts) > 1 else _has_marker((right + begin) % 100, len(text) - begin)
+    marked = _has_marker(left, low) if len(lefts) > 1 else _has_marker((right + begin) % ELEMENTS, len(text) - begin)
     return [(at + low, at + high)] if whole - least >= limits.FEWER_AT_MARKER and ten_apart and marked else []
 
 
 def turns(classes: str) -> List[Turn]:
     """Where a run continues with another phase: between whole frames, before and after them."""
     whole = whole_frames(classes)
-    text, every = classes.translate(ONLY_P), range(100)
+    text, every = classes.translate(ONLY_P), range(ELEMENTS)
     if not whole:
         return _turn(text, every, every)
-    found = _turn(text[:whole[0] + 100], every, [-whole[0] % 100])
+    found = _turn(text[:whole[0] + ELEMENTS], every, [-whole[0] % ELEMENTS])
     for before, after in zip(whole, whole[1:]):
-        if (after - before) % 100:
-            _, low, high, _, _ = parting(text[before:after + 100], [0], [(before - after) % 100])
+        if (after - before) % ELEMENTS:
+            _, low, high, _, _ = parting(text[before:after + ELEMENTS], [0], [(before - after) % ELEMENTS])
             found.append((before + low, before + high))
     return found + _turn(text[whole[-1]:], [0], every, whole[-1])
 
@@ -142,7 +143,7 @@ def turns(classes: str) -> List[Turn]:
 def turn_near(classes: str, phase: int, begins: bool) -> List[Turn]:
     """Where a run without a whole frame continues with another phase, after its first pulse. The phase is that with which it
     begins, or that with which it ends, as if no element were missing."""
-    text, every = classes.translate(ONLY_P), range(100)
+    text, every = classes.translate(ONLY_P), range(ELEMENTS)
     lefts, rights = ([phase], every) if begins else (every, [phase])
     found = [] if whole_frames(classes) else _turn(text, lefts, rights)
     return [(max(1, low), max(1, high)) for low, high in found]

@@ -1,18 +1,21 @@
 """In which stretches a wire is upside down: there the falls follow each other in step, and elsewhere the rises do."""
 from __future__ import annotations
 
+from itertools import compress, count, groupby
+from operator import ne
 from typing import List, Sequence, Tuple
 
 from . import limits
 from .editor import Listing
 from .grouping import grouped
+from .interval import are_odd, distances
 from .units import Microseconds
 
 
-def _out_of_step(times: Sequence[Microseconds], interval: int) -> List[bool]:
-    """Whether each of them but the first does not follow the one before by an interval."""
+def _out_of_step(apart: Sequence[int], interval: int) -> bytes:
+    """For each distance 1 if it is not about an interval, and else 0."""
     most = limits.IN_STEP * interval
-    return [abs(after - before - interval) > most for before, after in zip(times, times[1:])]
+    return bytes(are_odd(apart, lambda each: abs(each - interval) > most))
 
 
 def _are_down(votes: Sequence[int]) -> List[bool]:
@@ -32,12 +35,13 @@ def _are_down(votes: Sequence[int]) -> List[bool]:
 
 def upside_down(listing: Listing, interval: int) -> List[Tuple[Microseconds, Microseconds]]:
     """The stretches in which a wire is upside down."""
-    out = zip(_out_of_step(listing.falls, interval), _out_of_step(listing.rises, interval))
-    votes = [fall - rise for fall, rise in out]  # of each pulse but the first: 1 if it is upright, -1 if it is upside down
-    if votes.count(-1) <= limits.TURNED_OVER:
+    falls, rises = _out_of_step(distances(listing.falls), interval), _out_of_step(listing.apart, interval)
+    # of each pulse but the first: it is upright if only the fall is out of step, and upside down if only the rise is
+    votes = list(compress(count(), map(ne, falls, rises)))
+    if sum(map(rises.__getitem__, votes)) <= limits.TURNED_OVER:
         return []
-    alike = grouped([at for at, vote in enumerate(votes) if vote], lambda before, after: votes[before] != votes[after])
-    down = _are_down([votes[group[0]] * len(group) for group in alike])
+    alike = [list(group) for _, group in groupby(votes, rises.__getitem__)]
+    down = _are_down([-len(group) if rises[group[0]] else len(group) for group in alike])
     stretches = grouped([number for number, each in enumerate(down) if each], lambda before, after: after - before > 1)
     last = len(listing.rises) - 1
     first_pulses, last_pulses = [0, *(group[-1] + 2 for group in alike)], [*(group[-1] + 1 for group in alike[:-1]), last]

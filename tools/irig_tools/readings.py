@@ -13,6 +13,7 @@ from .editor import CUT_OFF, Editor, Listing, Problem, find_editor, info_of
 from .interval import distances
 from .layout import WITH_BINARY, WITH_CONTROL, WITH_YEAR, Layout
 from .temporary import temporary_script
+from .units import ELEMENTS
 from .unread import led
 
 EXPRESSIONS = {"A": range(8), "B": range(8), "E": (1, 2, 5, 6), "G": (1, 2, 5, 6)}
@@ -128,7 +129,7 @@ def _has_control(listing: Listing) -> bool:
     in_step = [abs(after - before - 2 * interval) < 2 * NEXT_IN_STEP * interval and abs(rise - before - interval) < NEXT_IN_STEP * interval
                for before, rise, after in zip(rises, rises[1:], rises[2:])]
     ones = [rise for rise, name, good in zip(rises[1:], listing.classes[1:], in_step) if name == "1" and good]
-    return any(round((rise - markers[max(0, bisect_right(markers, rise) - 1)]) / interval) % 100 in control for rise in ones)
+    return any(round((rise - markers[max(0, bisect_right(markers, rise) - 1)]) / interval) % ELEMENTS in control for rise in ones)
 
 
 def is_read(track: str, wire: Optional[str], pulses: int) -> bool:

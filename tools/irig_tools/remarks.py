@@ -14,7 +14,7 @@ from .kinds import DamageKind
 from .other_code import ONE_SECOND, OtherCode, named
 from .spans import Span
 from .track import Track
-from .units import place_in
+from .units import ELEMENTS, place_in
 from .zones import Zone
 
 LEFT_CONTROL = "they are left; irig_mend --steady takes them for damage"
@@ -40,12 +40,16 @@ def remarks(track: Track, times: Times) -> List[Remark]:
 def of_no_frame(track: Track) -> Remark:
     """What is said if no part of the recording has a frame that can be read; the track is its first part."""
     seen = "no frame can be read with expression %d, and only position identifiers are looked at" % track.layout.expression
-    return Remark(track.rises[track.runs[0].first], seen, OTHER_EXPRESSION, kind=DamageKind.FORMAT)
+    return _another(track, seen)
+
+
+def _another(track: Track, seen: str) -> Remark:
+    return Remark(track.rises[track.runs[0].first], seen, OTHER_EXPRESSION, kind=DamageKind.FORMAT, is_question=True)
 
 
 def _of_expression(track: Track, times: Times) -> List[Remark]:
     seen = "many frames have ones that expression %d does not use" % track.layout.expression
-    return [Remark(track.rises[track.runs[0].first], seen, OTHER_EXPRESSION, kind=DamageKind.FORMAT)] if times.doubtful else []
+    return [_another(track, seen)] if times.doubtful else []
 
 
 def _of_elsewhere(track: Track) -> List[Remark]:
@@ -66,7 +70,7 @@ def clock_was_set(seconds: float) -> str:
 def missing(zone: Zone, many: Optional[int]) -> str:
     """What is seen if a glued run follows; None if the times of the frames do not say how many elements are missing."""
     if many is None:
-        said = "%d elements are missing, not counting whole frames" % (zone.skipped() % 100)
+        said = "%d elements are missing, not counting whole frames" % (zone.skipped() % ELEMENTS)
     else:
         said = "%d elements are missing by the times of the frames" % many
     return said + ", and the rest follows at once"
@@ -88,7 +92,7 @@ def _of_vague(track: Track, zone: Zone) -> Remark:
 def _of_cut(track: Track, times: Times, left: List[Run], right: List[Run]) -> Remark:
     """Between two stretches elements are missing, or the clock was set."""
     zone, frames, at = track.zone_before(right[0]), times.frames_between(left, right), track.rises[right[0].first]
-    many = 0 if frames is None else zone.skipped() + 100 * frames
+    many = 0 if frames is None else zone.skipped() + ELEMENTS * frames
     if abs(many) > limits.LONGEST_CUT:
         return Remark(at, clock_was_set(many * zone.clock.nominal / ONE_SECOND), LEFT_SET, kind=DamageKind.TIMES)
     return Remark(at, missing(zone, right[0].gone or None), LEFT_CUT, kind=DamageKind.CUT)

@@ -9,7 +9,7 @@ from typing import Any, Dict, List, Sequence, Tuple
 from .ending import ALL_RIGHT, ESCAPED, FOUND
 from .texts import counted
 
-COUNTS = ("found", "repaired", "guessed", "undecided", "left", "steps", "refused", "sound_before", "sound_after")
+COUNTS = ("found", "repaired", "guessed", "filled", "undecided", "left", "steps", "refused", "sound_before", "sound_after")
 # the head of each column of the table, and what is in it
 HEADS_OF_TABLE = (
     ("recording", "recording"), ("wire", "wire"), ("format", "format"), ("expression", "expression"), ("places", "found"),
@@ -29,7 +29,7 @@ class Result:
     wire: str = ""
     format: str = ""
     expression: object = ""
-    counts: Dict[str, int] = field(default_factory=dict)
+    counts: Dict[str, Any] = field(default_factory=dict)  # a number, or None if it was not counted
     is_kept: bool = False  # from a run before
 
     @property
@@ -65,10 +65,10 @@ class Result:
 
 
 def of_object(found: Dict[str, Any], is_kept: bool = False) -> Result:
-    """The result that an object is."""
+    """The result that an object is; one without a count is of a release that did not have it, and is a KeyError."""
     expression = "" if found["expression"] is None else found["expression"]
     return Result(found["recording"], found["result"] or "", found["status"], found["reasons"], found["wire"] or "",
-                  found["format"] or "", expression, found["summary"] or {}, is_kept)
+                  found["format"] or "", expression, {name: found["summary"][name] for name in COUNTS if found["summary"]}, is_kept)
 
 
 def worst_first(results: Sequence[Result]) -> List[Result]:
@@ -93,7 +93,7 @@ def reason_of(result: Result) -> str:
 
 
 def sums(results: Sequence[Result]) -> str:
-    total = {name: sum(each.counts.get(name, 0) for each in results) for name in COUNTS}
+    total = {name: sum(each.counts.get(name) or 0 for each in results) for name in COUNTS}
     unread = sum(not each.is_read for each in results)
     left = sum(each.needs_a_person for each in results) - unread
     kept = sum(each.is_kept for each in results)

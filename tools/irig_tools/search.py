@@ -1,9 +1,12 @@
 """Looks for time code on every wire of a dump, in one pass and little memory."""
 from __future__ import annotations
 
+from array import array
+from bisect import bisect_left, bisect_right
 from collections import Counter
 from dataclasses import dataclass
-from typing import Dict, List, Sequence, Tuple
+from operator import sub
+from typing import Dict, List, Optional, Sequence, Tuple
 
 from .dump_body import Body, Wanted
 from .dump_choice import Signal
@@ -21,6 +24,8 @@ HOPELESS = 16  # windows without time code, after which a wire is no longer look
 FEWEST_OF_CLASS = 0.04  # the share of pulses that are position identifiers, and of those that are none
 WIDER = 0.45  # intervals: by how much position identifiers are wider than zeros, at least; ones are by 0.3
 MOST_POSITIONS = 0.3  # their share is 0.11, and more if others have run together or are lost
+MOST_KEPT_EDGES = 1 << 24  # of all wires together, so that a wire does not have to be read again: 128 MB
+LONGEST_KEPT = 62  # bits of a time
 TRIED = ("1 us", "1 ns", "1 ps", "1 ms", "1 fs", "1 s")  # if the dump names no unit
 
 Kind = Tuple[str, bool]  # a format, and whether the wire is upside down
@@ -32,33 +37,40 @@ def kinds_of(edges: Sequence[int], rise_first: bool, steps: Dict[str, float]) ->
     for inverted in (False, True):
         first = 0 if rise_first != inverted else 1
         starts, ends = edges[first::2], edges[first + 1::2]
-        gaps = [after - before for before, after in zip(starts, starts[1:])]
+        gaps, widths = sorted(map(sub, starts[1:], starts)), sorted(map(sub, ends, starts))
         for kind, step in steps.items():
-            near = sum(0.9 * step <= gap <= 1.1 * step for gap in gaps)
-            if 2 * near >= len(gaps) > 0 and _has_classes(starts, ends, step):
+            near = bisect_right(gaps, 1.1 * step) - bisect_left(gaps, 0.9 * step)
+            if 2 * near >= len(gaps) > 0 and _has_classes(widths, step):
                 found[kind, inverted] = near / len(gaps)
     return found
 
 
-def _has_classes(starts: Sequence[int], ends: Sequence[int], step: float) -> bool:
-    """Whether there are position identifiers and others among the pulses."""
-    widths = sorted(end - start for start, end in zip(starts, ends))
+def _has_classes(widths: Sequence[int], step: float) -> bool:
+    """Whether there are position identifiers and others among pulses of these widths, which are sorted."""
     if not widths:
         return False
-    positions = sum(0.65 * step <= width < 0.95 * step for width in widths)
-    others = sum(0.05 * step <= width < 0.65 * step for width in widths)
+    least_other, least_position, beyond = (bisect_left(widths, share * step) for share in (0.05, 0.65, 0.95))
+    positions, others = beyond - least_position, least_position - least_other
     if min(positions, others) > FEWEST_OF_CLASS * len(widths):
         return True
     least = widths[int(FEWEST_OF_CLASS * len(widths))]  # of a threshold that is wrong all are longer, or all shorter
-    wide = sum(least + WIDER * step <= width for width in widths)
+    wide = len(widths) - bisect_left(widths, least + WIDER * step)
     return FEWEST_OF_CLASS * len(widths) < wide < MOST_POSITIONS * len(widths)
+
+
+@dataclass
+class Room:
+    """How many more edges can be kept."""
+
+    left: int
 
 
 class Probe:
     """The edges of one wire, judged a window at a time."""
 
-    def __init__(self, signal: Signal, units: Dict[str, Dict[str, float]]) -> None:
-        self.signal, self.units = signal, units  # the intervals in each unit that the dump can have
+    def __init__(self, signal: Signal, units: Dict[str, Dict[str, float]], room: Room) -> None:
+        self.signal, self.units, self.room = signal, units, room  # the intervals in each unit that the dump can have
+        self.kept: Optional["array[int]"] = array("q")  # the times of all edges, a rise first; none if there was no room
         self.high, self.rise_first = False, True
         self.edges: List[int] = []
         self.votes: Counter[Kind] = Counter()  # in the unit that is chosen
@@ -76,7 +88,21 @@ class Probe:
                 self.judge()
         return self.windows >= HOPELESS and not self.in_units
 
+    def _keep(self) -> None:
+        """Adds the edges of a window to those that are kept, if there is room for all."""
+        if self.kept is None or len(self.edges) > self.room.left or self.edges and self.edges[-1] >> LONGEST_KEPT:
+            self.forget()
+        else:
+            self.room.left -= len(self.edges)
+            self.kept.extend(self.edges)
+
+    def forget(self) -> None:
+        """Keeps no edges."""
+        self.room.left += len(self.kept or ())
+        self.kept = None
+
     def judge(self) -> None:
+        self._keep()
         if len(self.edges) >= FEWEST_EDGES:
             for unit, steps in self.units.items():
                 found = kinds_of(self.edges, self.rise_first, steps)
@@ -102,6 +128,7 @@ class Found:
     dumps: int = 1
     is_cut: bool = False  # the file ends within a time or a value
     hopeless: int = 0  # wires that were looked at no longer
+    body: Optional[Body] = None  # what came after the header
 
 
 def search(path: str, unit: str, number: int) -> Found:
@@ -115,7 +142,7 @@ def search(path: str, unit: str, number: int) -> Found:
         found = Found(header, named or TRIED[0], [], every.count())
         results.append(found)
         body = _look(source, every, {one: steps_of(one) for one in ([named] if named else TRIED)}, found)
-        found.is_cut = bool(body.ends_within(header))
+        found.body, found.is_cut = body, bool(body.ends_within(header))
         return body
 
     dumps = each_dump(source, number, use)
@@ -141,7 +168,7 @@ def steps_of(named: str) -> Dict[str, float]:
 
 def _look(source: Source, every: Every, units: Dict[str, Dict[str, float]], found: Found) -> Body:
     """Reads one dump; only a wire that is high at some time has a probe, in the order of the wires."""
-    wanted = Wanted(every)
+    wanted, room = Wanted(every), Room(MOST_KEPT_EDGES)
     probes: Dict[int, Probe] = {}
     body = Body(source, wanted)
     for time, number, letter in body.changes():
@@ -149,9 +176,10 @@ def _look(source: Source, every: Every, units: Dict[str, Dict[str, float]], foun
         if probe is None:
             if letter != "1":
                 continue
-            probe = probes[number] = Probe(every.signal(number), units)
+            probe = probes[number] = Probe(every.signal(number), units, room)
         if probe.change(time, letter == "1"):
             wanted.drop(number, probe.signal.code)
+            probe.forget()
             found.hopeless += 1
     found.probes = [probes[number] for number in sorted(probes)]
     return body

@@ -3,12 +3,15 @@ between them neighbours that support its time."""
 from __future__ import annotations
 
 import os
+from dataclasses import replace
 from typing import Callable, List, Sequence
 
 from .apply import Refused, run_guarded
+from .guard_words import Reason
 from .joining import frames_at_fault
 from .layout import INTERVAL
 from .script import Repair
+from .units import ELEMENTS
 
 
 def once_more(script: List[Repair], refused: Refused, propose_again: Callable[[], Sequence[Repair]], command: List[str], out: str,
@@ -26,14 +29,15 @@ def once_more(script: List[Repair], refused: Refused, propose_again: Callable[[]
     os.replace(out + ".again", out)
     gone = [repair for repair in dropped if any(repair.touches(each.at, each.until) for each in kept)]
     script[:] = [repair for repair in script if repair not in gone] + kept
-    return Refused(refused.lines - sum(len(each.edits) for each in gone), _left(refused.reasons, kept, INTERVAL[kind]), refused.printed)
+    return replace(refused, lines=refused.lines - sum(len(each.edits) for each in gone), filled=refused.filled_with(again),
+                   reasons=_left(refused.reasons, kept, INTERVAL[kind]))
 
 
-def _left(reasons: Sequence[str], kept: Sequence[Repair], interval: int) -> List[str]:
+def _left(reasons: Sequence[Reason], kept: Sequence[Repair], interval: int) -> List[Reason]:
     """The reasons without those of frames that are mended now."""
 
     def is_mended(begin: int) -> bool:
-        return any(begin - interval <= each.at < begin + 100 * interval for each in kept)
+        return any(begin - interval <= each.at < begin + ELEMENTS * interval for each in kept)
 
     return [reason for reason in reasons if not any(map(is_mended, frames_at_fault([reason])))]
 

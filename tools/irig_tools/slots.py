@@ -10,7 +10,7 @@ from . import limits
 from .grouping import grouped
 from .interval import Clock, Run
 from .phases import Marks, Usual, tells_phase
-from .units import PlaceNumber, plus
+from .units import ELEMENTS, PlaceNumber, plus
 
 # what a phase costs, the phase of the run before, the elements between, how late it comes
 Choice = Tuple[int, Optional[int], int, float]
@@ -60,7 +60,7 @@ def _without_first(runs: Sequence[Run]) -> List[Run]:
 def _hop(clock: Clock, distance: float, interval: float, step: int, fewest: int) -> Tuple[int, float, float]:
     """Elements to go on by (`step` modulo 100), how late what follows then is, and what it costs to believe that."""
     # of all whole frames those from which the run is the least late or early
-    steps = step + 100 * max(0, round((distance / interval - step) / 100))
+    steps = step + ELEMENTS * max(0, round((distance / interval - step) / ELEMENTS))
     late = distance - steps * interval
     if abs(late) <= clock.slack(steps, fewest):
         on_time = abs(late) <= clock.least_late(steps, fewest)
@@ -73,8 +73,8 @@ def _hop(clock: Clock, distance: float, interval: float, step: int, fewest: int)
 def _jump(distance: float, interval: float, step: int) -> Tuple[int, float, float]:
     """As `_hop`, for a run that is glued to the one before: as if more than a frame were missing between them."""
     straight = round(distance / interval)
-    steps = straight + 100 + (step - straight) % 100
-    same = steps == straight + 100
+    steps = straight + ELEMENTS + (step - straight) % ELEMENTS
+    same = steps == straight + ELEMENTS
     return steps, distance - steps * interval, limits.JUMP_TO_SAME if same else limits.JUMP
 
 
@@ -101,7 +101,7 @@ class _Linker:
     def __init__(self, clock: Clock, runs: Sequence[Run], usual: Usual) -> None:
         self.clock, self.runs, self.usual = clock, runs, usual
         marks, price = self._marks(runs[0])
-        first = marks.best(limits.WITHIN, 100 if runs[0].count < limits.TELLING else limits.MOST_PHASES)
+        first = marks.best(limits.WITHIN, ELEMENTS if runs[0].count < limits.TELLING else limits.MOST_PHASES)
         self.table: List[Dict[int, Choice]] = [{phase: (price(phase), None, 0, 0) for phase in first}]
         self.ways: List[_Way] = []
         for before, run in zip(runs, runs[1:]):
@@ -112,15 +112,15 @@ class _Linker:
         """The position identifiers of a run, and what each phase costs."""
         text = self.clock.text(run)
         marks = Marks(text)
-        unlike = self.usual.unlike(text) if run.count < 100 else lambda phase: 0
+        unlike = self.usual.unlike(text) if run.count < ELEMENTS else lambda phase: 0
         return marks, lru_cache(None)(lambda phase: tenths(marks.faults(phase)) + tenths(limits.UNUSUAL) * unlike(phase))
 
     def _onward(self, at: int, old: int) -> Iterator[Tuple[int, int, float, int]]:
         """From a phase of run `at` to the next run: each phase, the step, how late it is, and its price."""
         before, run, way = self.runs[at], self.runs[at + 1], self.ways[at]
         last = old + before.count - 1
-        for phase in {(last + step) % 100 for step in way.steps}.union(way.own):
-            step = (phase - last) % 100
+        for phase in {(last + step) % ELEMENTS for step in way.steps}.union(way.own):
+            step = (phase - last) % ELEMENTS
             step, late, cost = (
                 _jump(way.distance, way.interval, step)
                 if run.glued
@@ -154,11 +154,11 @@ class _Linker:
     def _follows(self, marks: Marks, onward: int) -> bool:
         """Whether a run goes on from the cheapest phase so far, that many elements on, beyond doubt."""
         costs = sorted((told[0], old) for old, told in self.table[-1].items())
-        faults = marks.faults((costs[0][1] + onward) % 100)
+        faults = marks.faults((costs[0][1] + onward) % ELEMENTS)
         if not faults:
             alone = len(costs) == 1 or costs[1][0] > costs[0][0] + tenths(limits.UNLIKELY)
             return marks.count >= limits.LONG_RUN or alone
-        most = 1 + min(marks.count // 100, marks.faults(marks.best(0, 1)[0]))
+        most = 1 + min(marks.count // ELEMENTS, marks.faults(marks.best(0, 1)[0]))
         return marks.count >= limits.LONG_RUN and faults <= most
 
     def follow(self) -> Linked:
@@ -243,10 +243,10 @@ def link(clock: Clock, runs: List[Run], unused: Sequence[int]) -> Linked:
 
 def _glued(clock: Clock, run: Run) -> Run:
     """A run that is glued if elements are missing for which there is no time, and only then."""
-    whole = 100 * clock.interval
+    whole = ELEMENTS * clock.interval
     early = max(limits.NO_TIME * clock.interval, clock.slack(run.step, run.fewest))
     if run.late < -early and not run.glued and tells_phase(clock.text(run)):
-        return replace(run, glued=True, step=run.step + 100, late=run.late - whole)
+        return replace(run, glued=True, step=run.step + ELEMENTS, late=run.late - whole)
     if run.glued and abs(run.late + whole) <= clock.slack(run.step):  # the phase is the same after all
-        return replace(run, glued=False, step=run.step - 100, late=run.late + whole)
+        return replace(run, glued=False, step=run.step - ELEMENTS, late=run.late + whole)
     return run

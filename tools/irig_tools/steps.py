@@ -15,7 +15,7 @@ from .kinds import DamageKind
 from .other_code import ONE_SECOND
 from .remarks import LEFT_SET, clock_was_set, missing
 from .track import Track
-from .units import FrameNumber, Microseconds, PulseIndex, frame_of, number_of, plus, through
+from .units import ELEMENTS, FrameNumber, Microseconds, PulseIndex, frame_of, number_of, plus, through
 from .zones import Zone
 
 RECORDER = "that is left: if the recorder slipped, all its wires did, and these times are right"
@@ -32,7 +32,7 @@ class Step:
         self.at = track.rises[self.pulse]
         frames = times.frames_between(left, right)
         self.known = frames is not None  # whether the times on both sides say how many frames passed
-        self.elements = right[0].step + 100 * (frames or 0)  # from the last pulse before to the first after
+        self.elements = right[0].step + ELEMENTS * (frames or 0)  # from the last pulse before to the first after
         self.late = round(right[0].begin - left[-1].end - self.elements * zone.interval)
         is_copied = self._is_dense() and self.late > limits.LEAST_COPY * zone.interval
         self.copy = without_copy(track, copy_between(track, times, left, right)) if is_copied else None
@@ -108,9 +108,9 @@ def _trimmed(track: Track, run: Run, head: int, tail: int) -> Run:
 
 def cut_by_a_step(track: Track) -> Iterator[FrameNumber]:
     """The frames of a stretch that a step cuts."""
-    if "[" in track.runs[0].ends and track.first % 100:
+    if "[" in track.runs[0].ends and track.first % ELEMENTS:
         yield frame_of(track.first)
-    if "]" in track.runs[-1].ends and track.last % 100 != 99:
+    if "]" in track.runs[-1].ends and (track.last + 1) % ELEMENTS:
         yield frame_of(track.last)
 
 

@@ -9,7 +9,7 @@ from .grouping import grouped
 from .interval import Clock, Run
 from .layout import Layout
 from .other_code import OtherCode
-from .units import FrameNumber, Microseconds, PlaceNumber, PulseIndex, frame_of, plus, through
+from .units import ELEMENTS, FrameNumber, Microseconds, PlaceNumber, PulseIndex, frame_of, plus, through
 from .zones import Zone
 
 
@@ -138,9 +138,9 @@ class Track:
 
     def frame(self, number: FrameNumber) -> str:
         """The 100 letters of a frame; `~` before the recording begins and after it ends."""
-        begin = 100 * number - self.first
-        before = "~" * min(100, max(0, -begin))
-        return (before + self.sure[max(0, begin):max(0, begin + 100)]).ljust(100, "~")
+        begin = ELEMENTS * number - self.first
+        before = "~" * min(ELEMENTS, max(0, -begin))
+        return (before + self.sure[max(0, begin):max(0, begin + ELEMENTS)]).ljust(ELEMENTS, "~")
 
     def frames(self) -> List[FrameNumber]:
         return through(frame_of(self.first), frame_of(self.last))

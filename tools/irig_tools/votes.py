@@ -6,7 +6,7 @@ from typing import Dict, List, Sequence, Tuple
 
 from .layout import Fields
 from .leap import with_leap
-from .moments import Calendar
+from .moments import DAY, Calendar
 from .track import Track
 from .units import Base, FrameNumber
 
@@ -27,6 +27,9 @@ class Votes:
         short, long = Calendar(self.layout), Calendar(self.layout, 366)
         if self.layout.with_year or not self.read:
             return short
+        begun = [short.moment_of(told) - number * self.layout.period for number, told in self.read]
+        if DAY <= min(begun) and max(begun) < DAY + short.circle and not any(told["days"] == 366 for _, told in self.read):
+            return short  # no year ends, so the bases are the same in both
         agree = [max(Counter(each.base(*frame) for frame in self.read).values()) for each in (short, long)]
         return long if agree[1] > agree[0] or any(told["days"] == 366 for _, told in self.read) else short
 

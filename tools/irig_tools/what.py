@@ -1,6 +1,7 @@
 """Says which wires of a dump carry time code, and how to continue."""
 from __future__ import annotations
 
+import tempfile
 from contextlib import ExitStack
 from dataclasses import dataclass, field
 from typing import IO, Dict, List, Optional, cast
@@ -9,6 +10,7 @@ from .analysis import Findings
 from .dump_choice import Signal
 from .dump_header import shown
 from .editor import Editor
+from .kept_wire import write_kept
 from .mend import propose
 from .opening import MOST_READ, needed_name, wire_name
 from .overview import lasting_of
@@ -112,17 +114,27 @@ class What:
         self.carriers = sorted(self.carriers, key=lambda carrier: (-carrier.fine, -carrier.led))
 
     def _read_all(self, probes: List[Probe]) -> List[CodeWire]:
-        """What is on these wires, after one more pass through the dump."""
+        """What is on these wires, as they were seen in the search; those that were not kept are read again."""
         with ExitStack() as stack:
             tracks = [stack.enter_context(temporary_track()) for _ in probes]
-            extracts = [Extract(self.path, self._wish(probe), cast(IO[bytes], track)) for probe, track in zip(probes, tracks)]
+            extracts = [self._extract(probe, track) for probe, track in zip(probes, tracks)]
             with named_if_no_room():
-                if probes:
-                    extract_all(self.path, self.dump, extracts)
+                left = [at for at, probe in enumerate(probes) if not write_kept(self.found, probe, extracts[at])]
+                for at in left:
+                    tracks[at].seek(0)
+                    tracks[at].truncate()
+                    extracts[at] = self._extract(probes[at], tracks[at])
+                if left:
+                    extract_all(self.path, self.dump, [extracts[at] for at in left])
                 for track in tracks:
                     track.flush()
+                for probe in self.found.probes:
+                    probe.forget()
             found = [self._read(probe, track.name, extract) for probe, track, extract in zip(probes, tracks, extracts)]
         return found
+
+    def _extract(self, probe: Probe, track: "tempfile._TemporaryFileWrapper[bytes]") -> Extract:
+        return Extract(self.path, self._wish(probe), cast(IO[bytes], track))
 
     def _wish(self, probe: Probe) -> Wish:
         return Wish(wire_name(self.found.header, probe.signal), self.found.unit, self.dump, invert=probe.kind[1])

@@ -11,7 +11,7 @@ from .faults import Faults, Remark
 from .grouping import grouped
 from .kinds import DamageKind
 from .steps import has_room, rest_comes
-from .units import Base, FrameNumber, Microseconds, PlaceNumber, frame_of, place_in, plus, through
+from .units import ELEMENTS, Base, FrameNumber, Microseconds, PlaceNumber, frame_of, place_in, plus, through
 from .zones import Zone
 
 
@@ -51,7 +51,7 @@ def _why_not(faults: Faults, zone: Zone) -> str:
     if faults.clock.wander and faults.clock.over(zone.right.step, zone.right.fewest) > limits.VAGUE * zone.interval:
         return "the clock wanders too much to say by how much"
     sure = min(zone.left.lead, zone.right.lead) >= limits.LEAD
-    timed = any(place_in(number, 99) <= zone.first for number in faults.times.own)
+    timed = any(place_in(number, ELEMENTS - 1) <= zone.first for number in faults.times.own)
     if abs(zone.late) > limits.MOST_LATE * zone.interval and zone.right.step > 1 and not (sure and timed):
         return "that is too uncertain to move the rest"
     return ""
@@ -66,16 +66,16 @@ def _control_of(faults: Faults, number: FrameNumber) -> int:
 
 def _can_generate(faults: Faults, number: FrameNumber) -> bool:
     """Whether `regen` of a frame takes away nothing but its damage."""
-    track, own, moment = faults.track, through(place_in(number), place_in(number, 99)), faults.times.moment(number)
+    track, own, moment = faults.track, through(place_in(number), place_in(number, ELEMENTS - 1)), faults.times.moment(number)
     if own[0] < track.first or own[-1] > track.last or faults.clock.interval != faults.layout.interval or faults.clock.wander:
         return False
     lost = sum(place in faults.wanted for place in own)
-    if lost < limits.FEWEST_LOST or (lost < 100 and not faults.clock.exact) or moment is None:
+    if lost < limits.FEWEST_LOST or (lost < ELEMENTS and not faults.clock.exact) or moment is None:
         return False
     begin = track.rise_at(own[0])
     return (
         not faults.times.calendar.within_leap(moment)
-        and begin + 100 * faults.clock.interval <= track.listing.length
+        and begin + ELEMENTS * faults.clock.interval <= track.listing.length
         and not any(zone.late and own[0] < zone.border_place <= own[-1] for zone in track.zones)
         and _stands_alone(faults, own, begin)
         and all(_as_generated(faults, place, begin) for place in own)
@@ -84,7 +84,7 @@ def _can_generate(faults: Faults, number: FrameNumber) -> bool:
 
 def _stands_alone(faults: Faults, own: List[PlaceNumber], begin: Microseconds) -> bool:
     """Whether no pulse of another frame reaches into this one, or is taken away with it."""
-    track, end = faults.track, begin + 100 * faults.clock.interval
+    track, end = faults.track, begin + ELEMENTS * faults.clock.interval
     before, after = bisect_left(faults.rises, begin) - 1, bisect_left(faults.rises, end)
     if before >= 0 and (faults.falls[before] >= begin or before in track.pulses_at(own[0])):
         return False
@@ -93,13 +93,13 @@ def _stands_alone(faults: Faults, own: List[PlaceNumber], begin: Microseconds) -
 
 def _as_generated(faults: Faults, place: PlaceNumber, begin: Microseconds) -> bool:
     """Whether the pulse of a place is, or is to be, just as `regen` writes it."""
-    element, track = place % 100, faults.track
+    element, track = place % ELEMENTS, faults.track
     pulses, due = track.pulses_at(place), begin + element * faults.clock.interval
     told = faults.wanted.get(place, faults.times.texts[frame_of(place)][element])
     if told not in "01P" or (element in faults.layout.unused and told != "0"):
         return False
     if place in faults.wanted:
-        reaches_beyond = pulses and element + track.spans(place, pulses[-1]) > 99
+        reaches_beyond = pulses and element + track.spans(place, pulses[-1]) >= ELEMENTS
         return not reaches_beyond and track.rise_at(place) == due
     return faults.rises[pulses[0]] == due and faults.width_of(pulses[0]) == faults.width(told, place)
 
@@ -121,7 +121,7 @@ def lost_frames(faults: Faults) -> List[Item]:
             continue
         rise, base = faults.track.rise_at(place_in(number)), faults.times.bases[number]
         found.append(_Lost(number, rise, (_control_of(faults, number), base, faults.times.calendar.after_leap(moment))))
-    frame = 100 * faults.clock.interval
+    frame = ELEMENTS * faults.clock.interval
     groups = grouped(found, lambda one, other: other != _Lost(plus(one.number, 1), plus(one.rise, round(frame)), one.shown))
     return [_generate(faults, group) for group in groups]
 
@@ -129,7 +129,7 @@ def lost_frames(faults: Faults) -> List[Item]:
 def _generate(faults: Faults, frames: List[_Lost]) -> Item:
     """Frames one after the other, with the same control functions and the same base."""
     first, many = frames[0], len(frames)
-    own = through(place_in(first.number), place_in(first.number, 100 * many - 1))
+    own = through(place_in(first.number), place_in(first.number, ELEMENTS * many - 1))
     lost = {place: faults.wanted[place] for place in own if place in faults.wanted}
     moment = faults.times.moment(first.number)
     assert moment is not None
@@ -139,7 +139,7 @@ def _generate(faults: Faults, frames: List[_Lost]) -> Item:
     control = ["%x" % first.shown[0]] if first.shown[0] else []
     if control:
         why += " and to the control functions 0x" + control[0]
-    guessed = sorted({place % 100 for place in faults.guesses if own[0] <= place <= own[-1]})
+    guessed = sorted({place % ELEMENTS for place in faults.guesses if own[0] <= place <= own[-1]})
     if guessed:
         why += "; undecided are the control elements %s" % ", ".join(map(str, guessed))
     return Item(own[0], own[-1], [Edit("regen", (*values, *control))], why, targets=lost, kind=DamageKind.STRETCH, is_guess=bool(guessed))

@@ -3,7 +3,7 @@ from __future__ import annotations
 
 from bisect import bisect_right
 from dataclasses import dataclass, field
-from typing import IO, List, Optional, Sequence
+from typing import IO, List, Optional, Sequence, Tuple
 
 from .dump_body import Body, Wanted
 from .dump_choice import Signal, choose
@@ -44,6 +44,11 @@ class Report:
     length: int = 0  # in microseconds
     edges: int = 0
     size: int = 0
+
+    def over(self) -> List[Tuple[str, int, int]]:
+        """What it has more of than the editor reads."""
+        most = ("microseconds", self.length, LONGEST_TIME), ("edges", self.edges, MOST_EDGES), ("bytes", self.size, MOST_BYTES)
+        return [each for each in most if each[1] > each[2]]
 
 
 def first_of(body: Body, unit: Unit) -> int:
@@ -110,11 +115,11 @@ class Writer:
             for number in range(max(0, min(first, beyond) - 1), min(first + 2, beyond)):
                 self.take(times[number], run.letter(number), body)
             if first + 2 < beyond:
-                self._take_rest(times[first + 2:beyond], run.letter(first))
+                self.take_rest(times[first + 2:beyond], run.letter(first))
         return True
 
-    def _take_rest(self, times: Sequence[int], letter: str) -> None:
-        """Changes of which each is one: to this letter, to the other, and so on."""
+    def take_rest(self, times: Sequence[int], letter: str) -> None:
+        """Later changes of which each is one: to this letter, to the other, and so on; something was written before them."""
         self.flush()
         offset, factor = self.offset or 0, self.unit.factor
         written = times if not offset and factor == 1 else [(time - offset) * factor for time in times]
@@ -231,12 +236,9 @@ class Extract:
         report = self.report
         report.length = writer.at * writer.unit.femtoseconds // MICROSECOND
         report.edges, report.size = writer.edges, writer.size
-        most = ("microseconds", report.length, LONGEST_TIME), ("edges", report.edges, MOST_EDGES), (
-            "bytes", report.size, MOST_BYTES)
-        for what, has, limit in most:
-            if has > limit:
-                text = "it has %d %s, and irig_ed reads at most %d: take a part by --from and --to"
-                report.doubtful.append(text % (has, what, limit))
+        for what, has, limit in report.over():
+            text = "it has %d %s, and irig_ed reads at most %d: take a part by --from and --to"
+            report.doubtful.append(text % (has, what, limit))
 
 
 def extract_all(path: str, number: int, extracts: Sequence[Extract]) -> None:

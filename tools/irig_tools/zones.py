@@ -8,7 +8,7 @@ from . import limits
 from .interval import Clock, Run
 from .other_code import OtherCode, other_code, survives
 from .phases import ONLY_P, faults_along
-from .units import Microseconds, PlaceNumber, PulseIndex, plus, through
+from .units import ELEMENTS, Microseconds, PlaceNumber, PulseIndex, plus, through
 from .wander import on_curve
 
 
@@ -87,8 +87,8 @@ class Zone:
         tail = self.clock.text(self.left)[1:][-limits.EITHER_SIDE:].translate(ONLY_P)
         onward = self.left.last_place + self.straight()
         back = self.right.place - self.straight() - len(tail) + 1
-        behind = faults_along(tail, back % 100)
-        return faults_along(head, onward % 100).count(0) - 1, behind.count(behind[-1]) - 1
+        behind = faults_along(tail, back % ELEMENTS)
+        return faults_along(head, onward % ELEMENTS).count(0) - 1, behind.count(behind[-1]) - 1
 
     def straight(self) -> int:
         """The elements from run to run by the distance alone."""
