@@ -135,6 +135,11 @@ EACH_BY_RULE = 3  # frames that have a zero, and a one, as the element of the ru
 LEAST_BY_RULE = 16  # frames in which it holds: of 27 elements at random one fits as many in less than one of 1,000 recordings
 FOR_EACH_AGAINST = 5  # more of them for each frame in which it does not hold
 
+# other recordings of the same code (others)
+UNLIKE_ELSEWHERE, UNLIKE_SHARE = 2, 0.1  # frames of the same time that may differ, and by how many more, as a share of those that show it
+LEAST_COMPARED = 9  # control functions of a frame that are recorded in both: fewer are alike by chance
+MOST_ALIKE = 400  # moments at which the control functions change in the same way in both: more say nothing of their clocks
+
 # stretches that are there twice (copies, steps)
 UNLIKE_IN_COPY = 25  # a copy has at most one element in that many that differs: more is no copy, but frames alike [0, 1]
 ALIKE_IN_COPY = 2  # and at least one in that many that is the same: the rest can be damaged [3, 0]
