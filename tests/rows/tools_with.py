@@ -3,14 +3,20 @@
 The recordings are those of the reference encoder, damaged by hand: what has to be repaired is what was damaged. docs/METHOD.md has
 the words.
 """
+import json
 import random
 
 from cases import case
-from irig_tools import others
+from irig_tools import mend_program, others
 from irig_tools.analysis import examine
-from rows import tools_rare
+from random_input import damages, pairs
+from rows import in_process, tools_rare
+from rows.in_process import run
+from rows.tools_apply import in_folder, text_of
 from rows.tools_parts import same
 from rows.tools_rare import MIDDAY, flipped, listed, signal
+
+in_process.MAINS.update(irig_mend=mend_program.main)
 
 FRAMES, DAY = 30, 739000
 CHANCE = random.Random(88)
@@ -136,6 +142,8 @@ def of_trusted():
     for name, other, guesses in (
         ("a frame that is broken there", without(code(), 1000 + 45), {LOST}),
         ("a frame that is fine, and shows another time", flipped(code(), 1001), {LOST}),
+        ("a frame next to four that show another time", shown_wrong(8, 9, 11, 12), {LOST}),
+        ("a frame next to three of these", shown_wrong(8, 9, 11), set()),
         ("a frame of another time that shows this one", elsewhere(code()), set()),
         ("the same, and that of the time is broken", without(elsewhere(code()), 1045), {LOST}),
         ("two frames of this time, which differ", [*code(), *after(flipped(code(), LOST))], {LOST}),
@@ -145,8 +153,13 @@ def of_trusted():
         yield same(name, mended(pulses, slow(other))[2], guesses)
         wanted = mended(pulses, slow(other))[0].get(LOST)
         yield same(name + ": its class", wanted == told or bool(guesses), True)
-    twice = [*without(code(), LOST), *after(code(control=lambda k: 0))]
+    twice = [*without(code(), LOST), *after(code())]
     yield same("two frames of this time here", mended(twice, slow(code()))[2], {LOST})
+
+
+def shown_wrong(*frames):
+    """These frames show the second after theirs or before it, in both fields that say it."""
+    return flipped(code(), *(100 * frame + element for frame in frames for element in (1, 80)))
 
 
 def elsewhere(pulses):
@@ -179,13 +192,15 @@ def of_other_code():
         ("a clock that is three seconds early", code(3), was_set % "3.00 seconds later"),
         ("another code", code(control=lambda k: strange.getrandbits(18)), unlike % (30, 30)),
         ("another code from a time on", code(control=half.__getitem__), unlike % (6, 30)),
-        ("one frame of the same time", code(29, control=lambda k: last[k % 7]), "only 1 frame of the same time can be compared, and two have to be alike"),
+        ("one frame of the same time, as all others", code(29, control=lambda k: SENT[-1]), "too few frames of the same time are alike: 1"),
         ("no frame", code()[:80], "no frame of it is fine and supported"),
         ("one frame alone", code()[90:210], "no frame of it is fine and supported"),
     ):
         found = mended(pulses, slow(other))
         yield same(name, found[3][:1], ["B.vcd is not used: " + why])
         yield same(name + ": nothing is taken", (found[0].keys(), found[2]), ({LOST}, {LOST}))
+    alone = mended(without(code(), 2963), slow(code(29, control=lambda k: last[k % 7])[:700]))
+    yield same("one frame of the same time, unlike all others", (alone[0], alone[2:]), ({2963: class_at(code(), 2963)}, (set(), [])))
     constant, later = signal(FRAMES, control=lambda k: 0x155), signal(FRAMES, begin=MIDDAY + 300, control=lambda k: 0x155)
     yield same("control functions that never change show no clock", mended(constant, slow(later))[3], [])
     slowly = [k // 9 for k in range(2 * FRAMES)]
@@ -226,6 +241,108 @@ def of_rules():
     yield same("lost, and the other one has a wrong parity", guesses, {LOST, 1075})
 
 
+# the program
+
+
+def dump(pulses, unit=None):
+    length = pulses[-1][1] + 1000
+    return pairs.in_nanoseconds(pulses, length, unit) if unit else damages.dump(pulses, length)
+
+
+def mend(*words, data=b""):
+    """The status, what is printed line by line, and what is said."""
+    status, printed, said = run("irig_mend", ["--expression=4", *words, "rec.vcd"], data)
+    return status, printed.decode().splitlines(), said
+
+
+def edges(text):
+    """The times of a dump after 0, each once."""
+    return sorted({int(word[1:]) for word in text.split() if word[0] == "#"} - {0})
+
+
+def page_of(name):
+    with open(name, encoding="utf-8") as file:
+        return file.read()
+
+
+def of_apply():
+    """One command: the other recorder has another unit, another wire and a wire of data."""
+    pulses, other = without(code(), *range(1030, 1090), 2263), slow(code())
+    told, at = {"0": "zero", "1": "one"}[class_at(code(), 2263)], place_of(other, 2263)
+
+    def holds():
+        counts = "2 places found, 2 repaired, 0 undecided, 0 left, 0 steps that stay; 27 frames sound before, 29 after"
+        words = ["--with", "other.vcd", "--apply", "new.vcd"]
+        status, printed, said = mend(*words, "--out", "new.ed")
+        wire = "irig_mend: other.vcd: wire irig (code '), format B, expression 4: 29 of 29 frames fine\n"
+        yield same("--apply", (status, printed, said), (0, ["rec.vcd: " + counts], wire))
+        yield same("what is written", edges(text_of("new.vcd")) == edges(dump(code())), True)
+        yield same("its reason", "no pulse; a %s as recorded in other.vcd at %s" % (told, at) in text_of("new.ed"), True)
+        said = "; what no frame around them says is as recorded in other.vcd at %s and later" % place_of(other, 1060)
+        yield same("of a frame that is generated again", said in text_of("new.ed"), True)
+        status, printed, _ = mend("--apply", "new.vcd")
+        yield same("without it", ("2 repaired (2 by a guess)" in printed[0], len(printed)), (True, 3))
+        status, printed, said = mend(*words, "--into", "rec.vcd", "--json", "--page", "new.html")
+        found = json.loads(printed[0])
+        yield same("--json", (status, found["summary"]["repaired"], found["summary"]["guessed"], found["reasons"]), (0, 2, 0, []))
+        yield same("--page", "as recorded in other.vcd at " + at in page_of("new.html"), True)
+        printed = mend("--with", "other.vcd", "--json")[1]
+        yield same("the script as JSON", ["as recorded in other.vcd" in line for line in printed], [True, True])
+        printed = mend("--with", "other.vcd", "--explain")[1]
+        yield same("--explain", printed[1],
+                   "with other.vcd: 30 frames that count, 30 of a time that is here, 29 of these alike, 0 not; used")
+        status, printed, said = mend("--with=-", "--with=down.vcd", "--apply", "new.vcd", data=text_of("other.vcd").encode())
+        yield same("standard input, and a wire upside down", (status, printed, said),
+                   (0, ["rec.vcd: " + counts], wire.replace("other.vcd", "standard input")))
+        printed = mend("--with=-", "--with=down.vcd", data=text_of("other.vcd").encode())[1]
+        source = "a %s as recorded in standard input at %s and down.vcd at %s" % (told, at, at)
+        yield same("both are named", any(source in line for line in printed), True)
+
+    down = [[end + 1, begin] for (_, end), (begin, _) in zip(other, other[1:])]
+    return in_folder(lambda: list(holds()), rec=dump(pulses), other=dump(other, 100), down=dump(down))
+
+
+def of_refused():
+    """What is no such recording: why, the status, and that nothing changes."""
+    pulses = without(code(), LOST)
+    one_file = " are one file; irig_wire makes one of each wire (irig_mend --help says more)"
+
+    def holds():
+        plain = mend()[1]
+        for name, why in (
+            ("a", "it has format A and expression 4, and the track format B and expression 4"),
+            ("day", "none of its frames has the time of one here: its first one is 86400.00 seconds later"),
+            ("data", "no frame of it is fine and supported"),
+        ):
+            said = "%s.vcd is not used: %s" % (name, why)
+            status, printed, _ = mend("--with=%s.vcd" % name)
+            yield same(name, (status, printed), (1, ["# " + said, *plain]))
+            status, printed, _ = mend("--with=%s.vcd" % name, "--apply=new.vcd")
+            yield same(name + ", --apply", (status, printed[0][:45], printed[1]),
+                       (1, "rec.vcd: 1 place found, 1 repaired (1 by a gu", "rec.vcd: " + said))
+        status, printed, _ = mend("--with=wrong.vcd", "--apply=new.vcd")
+        yield same("a frame that differs", (status, printed[0][:60], len(printed)),
+                   (1, "rec.vcd: 1 place found, 1 repaired, 0 undecided, 0 left, 0 s", 2))
+        yield same("what is said", " is recorded here, and a " in printed[1], True)
+        for words, said in (
+            ("--with=no.vcd", "no.vcd: No such file or directory"),
+            ("--with=text.vcd", None),
+            ("--with=rec.vcd", "rec.vcd and rec.vcd" + one_file),
+            ("--with=day.vcd --with=./day.vcd", "day.vcd and ./day.vcd" + one_file),
+            ("--with=day.vcd --apply=day.vcd", "--apply day.vcd would write over the file that is read, day.vcd"),
+            ("--with=day.vcd --apply-to=folder", "--apply-to and --with exclude each other (irig_mend --help says more)"),
+            ("--with=", "--with needs a file: --with OTHER (irig_mend --help says more)"),
+        ):
+            status, printed, found = mend(*words.split())
+            yield same(words, (status, printed, found), (2, [], "irig_mend: %s\n" % said if said else found))
+        yield same("what is read stays", text_of("day.vcd"), dump(slow(signal(FRAMES, day=DAY + 1))))
+
+    files = {"rec": dump(pulses), "a": dump(slow(signal(FRAMES, "A", control=sent))), "day": dump(slow(signal(FRAMES, day=DAY + 1))),
+             "data": dump([[700 * at, 700 * at + 300] for at in range(1, 900)]), "wrong": dump(slow(flipped(code(), 2070))),
+             "text": "no dump"}
+    return in_folder(lambda: list(holds()), **files)
+
+
 def cases(_top):
-    parts = of_lost, of_recorded, of_votes, of_trusted, of_other_code, of_contrary, of_rules
+    parts = of_lost, of_recorded, of_votes, of_trusted, of_other_code, of_contrary, of_rules, of_apply, of_refused
     return [case("mend: with: " + part.__name__[3:].replace("_", " "), lambda part=part: list(part())) for part in parts]

@@ -242,8 +242,8 @@ class Faults:
         if place in self.guesses:
             other = self.elsewhere.told(frame_of(place), element)
             if other:
-                parts = target, NAMES[other], self.elsewhere.sources(frame_of(place), element, other)
-                return "undecided whether zero or one: it looks like a %s here, and is a %s in %s" % parts
+                there = NAMES[other], self.elsewhere.sources(frame_of(place), element, other)
+                return "undecided whether zero or one: it looks like a %s here, and is a %s in %s" % (target, *there)
             return "undecided whether zero or one: nothing says it, so this %s is a guess" % target
         if element in self.usual:
             return "a %s as in most frames" % target

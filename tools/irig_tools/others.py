@@ -18,7 +18,7 @@ from .witnesses import TimeOfFrame, Witness, Witnesses, time_of_frame, unlike
 
 SET = "its control functions are those of this recording, and its times are %s: its clock was set otherwise"
 UNLIKE = "%d of %s of the same time have other control functions: its clock was set otherwise, or it is another code"
-FEW = "only %s of the same time can be compared, and two have to be alike"
+FEW = "too few frames of the same time are alike: %d"
 
 
 class Timed(NamedTuple):
@@ -70,20 +70,19 @@ def _timed(times: Times, number: FrameNumber, moment: Hundredths, text: str) -> 
 
 
 def other_of(name: str, findings: Findings) -> Other:
-    """The frames of a recording that others can rely on: fine, with the time of a fine frame next to them, and as the rule of the control
-    functions wants them, if they have one."""
+    """The frames of a recording that others can rely on: fine, with the base of one of the two frames that can be read before or after
+    it, and as the rule of the control functions wants them, if they have one."""
     found = []
     for part in reversed(findings.parts):
         times, rule = part.times, part.times.rule
-        sound = sorted(times.sound)
-        for at, number in enumerate(sound):
-            near = [*sound[max(0, at - 2):at], *sound[at + 1:at + 3]]
-            is_supported = any(times.own[number] == times.own[each] for each in near)
+        read = list(times.own.items())
+        for at, (number, base) in enumerate(read):
+            near = [*read[max(0, at - 2):at], *read[at + 1:at + 3]]
             text = times.texts[number]
-            if is_supported and (rule is None or rule.holds(text)):
-                moment = times.calendar.moment(number, times.own[number])
+            if number in times.sound and base in (each for _, each in near) and (rule is None or rule.holds(text)):
                 first = part.track.pulses_at(place_in(number))[0]
-                found.append((_timed(times, number, moment, text), Witness(name, text, part.track.rises, first)))
+                frame = _timed(times, number, times.calendar.moment(number, base), text)
+                found.append((frame, Witness(name, text, part.track.rises, first)))
     return Other(name, found)
 
 
@@ -104,11 +103,15 @@ class Likeness:
         return self.against <= limits.UNLIKE_ELSEWHERE + limits.UNLIKE_SHARE * self.telling
 
 
+def is_compared(text: str, elements: Sequence[int]) -> bool:
+    """Whether enough of these elements are recorded."""
+    return sum(text[each] in "01" for each in elements) >= min(len(elements), limits.LEAST_COMPARED)
+
+
 def likeness(here: Sequence[Timed], there: Dict[TimeOfFrame, str], elements: Sequence[int]) -> Likeness:
     """`there` has the classes of its frames by their times. A frame counts if enough of these elements are recorded."""
     common = [(frame.text, there[frame.time]) for frame in here if frame.time in there]
-    least = min(len(elements), limits.LEAST_COMPARED)
-    known = [pair for pair in common if sum(pair[0][each] in "01" for each in elements) >= least]
+    known = [pair for pair in common if is_compared(pair[0], elements)]
     agree = [text for text, other in known if not unlike(text, other, elements)]
     usual = Counter(_part_of(text, elements) for text in agree).most_common(1)
     telling = sum(_part_of(text, elements) != usual[0][0] for text in agree)
@@ -159,6 +162,7 @@ class Comparison:
             return "no frame %s is fine and supported" % ("of it" if self.here else "here")
         like = self.likeness(other)
         by = set_otherwise(self.here, there, self.calendar, self.elements) if like.against or not like.common else 0
+        enough = like.agree >= limits.WITNESSES or self._fits_one(there)
         if by:
             return SET % _later(by)
         if not like.common:
@@ -166,7 +170,17 @@ class Comparison:
             return "none of its frames has the time of one here: its first one is %s" % _later(begins)
         if not like.is_same_code:
             return UNLIKE % (like.against, counted(like.against + like.agree, "frame"))
-        return "" if like.agree >= limits.WITNESSES else FEW % counted(like.agree, "frame")
+        return "" if enough else FEW % like.agree
+
+    def _fits_one(self, there: Sequence[Timed]) -> bool:
+        """Whether a frame here is like the one of its time, and like no other one: then both are of one moment."""
+        times = {frame.time for frame in there}
+        for frame in self.here:
+            if frame.time in times and is_compared(frame.text, self.elements):
+                alike = [each for each in there if not unlike(frame.text, each.text, self.elements)]
+                if [each.time for each in alike] == [frame.time]:
+                    return True
+        return False
 
     def likeness(self, other: Other) -> Likeness:
         return likeness(self.here, {frame.time: frame.text for frame, _ in other.frames}, self.elements)
@@ -174,7 +188,7 @@ class Comparison:
     def line(self, other: Other, why: str) -> str:
         """What is said of another recording, to explain it."""
         like = self.likeness(other)
-        return "with %s: %s fine and supported, %d of a time that is here, %d of these alike, %d not; %s" % (
+        return "with %s: %s that count, %d of a time that is here, %d of these alike, %d not; %s" % (
             other.name, counted(len(other.frames), "frame"), like.common, like.agree, like.against, "not used: " + why if why else "used")
 
 

@@ -1,0 +1,131 @@
+"""One recorder mended with another one's recording, and judged: its frames, and the time of each moment by irig_time.
+
+A frame is had by a recorder if it is fine and as it was sent. Each that either of them has, and that lies within the mended
+recording, has to be in it as it was sent. No moment may get a wrong time.
+"""
+import os
+import re
+import subprocess
+import tempfile
+from dataclasses import dataclass, field
+
+import mending
+from built import TIME
+from irig_tools import mend_program
+from random_input import damages, pairs
+from rows import in_process
+
+in_process.MAINS.update(irig_mend=mend_program.main)
+SAMPLES = 200
+UNITS = (None, 100, 10)  # nanoseconds, of the other recording
+SHOWN = re.compile(r"(\d{3})T(\d\d):(\d\d):(\d\d\.\d{6})\s")
+
+
+@dataclass
+class Judged:
+    """What became of a recording: frames by what they show, and samples."""
+
+    had: set  # by either, and within the recording
+    after: set  # that are fine in the mended one
+    sent: set
+    before: set  # that were fine
+    samples: int = 0  # that have a time
+    gained: int = 0
+    wrong: list = field(default_factory=list)  # samples, and frames at another place or with another time
+    said: str = ""
+    script: str = ""
+
+    @property
+    def missing(self):
+        return self.had - self.after
+
+    @property
+    def false(self):
+        """Frames that are fine now, with the right time, and were not sent so."""
+        return self.after - self.sent - self.before
+
+
+def frames_of(options, path):
+    """The frames of a file that are fine, and where they begin."""
+    return {text: at for at, text in mending.listed(options, path, "")[1] if text.endswith("fine")}
+
+
+def seconds_of(text):
+    """The day and the second of a frame, or of a line of irig_time."""
+    day, clock = text.split()[:2] if " " in text else text.split("T")
+    hours, minutes, rest = clock.split(":")
+    return int(day) * 86400 + int(hours) * 3600 + int(minutes) * 60 + float(rest)
+
+
+def times_by(options, path, moments):
+    """The time that irig_time gives each moment, or None."""
+    lines = "".join("%d\n" % each for each in moments)
+    done = subprocess.run([TIME, *options, path], input=lines, capture_output=True, text=True, check=False)
+    found = [SHOWN.search(line) for line in done.stdout.splitlines()]
+    return [each and (int(each[1]) * 24 + int(each[2])) * 3600 + int(each[3]) * 60 + float(each[4]) for each in found]
+
+
+def written(folder, name, text):
+    path = os.path.join(folder, name)
+    with open(path, "w", encoding="ascii") as file:
+        file.write(text)
+    return path
+
+
+def mended(folder, options, *words):
+    """The status of irig_mend, and what it says."""
+    status, printed, said = in_process.run("irig_mend", [*options, *words, "--apply", os.path.join(folder, "new.vcd"),
+                                                         "--out", os.path.join(folder, "new.ed"), os.path.join(folder, "here.vcd")])
+    return status, printed.decode() + said
+
+
+def judged(rng, number, with_other=True):
+    """One pair; if not `with_other`, the other recording is not used."""
+    signal, recorders = pairs.pair(rng)
+    here, other = recorders
+    options = signal.options()
+    with tempfile.TemporaryDirectory() as folder:
+        paths = [written(folder, name, text) for name, text in (
+            ("here.vcd", here.dump()), ("other.vcd", other.dump(UNITS[number % len(UNITS)])), ("true.vcd", here.dump(true=True)),
+            ("other_us.vcd", other.dump()), ("sent.vcd", damages.dump(signal.pulses, signal.length)))]
+        begun, had, true, there, sent = (frames_of(options, path) for path in (paths[0], paths[0], paths[2], paths[3], paths[4]))
+        words = ["--with", paths[1]] if with_other else []
+        status, said = mended(folder, options, *words)
+        assert status in (0, 1), said
+        new = os.path.join(folder, "new.vcd")
+        after = frames_of(options, new)
+        with open(os.path.join(folder, "new.ed"), encoding="utf-8") as file:
+            script = file.read()
+        found = Judged((set(had) | set(there)) & set(true), set(after), set(sent), set(begun), said=said, script=script)
+        found.wrong += wrong_frames(signal, here, after, true, begun)
+        judge_samples(rng, found, signal, here, (options, paths[0], new), sent)
+    return found
+
+
+def wrong_frames(signal, here, after, true, begun):
+    """Frames that became fine with a time that was not sent there."""
+    near = signal.interval // 10
+    places = {tuple(mending.time_of(text)): at for text, at in true.items()}
+    for text, at in after.items():
+        if text not in begun and abs(places.get(tuple(mending.time_of(text)), -signal.length) - at) > near:
+            yield "frame at %d: %s" % (at, text)
+
+
+def judge_samples(rng, found, signal, here, tracks, sent):
+    """Compares the times that irig_time gives to moments with the true ones."""
+    options, before, after = tracks
+    moments = sorted(rng.sample(range(here.begin, here.end), SAMPLES))
+    places = [here.place(moment) for moment in moments]
+    first = min(sent, key=sent.get)
+    begin, near = seconds_of(first) - sent[first] / 1e6, max(5, signal.interval // 100) / 1e6
+    for moment, *both in zip(moments, times_by(options, before, places), times_by(options, after, places)):
+        was, now = (None if each is None else abs(off_by(each - begin - moment / 1e6)) <= near for each in both)
+        found.samples += now is not None
+        found.gained += was is None and now is not None
+        if now is False and was is not False:
+            found.wrong.append("sample at %d" % here.place(moment))
+
+
+def off_by(seconds):
+    """By how much a time is off, in whichever year."""
+    return min((seconds + 86400 * days for days in (0, 365, 366)), key=abs)
