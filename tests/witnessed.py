@@ -13,6 +13,7 @@ import mending
 from built import TIME
 from irig_tools import mend_program
 from random_input import damages, pairs
+from reference import timecode
 from rows import in_process
 
 in_process.MAINS.update(irig_mend=mend_program.main)
@@ -33,16 +34,36 @@ class Judged:
     gained: int = 0
     wrong: list = field(default_factory=list)  # samples, and frames at another place or with another time
     said: str = ""
-    script: str = ""
+    status: int = 0
+
+    @property
+    def is_used(self):
+        return " is not used: " not in self.said
 
     @property
     def missing(self):
+        """Frames that one of them has, and the mended one not."""
         return self.had - self.after
 
     @property
-    def false(self):
-        """Frames that are fine now, with the right time, and were not sent so."""
-        return self.after - self.sent - self.before
+    def dropped(self):
+        """Those of the missing frames that irig_guard left broken: it dropped a repair that mends them, perhaps with others."""
+        times = {tuple(mending.time_of(text)) for text in self.after}
+        return {text for text in self.missing if "not kept: " in self.said and tuple(mending.time_of(text)) not in times}
+
+    @property
+    def contested(self):
+        """Those in which both have recorded something else: each has a line."""
+        lines = [line for line in self.said.splitlines() if " is recorded here" in line or " are recorded here" in line
+                 or "it looks like a " in line]
+        return {text for text in self.missing if any("T".join(text.split()[:2]) in line for line in lines)}
+
+    @property
+    def unfounded(self):
+        """Frames that became fine with a control function that was not sent, and that no line names as undecided."""
+        lines = [line for line in self.said.splitlines() if "undecided" in line]
+        made = self.after - self.sent - self.before
+        return {text for text in made if not any("T".join(text.split()[:2]) in line for line in lines)}
 
 
 def frames_of(options, path):
@@ -74,32 +95,43 @@ def written(folder, name, text):
 
 def mended(folder, options, *words):
     """The status of irig_mend, and what it says."""
-    status, printed, said = in_process.run("irig_mend", [*options, *words, "--apply", os.path.join(folder, "new.vcd"),
-                                                         "--out", os.path.join(folder, "new.ed"), os.path.join(folder, "here.vcd")])
+    status, printed, said = in_process.run("irig_mend", [*options, *words, os.path.join(folder, "here.vcd")])
     return status, printed.decode() + said
 
 
-def judged(rng, number, with_other=True):
-    """One pair; if not `with_other`, the other recording is not used."""
-    signal, recorders = pairs.pair(rng)
-    here, other = recorders
+def judged(rng, with_other=True):
+    """One pair; if not `with_other`, the other recording is not given."""
+    unit = rng.choice(UNITS)
+    signal, (here, other) = pairs.pair(rng)
     options = signal.options()
     with tempfile.TemporaryDirectory() as folder:
         paths = [written(folder, name, text) for name, text in (
-            ("here.vcd", here.dump()), ("other.vcd", other.dump(UNITS[number % len(UNITS)])), ("true.vcd", here.dump(true=True)),
+            ("here.vcd", here.dump()), ("other.vcd", other.dump(unit)), ("true.vcd", here.dump(true=True)),
             ("other_us.vcd", other.dump()), ("sent.vcd", damages.dump(signal.pulses, signal.length)))]
         begun, had, true, there, sent = (frames_of(options, path) for path in (paths[0], paths[0], paths[2], paths[3], paths[4]))
-        words = ["--with", paths[1]] if with_other else []
-        status, said = mended(folder, options, *words)
-        assert status in (0, 1), said
         new = os.path.join(folder, "new.vcd")
+        status, said = mended(folder, options, "--apply", new, *["--with", paths[1]] * with_other)
         after = frames_of(options, new)
-        with open(os.path.join(folder, "new.ed"), encoding="utf-8") as file:
-            script = file.read()
-        found = Judged((set(had) | set(there)) & set(true), set(after), set(sent), set(begun), said=said, script=script)
+        found = Judged((set(had) | set(there)) & set(true) & set(sent), set(after), set(sent), set(begun), said=said, status=status)
         found.wrong += wrong_frames(signal, here, after, true, begun)
         judge_samples(rng, found, signal, here, (options, paths[0], new), sent)
     return found
+
+
+def strange(rng):
+    """Whether nothing is taken from a recording of another day or hour, or whose clock was set otherwise by some frames: the script is
+    the same, and a line says that it is not used."""
+    signal = pairs.signal(rng)
+    here = pairs.recorder(rng, signal)
+    day, hour, frame = timecode.DAY, 360000, signal.interval // 100
+    by = rng.choice((day, -day, 3 * hour, -hour, frame, -2 * frame, 5 * frame))
+    other = pairs.recorder(rng, signal.set_otherwise(0, by))
+    with tempfile.TemporaryDirectory() as folder:
+        written(folder, "here.vcd", here.dump())
+        path = written(folder, "other.vcd", other.dump())
+        plain, found = (mended(folder, signal.options(), *words)[1].splitlines() for words in ((), ("--with", path)))
+    is_said = " is not used: " in found[0] and (abs(by) < hour or " seconds " in found[0])
+    return is_said and found[1:] == plain
 
 
 def wrong_frames(signal, here, after, true, begun):
@@ -114,7 +146,8 @@ def wrong_frames(signal, here, after, true, begun):
 def judge_samples(rng, found, signal, here, tracks, sent):
     """Compares the times that irig_time gives to moments with the true ones."""
     options, before, after = tracks
-    moments = sorted(rng.sample(range(here.begin, here.end), SAMPLES))
+    whole = range(here.begin + 2 * signal.interval, here.end)  # not in a pulse that the beginning cuts: its rise is not recorded
+    moments = sorted(rng.sample(whole, SAMPLES))
     places = [here.place(moment) for moment in moments]
     first = min(sent, key=sent.get)
     begin, near = seconds_of(first) - sent[first] / 1e6, max(5, signal.interval // 100) / 1e6

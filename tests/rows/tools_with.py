@@ -9,6 +9,7 @@ import random
 from cases import case
 from irig_tools import mend_program, others
 from irig_tools.analysis import examine
+from irig_tools.mend import called_for
 from random_input import damages, pairs
 from rows import in_process, tools_rare
 from rows.in_process import run
@@ -91,6 +92,11 @@ def of_lost():
         yield same("element %d" % (at % 100), (wanted, guesses, remarks), ({at: class_at(pulses, at)}, set(), []))
         yield same("its reason", reasons, ["a %s as recorded in B.vcd at %s" % (name, place_of(other, at - 500))])
         yield same("without it", mended(without(pulses, at))[2], {at})
+    several = without(pulses, 1061, 1062, 1063)
+    repair, = called_for(examine(listed(several), witnesses=read(several, other).witnesses))
+    yield same("what is said of several", repair.comments, [
+        "3 pulses are missing, from frame 2024-115T12:00:10, element 61, at 10610000 on; each follows from the frames around it, or is as "
+        "recorded in B.vcd at %s and later" % place_of(other, 561)])
     gone = range(1010, 1290)
     wanted, _, guesses, _ = mended(without(pulses, *gone), other)
     yield same("a hole of several frames", (wanted, guesses), ({at: class_at(pulses, at) for at in gone}, set()))
@@ -116,10 +122,9 @@ def of_recorded():
     yield same("with a glitch, which is seen through", (wanted, guesses), ({LOST: class_at(pulses, LOST)}, {LOST}))
     yield same("its reason", reasons, ["undecided whether zero or one: it looks like a %s here, and is a %s in B.vcd at %s" % (
         here, there, place_of(other, LOST))])
-    late = [list(pulse) for pulse in pulses]
-    late[LOST] = [late[LOST][0] + 1500, late[LOST][1] + 1500]
-    yield same("late, and as wide as it was sent", mended(late, other)[::2], ({LOST: class_at(pulses, LOST)}, {LOST}))
-    yield same("the same, and the other has it, too", mended(late, slow(code()))[::2], ({LOST: class_at(pulses, LOST)}, set()))
+    moved = late([list(pulse) for pulse in pulses], LOST, 1500)
+    yield same("late, and as wide as it was sent", mended(moved, other)[::2], ({LOST: class_at(pulses, LOST)}, {LOST}))
+    yield same("the same, and the other has it, too", mended(moved, slow(code()))[::2], ({LOST: class_at(pulses, LOST)}, set()))
     noisy = [list(pulse) for pulse in without(pulses, LOST - 2, LOST - 1, LOST + 1)]
     noisy[LOST - 2] = [noisy[LOST - 2][0], noisy[LOST - 2][0] + (4600 if class_at(pulses, LOST) == "0" else 2400)]
     yield same("in a burst of damage", mended(noisy, slow(code()))[0][LOST], class_at(pulses, LOST))
@@ -148,6 +153,7 @@ def of_trusted():
         ("the same, and that of the time is broken", without(elsewhere(code()), 1045), {LOST}),
         ("two frames of this time, which differ", [*code(), *after(flipped(code(), LOST))], {LOST}),
         ("two frames of this time, which are alike", [*code(), *after(code())], set()),
+        ("a frame with a pulse that is late by less than a tenth", late(code(), 1045, 800), set()),
         ("an end of the recording", code()[:1150], set()),
     ):
         yield same(name, mended(pulses, slow(other))[2], guesses)
@@ -157,9 +163,15 @@ def of_trusted():
     yield same("two frames of this time here", mended(twice, slow(code()))[2], {LOST})
 
 
+def late(pulses, at, by):
+    """A pulse is late as a whole."""
+    pulses[at] = [pulses[at][0] + by, pulses[at][1] + by]
+    return pulses
+
+
 def shown_wrong(*frames):
-    """These frames show the second after theirs or before it, in both fields that say it."""
-    return flipped(code(), *(100 * frame + element for frame in frames for element in (1, 80)))
+    """These frames show the day before theirs."""
+    return flipped(code(), *(100 * frame + 30 for frame in frames))
 
 
 def elsewhere(pulses):
@@ -184,22 +196,22 @@ def of_other_code():
     unlike = "%d of %d frames of the same time have other control functions: its clock was set otherwise, or it is another code"
     strange = random.Random(89)
     half = [sent(k) if k < 24 else strange.getrandbits(18) for k in range(FRAMES)]
-    last = [SENT[-1], *half[-6:]]
+    last = [0, SENT[-1], *half[-6:]]
     for name, other, why in (
         ("another day", signal(FRAMES, day=DAY + 1), by % "86400.00 seconds later"),
         ("the same code, and another day", code(86400), was_set % "86400.00 seconds later"),
         ("a clock that is three hours late", code(-10800), was_set % "10800.00 seconds earlier"),
         ("a clock that is three seconds early", code(3), was_set % "3.00 seconds later"),
-        ("another code", code(control=lambda k: strange.getrandbits(18)), unlike % (30, 30)),
-        ("another code from a time on", code(control=half.__getitem__), unlike % (6, 30)),
-        ("one frame of the same time, as all others", code(29, control=lambda k: SENT[-1]), "too few frames of the same time are alike: 1"),
+        ("another code", code(control=lambda k: strange.getrandbits(18)), unlike % (29, 29)),
+        ("another code from a time on", code(control=half.__getitem__), unlike % (6, 29)),
+        ("one frame of the same time, as all others", code(28, control=lambda k: SENT[-1]), "too few frames of the same time are alike: 1"),
         ("no frame", code()[:80], "no frame of it is fine and supported"),
         ("one frame alone", code()[90:210], "no frame of it is fine and supported"),
     ):
         found = mended(pulses, slow(other))
         yield same(name, found[3][:1], ["B.vcd is not used: " + why])
         yield same(name + ": nothing is taken", (found[0].keys(), found[2]), ({LOST}, {LOST}))
-    alone = mended(without(code(), 2963), slow(code(29, control=lambda k: last[k % 7])[:700]))
+    alone = mended(without(code(), 2963), slow(code(28, control=lambda k: last[k % 8])[:800]))
     yield same("one frame of the same time, unlike all others", (alone[0], alone[2:]), ({2963: class_at(code(), 2963)}, (set(), [])))
     constant, later = signal(FRAMES, control=lambda k: 0x155), signal(FRAMES, begin=MIDDAY + 300, control=lambda k: 0x155)
     yield same("control functions that never change show no clock", mended(constant, slow(later))[3], [])
@@ -290,7 +302,7 @@ def of_apply():
         yield same("the script as JSON", ["as recorded in other.vcd" in line for line in printed], [True, True])
         printed = mend("--with", "other.vcd", "--explain")[1]
         yield same("--explain", printed[1],
-                   "with other.vcd: 30 frames that count, 30 of a time that is here, 29 of these alike, 0 not; used")
+                   "with other.vcd: 29 frames that count, 29 of a time that is here, 28 of these alike, 0 not; used")
         status, printed, said = mend("--with=-", "--with=down.vcd", "--apply", "new.vcd", data=text_of("other.vcd").encode())
         yield same("standard input, and a wire upside down", (status, printed, said),
                    (0, ["rec.vcd: " + counts], wire.replace("other.vcd", "standard input")))

@@ -136,6 +136,7 @@ LEAST_BY_RULE = 16  # frames in which it holds: of 27 elements at random one fit
 FOR_EACH_AGAINST = 5  # more of them for each frame in which it does not hold
 
 # other recordings of the same code (others)
+MOST_PERIODS = 495  # frames that are farther apart do not support each other, as in irig_time
 UNLIKE_ELSEWHERE, UNLIKE_SHARE = 2, 0.1  # frames of the same time that may differ, and by how many more, as a share of those that show it
 LEAST_COMPARED = 9  # control functions of a frame that are recorded in both: fewer are alike by chance
 MOST_ALIKE = 400  # moments at which the control functions change in the same way in both: more say nothing of their clocks

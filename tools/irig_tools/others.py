@@ -1,19 +1,21 @@
 """Other recordings of the same code: which frames of them are fine and supported, and whether they are of the same code and clock."""
 from __future__ import annotations
 
+from bisect import bisect_left
 from collections import Counter, defaultdict
 from dataclasses import dataclass, field
 from typing import Dict, ItemsView, Iterator, List, NamedTuple, Sequence, Tuple
 
 from . import limits
-from .analysis import START, Findings, looks
+from .analysis import START, Findings, Part, looks
+from .check import Frame, Frames, Moved, around
 from .editor import Editor, Progress
 from .frames import Times
 from .kinds import DamageKind
 from .moments import Calendar
 from .script import Repair
 from .texts import counted
-from .units import FrameNumber, Hundredths, place_in
+from .units import FrameNumber, Hundredths, PulseIndex
 from .witnesses import TimeOfFrame, Witness, Witnesses, time_of_frame, unlike
 
 SET = "its control functions are those of this recording, and its times are %s: its clock was set otherwise"
@@ -70,20 +72,27 @@ def _timed(times: Times, number: FrameNumber, moment: Hundredths, text: str) -> 
 
 
 def other_of(name: str, findings: Findings) -> Other:
-    """The frames of a recording that others can rely on: fine, with the base of one of the two frames that can be read before or after
-    it, and as the rule of the control functions wants them, if they have one."""
-    found = []
-    for part in reversed(findings.parts):
-        times, rule = part.times, part.times.rule
-        read = list(times.own.items())
-        for at, (number, base) in enumerate(read):
-            near = [*read[max(0, at - 2):at], *read[at + 1:at + 3]]
-            text = times.texts[number]
-            if number in times.sound and base in (each for _, each in near) and (rule is None or rule.holds(text)):
-                first = part.track.pulses_at(place_in(number))[0]
-                frame = _timed(times, number, times.calendar.moment(number, base), text)
-                found.append((frame, Witness(name, text, part.track.rises, first)))
+    """The frames of a recording that others can rely on: fine, supported, and as the rule of the control functions wants them, if they
+    have one."""
+    found: List[Tuple[Timed, Witness]] = []
+    for part in findings.parts[:1]:  # all parts are of one listing
+        fine, rule = Frames(part.track.listing, part.times.calendar, Moved()).all, findings.rule
+        for frame in fine:
+            told = findings.layout.shown(frame.text)
+            near = around(fine, frame.at, 2)
+            if told and (rule is None or rule.holds(frame.text)) and any(_supports(part, frame, each) for each in near):
+                first = PulseIndex(bisect_left(part.track.rises, frame.at))
+                timed = Timed(frame.moment, time_of_frame(findings.layout, told), frame.text)
+                found.append((timed, Witness(name, frame.text, part.track.rises, first)))
     return Other(name, found)
+
+
+def _supports(part: Part, one: Frame, other: Frame) -> bool:
+    """Whether two frames are that many periods apart, as irig_time counts them."""
+    early, late = sorted((one, other))
+    periods, rest = divmod(part.times.calendar.apart(early.moment, late.moment), part.times.layout.period)
+    off = (late.at - early.at) / part.track.clock.interval - 100 * periods
+    return not rest and 0 < periods <= limits.MOST_PERIODS and abs(off) < 50
 
 
 # whether it is the same code
@@ -152,21 +161,22 @@ class Comparison:
     def __init__(self, findings: Findings) -> None:
         times = [part.times for part in findings.parts]
         self.here = list(frames_with_times(findings))
+        self.fine = other_of("", findings).frames
         self.elements = sorted({each for one in times for each in one.kept})
         self.calendar = times[0].calendar if times else Calendar(findings.layout)
 
     def why_not(self, other: Other) -> str:
         """Why another recording is not used; nothing if it is."""
         there = [frame for frame, _ in other.frames]
-        if not self.here or not there:
-            return "no frame %s is fine and supported" % ("of it" if self.here else "here")
+        if not self.fine or not there:
+            return "no frame %s is fine and supported" % ("of it" if self.fine else "here")
         like = self.likeness(other)
         by = set_otherwise(self.here, there, self.calendar, self.elements) if like.against or not like.common else 0
         enough = like.agree >= limits.WITNESSES or self._fits_one(there)
         if by:
             return SET % _later(by)
         if not like.common:
-            begins = self.calendar.apart(self.here[0].moment, there[0].moment)
+            begins = self.calendar.apart(self.fine[0][0].moment, there[0].moment)
             return "none of its frames has the time of one here: its first one is %s" % _later(begins)
         if not like.is_same_code:
             return UNLIKE % (like.against, counted(like.against + like.agree, "frame"))
