@@ -27,14 +27,12 @@ class Judged:
     """What became of a recording: frames by what they show, and samples."""
 
     had: set  # by either, and within the recording
+    before: set  # of these, those that the recording had before
     after: set  # that are fine in the mended one
-    sent: set
-    before: set  # that were fine
     samples: int = 0  # that have a time
     gained: int = 0
     wrong: list = field(default_factory=list)  # samples, and frames at another place or with another time
     said: str = ""
-    status: int = 0
 
     @property
     def is_used(self):
@@ -57,13 +55,6 @@ class Judged:
         lines = [line for line in self.said.splitlines() if " is recorded here" in line or " are recorded here" in line
                  or "it looks like a " in line]
         return {text for text in self.missing if any("T".join(text.split()[:2]) in line for line in lines)}
-
-    @property
-    def unfounded(self):
-        """Frames that became fine with a control function that was not sent, and that no line names as undecided."""
-        lines = [line for line in self.said.splitlines() if "undecided" in line]
-        made = self.after - self.sent - self.before
-        return {text for text in made if not any("T".join(text.split()[:2]) in line for line in lines)}
 
 
 def frames_of(options, path):
@@ -94,9 +85,9 @@ def written(folder, name, text):
 
 
 def mended(folder, options, *words):
-    """The status of irig_mend, and what it says."""
+    """What irig_mend prints and says."""
     status, printed, said = in_process.run("irig_mend", [*options, *words, os.path.join(folder, "here.vcd")])
-    return status, printed.decode() + said
+    return printed.decode() + said if status in (0, 1) else "status %d: %s" % (status, said)
 
 
 def judged(rng, with_other=True):
@@ -105,16 +96,16 @@ def judged(rng, with_other=True):
     signal, (here, other) = pairs.pair(rng)
     options = signal.options()
     with tempfile.TemporaryDirectory() as folder:
-        paths = [written(folder, name, text) for name, text in (
-            ("here.vcd", here.dump()), ("other.vcd", other.dump(unit)), ("true.vcd", here.dump(true=True)),
-            ("other_us.vcd", other.dump()), ("sent.vcd", damages.dump(signal.pulses, signal.length)))]
-        begun, had, true, there, sent = (frames_of(options, path) for path in (paths[0], paths[0], paths[2], paths[3], paths[4]))
-        new = os.path.join(folder, "new.vcd")
-        status, said = mended(folder, options, "--apply", new, *["--with", paths[1]] * with_other)
-        after = frames_of(options, new)
-        found = Judged((set(had) | set(there)) & set(true) & set(sent), set(after), set(sent), set(begun), said=said, status=status)
-        found.wrong += wrong_frames(signal, here, after, true, begun)
-        judge_samples(rng, found, signal, here, (options, paths[0], new), sent)
+        path, new = written(folder, "here.vcd", here.dump()), os.path.join(folder, "new.vcd")
+        words = ["--with", written(folder, "other.vcd", other.dump(unit))] if with_other else []
+        said = mended(folder, options, "--apply", new, *words)
+        begun, after = frames_of(options, path), frames_of(options, new)
+        there, true, sent = (frames_of(options, written(folder, "a.vcd", text)) for text in (
+            other.dump(), here.dump(true=True), damages.dump(signal.pulses, signal.length)))
+        whole = set(true) & set(sent)
+        found = Judged((set(begun) | set(there)) & whole, set(begun) & whole, set(after), said=said)
+        found.wrong += wrong_frames(signal, after, true, begun)
+        judge_samples(rng, found, signal, here, (options, path, new), sent)
     return found
 
 
@@ -129,12 +120,12 @@ def strange(rng):
     with tempfile.TemporaryDirectory() as folder:
         written(folder, "here.vcd", here.dump())
         path = written(folder, "other.vcd", other.dump())
-        plain, found = (mended(folder, signal.options(), *words)[1].splitlines() for words in ((), ("--with", path)))
+        plain, found = (mended(folder, signal.options(), *words).splitlines() for words in ((), ("--with", path)))
     is_said = " is not used: " in found[0] and (abs(by) < hour or " seconds " in found[0])
     return is_said and found[1:] == plain
 
 
-def wrong_frames(signal, here, after, true, begun):
+def wrong_frames(signal, after, true, begun):
     """Frames that became fine with a time that was not sent there."""
     near = signal.interval // 10
     places = {tuple(mending.time_of(text)): at for text, at in true.items()}

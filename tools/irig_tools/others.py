@@ -161,35 +161,35 @@ class Comparison:
     def __init__(self, findings: Findings) -> None:
         times = [part.times for part in findings.parts]
         self.here = list(frames_with_times(findings))
-        self.fine = other_of("", findings).frames
+        self.fine = [frame for frame, _ in other_of("", findings).frames] or self.here
         self.elements = sorted({each for one in times for each in one.kept})
         self.calendar = times[0].calendar if times else Calendar(findings.layout)
 
     def why_not(self, other: Other) -> str:
         """Why another recording is not used; nothing if it is."""
         there = [frame for frame, _ in other.frames]
-        if not self.fine or not there:
-            return "no frame %s is fine and supported" % ("of it" if self.fine else "here")
+        if not self.here:
+            return "the time of no frame here is known"
+        if not there:
+            return "no frame of it is fine and supported"
         like = self.likeness(other)
         by = set_otherwise(self.here, there, self.calendar, self.elements) if like.against or not like.common else 0
-        enough = like.agree >= limits.WITNESSES or self._fits_one(there)
         if by:
             return SET % _later(by)
         if not like.common:
-            begins = self.calendar.apart(self.fine[0][0].moment, there[0].moment)
+            begins = self.calendar.apart(self.fine[0].moment, there[0].moment)
             return "none of its frames has the time of one here: its first one is %s" % _later(begins)
         if not like.is_same_code:
             return UNLIKE % (like.against, counted(like.against + like.agree, "frame"))
-        return "" if enough else FEW % like.agree
+        return "" if like.agree >= limits.WITNESSES or self._fits_one(there) else FEW % like.agree
 
     def _fits_one(self, there: Sequence[Timed]) -> bool:
         """Whether a frame here is like the one of its time, and like no other one: then both are of one moment."""
-        times = {frame.time for frame in there}
+        of_time = {frame.time: frame.text for frame in there}
         for frame in self.here:
-            if frame.time in times and is_compared(frame.text, self.elements):
-                alike = [each for each in there if not unlike(frame.text, each.text, self.elements)]
-                if [each.time for each in alike] == [frame.time]:
-                    return True
+            other = of_time.get(frame.time)
+            if other and is_compared(frame.text, self.elements) and not unlike(frame.text, other, self.elements):
+                return sum(not unlike(frame.text, each.text, self.elements) for each in there) == 1
         return False
 
     def likeness(self, other: Other) -> Likeness:
