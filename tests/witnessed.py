@@ -35,10 +35,6 @@ class Judged:
     said: str = ""
 
     @property
-    def is_used(self):
-        return " is not used: " not in self.said
-
-    @property
     def missing(self):
         """Frames that one of them has, and the mended one not."""
         return self.had - self.after

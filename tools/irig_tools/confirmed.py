@@ -34,9 +34,10 @@ def _remark_unlike(faults: Faults) -> None:
     """What is recorded here, and otherwise in another recording, is left."""
     elsewhere = faults.elsewhere
     for number in sorted(faults.times.texts.keys() - faults.left):
-        for place in (place_in(number, element) for element in elsewhere.unlike(number)):
+        for element in elsewhere.unlike(number):
+            place = place_in(number, element)
             if place not in faults.wanted:
-                faults.remark(place, "%s: %s" % (faults.name(place), elsewhere.said(number, place % 100)), BY_HAND, DamageKind.DIFFERS)
+                faults.remark(place, "%s: %s" % (faults.name(place), elsewhere.said(number, element)), BY_HAND, DamageKind.DIFFERS)
         if number in elsewhere.contrary:
             seen = "%s: %s" % (faults.times.name(number), elsewhere.said_of_frame(number))
             faults.remark(faults.track.within(place_in(number)), seen, NOT_TAKEN, DamageKind.DIFFERS)

@@ -91,8 +91,9 @@ def _supports(part: Part, one: Frame, other: Frame) -> bool:
     """Whether two frames are that many periods apart, as irig_time counts them."""
     early, late = sorted((one, other))
     periods, rest = divmod(part.times.calendar.apart(early.moment, late.moment), part.times.layout.period)
-    off = (late.at - early.at) / part.track.clock.interval - 100 * periods
-    return not rest and 0 < periods <= limits.MOST_PERIODS and abs(off) < 50
+    elements = len(one.text)
+    off = (late.at - early.at) / part.track.clock.interval - elements * periods
+    return not rest and 0 < periods <= limits.MOST_PERIODS and 2 * abs(off) < elements
 
 
 # whether it is the same code
