@@ -117,8 +117,8 @@ def strange(rng):
         written(folder, "here.vcd", here.dump())
         path = written(folder, "other.vcd", other.dump())
         plain, found = (mended(folder, signal.options(), *words).splitlines() for words in ((), ("--with", path)))
-    is_said = " is not used: " in found[0] and (abs(by) < hour or " seconds " in found[0])
-    return is_said and found[1:] == plain
+    is_said = abs(by) < hour or " seconds " in found[0] or "no frame of it is fine and supported" in found[0]
+    return " is not used: " in found[0] and is_said and found[1:] == plain
 
 
 def wrong_frames(signal, after, true, begun):
