@@ -20,7 +20,7 @@ class Recording:
         self.control = rng.getrandbits(len(timecode.control_elements(self.kind, self.expression >= 4)))
         self.control *= rng.random() < 0.7
         period = self.interval // 100
-        start = (rng.randrange(730486, 738000), rng.randrange(0, timecode.DAY, period))
+        self.start = start = (rng.randrange(730486, 738000), rng.randrange(0, timecode.DAY, period))
         self.pulses = []
         for k in range(many):
             values = timecode.generated(self.kind, start, k, self.control_of(rng, k))

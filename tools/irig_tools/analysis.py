@@ -23,6 +23,7 @@ from .steps import Step, apart, cut_by_a_step, step_zones, turned
 from .threshold import level
 from .track import Track
 from .units import ELEMENTS, Hundredths, Microseconds, number_of
+from .witnesses import NO_WITNESSES, Witnesses
 
 START = Microseconds(0)
 OTHER_WIRE = "is it another wire?"
@@ -72,7 +73,7 @@ class Findings:
 
 
 def looks(editor: Editor, obeyed: Callable[[], Listing], progress: Progress, script: Sequence[Repair], steady: bool = False,
-          move: bool = False, grid: float = 0) -> Iterator[Tuple[Listing, Findings]]:
+          move: bool = False, grid: float = 0, witnesses: Witnesses = NO_WITNESSES) -> Iterator[Tuple[Listing, Findings]]:
     """The track as it is after a script, and what is found in it; again as long as the script has grown since. How far apart
     samples are stays as it was first seen: what is repaired knows none."""
     for _ in range(limits.ROUNDS + 1):
@@ -80,16 +81,18 @@ def looks(editor: Editor, obeyed: Callable[[], Listing], progress: Progress, scr
         progress("reading the track" + (" as it is after %d repairs" % repairs if repairs else ""))
         listing = obeyed()
         progress("looking at %d pulses" % len(listing.rises))
-        findings = editor.judged(listing, examine, steady, move, grid)
+        how = steady, move, grid
+        findings = examine(listing, *how, witnesses) if witnesses else editor.judged(listing, examine, *how)
         grid = findings.grid
         yield listing, findings
         if len(script) == repairs:
             return
 
 
-def examine(listing: Listing, steady: bool = False, move: bool = False, grid: float = 0) -> Findings:
+def examine(listing: Listing, steady: bool = False, move: bool = False, grid: float = 0,
+            witnesses: Witnesses = NO_WITNESSES) -> Findings:
     """What is found; if `move`, a rest that comes late is to be moved, and else both sides of a step are parts of their
-    own. `grid` is how far apart samples are, if it is known."""
+    own. `grid` is how far apart samples are, if it is known, and `witnesses` are frames of other recordings."""
     findings = Findings(layout_of(listing.kind, listing.expression, steady))
     interval, many = findings.layout.interval, len(listing.rises)
     upright, turned_share = (share_in_step(times, interval) for times in (listing.rises, listing.falls))
@@ -106,7 +109,7 @@ def examine(listing: Listing, steady: bool = False, move: bool = False, grid: fl
         else:
             findings.whole = level(listing, findings.layout)
         if not findings.whole:
-            _examine_parts(Clock(listing, interval, grid), findings, move)
+            _examine_parts(Clock(listing, interval, grid), findings, move, witnesses)
     return findings
 
 
@@ -121,7 +124,7 @@ def _turn_over(findings: Findings, stretches: Sequence[Tuple[Microseconds, Micro
     findings.whole = [repair_of(DamageKind.INVERTED, stretches[0][0], [why], edits, stretches[-1][1])]
 
 
-def _examine_parts(clock: Clock, findings: Findings, move: bool) -> None:
+def _examine_parts(clock: Clock, findings: Findings, move: bool, witnesses: Witnesses) -> None:
     findings.clock = clock
     found = parts(clock)
     for runs in reversed(found):
@@ -132,7 +135,7 @@ def _examine_parts(clock: Clock, findings: Findings, move: bool) -> None:
         else:
             for part in reversed(sure_parts(linked)):
                 track = Track(findings.layout, clock, part)
-                findings.parts += _moved(track) if move else _kept(track)
+                findings.parts += (_moved if move else _kept)(track, witnesses)
             for run in linked:
                 if run.lead < limits.LEAST_LEAD:
                     _remark_unsure(findings, clock, run)
@@ -155,7 +158,7 @@ def _remark_unsure(findings: Findings, clock: Clock, run: Run) -> None:
     findings.remark(clock.rises[run.first], seen, choice, DamageKind.OTHER)
 
 
-def _moved(track: Track) -> List[Part]:
+def _moved(track: Track, witnesses: Witnesses) -> List[Part]:
     """The part if what comes late is to be moved."""
     times = Times(track)
     copies = take_out(track, times)
@@ -164,22 +167,22 @@ def _moved(track: Track) -> List[Part]:
         if again != track.runs:
             track = Track(track.layout, track.clock, again)
             times = Times(track)
-    return [Part(track, times, copies, faults_of(track, times), remarks(track, times))]
+    return [Part(track, times, copies, faults_of(track, times, witnesses), remarks(track, times))]
 
 
-def _kept(whole: Track) -> List[Part]:
+def _kept(whole: Track, witnesses: Witnesses) -> List[Part]:
     """The parts, from the last to the first, if all times are kept: what is between two steps is one."""
     times, steps = Times(whole), step_zones(whole)
     if not steps:
-        return [_part(whole, times)]
+        return [_part(whole, times, witnesses)]
     tracks = [Track(whole.layout, whole.clock, runs) for runs in apart(whole, steps)]
-    found, between = [_part(track, Times(track)) for track in tracks], whole.parted_at(steps)
+    found, between = [_part(track, Times(track), witnesses) for track in tracks], whole.parted_at(steps)
     for zone, left, right, part in zip(steps, between, between[1:], found[1:]):
         part.remarks.append(Step(whole, times, zone, left, right).remark(part.faults))
     return found[::-1]
 
 
-def _part(track: Track, times: Times) -> Part:
+def _part(track: Track, times: Times, witnesses: Witnesses) -> Part:
     """Frames that a step cuts, or near which the times go on elsewhere, stay as they are."""
     left = {*cut_by_a_step(track), *turned(times)}
-    return Part(track, times, [], faults_of(track, times, left), remarks(track, times))
+    return Part(track, times, [], faults_of(track, times, witnesses, left), remarks(track, times))

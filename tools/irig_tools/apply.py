@@ -97,10 +97,10 @@ class Refused:
 def summary(before: Sequence[Damage], after: Sequence[Damage], script: Sequence[Repair], frames: Sequence[FrameCount],
             refused: Refused) -> Summary:
     """Counts; `before` and `after` are what irig_damage finds, and `frames` those of both tracks. What is undecided are the comments that
-    say so, a guess is a place that is repaired by one: not if it is dropped."""
+    say so, but not where another recording differs; a guess is a place that is repaired by one: not if it is dropped."""
     found, there = (sum(not each.is_remark for each in seen) for seen in (before, after))
     steps = sum(each.kind in STEPS for each in after)
-    undecided = sum(len(each.undecided) for each in script if not each.edits)
+    undecided = sum(len(each.undecided) for each in script if not each.edits and each.kind != DamageKind.DIFFERS)
     repaired = max(0, found - there)
     guesses = [each for each in script if each.edits and each.undecided and not refused.drops(each)]
     guessed = min(repaired, _places_of(guesses, [each for each in before if not each.is_remark]))

@@ -10,20 +10,37 @@ from .layout import NAMES
 from .parity import Rule
 from .track import Track
 from .units import ELEMENTS, FrameNumber, PlaceNumber, place_in
+from .witnesses import Witnesses
 
 BY_HAND = "force the one that is wrong"
+NOT_TAKEN = "so nothing of it is taken: its clock was set otherwise, or it is another code"
 OTHER = {"0": "1", "1": "0"}
 
 
-def faults_of(track: Track, times: Times, left: Iterable[FrameNumber] = ()) -> Faults:
-    """The faults of a track, with those that the rule shows; `left` are frames that are to stay as they are."""
-    faults = Faults(track, times, left)
+def faults_of(track: Track, times: Times, witnesses: Witnesses, left: Iterable[FrameNumber] = ()) -> Faults:
+    """The faults of a track, with those that the rule shows; `left` are frames that are to stay as they are, `witnesses` those of
+    other recordings."""
+    faults = Faults(track, times, left, witnesses)
     if times.rule:
         for number, text in times.texts.items():
             is_known = times.moment(number) is not None and number not in times.spliced
             if is_known and number not in faults.left and number not in faults.contrary:
                 _Frame(faults, times.rule, number, text).compare()
+    _remark_unlike(faults)
     return faults
+
+
+def _remark_unlike(faults: Faults) -> None:
+    """What is recorded here, and otherwise in another recording, is left."""
+    elsewhere = faults.elsewhere
+    for number in sorted(faults.times.texts.keys() - faults.left):
+        for element in elsewhere.unlike(number):
+            place = place_in(number, element)
+            if place not in faults.wanted:
+                faults.remark(place, "%s: %s" % (faults.name(place), elsewhere.said(number, element)), BY_HAND, DamageKind.DIFFERS)
+        if number in elsewhere.contrary:
+            seen = "%s: %s" % (faults.times.name(number), elsewhere.said_of_frame(number))
+            faults.remark(faults.track.within(place_in(number)), seen, NOT_TAKEN, DamageKind.DIFFERS)
 
 
 class _Frame:
@@ -36,11 +53,12 @@ class _Frame:
         self.text = "".join([wanted.get(place_in(number, element), text[element]) for element in range(rule.element + 1)])
         before = [place_in(number, element) for element in faults.times.kept if element < rule.element]
         # by their shape, or as the frames next to it have them
-        self.filled = [place for place in before if place in wanted and not faults.is_recorded(place, wanted[place])]
+        self.filled = [place for place in before
+                       if place in wanted and place not in faults.by_others and not faults.is_recorded(place, wanted[place])]
 
     def compare(self) -> None:
         """Gives the element of the rule what follows if it is lost; if it is there, it says what else is lost or damaged."""
-        if self.place in self.faults.wanted:
+        if self.place in self.faults.wanted.keys() - self.faults.by_others:
             self._fill_in()
         elif self.rule.shows(self.text):
             self._confirm() if self.rule.holds(self.text) else self._contradict()
@@ -89,7 +107,13 @@ class _Frame:
         return [place_in(self.number, element) for element, told in self._around().items() if told and told != self.text[element]]
 
     def _suspects(self) -> List[PlaceNumber]:
-        """The same; if none does, the element of the rule itself."""
+        """The only one that other recordings have otherwise; else those that differ from the nearest frames; if none does, the element
+        of the rule itself."""
+        places = [place_in(self.number, each) for each in self.faults.elsewhere.unlike(self.number) if each <= self.rule.element]
+        elsewhere = [place for place in places if place not in self.faults.wanted]
+        if len(elsewhere) == 1:
+            self.faults.by_others.update(elsewhere)
+            return elsewhere
         unlike, times, element = self._unlike(), self.faults.times, self.rule.element
         if not unlike and None not in self._around().values() and times.is_beside(self.number, element, self.rule.follows(self.text)):
             return [self.place]

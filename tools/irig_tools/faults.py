@@ -12,6 +12,7 @@ from .layout import NAMES, POSITIONS, READABLE, SHARE
 from .texts import counted
 from .track import Track
 from .units import ELEMENTS, FrameNumber, Microseconds, PlaceNumber, PulseIndex, frame_of, number_of, place_in, plus, through
+from .witnesses import Elsewhere, Witnesses
 
 LEFT_FRAME = "the frame is left as it is; regen gives it the time to which the others lead"
 
@@ -41,14 +42,16 @@ def pulses_text(first: PulseIndex, last: PulseIndex) -> str:
 class Faults:
     """The places whose pulse is not what follows, each with the class that has to be there."""
 
-    def __init__(self, track: Track, times: Times, left: Iterable[FrameNumber] = ()) -> None:
-        """`left` are frames that are to stay as they are."""
+    def __init__(self, track: Track, times: Times, left: Iterable[FrameNumber], witnesses: Witnesses) -> None:
+        """`left` are frames that are to stay as they are; `witnesses` those of other recordings."""
         self.track, self.layout, self.clock, self.times = track, track.layout, track.clock, times
+        self.elsewhere = Elsewhere(times, witnesses)
         self.left = set(left)
         self.rises, self.falls = track.rises, track.falls
         self.wanted: Dict[PlaceNumber, str] = {}
         self.guesses: Dict[PlaceNumber, str] = {}  # places of control functions that nothing says
         self.by_rule: Set[PlaceNumber] = set()  # places of control functions that a rule says
+        self.by_others: Set[PlaceNumber] = set()  # and that other recordings have
         self.contrary: Set[FrameNumber] = set()  # frames that show another time, too clearly to be damage
         self.remarks: List[Remark] = []
         self.usual = times.usual() if self.layout.steady else {}
@@ -123,26 +126,46 @@ class Faults:
         return min(self.times.own, default=number) < number < max(self.times.own, default=number)
 
     def _decide(self, place: PlaceNumber, control: bool) -> Optional[str]:
-        """Zero or one if nothing follows for a place: by its shape, else by its neighbours, else a guess that is named as
-        one."""
+        """Zero or one if nothing follows for a place: by its shape, else by other recordings, else by its neighbours, else a guess
+        that is named as one."""
         pulses, number, element = self.track.pulses_at(place), frame_of(place), place % ELEMENTS
         if element in self.usual:
             return self.usual[element]
         near = self.times.neighbours(number, element) if control else None
+        other = self.elsewhere.told(number, element) if control else None
         own = self.layout.class_of(self.width_of(pulses[0])) if len(pulses) == 1 else ""
         burst = control and self._in_burst(place)
-        if own in ("0", "1") and not burst and (not near or self._is_nominal(place, pulses[0], own)):
-            return own
+        if own in ("0", "1") and not burst and (not (near or other) or self._is_nominal(place, pulses[0], own)):
+            return self._kept(place, own, other, near)
+        shape = self._by_shape(place, burst)
+        if other and (shape in (None, other) or near == other):
+            self.by_others.add(place)
+            return other
+        if other and shape:
+            return self._kept(place, shape, other, near)
         if near and self.times.never_changed(element):  # damage can look like the other class
             return near
-        cost = {target: self.difference(place, target) for target in "01"}
-        best = min("01", key=lambda target: cost[target])
-        if cost[best] < (limits.LIKE_IN_BURST if burst else limits.LIKE) * self.layout.interval:
-            return best
-        if near or not control:
-            return near
-        self.guesses[place] = self.times.likely(number, element) or (best if pulses else "0")
+        if shape or near or not control:
+            return shape or near
+        self.guesses[place] = self.times.likely(number, element) or (self._nearest_shape(place) if pulses else "0")
         return self.guesses[place]
+
+    def _kept(self, place: PlaceNumber, own: str, other: Optional[str], near: Optional[str]) -> str:
+        """What is recorded here stays; nothing decides it if other recordings have something else, and the frames next to it do not
+        have the same."""
+        if other not in (None, own) and near != own:
+            self.guesses[place] = own
+        return own
+
+    def _nearest_shape(self, place: PlaceNumber) -> str:
+        """The class that a place looks like most."""
+        return min("01", key=lambda target: self.difference(place, target))
+
+    def _by_shape(self, place: PlaceNumber, burst: bool) -> Optional[str]:
+        """The class that a place looks like; None if it looks like none."""
+        best = self._nearest_shape(place)
+        most = (limits.LIKE_IN_BURST if burst else limits.LIKE) * self.layout.interval
+        return best if self.difference(place, best) < most else None
 
     def _compare_control(self, number: FrameNumber, text: str) -> None:
         """If control functions never change, one that most frames do not have is damage, unless their rule confirms it."""
@@ -168,14 +191,17 @@ class Faults:
         return abs(self.width_of(pulse) - self.width(name, place)) <= limits.NOMINAL * self.layout.interval
 
     def _doubt_control(self, number: FrameNumber, text: str) -> None:
-        """A control function next to damage that has no nominal width is damage, too, if its neighbours say otherwise."""
+        """A control function next to damage that has no nominal width is damage, too, if other recordings or its neighbours say
+        otherwise."""
         for element in self.times.kept:
             place, told = place_in(number, element), text[element]
             beside = place - 1 in self.wanted or place + 1 in self.wanted
             if told in "01" and beside and place in self.track.zone_of:
-                near = self.times.neighbours(number, element)
+                other = self.elsewhere.told(number, element)
+                near = other or self.times.neighbours(number, element)
                 if near and near != told and not self._is_sound(place, told):
                     self.wanted[place] = near
+                    self.by_others.update([place] * bool(other))
 
     def _is_sound(self, place: PlaceNumber, told: str) -> bool:
         """Whether a pulse next to damage has the width of its class, and in a burst its place, too."""
@@ -215,9 +241,15 @@ class Faults:
         """Why this class has to be there."""
         target, element = NAMES[self.wanted[place]], place % ELEMENTS
         if place in self.guesses:
+            other = self.elsewhere.told(frame_of(place), element)
+            if other:
+                there = NAMES[other], self.elsewhere.sources(frame_of(place), element, other)
+                return "undecided whether zero or one: it looks like a %s here, and is a %s in %s" % (target, *there)
             return "undecided whether zero or one: nothing says it, so this %s is a guess" % target
         if element in self.usual:
             return "a %s as in most frames" % target
+        if place in self.by_others:
+            return "a %s as recorded in %s" % (target, self.elsewhere.sources(frame_of(place), element, self.wanted[place]))
         if place in self.by_rule and self.times.rule:
             parts = target, self.times.rule.element
             return "a %s by the elements of its frame, of which element %d says whether the ones are odd in number" % parts

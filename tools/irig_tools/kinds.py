@@ -26,6 +26,7 @@ class DamageKind(str, Enum):
     CONTROL = "control"
     OUTSIDE = "outside"  # of any frame
     FORMAT = "format"  # another one, or another wire or expression
+    DIFFERS = "differs"  # from another recording of the same code
     OTHER = "other"
 
 

@@ -6,7 +6,7 @@ it); a probability (EIGHT_OF_TEN, NINE_OF_TEN, CHANCE, CHANCES); the reasons in 
 the end of a search (what says `most`, `longest` or `search`). `[28, 26]`: halved and doubled (of a small whole number one
 less and one more), that many first looks at 332 recordings at random are others; from UPSIDE_DOWN on at 99, and from ROUNDS
 on that many scripts. Those without it changed none: tests/rows/tools_parts.py has rows for the rarer faults they are for. The
-numbers of clocks that wander, of rises that are off and of other code were not varied so.
+numbers of clocks that wander, of rises that are off, of other code and of other recordings were not varied so.
 """
 
 # the clock (interval)
@@ -134,6 +134,12 @@ CHANCES = 24  # times that an element could have changed: if it never did, it di
 EACH_BY_RULE = 3  # frames that have a zero, and a one, as the element of the rule: one that hardly changes shows none
 LEAST_BY_RULE = 16  # frames in which it holds: of 27 elements at random one fits as many in less than one of 1,000 recordings
 FOR_EACH_AGAINST = 5  # more of them for each frame in which it does not hold
+
+# other recordings of the same code (others)
+MOST_PERIODS = 495  # frames that are farther apart do not support each other, as in irig_time
+UNLIKE_ELSEWHERE, UNLIKE_SHARE = 2, 0.1  # frames of the same time that may differ, and by how many more, as a share of those that show it
+LEAST_COMPARED = 9  # control functions of a frame that are recorded in both: fewer are alike by chance
+MOST_ALIKE = 400  # moments at which the control functions change in the same way in both: more say nothing of their clocks
 
 # stretches that are there twice (copies, steps)
 UNLIKE_IN_COPY = 25  # a copy has at most one element in that many that differs: more is no copy, but frames alike [0, 1]

@@ -15,6 +15,7 @@ from .kinds import STEPS, DamageKind
 from .repairs import repairs
 from .script import BY_LINE, Repair
 from .units import Microseconds
+from .witnesses import NO_WITNESSES, Witnesses
 
 
 def called_for(findings: Findings) -> List[Repair]:
@@ -58,6 +59,7 @@ class _Mending:
     steady: bool
     move: bool
     refused: Set[str]
+    witnesses: Witnesses
     script: List[Repair] = field(default_factory=list)
     remarks: List[Repair] = field(default_factory=list)
     looks: List[Tuple[int, Listing, Findings]] = field(default_factory=list)  # repairs before each, and what is seen
@@ -65,7 +67,7 @@ class _Mending:
 
     def run(self) -> None:
         rounds = looks(self.editor, lambda: obeyed(self.editor, self.script, self.refused), self.progress, self.script, self.steady,
-                       self.move)
+                       self.move, witnesses=self.witnesses)
         for turn, (listing, findings) in enumerate(rounds):
             self.after = listing
             if turn < limits.ROUNDS:
@@ -133,16 +135,16 @@ def _together(script: Sequence[Repair]) -> List[Repair]:
 
 
 def propose(editor: Editor, progress: Progress, steady: bool = False, move: bool = False,
-            seen: Optional[List[Findings]] = None) -> List[Repair]:
+            seen: Optional[List[Findings]] = None, witnesses: Witnesses = NO_WITNESSES) -> List[Repair]:
     """The script that repairs what the editor's track has; no line of it is refused, and none makes a frame worse.
     If control functions are `steady`, no frame has others than most. If not `move`, no rest is moved, and neither if only
-    some of those could be that belong together.
+    some of those could be that belong together. `witnesses` are frames of other recordings.
 
     First are remarks: what is undecided when all repairs are made. `seen` gets what is found in the track as it is."""
     refused: Set[str] = set()
     taken: Dict[int, Repair] = {}
     for turn in range(limits.MOST_CHECKS):
-        mending = _Mending(editor, progress, steady, move, refused)
+        mending = _Mending(editor, progress, steady, move, refused, witnesses)
         mending.run()
         if seen is not None and not seen:
             seen.append(mending.first_look()[2])
@@ -157,7 +159,7 @@ def propose(editor: Editor, progress: Progress, steady: bool = False, move: bool
     progress("")
     half = _half_moved(mending.script, mending.looks[-1][2])
     if half:
-        return half + propose(editor, progress, steady)
+        return half + propose(editor, progress, steady, witnesses=witnesses)
     return mending.remarks + [taken[at] for at in sorted(taken, reverse=True)] + _together(mending.script)
 
 

@@ -8,7 +8,7 @@ from contextlib import ExitStack, contextmanager
 from dataclasses import replace
 from typing import Iterator, List, Optional, Sequence, Tuple
 
-from .again import Names, again
+from .again import Names, again, is_kept
 from .analysis import START, examine
 from .changes import changes_of, find_differ
 from .command import kept, run, unchanged
@@ -21,11 +21,13 @@ from .ending import ALL_RIGHT, ESCAPED, FOUND, Usage, complain, name_of
 from .explain import explained
 from .folder_program import APPLY_TO, JOBS, REPORT, mend_folder
 from .facts import json_lines, repairs_as_json
-from .kinds import STEPS
+from .kinds import STEPS, DamageKind
 from .mend import called_for, propose, script_text
 from .named import wire_or_none
 from .opening import Opened, is_of_one_wire, opened
 from .options import DUMP, EDITOR, JSON, OUTPUT, TIMESCALE, WIRE, Command, Given, Option
+from .other_files import check_others, read_others
+from .others import Others
 from .output import check_apart, is_standard_output, output
 from .overview import of_program, sheet_of
 from .page import page
@@ -46,6 +48,8 @@ APPLY = Option("--apply", "FILE", "runs the script, writes the repaired recordin
                "prints what became of it")
 SAVE = Option("--save", about="with --apply: the file keeps the steps, so that each can be undone")
 INTO = Option("--into", "ORIGINAL", "with --apply: writes this file with the repaired track instead of its wire")
+WITH = Option("--with", "OTHER", "another recording of the same code, with a clock of its own: what it has of the same second decides "
+              "control functions that are lost here; can be given several times", is_list=True)
 COMMAND = Command("irig_mend", ("TRACK",), """\
 Proposes a script that repairs a recording of IRIG 200-04 time code, or runs it.
 Before each repair a comment says what was seen and why this repair follows. What
@@ -57,9 +61,10 @@ expression are found if they are not given:
   irig_mend --apply new.vcd track.vcd                 one command
   irig_mend --apply new.vcd --into all.vcd all.vcd    with all other wires
   irig_mend --apply-to mended recordings              all recordings of a folder
+  irig_mend --with other.vcd --apply new.vcd track.vcd    two recorders
   irig_mend --expression 4 track.vcd > repair.ed      read it, change it
   (cat repair.ed; echo write) | irig_ed --expression 4 --out new.vcd track.vcd
-""", (*EDITOR, TIMESCALE, DUMP, PAGE_OF_REPAIRS, STEADY, MOVE, EXPLAIN, OUTPUT, APPLY, SAVE, INTO, APPLY_TO, REPORT, JOBS, JSON), """\
+""", (*EDITOR, TIMESCALE, DUMP, PAGE_OF_REPAIRS, STEADY, MOVE, WITH, EXPLAIN, OUTPUT, APPLY, SAVE, INTO, APPLY_TO, REPORT, JOBS, JSON), """\
 The editor is the program that IRIG_ED names, or irig_ed on the path.
 The status is 0 if there is nothing to repair, 1 if there is something, 2 if the
 track was not read, and 70 if memory ran out or the tool has a defect. With
@@ -87,13 +92,14 @@ def work(given: Given) -> int:
         note_if_cut(track)
         say_notes(track, given.names[0], COMMAND.name)
         editor = Editor(track.words)
+        others = read_others(given.texts(WITH), editor, progress, COMMAND.name)
         if given.has(EXPLAIN):
-            return explain(editor, given)
-        script = propose(editor, progress, given.has(STEADY), given.has(MOVE))
+            return explain(editor, given, others)
+        script = proposed(editor, given, progress, others)
         if given.has(APPLY):
             target = Target(outputs, given.text(APPLY) or "", original, given.text(WIRE) or track.wire,
                             given.text(TIMESCALE), given.number(DUMP))
-            done = apply(given, track, editor, script, progress, target)
+            done = apply(given, track, editor, script, progress, target, others)
         else:
             draw_proposal(given, track, script, progress, outputs)
     if given.has(OUTPUT) or not given.has(APPLY):
@@ -101,8 +107,18 @@ def work(given: Given) -> int:
             out.write((repairs_as_json(script, track.offset) if given.has(JSON) else script_of(script, track)).encode("utf-8"))
     if given.has(APPLY):
         report(given, *done)
-        return ALL_RIGHT if done[0].is_whole and not is_cut(track) else FOUND
+        return ALL_RIGHT if done[0].is_whole and not is_cut(track) and not differs(script) else FOUND
     return FOUND if script else ALL_RIGHT
+
+
+def proposed(editor: Editor, given: Given, progress: Progress, others: Others) -> List[Repair]:
+    """The script for the editor's track, and what is said of other recordings."""
+    return others.remarks + propose(editor, progress, given.has(STEADY), given.has(MOVE), witnesses=others.witnesses)
+
+
+def differs(script: Sequence[Repair]) -> bool:
+    """Whether another recording is not used, or has something else that is left."""
+    return any(repair.kind == DamageKind.DIFFERS and not repair.edits for repair in script)
 
 
 def script_of(script: List[Repair], track: Opened) -> str:
@@ -110,13 +126,15 @@ def script_of(script: List[Repair], track: Opened) -> str:
     return script_text([Repair(START, track.comments)] * bool(script) + script)
 
 
-def explain(editor: Editor, given: Given) -> int:
+def explain(editor: Editor, given: Given, others: Others) -> int:
     """Prints what the first look finds."""
     listing = editor.ask([])
-    findings = examine(listing, given.has(STEADY), given.has(MOVE))
+    findings = examine(listing, given.has(STEADY), given.has(MOVE), witnesses=others.witnesses)
+    lines = explained(listing, findings)
+    lines[1:1] = others.lines
     with output(given.text(OUTPUT)) as out:
-        out.write("".join(line + "\n" for line in explained(listing, findings)).encode("utf-8"))
-    return FOUND if called_for(findings) else ALL_RIGHT
+        out.write("".join(line + "\n" for line in lines).encode("utf-8"))
+    return FOUND if called_for(findings) or others.remarks else ALL_RIGHT
 
 
 def check(given: Given) -> None:
@@ -124,7 +142,7 @@ def check(given: Given) -> None:
     for option, needed in ((SAVE, (APPLY, APPLY_TO)), (INTO, (APPLY,)), (REPORT, (APPLY_TO,)), (JOBS, (APPLY_TO,))):
         if given.has(option) and not any(map(given.has, needed)):
             raise Usage("%s is only for %s" % (option.name, " and ".join(each.name for each in needed)))
-    for option in (APPLY, INTO, OUTPUT, EXPLAIN):
+    for option in (APPLY, INTO, OUTPUT, EXPLAIN, WITH):
         if given.has(APPLY_TO) and given.has(option):
             raise Usage("--apply-to and %s exclude each other" % option.name)
     if given.has(APPLY_TO):
@@ -135,7 +153,8 @@ def check(given: Given) -> None:
     if given.has(SAVE) and given.has(INTO):
         raise Usage("--save and --into exclude each other: the steps are those of a track alone")
     outputs = [(option.name, given.text(option)) for option in (PAGE_OF_REPAIRS, OUTPUT, APPLY)]
-    for source in filter(None, (given.names[0], given.text(INTO))):
+    check_others(given.names[0], given.texts(WITH))
+    for source in filter(None, (given.names[0], given.text(INTO), *given.texts(WITH))):
         check_apart(source, outputs, not given.has(APPLY) and not given.has(OUTPUT))
 
 
@@ -164,7 +183,7 @@ def original_of(given: Given, path: str) -> Iterator[Optional[str]]:
         yield original
 
 
-def proposed(script: List[Repair]) -> str:
+def proposed_text(script: List[Repair]) -> str:
     """What a page says first of a script."""
     edits = sum(bool(repair.edits) for repair in script)
     return "%s proposed, %s left to you; nothing is changed yet" % (counted(edits, "repair"), counted(len(script) - edits, "place"))
@@ -178,23 +197,23 @@ def draw_proposal(given: Given, track: Opened, script: List[Repair], progress: P
         after = editor.ask([repair.lines() for repair in script])
         seen = look(editor, progress, given.has(STEADY))
         sheet = sheet_of(os.path.basename(given.names[0]), wire_or_none(track), seen, script, after)
-        drawn = page(of_program(sheet, COMMAND.name, "%s: %s" % (name_of(given.names[0]), proposed(script))))
+        drawn = page(of_program(sheet, COMMAND.name, "%s: %s" % (name_of(given.names[0]), proposed_text(script))))
         outputs.enter_context(output(path)).write(drawn.encode("utf-8"))
 
 
-def apply(given: Given, track: Opened, editor: Editor, script: List[Repair], progress: Progress,
-          target: Target) -> Tuple[Summary, Code, Sequence[str]]:
+def apply(given: Given, track: Opened, editor: Editor, script: List[Repair], progress: Progress, target: Target,
+          others: Others) -> Tuple[Summary, Code, Sequence[str]]:
     """Runs the script, writes what it gives, and counts what it did; why repairs are not kept, and what nothing decides."""
     with temporary_folder() as folder:
         repaired = os.path.join(folder, "repaired.vcd")
         before = look(editor, progress, given.has(STEADY))
         refused = run_script(track, script, given.has(SAVE), repaired, given.has(MOVE), before.listing.kind)
         if refused.drops_moves(script):  # what comes after them in the script counts on them
-            script[:] = propose(editor, progress, given.has(STEADY))
+            script[:] = others.remarks + propose(editor, progress, given.has(STEADY), witnesses=others.witnesses)
             again_refused = run_script(track, script, given.has(SAVE), repaired, False, before.listing.kind)
             refused = replace(again_refused, reasons=[*refused.reasons, *again_refused.reasons])
         command = [find_guard(), *["--moved"] * given.has(MOVE), *track.code, *["--save"] * given.has(SAVE)]
-        refused = once_more(script, refused, lambda: propose(Editor([*track.code, repaired]), progress, given.has(STEADY), given.has(MOVE)),
+        refused = once_more(script, refused, lambda: proposed(Editor([*track.code, repaired]), given, progress, others),
                             command, repaired, before.listing.kind)
         frames, result = (frames_of(track.options, track.path), frames_of(track.code, repaired)), Editor([*track.code, repaired])
         if refused.is_nothing:  # it is what the last look of the proposal was at
@@ -225,6 +244,7 @@ def drawing(given: Given, track: Opened, script: List[Repair], seen: Tuple[Seen,
     """The page of what was repaired; what was seen before and after it, and the sums."""
     before, after, done = seen
     rules = [option.name for option in (STEADY, MOVE) if given.has(option)]
+    rules += ["%s=%s" % (WITH.name, name if is_kept(name) else WITH.value) for name in given.texts(WITH)]
     names = Names(given.names[0], given.text(APPLY) or "", given.text(INTO), given.number(DUMP), rules)
     changes = changes_of(track, before.listing, repaired)
     changes.command = again(names, track, before.listing)

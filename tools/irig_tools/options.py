@@ -9,7 +9,7 @@ from typing import Any, Callable, Dict, List, Optional, Sequence, Tuple
 from .digits import FRACTION, WHOLE
 from .ending import Usage
 
-FILE_VALUES = "FILE", "ORIGINAL"  # how the value of an option is called that is a file
+FILE_VALUES = "FILE", "ORIGINAL", "OTHER"  # how the value of an option is called that is a file
 NO_VALUE = "expected"  # how a complaint of argparse begins if a value is not there
 
 
@@ -22,6 +22,7 @@ class Option:
     about: str = ""
     read: Optional[Callable[[str], object]] = None
     choices: Tuple[str, ...] = ()
+    is_list: bool = False  # it can be given several times, and each counts
 
     def reader(self) -> Callable[[str], object]:
         """What makes a value of a word, or refuses it."""
@@ -91,6 +92,10 @@ class Given:
         value: Optional[str] = self.values.get(option.name)
         return value
 
+    def texts(self, option: Option) -> List[str]:
+        """The values of an option that can be given several times."""
+        return self.values.get(option.name) or []
+
     def number(self, option: Option) -> Optional[int]:
         value: Optional[int] = self.values.get(option.name)
         return value
@@ -125,7 +130,7 @@ class Command:
             names = ("-h", option.name) if option is HELP else (option.name,)
             if option.value:
                 group.add_argument(*names, dest=option.name, metavar=option.value, help=option.about,
-                                   type=option.reader())
+                                   type=option.reader(), action="append" if option.is_list else "store")
             else:
                 group.add_argument(*names, dest=option.name, action="store_true", help=option.about)
         return parser

@@ -12,7 +12,7 @@ from .grouping import grouped
 from .layout import SHARE
 from .script import Repair
 from .units import PlaceNumber, plus, through
-from .wholes import late_zones, left_rest, lost_frames, shift
+from .wholes import as_elsewhere, late_zones, left_rest, lost_frames, shift
 
 
 def repairs(seen: Faults) -> Tuple[List[Repair], List[Remark]]:
@@ -70,5 +70,6 @@ def _of_lost(faults: Faults, lost: List[Item]) -> List[str]:
     """One sentence for pulses that are missing one after the other."""
     if len(lost) < 2:
         return [item.why for item in lost]
-    first = faults.where(PlaceNumber(int(lost[-1].low)))
-    return ["%d pulses are missing, from %s on; each follows from the frames around it" % (len(lost), first)]
+    places = [PlaceNumber(int(item.low)) for item in reversed(lost)]
+    said = "%d pulses are missing, from %s on; each follows from the frames around it" % (len(lost), faults.where(places[0]))
+    return [said + as_elsewhere(faults, places)]

@@ -2,7 +2,7 @@
 from __future__ import annotations
 
 from bisect import bisect_left
-from typing import List, NamedTuple, Optional, Tuple
+from typing import List, NamedTuple, Optional, Sequence, Tuple
 
 from . import limits
 from .edit import Edit, moved_from, moved_rest
@@ -126,6 +126,15 @@ def lost_frames(faults: Faults) -> List[Item]:
     return [_generate(faults, group) for group in groups]
 
 
+def as_elsewhere(faults: Faults, places: Sequence[PlaceNumber]) -> str:
+    """Which other recording decides some of these places, from the first of them on."""
+    found = [place for place in places if place in faults.by_others]
+    if not found:
+        return ""
+    sources = faults.elsewhere.sources(frame_of(found[0]), found[0] % ELEMENTS, faults.wanted[found[0]])
+    return ", or is as recorded in " + sources + " and later" * (len(found) > 1)
+
+
 def _generate(faults: Faults, frames: List[_Lost]) -> Item:
     """Frames one after the other, with the same control functions and the same base."""
     first, many = frames[0], len(frames)
@@ -139,6 +148,9 @@ def _generate(faults: Faults, frames: List[_Lost]) -> Item:
     control = ["%x" % first.shown[0]] if first.shown[0] else []
     if control:
         why += " and to the control functions 0x" + control[0]
+    elsewhere = as_elsewhere(faults, own)
+    if elsewhere:
+        why += "; what no frame around them says" + elsewhere.replace(", or is", " is")
     guessed = sorted({place % ELEMENTS for place in faults.guesses if own[0] <= place <= own[-1]})
     if guessed:
         why += "; undecided are the control elements %s" % ", ".join(map(str, guessed))

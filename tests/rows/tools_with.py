@@ -1,0 +1,360 @@
+"""Rows for `irig_mend --with`: what another recording of the same code says of what is lost, and when it says nothing.
+
+The recordings are those of the reference encoder, damaged by hand: what has to be repaired is what was damaged. docs/METHOD.md has
+the words.
+"""
+import json
+import random
+
+from cases import case
+from irig_tools import mend_program, others
+from irig_tools.analysis import examine
+from irig_tools.mend import called_for
+from random_input import damages, pairs
+from rows import in_process, tools_rare
+from rows.in_process import run
+from rows.tools_apply import in_folder, text_of
+from rows.tools_parts import same
+from rows.tools_rare import MIDDAY, flipped, listed, signal
+
+in_process.MAINS.update(irig_mend=mend_program.main)
+
+FRAMES, DAY = 30, 739000
+CHANCE = random.Random(88)
+SENT = [CHANCE.getrandbits(18) for _ in range(FRAMES)]
+LOST = 1063  # a control function of the frame of 12:00:10
+
+
+def sent(k):
+    """The control functions of a frame: others in each."""
+    return SENT[k % FRAMES]
+
+
+def code(shift=0, **more):
+    """The signal; a clock that is later by `shift` seconds sends the same control functions."""
+    return signal(FRAMES, begin=MIDDAY + 100 * shift, **{"control": sent, **more})
+
+
+def slow(pulses, rate=0.0009, late=4321):
+    """As another recorder has them."""
+    return [[round((rise + late) * (1 + rate)), round((fall + late) * (1 + rate))] for rise, fall in pulses]
+
+
+class Track:
+    """A track that needs no editor."""
+
+    def __init__(self, pulses, kind="B", expression=4):
+        self.found = listed(pulses, kind, expression)
+
+    def ask(self, _blocks):
+        return self.found
+
+
+def read(pulses, *codes):
+    """What other recordings say of one with these pulses."""
+    def findings(each):
+        return others.seen_in(Track(each), lambda text: None)
+
+    named = [others.other_of("%s.vcd" % name, findings(each)) for name, each in zip("BCD", codes)]
+    return others.others_of(findings(pulses), named)
+
+
+def mended(pulses, *codes):
+    """What is wanted where, why, which are guesses, and the remarks; other recordings have these codes."""
+    found = read(pulses, *codes)
+    findings = examine(listed(pulses), witnesses=found.witnesses)
+    faults = [part.faults for part in findings.parts]
+    wanted = tools_rare.wanted(findings)
+    reasons = [each.reason(place) for each in faults for place in sorted(each.wanted)]
+    guesses = {place for each in faults for place in each.guesses}
+    return wanted, reasons, guesses, [each.comments[0] for each in found.remarks] + tools_rare.said(findings)
+
+
+def without(pulses, *places):
+    return [pulse for at, pulse in enumerate(pulses) if at not in places]
+
+
+def class_at(pulses, place):
+    return listed(pulses).classes[place]
+
+
+def place_of(other, at):
+    """When a pulse rises, as it is said."""
+    return "%d.%06d s" % divmod(other[at][0], 1000000)
+
+
+def of_lost():
+    """What is lost here is as the other recording has it: its own time is named, the place is the one here."""
+    pulses, other = code(), slow(code()[500:], late=77)
+    for at in (1063, 1061, 1075):
+        wanted, reasons, guesses, remarks = mended(without(pulses, at), other)
+        name = {"0": "zero", "1": "one"}[class_at(pulses, at)]
+        yield same("element %d" % (at % 100), (wanted, guesses, remarks), ({at: class_at(pulses, at)}, set(), []))
+        yield same("its reason", reasons, ["a %s as recorded in B.vcd at %s" % (name, place_of(other, at - 500))])
+        yield same("without it", mended(without(pulses, at))[2], {at})
+    several = without(pulses, 1061, 1062, 1063)
+    repair, = called_for(examine(listed(several), witnesses=read(several, other).witnesses))
+    yield same("what is said of several", repair.comments, [
+        "3 pulses are missing, from frame 2024-115T12:00:10, element 61, at 10610000 on; each follows from the frames around it, or is as "
+        "recorded in B.vcd at %s and later" % place_of(other, 561)])
+    gone = range(1010, 1290)
+    wanted, _, guesses, _ = mended(without(pulses, *gone), other)
+    yield same("a hole of several frames", (wanted, guesses), ({at: class_at(pulses, at) for at in gone}, set()))
+
+
+def of_recorded():
+    """What is recorded here stays, and a remark says so."""
+    pulses, other = code(), slow(flipped(code(), LOST))
+    names = {"0": "zero", "1": "one"}
+    here = names[class_at(pulses, LOST)]
+    there = names[class_at(flipped(code(), LOST), LOST)]
+    seen = "frame 2024-%s, element 63: a %s is recorded here, and a %s in B.vcd at %s" % ("%s", here, there, place_of(other, LOST))
+    wanted, _, guesses, remarks = mended(pulses, other)
+    yield same("in a frame that is fine", (wanted, guesses, len(remarks)), ({}, set(), 1))
+    yield same("what is said", remarks[0].partition("element")[2], seen.partition("element")[2])
+    wanted, _, guesses, remarks = mended(without(pulses, 1020, 1065), other)
+    yield same("next to what is lost", (wanted, guesses, len(remarks)),
+               ({at: class_at(pulses, at) for at in (1020, 1065)}, set(), 1))
+    split = [list(pulse) for pulse in pulses]
+    rise, fall = split[LOST]
+    split[LOST:LOST + 1] = [[rise, rise + 900], [rise + 940, fall]]
+    wanted, reasons, guesses, _ = mended(split, other)
+    yield same("with a glitch, which is seen through", (wanted, guesses), ({LOST: class_at(pulses, LOST)}, {LOST}))
+    yield same("its reason", reasons, ["undecided whether zero or one: it looks like a %s here, and is a %s in B.vcd at %s" % (
+        here, there, place_of(other, LOST))])
+    moved = late([list(pulse) for pulse in pulses], LOST, 1500)
+    yield same("late, and as wide as it was sent", mended(moved, other)[::2], ({LOST: class_at(pulses, LOST)}, {LOST}))
+    yield same("the same, and the other has it, too", mended(moved, slow(code()))[::2], ({LOST: class_at(pulses, LOST)}, set()))
+    noisy = [list(pulse) for pulse in without(pulses, LOST - 2, LOST - 1, LOST + 1)]
+    noisy[LOST - 2] = [noisy[LOST - 2][0], noisy[LOST - 2][0] + (4600 if class_at(pulses, LOST) == "0" else 2400)]
+    yield same("in a burst of damage", mended(noisy, slow(code()))[0][LOST], class_at(pulses, LOST))
+
+
+def of_votes():
+    """Of several recordings most decide; if as many say the opposite, nothing does."""
+    pulses, right, wrong = without(code(), LOST), slow(code()), slow(flipped(code(), LOST), -0.0008)
+    told = class_at(code(), LOST)
+    yield same("two against one", mended(pulses, right, wrong, slow(code(), 0.0001))[::2], ({LOST: told}, set()))
+    yield same("one against two", mended(pulses, wrong, right, wrong)[0], {LOST: "10"[int(told)]})
+    yield same("one against one", mended(pulses, right, wrong)[2], {LOST})
+    reasons = mended(pulses, right, wrong, slow(code(), 0.0001))[1]
+    yield same("all that have it are named", [each.count(".vcd at ") for each in reasons], [2])
+
+
+def of_trusted():
+    """A frame is used if it is fine and supported, and if no other one has its time."""
+    pulses, told = without(code(), LOST), class_at(code(), LOST)
+    for name, other, guesses in (
+        ("a frame that is broken there", without(code(), 1000 + 45), {LOST}),
+        ("a frame that is fine, and shows another time", flipped(code(), 1001), {LOST}),
+        ("a frame next to four that show another time", shown_wrong(8, 9, 11, 12), {LOST}),
+        ("a frame next to three of these", shown_wrong(8, 9, 11), set()),
+        ("a frame of another time that shows this one", elsewhere(code()), set()),
+        ("the same, and that of the time is broken", without(elsewhere(code()), 1045), {LOST}),
+        ("two frames of this time, which differ", [*code(), *after(flipped(code(), LOST))], {LOST}),
+        ("two frames of this time, which are alike", [*code(), *after(code())], set()),
+        ("a frame with a pulse that is late by less than a tenth", late(code(), 1045, 800), set()),
+        ("an end of the recording", code()[:1150], set()),
+    ):
+        yield same(name, mended(pulses, slow(other))[2], guesses)
+        wanted = mended(pulses, slow(other))[0].get(LOST)
+        yield same(name + ": its class", wanted == told or bool(guesses), True)
+    twice = [*without(code(), LOST), *after(code())]
+    yield same("two frames of this time here", mended(twice, slow(code()))[2], {LOST})
+
+
+def late(pulses, at, by):
+    """A pulse is late as a whole."""
+    pulses[at] = [pulses[at][0] + by, pulses[at][1] + by]
+    return pulses
+
+
+def shown_wrong(*frames):
+    """These frames show the day before theirs."""
+    return flipped(code(), *(100 * frame + 30 for frame in frames))
+
+
+def elsewhere(pulses):
+    """The frame of 12:00:12 shows 12:00:10 with control functions of its own: the two of its seconds and its binary number are gone."""
+    names = tools_rare.timecode.encode("B", 4, tools_rare.timecode.generated("B", (DAY, MIDDAY), 10, sent(12)))
+    for element, name in enumerate(names):
+        rise = pulses[1200 + element][0]
+        pulses[1200 + element] = [rise, rise + 10000 * tools_rare.WIDTHS[name] // 10]
+    return pulses
+
+
+def after(pulses):
+    """The same later in the recording: the clock was set back."""
+    return [[rise + 10000 * 100 * FRAMES, fall + 10000 * 100 * FRAMES] for rise, fall in pulses]
+
+
+def of_other_code():
+    """Recordings that say nothing: no common time, a clock that was set otherwise, another code."""
+    pulses = without(code(), LOST)
+    by = "none of its frames has the time of one here: its first one is %s"
+    was_set = "its control functions are those of this recording, and its times are %s: its clock was set otherwise"
+    unlike = "%d of %d frames of the same time have other control functions: its clock was set otherwise, or it is another code"
+    strange = random.Random(89)
+    half = [sent(k) if k < 24 else strange.getrandbits(18) for k in range(FRAMES)]
+    last = [0, SENT[-1], *half[-6:]]
+    for name, other, why in (
+        ("another day", signal(FRAMES, day=DAY + 1), by % "86400.00 seconds later"),
+        ("the same code, and another day", code(86400), was_set % "86400.00 seconds later"),
+        ("a clock that is three hours late", code(-10800), was_set % "10800.00 seconds earlier"),
+        ("a clock that is three seconds early", code(3), was_set % "3.00 seconds later"),
+        ("another code", code(control=lambda k: strange.getrandbits(18)), unlike % (29, 29)),
+        ("another code from a time on", code(control=half.__getitem__), unlike % (6, 29)),
+        ("one frame of the same time, as all others", code(28, control=lambda k: SENT[-1]), "too few frames of the same time are alike: 1"),
+        ("no frame", code()[:80], "no frame of it is fine and supported"),
+        ("one frame alone", code()[90:210], "no frame of it is fine and supported"),
+    ):
+        found = mended(pulses, slow(other))
+        yield same(name, found[3][:1], ["B.vcd is not used: " + why])
+        yield same(name + ": nothing is taken", (found[0].keys(), found[2]), ({LOST}, {LOST}))
+    alone = mended(without(code(), 2963), slow(code(28, control=lambda k: last[k % 8])[:800]))
+    yield same("one frame of the same time, unlike all others", (alone[0], alone[2:]), ({2963: class_at(code(), 2963)}, (set(), [])))
+    constant, later = signal(FRAMES, control=lambda k: 0x155), signal(FRAMES, begin=MIDDAY + 300, control=lambda k: 0x155)
+    yield same("control functions that never change show no clock", mended(constant, slow(later))[3], [])
+    slowly = [k // 9 for k in range(2 * FRAMES)]
+    early = signal(FRAMES, begin=MIDDAY + 200, control=slowly.__getitem__)
+    yield same("those that change seldom do", mended(signal(FRAMES, control=slowly.__getitem__), slow(early))[3],
+               ["B.vcd is not used: " + was_set % "2.00 seconds later"])
+    few = flipped(flipped(code(), 463), 1463)
+    yield same("two frames that differ are damage", len(mended(pulses, slow(few))[3]), 2)
+    yield same("and the rest is used", mended(pulses, slow(few))[2], set())
+
+
+def of_contrary():
+    """A frame that has too much otherwise is not used."""
+    pulses = without(code(), LOST)
+    wanted, _, guesses, remarks = mended(pulses, slow(flipped(code(), 1065, 1067, 1071)))
+    yield same("three control functions", (wanted.keys(), guesses), ({LOST}, {LOST}))
+    yield same("what is said", [each.partition(": ")[2].partition(" in ")[0] for each in remarks],
+               ["3 control functions that are recorded here are others"])
+    _, _, guesses, remarks = mended(pulses, slow(flipped(code(), 1065, 1067)))
+    yield same("two", (guesses, len(remarks)), (set(), 2))
+
+
+def of_rules():
+    """With a parity the frame that fits it is right."""
+    parity = (75, 1)
+    pulses, other = code(parity=parity), slow(code(parity=parity))
+    told = class_at(pulses, LOST)
+    wanted, reasons, _, remarks = mended(flipped(code(parity=parity), LOST), other)
+    yield same("one that is damaged in a frame that reads well", (wanted, remarks), ({LOST: told}, []))
+    yield same("its reason", ["as recorded in B.vcd at " in each for each in reasons], [True])
+    wanted, _, guesses, remarks = mended(pulses, slow(flipped(code(parity=parity), LOST)))
+    yield same("one that is damaged there", (wanted, guesses, remarks), ({}, set(), []))
+    wanted, _, guesses, _ = mended(without(flipped(code(parity=parity), 1065), LOST), other)
+    yield same("one that is lost, and one that is damaged", wanted.get(LOST), told)
+    wanted, _, guesses, _ = mended(without(flipped(code(parity=parity), 1065), 1075), other)
+    yield same("the parity is lost, and one is damaged", (wanted[1075], guesses), (class_at(pulses, 1075), set()))
+    wanted, _, guesses, _ = mended(without(pulses, LOST, 1075), slow(flipped(code(parity=parity), LOST)))
+    yield same("lost, and the other one has a wrong parity", guesses, {LOST, 1075})
+
+
+# the program
+
+
+def dump(pulses, unit=None):
+    length = pulses[-1][1] + 1000
+    return pairs.in_nanoseconds(pulses, length, unit) if unit else damages.dump(pulses, length)
+
+
+def mend(*words, data=b""):
+    """The status, what is printed line by line, and what is said."""
+    status, printed, said = run("irig_mend", ["--expression=4", *words, "rec.vcd"], data)
+    return status, printed.decode().splitlines(), said
+
+
+def edges(text):
+    """The times of a dump after 0, each once."""
+    return sorted({int(word[1:]) for word in text.split() if word[0] == "#"} - {0})
+
+
+def page_of(name):
+    with open(name, encoding="utf-8") as file:
+        return file.read()
+
+
+def of_apply():
+    """One command: the other recorder has another unit, another wire and a wire of data."""
+    pulses, other = without(code(), *range(1030, 1090), 2263), slow(code())
+    told, at = {"0": "zero", "1": "one"}[class_at(code(), 2263)], place_of(other, 2263)
+
+    def holds():
+        counts = "2 places found, 2 repaired, 0 undecided, 0 left, 0 steps that stay; 27 frames sound before, 29 after"
+        words = ["--with", "other.vcd", "--apply", "new.vcd"]
+        status, printed, said = mend(*words, "--out", "new.ed")
+        wire = "irig_mend: other.vcd: wire irig (code '), format B, expression 4: 29 of 29 frames fine\n"
+        yield same("--apply", (status, printed, said), (0, ["rec.vcd: " + counts], wire))
+        yield same("what is written", edges(text_of("new.vcd")) == edges(dump(code())), True)
+        yield same("its reason", "no pulse; a %s as recorded in other.vcd at %s" % (told, at) in text_of("new.ed"), True)
+        said = "; what no frame around them says is as recorded in other.vcd at %s and later" % place_of(other, 1060)
+        yield same("of a frame that is generated again", said in text_of("new.ed"), True)
+        status, printed, _ = mend("--apply", "new.vcd")
+        yield same("without it", ("2 repaired (2 by a guess)" in printed[0], len(printed)), (True, 3))
+        status, printed, said = mend(*words, "--into", "rec.vcd", "--json", "--page", "new.html")
+        found = json.loads(printed[0])
+        yield same("--json", (status, found["summary"]["repaired"], found["summary"]["guessed"], found["reasons"]), (0, 2, 0, []))
+        yield same("--page", "as recorded in other.vcd at " + at in page_of("new.html"), True)
+        printed = mend("--with", "other.vcd", "--json")[1]
+        yield same("the script as JSON", ["as recorded in other.vcd" in line for line in printed], [True, True])
+        printed = mend("--with", "other.vcd", "--explain")[1]
+        yield same("--explain", printed[1],
+                   "with other.vcd: 29 frames that count, 29 of a time that is here, 28 of these alike, 0 not; used")
+        status, printed, said = mend("--with=-", "--with=down.vcd", "--apply", "new.vcd", data=text_of("other.vcd").encode())
+        yield same("standard input, and a wire upside down", (status, printed, said),
+                   (0, ["rec.vcd: " + counts], wire.replace("other.vcd", "standard input")))
+        printed = mend("--with=-", "--with=down.vcd", data=text_of("other.vcd").encode())[1]
+        source = "a %s as recorded in standard input at %s and down.vcd at %s" % (told, at, at)
+        yield same("both are named", any(source in line for line in printed), True)
+
+    down = [[end + 1, begin] for (_, end), (begin, _) in zip(other, other[1:])]
+    return in_folder(lambda: list(holds()), rec=dump(pulses), other=dump(other, 100), down=dump(down))
+
+
+def of_refused():
+    """What is no such recording: why, the status, and that nothing changes."""
+    pulses = without(code(), LOST)
+    one_file = " are one file; irig_wire makes one of each wire (irig_mend --help says more)"
+
+    def holds():
+        plain = mend()[1]
+        for name, why in (
+            ("a", "it has format A and expression 4, and the track format B and expression 4"),
+            ("day", "none of its frames has the time of one here: its first one is 86400.00 seconds later"),
+            ("data", "no frame of it is fine and supported"),
+        ):
+            said = "%s.vcd is not used: %s" % (name, why)
+            status, printed, _ = mend("--with=%s.vcd" % name)
+            yield same(name, (status, printed), (1, ["# " + said, *plain]))
+            status, printed, _ = mend("--with=%s.vcd" % name, "--apply=new.vcd")
+            yield same(name + ", --apply", (status, printed[0][:45], printed[1]),
+                       (1, "rec.vcd: 1 place found, 1 repaired (1 by a gu", "rec.vcd: " + said))
+        status, printed, _ = mend("--with=wrong.vcd", "--apply=new.vcd")
+        yield same("a frame that differs", (status, printed[0][:60], len(printed)),
+                   (1, "rec.vcd: 1 place found, 1 repaired, 0 undecided, 0 left, 0 s", 2))
+        yield same("what is said", " is recorded here, and a " in printed[1], True)
+        for words, said in (
+            ("--with=no.vcd", "no.vcd: No such file or directory"),
+            ("--with=text.vcd", None),
+            ("--with=rec.vcd", "rec.vcd and rec.vcd" + one_file),
+            ("--with=day.vcd --with=./day.vcd", "day.vcd and ./day.vcd" + one_file),
+            ("--with=day.vcd --apply=day.vcd", "--apply day.vcd would write over the file that is read, day.vcd"),
+            ("--with=day.vcd --apply-to=folder", "--apply-to and --with exclude each other (irig_mend --help says more)"),
+            ("--with=", "--with needs a file: --with OTHER (irig_mend --help says more)"),
+        ):
+            status, printed, found = mend(*words.split())
+            yield same(words, (status, printed, found), (2, [], "irig_mend: %s\n" % said if said else found))
+        yield same("what is read stays", text_of("day.vcd"), dump(slow(signal(FRAMES, day=DAY + 1))))
+
+    files = {"rec": dump(pulses), "a": dump(slow(signal(FRAMES, "A", control=sent))), "day": dump(slow(signal(FRAMES, day=DAY + 1))),
+             "data": dump([[700 * at, 700 * at + 300] for at in range(1, 900)]), "wrong": dump(slow(flipped(code(), 2070))),
+             "text": "no dump"}
+    return in_folder(lambda: list(holds()), **files)
+
+
+def cases(_top):
+    parts = of_lost, of_recorded, of_votes, of_trusted, of_other_code, of_contrary, of_rules, of_apply, of_refused
+    return [case("mend: with: " + part.__name__[3:].replace("_", " "), lambda part=part: list(part())) for part in parts]
