@@ -13,6 +13,7 @@ from .opening import opened
 from .options import EXPRESSION, FORMAT, Given
 from .others import Other, Others, not_used, other_of, others_of, seen_in
 from .script import Repair
+from .witnesses import NO_WITNESSES
 
 
 def check_others(track: str, names: Sequence[str]) -> None:
@@ -38,7 +39,7 @@ def read_others(names: Sequence[str], editor: Editor, progress: Progress, progra
         other, why = _read_other(name, code, progress, program)
         found += [] if why else [other]
         remarks += [not_used(other.name, why)] if why else []
-    others = others_of(seen_in(editor, progress), found) if found else Others({})
+    others = others_of(seen_in(editor, progress), found) if found else Others(NO_WITNESSES)
     return Others(others.witnesses, remarks + others.remarks, others.lines)
 
 

@@ -218,7 +218,7 @@ def others_of(findings: Findings, found: Sequence[Other]) -> Others:
         for time, frames in () if why else _by_time(other):
             if len({each.text for each in frames}) == 1:  # else it has this time twice
                 witnesses[time].append(frames[0])
-    return Others(dict(witnesses), remarks, lines)
+    return Others(Witnesses(dict(witnesses)), remarks, lines)
 
 
 def _by_time(other: Other) -> ItemsView[TimeOfFrame, List[Witness]]:
