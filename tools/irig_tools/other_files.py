@@ -13,6 +13,7 @@ from .opening import opened
 from .options import EXPRESSION, FORMAT, Given
 from .others import Other, Others, not_used, other_of, others_of, seen_in
 from .script import Repair
+from .witnesses import NO_WITNESSES
 
 
 def check_others(track: str, names: Sequence[str]) -> None:
@@ -35,14 +36,14 @@ def read_others(names: Sequence[str], editor: Editor, progress: Progress, progra
     found: List[Other] = []
     remarks: List[Repair] = []
     for name in names:
-        other, why = _read(name, code, progress, program)
+        other, why = _read_other(name, code, progress, program)
         found += [] if why else [other]
         remarks += [not_used(other.name, why)] if why else []
-    others = others_of(seen_in(editor, progress), found) if found else Others({})
+    others = others_of(seen_in(editor, progress), found) if found else Others(NO_WITNESSES)
     return Others(others.witnesses, remarks + others.remarks, others.lines)
 
 
-def _read(name: str, code: Given, progress: Progress, program: str) -> Tuple[Other, str]:
+def _read_other(name: str, code: Given, progress: Progress, program: str) -> Tuple[Other, str]:
     """A recording, and why nothing of it can be used if it has another format or expression."""
     other, problem = Other(name_of(name)), None
     with kept(name) as path, unchanged(path):
@@ -53,7 +54,7 @@ def _read(name: str, code: Given, progress: Progress, program: str) -> Tuple[Oth
                 other = other_of(name_of(name), seen_in(Editor(track.words), progress))
         except Problem as error:  # also if no frame can be read
             problem = error
-        own = [] if other.frames else _code_of(path, name)
+        own = [] if other.frames else _own_code(path, name)
     if problem and not own:
         raise problem
     return other, "it has %s, and the track %s" % (_in_words(own), _in_words(_words(code))) if own not in ([], _words(code)) else ""
@@ -67,7 +68,7 @@ def _in_words(code: Sequence[str]) -> str:
     return " and ".join(word.strip("-").replace("=", " ") for word in code)
 
 
-def _code_of(path: str, name: str) -> List[str]:
+def _own_code(path: str, name: str) -> List[str]:
     """The format and the expression of a recording, as words for the editor; none if they cannot be found."""
     try:
         with opened(path, name, Given(), None) as track:

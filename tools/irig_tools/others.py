@@ -19,8 +19,8 @@ from .units import FrameNumber, Hundredths, PulseIndex
 from .witnesses import TimeOfFrame, Witness, Witnesses, time_of_frame, unlike
 
 SET = "its control functions are those of this recording, and its times are %s: its clock was set otherwise"
-UNLIKE = "%d of %s of the same time have other control functions: its clock was set otherwise, or it is another code"
-FEW = "too few frames of the same time are alike: %d"
+OTHERWISE = "%d of %s of the same time have other control functions: its clock was set otherwise, or it is another code"
+TOO_FEW = "too few frames of the same time are alike: %d"
 
 
 class Timed(NamedTuple):
@@ -135,7 +135,7 @@ def _part_of(text: str, elements: Sequence[int]) -> str:
 def set_otherwise(here: Sequence[Timed], there: Sequence[Timed], calendar: Calendar, elements: Sequence[int]) -> int:
     """By how many hundredths of a second the other clock is later, if what changes from a frame to the next does so at other times
     there; 0 if nothing shows it."""
-    own, changes, later = _changes(here, elements), _changes(there, elements), Counter[int]()
+    own, changes, later = _control_changes(here, elements), _control_changes(there, elements), Counter[int]()
     for change, moments in own.items():
         if len(moments) * len(changes[change]) <= limits.MOST_ALIKE:
             later.update(calendar.apart(one, other) for one in moments for other in changes[change])
@@ -146,7 +146,7 @@ def set_otherwise(here: Sequence[Timed], there: Sequence[Timed], calendar: Calen
     return best[0][0]
 
 
-def _changes(frames: Sequence[Timed], elements: Sequence[int]) -> Dict[Tuple[str, str], List[Hundredths]]:
+def _control_changes(frames: Sequence[Timed], elements: Sequence[int]) -> Dict[Tuple[str, str], List[Hundredths]]:
     """Two frames in a row that are fine and differ, and when the second begins."""
     found: Dict[Tuple[str, str], List[Hundredths]] = defaultdict(list)
     for one, other in zip(frames, frames[1:]):
@@ -181,8 +181,8 @@ class Comparison:
             begins = self.calendar.apart(self.fine[0].moment, there[0].moment)
             return "none of its frames has the time of one here: its first one is %s" % _later(begins)
         if not like.is_same_code:
-            return UNLIKE % (like.against, counted(like.against + like.agree, "frame"))
-        return "" if like.agree >= limits.WITNESSES or self._fits_one(there) else FEW % like.agree
+            return OTHERWISE % (like.against, counted(like.against + like.agree, "frame"))
+        return "" if like.agree >= limits.WITNESSES or self._fits_one(there) else TOO_FEW % like.agree
 
     def _fits_one(self, there: Sequence[Timed]) -> bool:
         """Whether a frame here is like the one of its time, and like no other one: then both are of one moment."""
@@ -218,7 +218,7 @@ def others_of(findings: Findings, found: Sequence[Other]) -> Others:
         for time, frames in () if why else _by_time(other):
             if len({each.text for each in frames}) == 1:  # else it has this time twice
                 witnesses[time].append(frames[0])
-    return Others(dict(witnesses), remarks, lines)
+    return Others(Witnesses(dict(witnesses)), remarks, lines)
 
 
 def _by_time(other: Other) -> ItemsView[TimeOfFrame, List[Witness]]:

@@ -26,8 +26,14 @@ class Witness(NamedTuple):
         return "%s at %s" % (self.name, seconds(self.rises[self.first + element]))
 
 
-Witnesses = Mapping[TimeOfFrame, Sequence[Witness]]
-NO_WITNESSES: Witnesses = {}
+class Witnesses:
+    """These frames by their times. Each is equal to itself alone, so that what is found with it can be kept by it."""
+
+    def __init__(self, frames: Mapping[TimeOfFrame, Sequence[Witness]]) -> None:
+        self.frames = frames
+
+
+NO_WITNESSES = Witnesses({})
 
 
 def time_of_frame(layout: Layout, told: Fields) -> TimeOfFrame:
@@ -53,12 +59,12 @@ class Elsewhere:
         self.times, self.elements = times, sorted(times.kept)
         self._near: Dict[FrameNumber, List[Witness]] = {}
         self.contrary: Dict[FrameNumber, Witness] = {}  # frames of which nothing is taken: too much is recorded otherwise here
-        whole = [number for number in times.texts if witnesses and number not in times.spliced]
+        whole = [number for number in times.texts if witnesses.frames and number not in times.spliced]
         shown = {number: time_here(times, number) for number in whole}
         often = Counter(shown.values())
         for number, time in shown.items():
-            if time is not None and time in witnesses and often[time] == 1:  # one that is there twice can be of another moment
-                self._take(number, witnesses[time])
+            if time is not None and time in witnesses.frames and often[time] == 1:  # one that is there twice can be of another moment
+                self._take(number, witnesses.frames[time])
 
     def _take(self, number: FrameNumber, found: Sequence[Witness]) -> None:
         text = self.times.texts[number]
