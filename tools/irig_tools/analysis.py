@@ -81,8 +81,7 @@ def looks(editor: Editor, obeyed: Callable[[], Listing], progress: Progress, scr
         progress("reading the track" + (" as it is after %d repairs" % repairs if repairs else ""))
         listing = obeyed()
         progress("looking at %d pulses" % len(listing.rises))
-        how = steady, move, grid
-        findings = examine(listing, *how, witnesses) if witnesses else editor.judged(listing, examine, *how)
+        findings = editor.judged(listing, examine, steady, move, grid, witnesses)
         grid = findings.grid
         yield listing, findings
         if len(script) == repairs:

@@ -6,7 +6,8 @@ it); a probability (EIGHT_OF_TEN, NINE_OF_TEN, CHANCE, CHANCES); the reasons in 
 the end of a search (what says `most`, `longest` or `search`). `[28, 26]`: halved and doubled (of a small whole number one
 less and one more), that many first looks at 332 recordings at random are others; from UPSIDE_DOWN on at 99, and from ROUNDS
 on that many scripts. Those without it changed none: tests/rows/tools_parts.py has rows for the rarer faults they are for. The
-numbers of clocks that wander, of rises that are off, of other code and of other recordings were not varied so.
+numbers of clocks that wander, of rises that are off, of other code and of other recordings were not varied so; docs/METHOD.md
+has those that were tried.
 """
 
 # the clock (interval)
