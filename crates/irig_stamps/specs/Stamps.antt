@@ -1,6 +1,6 @@
 -- A line with its time before it. This project's own.
 use Rattle.std.specs.Prelude.{◌≡◌, ℕ, ◌-◌, ◌≤◌, ◌++◌, List, [], ◌∷◌, Option, Some, None, unwrap_or}
-use Rattle.std.specs.Prelude.{Bool, true, false, ◌||◌, ◌+◌, nat_lt, is_some, if◌then◌else◌}
+use Rattle.std.specs.Prelude.{Bool, ◌==◌, ◌||◌, ◌+◌, nat_lt, is_some, if◌then◌else◌}
 use Rattle.irig_codes.specs.Format.{FormatView}
 use Rattle.irig_recording.specs.declared.pulse.Pulse.{Pulse}
 use Rattle.irig_times.specs.{declared.time.Time.Time, Counted.IsTimed}
@@ -32,7 +32,7 @@ IsWord f ps s (Some v) word =
     ((x : Time) → IsTimeOf f ps s v x → word ≡ word_of s (Some x))
     × (((x : Time) → IsTimeOf f ps s v x → ⊥) → word ≡ 45 ∷ [])
 
--- what comes out for a line: its word, the separator, and the line as it was
+-- what comes out for a line of no header: its word, the separator, and the line as it was
 pub record IsStamped (f : FormatView) (ps : List Pulse) (s : Settings) (line out : List ℕ)
     : Type 0 where
   pub word : List ℕ
@@ -43,10 +43,16 @@ pub record IsStamped (f : FormatView) (ps : List Pulse) (s : Settings) (line out
 abbrev pub is_header : Settings → ℕ → Bool
 is_header s n = nat_lt n s.header
 
--- what comes out for a line: the line as it was, if it is one of the header
-abbrev pub IsOut : FormatView → List Pulse → Settings → Bool → List ℕ → List ℕ → Type 0
-IsOut f ps s true line out = out ≡ line ++ 10 ∷ []
-IsOut f ps s false line out = IsStamped f ps s line out
+-- the word before such a line, if it is one of the header: the name of the column of times in the
+-- last one, else a hyphen
+abbrev pub header_word : Settings → ℕ → Option (List ℕ)
+header_word s n =
+    if is_header s n then Some (if n + 1 == s.header then s.name.now else 45 ∷ []) else None
+
+-- what comes out for a line: its word, the separator, and the line as it was
+abbrev pub IsOut : FormatView → List Pulse → Settings → Option (List ℕ) → List ℕ → List ℕ → Type 0
+IsOut f ps s (Some word) line out = out ≡ word ++ (unwrap_or s.comma 9 ∷ line ++ 10 ∷ [])
+IsOut f ps s None line out = IsStamped f ps s line out
 
 -- whether the column of a line has a number, if it is none of the header
 abbrev pub is_numbered : Settings → ℕ → List ℕ → Bool

@@ -24,7 +24,7 @@ pub fn align<R: Read, W: Write>(
     lines: &mut R,
     out: &mut W,
     format: Format,
-    settings: &Settings,
+    settings: &Settings<'_>,
 ) -> Result<Outcome, RunFault>
     requires century { settings.now.century ≤ 99 }
     requires offset { settings.now.offset ≤ 2 ^ 119 }
@@ -46,7 +46,7 @@ fn align_track<R: Read, W: Write>(
     lines: &mut R,
     out: &mut W,
     format: Format,
-    settings: &Settings,
+    settings: &Settings<'_>,
 ) -> Result<Outcome, RunFault>
     requires century { settings.now.century ≤ 99 }
     requires offset { settings.now.offset ≤ 2 ^ 119 }

@@ -34,7 +34,7 @@ pub fn run<R: Read, W: Write>(
     pulses: &mut Lens<'_>,
     parts: &[Part],
     format: Format,
-    settings: &Settings,
+    settings: &Settings<'_>,
 ) -> Result<bool, RunFault>
     requires parts { parts.now ≡ timed_parts format settings.now.alone
         settings.now.century pulses.old.track.pulses }
@@ -78,7 +78,7 @@ fn run_read<R: Read, W: Write>(
     pulses: &mut Lens<'_>,
     parts: &[Part],
     format: Format,
-    settings: &Settings,
+    settings: &Settings<'_>,
 ) -> Result<bool, RunFault>
     requires parts { parts.now ≡ timed_parts format settings.now.alone
         settings.now.century pulses.old.track.pulses }
@@ -134,7 +134,7 @@ fn end<W: Write>(
     pulses: &mut Lens<'_>,
     parts: &[Part],
     format: Format,
-    settings: &Settings,
+    settings: &Settings<'_>,
 ) -> Result<bool, RunFault>
     requires parts { parts.now ≡ timed_parts format settings.now.alone
         settings.now.century pulses.old.track.pulses }

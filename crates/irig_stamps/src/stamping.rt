@@ -1,10 +1,10 @@
 //! A line with its time before it.
 
-ghost use Rattle.std.specs.Prelude.{◌≡◌, ◌↔◌, ◌≤◌, ◌^◌, ◌-◌, ◌++◌, ◌∷◌, [], ℕ, List, Some, min, Option};
+ghost use Rattle.std.specs.Prelude.{◌≡◌, ◌↔◌, ◌<◌, ◌≤◌, ◌^◌, ◌-◌, ◌++◌, ◌∷◌, [], ℕ, List, Some, min, Option};
 ghost use Rattle.std.specs.Prelude.{IfOk, IfSome, OnOk, is_some, option_map, unwrap_or};
 ghost use Rattle.irig_times.specs.Counted.{timed_parts};
 ghost use Rattle.irig_times.specs.declared.time.Time.{Time};
-ghost use Rattle.irig_stamps.specs.Stamps.{IsOut, IsStamped, IsTimeOf, IsWord, is_header};
+ghost use Rattle.irig_stamps.specs.Stamps.{IsOut, IsStamped, IsTimeOf, IsWord, header_word};
 ghost use Rattle.irig_stamps.specs.Stamps.{added, is_numbered, picos_in, taken};
 ghost use Rattle.irig_stamps.specs.{Numbers.capped, declared.picos.Picos.Picos};
 ghost use Rattle.irig_stamps.specs.Texts.{word_of};
@@ -23,7 +23,7 @@ use std::alloc::AllocError;
 const LATE: u128 = 4_611_686_018_427_387_904;
 
 /// What is added to the start of the track and what is taken off, for a recorder's time.
-fn span(settings: &Settings, picos: Picos) -> (u128, u128)
+fn span(settings: &Settings<'_>, picos: Picos) -> (u128, u128)
     requires { settings.now.offset ≤ 2 ^ 119 }
     ensures added { result.0 ≡ min (added settings.now picos) (2 ^ 128 - 1) }
     ensures taken { result.1 ≡ min (taken settings.now picos) (2 ^ 128 - 1) }
@@ -41,7 +41,7 @@ fn time_of(
     pulses: &mut Lens<'_>,
     parts: &[Part],
     format: Format,
-    settings: &Settings,
+    settings: &Settings<'_>,
     picos: Picos,
 ) -> Option<Time>
     requires parts { parts.now ≡ timed_parts format settings.now.alone
@@ -70,7 +70,7 @@ fn word_time(
     pulses: &mut Lens<'_>,
     parts: &[Part],
     format: Format,
-    settings: &Settings,
+    settings: &Settings<'_>,
     told: Option<Picos>,
 ) -> Option<Time>
     requires parts { parts.now ≡ timed_parts format settings.now.alone
@@ -98,12 +98,17 @@ fn put_line(text: &mut Vec<u8>, comma: Option<u8>, line: &[u8]) -> Result<(), Al
     text.extend_from_slice(b"\n")
 }
 
-/// Adds a line to a text as it is.
-fn put_header(text: &mut Vec<u8>, line: &[u8]) -> Result<(), AllocError>
-    ensures { OnOk result (text.new.items ≡ text.old.items ++ (line.now ++ 10 ∷ [])) }
+/// What is in the column of times in a line of the header, if `count` lines are before it.
+fn header_word<'a>(settings: &Settings<'a>, count: u64) -> &'a [u8]
+    requires { count < settings.now.header }
+    ensures { header_word settings.now count ≡ Some result.now }
 {
-    text.extend_from_slice(line)?;
-    text.extend_from_slice(b"\n")
+    let header = settings.header;
+    if count + 1 == header {
+        settings.name
+    } else {
+        b"-"
+    }
 }
 
 /// Adds a line to a text with its time before it. Returns whether its column has a number.
@@ -112,7 +117,7 @@ fn stamp(
     pulses: &mut Lens<'_>,
     parts: &[Part],
     format: Format,
-    settings: &Settings,
+    settings: &Settings<'_>,
     line: &[u8],
 ) -> Result<bool, AllocError>
     requires parts { parts.now ≡ timed_parts format settings.now.alone
@@ -135,14 +140,14 @@ fn stamp(
     Ok(told.is_some())
 }
 
-/// Adds to a text what comes out for a line, before which there are `count`. Returns whether its
-/// column has a number, or it is one of the header.
+/// Adds to a text what comes out for a line, if `count` are before it. Returns whether its column
+/// has a number, or it is one of the header.
 pub fn line_out(
     text: &mut Vec<u8>,
     pulses: &mut Lens<'_>,
     parts: &[Part],
     format: Format,
-    settings: &Settings,
+    settings: &Settings<'_>,
     count: u64,
     line: &[u8],
 ) -> Result<bool, AllocError>
@@ -154,12 +159,13 @@ pub fn line_out(
     ensures number { IfOk result (λ numbered.
         numbered ≡ is_numbered settings.now count line.now) }
     ensures out { OnOk result ((out : List ℕ)
-        × IsOut format pulses.old.track.pulses settings.now (is_header settings.now count) line.now
+        × IsOut format pulses.old.track.pulses settings.now (header_word settings.now count) line.now
         out × (text.new.items ≡ text.old.items ++ out)) }
     ensures pulses { pulses.new.track ≡ pulses.old.track }
 {
     if count < settings.header {
-        put_header(text, line)?;
+        text.extend_from_slice(header_word(settings, count))?;
+        put_line(text, settings.comma, line)?;
         return Ok(true);
     }
     stamp(text, pulses, parts, format, settings, line)

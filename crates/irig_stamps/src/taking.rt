@@ -23,7 +23,7 @@ fn take_byte(
     pulses: &mut Lens<'_>,
     parts: &[Part],
     format: Format,
-    settings: &Settings,
+    settings: &Settings<'_>,
     byte: u8,
 ) -> Result<(), TakeFault>
     requires parts { parts.now ≡ timed_parts format settings.now.alone
@@ -66,7 +66,7 @@ pub fn end_line(
     pulses: &mut Lens<'_>,
     parts: &[Part],
     format: Format,
-    settings: &Settings,
+    settings: &Settings<'_>,
 ) -> Result<(), AllocError>
     requires parts { parts.now ≡ timed_parts format settings.now.alone
         settings.now.century pulses.old.track.pulses }
@@ -94,7 +94,7 @@ pub fn take_part(
     pulses: &mut Lens<'_>,
     parts: &[Part],
     format: Format,
-    settings: &Settings,
+    settings: &Settings<'_>,
     part: &[u8],
 ) -> Result<(), TakeFault>
     requires parts { parts.now ≡ timed_parts format settings.now.alone
