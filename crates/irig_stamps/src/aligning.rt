@@ -72,9 +72,9 @@ fn align_track<R: Read, W: Write>(
         alloc,
         &mut lens,
         &mut records,
+        &held,
         format,
         settings.century,
-        settings.alone,
     ) else {
         return Err(RunFault::OutOfMemory);
     };
