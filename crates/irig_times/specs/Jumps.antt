@@ -6,11 +6,11 @@ use Rattle.irig_codes.specs.Format.{FormatView, frame_period_of}
 use Rattle.irig_codes.specs.declared.format.Kind.{Kind}
 use Rattle.irig_recording.specs.declared.pulse.Pulse.{Pulse}
 use Rattle.irig_times.specs.{declared.part.Part.Part, Between.gap, Between.missing_in}
-use Rattle.irig_times.specs.{Ends.time_elements, Follows.is_later, Parts.is_empty, Steps.ahead}
+use Rattle.irig_times.specs.{Ends.time_elements, Follows.is_later, Parts.is_empty, Steps.all_follow}
 
--- each pulse after a frame, up to the first one of another, is in step with the one before it
+-- each pulse after a frame, up to the first one of another, rises one interval after the one before
 abbrev pub are_joined : FormatView → List Pulse → Part → Part → Bool
-are_joined f ps a b = ahead f ps (a.number + a.count) (gap a b + 1) == gap a b + 1
+are_joined f ps a b = all_follow f ps (a.number + a.count) (gap a b + 1)
 
 -- the second time is as many periods after the first as there are hundreds of pulses
 abbrev pub runs_on : FormatView → ℕ → Part → Part → Bool

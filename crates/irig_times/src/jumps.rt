@@ -9,11 +9,12 @@ use crate::ends::time_elements;
 use crate::follows::is_later;
 use crate::missing::missing_in;
 use crate::part::Part;
-use crate::steps::ahead;
+use crate::steps::all_follow;
 use irig_codes::Format;
 use irig_track::Lens;
 
-/// Whether each pulse after a frame, up to the first one of another, is in step with the one before.
+/// Whether each pulse after a frame, up to the first one of another, rises one interval after the one
+/// before.
 fn are_joined(pulses: &mut Lens<'_>, format: Format, from: &Part, to: &Part) -> bool
     requires order { from.now.number + from.now.count ≤ to.now.number }
     requires small { to.now.number < 2 ^ 30 }
@@ -21,7 +22,7 @@ fn are_joined(pulses: &mut Lens<'_>, format: Format, from: &Part, to: &Part) -> 
     ensures pulses { pulses.new.track ≡ pulses.old.track }
 {
     let count = gap(from, to) + 1;
-    ahead(pulses, format, from.number + from.count, count) == count
+    all_follow(pulses, format, from.number + from.count, count)
 }
 
 /// Whether the second time is as many periods after the first as there are hundreds of pulses.

@@ -2,7 +2,8 @@
 
 ghost use Rattle.std.specs.Prelude.{IfSome, ◌≡◌, ◌≤◌, ◌+◌, ◌*◌, ◌^◌, ◌<◌};
 ghost use Rattle.irig_times.specs.Between.{at_micros, at_minute, day_micros, is_middle, is_whole};
-ghost use Rattle.irig_times.specs.Between.{middle, missing_in, missing_more, missing_one};
+ghost use Rattle.irig_times.specs.Between.{middle, minute_end, missing_in, missing_more};
+ghost use Rattle.irig_times.specs.Between.{missing_one};
 ghost use Rattle.irig_times.specs.Between.{next_time, rounded, time_before};
 
 use crate::follows::{is_later, same_day};
@@ -44,12 +45,19 @@ fn at_minute(time: &Time, hours: u32, minutes: u32, micros: u64) -> Time
     }
 }
 
+/// The microseconds of a minute: the last of an hour can have a leap second.
+fn minute_end(minutes: u32) -> u64
+    ensures { result ≡ minute_end minutes }
+{
+    if minutes == 59 { LONG_MINUTE } else { MINUTE }
+}
+
 /// Whether a frame of a time ends with its minute.
 pub fn is_whole(period: u64, time: &Time) -> bool
     requires { (period < 2 ^ 32) × (time.now.micros < 2 ^ 60) }
     ensures { result ≡ is_whole period time.now }
 {
-    time.micros + period <= LONG_MINUTE
+    time.micros + period <= minute_end(time.minutes)
 }
 
 /// Whether a time is one period after another and one before a third.
