@@ -156,7 +156,8 @@ def time_before(kind, time):
 
 
 def is_whole(kind, time):
-    return time.micros + PERIOD[kind] <= LONG_MINUTE
+    """Whether a counted frame ends with its minute: the last one of an hour can have a leap second."""
+    return time.micros + PERIOD[kind] <= (LONG_MINUTE if time.minutes == 59 else MINUTE)
 
 
 class Counting:
@@ -165,11 +166,18 @@ class Counting:
     def __init__(self, kind, expression, century, pulses):
         self.kind, self.expression, self.century, self.pulses = kind, expression, century, pulses
 
+    def step(self, place):
+        """How long after the one before it a pulse rises; 0 if one of them is not there."""
+        return self.pulses[place][0] - self.pulses[place - 1][0] if 0 < place < len(self.pulses) else 0
+
+    def follows(self, place):
+        """Whether a pulse rises one interval after the one before it, to a tenth."""
+        return timecode.in_step(timecode.INTERVAL[self.kind], self.step(place))
+
     def in_step(self, place):
-        """Whether a pulse is in step with the one before it."""
-        if not 0 < place < len(self.pulses):
-            return False
-        return timecode.in_step(timecode.INTERVAL[self.kind], self.pulses[place][0] - self.pulses[place - 1][0])
+        """Whether a pulse is in step with the one before it: that step is also as long as those next to it, to a tenth of them."""
+        beside = [self.step(other) for other in (place - 1, place + 1) if self.follows(other)]
+        return self.follows(place) and all(10 * abs(self.step(place) - step) <= step for step in beside)
 
     def ahead(self, place, most):
         return next((n for n in range(most) if not self.in_step(place + n)), most)
@@ -212,7 +220,7 @@ class Counting:
     def jumps(self, one, other):
         """Whether the pulses from one frame to the other are in step, whole hundreds, and the times are not as many periods apart."""
         many, rest = divmod(other.marker - one.marker, 100)
-        if rest or not all(self.in_step(place) for place in range(one.marker + 100, other.marker + 1)):
+        if rest or not all(self.follows(place) for place in range(one.marker + 100, other.marker + 1)):
             return False
         if many == 1:
             return not follows(self.kind, self.century, one.time, other.time)
