@@ -218,13 +218,21 @@ class Counting:
         return None
 
     def jumps(self, one, other):
-        """Whether the pulses from one frame to the other are in step, whole hundreds, and the times are not as many periods apart."""
-        many, rest = divmod(other.marker - one.marker, 100)
-        if rest or not all(self.follows(place) for place in range(one.marker + 100, other.marker + 1)):
+        """Whether the time jumps: all pulses are in step, whole hundreds, or the markers are whole periods apart, and the times are not."""
+        gap, distance, period = other.marker - one.marker - 100, other.rise - one.rise, PERIOD[self.kind]
+        if self.are_apart(1 if not gap else max(2, gap // 100 + 1) if gap >= 100 else 0, one, other):
             return False
+        if gap % 100 == 0 and all(self.follows(place) for place in range(one.marker + 100, other.marker + 1)):
+            return True
+        many, rest = (2 * distance + period) // (2 * period), distance % period
+        is_whole_apart = 2 * min(rest, period - rest) <= timecode.INTERVAL[self.kind]
+        return many > 0 and is_whole_apart and not self.are_apart(many, one, other)
+
+    def are_apart(self, many, one, other):
+        """Whether the second time is that many periods after the first."""
         if many == 1:
-            return not follows(self.kind, self.century, one.time, other.time)
-        return self.missing_of(many, one, other)[1] is None
+            return follows(self.kind, self.century, one.time, other.time)
+        return self.missing_of(many, one, other)[1] is not None
 
     def missing(self, one, other):
         """How many frames are missing between two, and the time of the first and of the last."""
