@@ -25,6 +25,7 @@ class Options(NamedTuple):
     year: Optional[int] = None
     form: str = "ordinal"
     alone: bool = False
+    name: bytes = b"time"
 
 
 class Time(NamedTuple):
@@ -380,8 +381,9 @@ def aligned(options, pulses, text):
     for place, line in enumerate(lines):
         if len(line) > LONGEST_LINE:
             return b"".join(printed), 4
-        if place < options.header:
-            printed.append(line + b"\n")
+        if place < options.header:  # the last line of the header has the names of the columns
+            cell = options.name if place == options.header - 1 else b"-"
+            printed.append(cell + (options.comma or b"\t") + line + b"\n")
             continue
         moment = number(options, line)
         time = None if moment is None else track.time_at(moment - options.offset)

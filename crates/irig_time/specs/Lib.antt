@@ -1,5 +1,6 @@
 pub mod Options
 pub mod Values
+pub mod Names
 pub mod Chosen
 pub mod Settings
 pub mod Ending

@@ -1,4 +1,4 @@
--- The command line: eleven options and the track. This project's own.
+-- The command line: options and the track. This project's own.
 use Rattle.std.specs.Prelude.{◌≡◌, List, codes, None, Some}
 use Rattle.clap.specs.Words.{App, Rule, Text, new_app, new_rule, with_rule, HasMatchesOf}
 use Rattle.clap.specs.declared.builder.ArgAction.TheVariants.{SetTrue}
@@ -25,11 +25,11 @@ placing =
     with_rule (with_rule (with_rule (with_rule reading (option (codes "unit") None))
     (option (codes "offset") None)) (option (codes "column") None)) (option (codes "comma") None)
 
--- and how a time is written
+-- and what the header is, and how a time is written
 abbrev pub writing : App
 writing =
-    with_rule (with_rule (with_rule placing (option (codes "header") None))
-    (option (codes "year") None)) (option (codes "form") None)
+    with_rule (with_rule (with_rule (with_rule placing (option (codes "header") None))
+    (option (codes "name") None)) (option (codes "year") None)) (option (codes "form") None)
 
 -- and which frames are taken, and what is printed of them
 abbrev pub marking : App

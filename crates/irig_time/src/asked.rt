@@ -19,8 +19,10 @@ pub struct Asked<'a> {
     pub column: Option<&'a str>,
     /// What parts columns.
     pub comma: Option<&'a str>,
-    /// How many lines are handed through.
+    /// How many lines are the header.
     pub header: Option<&'a str>,
+    /// The name of the column of times.
+    pub name: Option<&'a str>,
     /// The year of the first frame.
     pub year: Option<&'a str>,
     /// The form of a time.

@@ -75,6 +75,7 @@ fn values_of<'a>(matches: &ArgMatches<'a>) -> Result<Asked<'a>, Error>
         column: matches.get_str("column"),
         comma: matches.get_str("comma"),
         header: matches.get_str("header"),
+        name: matches.get_str("name"),
         year: matches.get_str("year"),
         form: matches.get_str("form"),
         alone: matches.get_str("alone"),
@@ -100,14 +101,15 @@ fn command<'a>(alloc: Global) -> Result<Command<'a>, AllocError>
     marking.arg(needed_arg(alloc, "TRACK", "the dump; lines come on standard input"))
 }
 
-/// Its options: also how a time is written.
+/// Its options: also what the header is, and how a time is written.
 fn writing<'a>(alloc: Global) -> Result<Command<'a>, AllocError>
     ensures { IfOk result (λ c. IsWriting (app_of c)) }
 {
-    let header = option_arg(alloc, "header", "NUMBER", "lines handed through: 0");
+    let header = option_arg(alloc, "header", "NUMBER", "lines of the header: 0");
+    let name = option_arg(alloc, "name", "NAME", "of the new column: time");
     let year = option_arg(alloc, "year", "YEAR", "the year of the first fine frame");
     let form = option_arg(alloc, "form", "FORM", "ordinal, calendar or seconds");
-    placing(alloc)?.arg(header)?.arg(year)?.arg(form)
+    placing(alloc)?.arg(header)?.arg(name)?.arg(year)?.arg(form)
 }
 
 /// Its options: also which frames are taken, and what is printed of them.

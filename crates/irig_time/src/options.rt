@@ -5,13 +5,15 @@ ghost use Rattle.std.specs.Str.{bytes_eq};
 ghost use Rattle.irig_time.specs.Chosen.{HasColumns, HasDates, HasFault, HasSettings, IsChosen};
 ghost use Rattle.irig_time.specs.Chosen.{IsComma, IsFormat, IsSound, lacks_year, stands_alone};
 ghost use Rattle.irig_time.specs.Chosen.{tells_of_lines, wants_table};
-ghost use Rattle.irig_time.specs.Values.{comma_named, digit_named, form_named, is_parting};
+ghost use Rattle.irig_time.specs.Values.{comma_named, digit_named, form_named, is_of_text};
+ghost use Rattle.irig_time.specs.Values.{is_parting};
 ghost use Rattle.irig_time.specs.Values.{near, offset_named, places_named, prefix_places, text_or};
 ghost use Rattle.irig_time.specs.Values.{whole_between, within};
 ghost use Rattle.irig_time.specs.declared.chosen.OptionFault.TheVariants.{Comma};
 
 use crate::asked::Asked;
 use crate::chosen::{Chosen, OptionFault};
+use crate::naming::name_of;
 use irig_codes::{Format, kind_named};
 use irig_stamps::{Form, Picos, Settings, number, whole};
 
@@ -76,6 +78,7 @@ fn tells_of_lines(asked: &Asked<'_>) -> bool
         || asked.offset.is_some()
         || asked.column.is_some()
         || asked.header.is_some()
+        || asked.name.is_some()
 }
 
 /// The format that is asked for.
@@ -96,7 +99,7 @@ fn format_of(asked: &Asked<'_>) -> Result<Format, OptionFault>
 }
 
 /// How lines are read and stamped.
-fn settings_of(asked: &Asked<'_>) -> Result<Settings, OptionFault>
+fn settings_of<'a>(asked: &Asked<'a>) -> Result<Settings<'a>, OptionFault>
     ensures settings { IfOk result (HasSettings asked.now) }
     ensures sound { IfOk result IsSound }
     ensures fault { IfErr result (HasFault asked.now) }
@@ -106,6 +109,7 @@ fn settings_of(asked: &Asked<'_>) -> Result<Settings, OptionFault>
     let Some(header) = whole_between(0, HEADER_LIMIT, text_or(asked.header, "0")) else {
         return Err(OptionFault::Header);
     };
+    let name = name_of(asked, columns.comma, header)?;
     Ok(Settings {
         places: columns.places,
         offset: columns.offset.size,
@@ -113,6 +117,7 @@ fn settings_of(asked: &Asked<'_>) -> Result<Settings, OptionFault>
         column: columns.column,
         comma: columns.comma,
         header: header as u64,
+        name,
         century: dates.century,
         year: dates.year,
         first_day: 0,
@@ -192,14 +197,14 @@ fn dates_of(asked: &Asked<'_>) -> Result<Dates, OptionFault>
 }
 
 /// Whether a date is asked for that nothing gives a year.
-fn lacks_year(format: Format, settings: &Settings) -> bool
+fn lacks_year(format: Format, settings: &Settings<'_>) -> bool
     ensures { result ≡ lacks_year format settings.now }
 {
     matches!(settings.form, Form::Calendar) && settings.year.is_none() && format.expression() < 4
 }
 
 /// The bytes of an option, or others if it is not given.
-fn text_or<'a>(value: Option<&'a str>, other: &'a str) -> &'a [u8]
+pub fn text_or<'a>(value: Option<&'a str>, other: &'a str) -> &'a [u8]
     ensures { result.now ≡ text_or value.entry other.entry.now }
 {
     match value {
@@ -313,11 +318,19 @@ fn comma_named(text: &[u8]) -> Option<u8>
     }
 }
 
-/// Whether a byte of ASCII can part columns: none that a number can have, and no end of a line.
+/// Whether a byte of ASCII can part columns: none of a number, a time, a word or a name, and no end
+/// of a line.
 fn is_parting(byte: u8) -> bool
     ensures { result ≡ is_parting byte }
 {
-    byte <= 127 && !matches!(byte, b'0'..=b'9' | b'.' | b'+' | b'-' | b'E' | b'e') && byte != b'\n'
+    byte <= 127 && !is_of_text(byte) && byte != b'\n' && byte != b'\r'
+}
+
+/// Whether a number, a time, a word or a name can have a byte.
+fn is_of_text(byte: u8) -> bool
+    ensures { result ≡ is_of_text byte }
+{
+    matches!(byte, b'A'..=b'Z' | b'a'..=b'z' | b'0'..=b'9' | b'.' | b'+' | b'-' | b':' | b'"')
 }
 
 /// The form with this name.
