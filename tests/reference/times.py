@@ -26,6 +26,7 @@ class Options(NamedTuple):
     form: str = "ordinal"
     alone: bool = False
     name: bytes = b"time"
+    why: bool = False
 
 
 class Time(NamedTuple):
@@ -254,6 +255,17 @@ class Counting:
         sound = all(time is not None and is_whole(self.kind, time) for time in times)
         return many - 1, *(times if sound else (None, None))
 
+    def are_apart(self, one, other):
+        """Whether the times of two frames are as far apart as they begin; over midnight that is known of two periods at most."""
+        period = PERIOD[self.kind]
+        many = (2 * (other.rise - one.rise) + period) // (2 * period)
+        if many < 2:
+            return follows(self.kind, self.century, one.time, other.time)
+        if many == 2:
+            return self.middle(one, other) is not None
+        same_day = (one.time.year, one.time.days) == (other.time.year, other.time.days)
+        return not same_day or of_day(other.time) - of_day(one.time) == many * period
+
     def between(self, one, other):
         many, first, last = self.missing(one, other)
         if first is None:
@@ -299,7 +311,8 @@ class Track:
         self.pulses = pulses
         self.fine = frames_of(options.kind, options.expression, pulses)
         self.frames = believed(options, self.fine)
-        parts = Counting(options.kind, options.expression, self.century, pulses).parts(self.fine, self.frames)
+        self.counting = Counting(options.kind, options.expression, self.century, pulses)
+        parts = self.counting.parts(self.fine, self.frames)
         self.points = {part.number + k: (part.element + k, part.time) for part in parts for k in range(part.count)}
 
     def time_at(self, moment):
@@ -321,6 +334,26 @@ class Track:
         if following:
             return following == element + 1 and later == time
         return element == 99 and follows(self.kind, self.century, time, later)
+
+    def why(self, moment):
+        """Why a moment has no time: what is next to it, by the frames that have a time."""
+        begun = [place for place, frame in enumerate(self.fine) if frame.rise <= moment]
+        if not begun:
+            return "before"
+        frame, element = self.fine[begun[-1]], sum(self.fine[begun[-1]].rise < rise <= moment for rise, _ in self.pulses)
+        if frame not in self.frames and element < 100:
+            return "unbelieved"
+        if begun[-1] and element < TIME_ELEMENTS[self.kind] and self.why_between(self.fine[begun[-1] - 1], frame) == "step":
+            return "step"
+        later = self.fine[begun[-1] + 1:]
+        return self.why_between(frame, later[0]) if later else "after"
+
+    def why_between(self, one, other):
+        if one not in self.frames or other not in self.frames:
+            return "unbelieved"
+        if self.counting.jumps(one, other):
+            return "step"
+        return "hole" if self.counting.are_apart(one, other) else "set"
 
     def is_followed(self, frame):
         return any(
@@ -404,5 +437,7 @@ def aligned(options, pulses, text):
         moment = number(options, line)
         time = None if moment is None else track.time_at(moment - options.offset)
         status = status or int(moment is None)
-        printed.append(word(options, track, time).encode() + (options.comma or b"\t") + line + b"\n")
+        asked = options.why and moment is not None and time is None
+        shown = track.why(moment - options.offset) if asked else word(options, track, time)
+        printed.append(shown.encode() + (options.comma or b"\t") + line + b"\n")
     return b"".join(printed), status

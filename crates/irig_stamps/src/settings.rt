@@ -36,6 +36,8 @@ pub struct Settings<'a> {
     pub first_day: u32,
     /// Whether each fine frame is believed, and not only those that another one supports.
     pub alone: bool,
+    /// Whether a word says why a line has no time.
+    pub why: bool,
     /// How a time is written.
     pub form: Form,
 }

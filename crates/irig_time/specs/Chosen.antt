@@ -47,6 +47,10 @@ pub record HasDates (a : Asked) (century : ℕ) (year : Option ℕ) (form : Form
 abbrev pub stands_alone : Asked → Bool
 stands_alone a = bytes_eq (text_or a.alone (codes "false")) (codes "true")
 
+-- whether a word says why a line has no time
+abbrev pub asks_why : Asked → Bool
+asks_why a = bytes_eq (text_or a.why (codes "false")) (codes "true")
+
 -- the recorder's time at the start of the track
 abbrev pub start_of : Settings → Picos
 start_of s = record { negative = s.early; size = s.offset }
@@ -64,6 +68,7 @@ pub record HasSettings (a : Asked) (s : Settings) : Type 0 where
   pub name : HasName a s.comma s.header s.name.now
   pub dates : HasDates a s.century s.year s.form
   pub alone : s.alone ≡ stands_alone a
+  pub why : s.why ≡ asks_why a
 
 -- the values are within their limits
 abbrev pub IsSound : Settings → Type 0
@@ -83,10 +88,10 @@ lacks_year f s = is_calendar s.form && (not (is_some s.year) && nat_lt f.express
 abbrev pub wants_table : Asked → Bool
 wants_table a = bytes_eq (text_or a.table (codes "false")) (codes "true")
 
--- whether an option is given that says how lines are read
+-- whether an option is given that says how lines are read, or printed
 abbrev pub tells_of_lines : Asked → Bool
 tells_of_lines a = is_some a.unit || (is_some a.offset || (is_some a.column
-    || (is_some a.header || is_some a.name)))
+    || (is_some a.header || (is_some a.name || asks_why a))))
 
 -- the values ask for this
 pub record IsChosen (a : Asked) (c : Chosen) : Type 0 where

@@ -13,6 +13,10 @@ table = record (new_rule (codes "table")) { long = Some (codes "table"); action 
 abbrev pub alone : Rule
 alone = record (new_rule (codes "alone")) { long = Some (codes "alone"); action = Some SetTrue }
 
+-- the option that asks why lines have no time, which has no value
+abbrev pub why : Rule
+why = record (new_rule (codes "why")) { long = Some (codes "why"); action = Some SetTrue }
+
 -- how the track is read
 abbrev pub reading : App
 reading =
@@ -33,7 +37,7 @@ writing =
 
 -- and which frames are taken, and what is printed of them
 abbrev pub marking : App
-marking = with_rule (with_rule writing alone) table
+marking = with_rule (with_rule (with_rule writing alone) why) table
 
 -- the command
 abbrev pub the_command : App

@@ -29,6 +29,8 @@ pub struct Asked<'a> {
     pub form: Option<&'a str>,
     /// `true`, if each fine frame is believed.
     pub alone: Option<&'a str>,
+    /// `true`, if a word says why a line has no time.
+    pub why: Option<&'a str>,
     /// `true`, if the table is asked for.
     pub table: Option<&'a str>,
 }

@@ -4,7 +4,7 @@ ghost use Rattle.std.specs.Prelude.{◌≡◌, IfErr, IfOk, false, map, string_b
 ghost use Rattle.clap.specs.Words.{app_of, found_of, rule_of};
 ghost use Rattle.irig_time.specs.Chosen.{IsSound};
 ghost use Rattle.irig_time.specs.Options.{IsCommand, IsMarking, IsParsed, IsPlacing, IsReading};
-ghost use Rattle.irig_time.specs.Options.{IsWriting, alone, table, the_command};
+ghost use Rattle.irig_time.specs.Options.{IsWriting, alone, table, the_command, why};
 ghost use Rattle.irig_time.specs.Settings.{AreValues, Reads, Values};
 ghost use Rattle.irig_words.specs.Errors.{IsMistake, MayRefuse, WantsMemory};
 
@@ -79,6 +79,7 @@ fn values_of<'a>(matches: &ArgMatches<'a>) -> Result<Asked<'a>, Error>
         year: matches.get_str("year"),
         form: matches.get_str("form"),
         alone: matches.get_str("alone"),
+        why: matches.get_str("why"),
         table: matches.get_str("table"),
     })
 }
@@ -116,7 +117,10 @@ fn writing<'a>(alloc: Global) -> Result<Command<'a>, AllocError>
 fn marking<'a>(alloc: Global) -> Result<Command<'a>, AllocError>
     ensures { IfOk result (λ c. IsMarking (app_of c)) }
 {
-    writing(alloc)?.arg(alone_arg(alloc))?.arg(table_arg(alloc))
+    writing(alloc)?
+        .arg(alone_arg(alloc))?
+        .arg(why_arg(alloc))?
+        .arg(table_arg(alloc))
 }
 
 /// Its options: also where the recorder's time is in a line.
@@ -170,6 +174,17 @@ fn alone_arg<'a>(alloc: Global) -> Arg<'a>
     Arg::new(alloc, "alone")
         .long("alone")
         .help("take each frame that reads well, supported by another or not")
+        .action(ArgAction::SetTrue)
+}
+
+/// The option that asks why lines have no time.
+fn why_arg<'a>(alloc: Global) -> Arg<'a>
+    ensures rule { rule_of result ≡ why }
+    ensures local { result.global ≡ false }
+{
+    Arg::new(alloc, "why")
+        .long("why")
+        .help("a word in place of - says why a line has no time")
         .action(ArgAction::SetTrue)
 }
 

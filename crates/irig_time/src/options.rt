@@ -4,7 +4,7 @@ ghost use Rattle.std.specs.Prelude.{◌≡◌, ◌≤◌, ◌<◌, ◌^◌, IfEr
 ghost use Rattle.std.specs.Str.{bytes_eq};
 ghost use Rattle.irig_time.specs.Chosen.{HasColumns, HasDates, HasFault, HasSettings, IsChosen};
 ghost use Rattle.irig_time.specs.Chosen.{IsComma, IsFormat, IsSound, lacks_year, stands_alone};
-ghost use Rattle.irig_time.specs.Chosen.{tells_of_lines, wants_table};
+ghost use Rattle.irig_time.specs.Chosen.{asks_why, tells_of_lines, wants_table};
 ghost use Rattle.irig_time.specs.Values.{comma_named, digit_named, form_named, is_of_text};
 ghost use Rattle.irig_time.specs.Values.{is_parting};
 ghost use Rattle.irig_time.specs.Values.{near, offset_named, places_named, prefix_places, text_or};
@@ -70,7 +70,14 @@ fn stands_alone(asked: &Asked<'_>) -> bool
     is_text(text_or(asked.alone, "false"), b"true")
 }
 
-/// Whether an option is given that says how lines are read.
+/// Whether a word says why a line has no time.
+fn asks_why(asked: &Asked<'_>) -> bool
+    ensures { result ≡ asks_why asked.now }
+{
+    is_text(text_or(asked.why, "false"), b"true")
+}
+
+/// Whether an option is given that says how lines are read, or printed.
 fn tells_of_lines(asked: &Asked<'_>) -> bool
     ensures { result ≡ tells_of_lines asked.now }
 {
@@ -79,6 +86,7 @@ fn tells_of_lines(asked: &Asked<'_>) -> bool
         || asked.column.is_some()
         || asked.header.is_some()
         || asked.name.is_some()
+        || asks_why(asked)
 }
 
 /// The format that is asked for.
@@ -122,6 +130,7 @@ fn settings_of<'a>(asked: &Asked<'a>) -> Result<Settings<'a>, OptionFault>
         year: dates.year,
         first_day: 0,
         alone: stands_alone(asked),
+        why: asks_why(asked),
         form: dates.form,
     })
 }

@@ -22,6 +22,8 @@ pub mod Origin
 pub mod Chains
 pub mod PartChains
 pub mod Calendar
+-- moments without a time
+pub mod Reasons
 -- frames that are believed
 pub mod Supported
 -- looks

@@ -48,7 +48,7 @@ fn runs_on(format: Format, century: u32, from: &Part, to: &Part) -> bool
 }
 
 /// Whether the time jumps between two frames that are believed.
-fn is_jump(pulses: &mut Lens<'_>, format: Format, century: u32, from: &Part, to: &Part) -> bool
+pub fn is_jump(pulses: &mut Lens<'_>, format: Format, century: u32, from: &Part, to: &Part) -> bool
     requires century { century ≤ 99 }
     requires times { (from.now.time.micros < 2 ^ 59) × (to.now.time.micros < 2 ^ 59) }
     requires order { from.now.number + from.now.count ≤ to.now.number }

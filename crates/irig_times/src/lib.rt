@@ -16,6 +16,8 @@ mod steps;
 mod support;
 mod time;
 mod whole;
+mod why;
+mod why_law;
 
 pub use by_count::time_by;
 pub use counted::timed_parts;
@@ -25,3 +27,5 @@ pub use part_law::parts_are_exact;
 pub use start::{FrameStart, start_of};
 pub use support::held_frames;
 pub use time::{Time, timed};
+pub use why::{Why, Whys, find_whys, why_at};
+pub use why_law::reasons_are_exact;

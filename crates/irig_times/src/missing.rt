@@ -73,7 +73,7 @@ fn is_middle(century: u32, period: u64, from: &Time, time: &Time, to: &Time) -> 
 }
 
 /// The time of the one frame that is missing between two.
-fn middle(century: u32, period: u64, from: &Time, to: &Time) -> Option<Time>
+pub fn middle(century: u32, period: u64, from: &Time, to: &Time) -> Option<Time>
     requires century { century ≤ 99 }
     requires small { period < 2 ^ 32 }
     requires times { (from.now.micros < 2 ^ 59) × (to.now.micros < 2 ^ 59) }
@@ -138,7 +138,7 @@ pub fn time_before(period: u64, time: &Time) -> Option<Time>
 }
 
 /// The microseconds since midnight, in minutes of 60 seconds.
-fn day_micros(time: &Time) -> u64
+pub fn day_micros(time: &Time) -> u64
     requires { time.now.micros < 2 ^ 59 }
     ensures { result ≡ day_micros time.now }
 {
@@ -175,7 +175,7 @@ pub fn missing_in(century: u32, period: u64, count: u64, from: &Time, to: &Time)
 }
 
 /// The microseconds since midnight some periods after a time.
-fn later_micros(period: u64, count: u64, from: &Time) -> u128
+pub fn later_micros(period: u64, count: u64, from: &Time) -> u128
     requires small { (period < 2 ^ 25) × (count < 2 ^ 42 + 2) }
     requires times { from.now.micros < 2 ^ 59 }
     ensures { result ≡ day_micros from.now + count * period }
