@@ -25,6 +25,8 @@ class Options(NamedTuple):
     year: Optional[int] = None
     form: str = "ordinal"
     alone: bool = False
+    name: bytes = b"time"
+    why: bool = False
 
 
 class Time(NamedTuple):
@@ -155,7 +157,8 @@ def time_before(kind, time):
 
 
 def is_whole(kind, time):
-    return time.micros + PERIOD[kind] <= LONG_MINUTE
+    """Whether a counted frame ends with its minute: the last one of an hour can have a leap second."""
+    return time.micros + PERIOD[kind] <= (LONG_MINUTE if time.minutes == 59 else MINUTE)
 
 
 class Counting:
@@ -164,11 +167,18 @@ class Counting:
     def __init__(self, kind, expression, century, pulses):
         self.kind, self.expression, self.century, self.pulses = kind, expression, century, pulses
 
+    def step(self, place):
+        """How long after the one before it a pulse rises; 0 if one of them is not there."""
+        return self.pulses[place][0] - self.pulses[place - 1][0] if 0 < place < len(self.pulses) else 0
+
+    def follows(self, place):
+        """Whether a pulse rises one interval after the one before it, to a tenth."""
+        return timecode.in_step(timecode.INTERVAL[self.kind], self.step(place))
+
     def in_step(self, place):
-        """Whether a pulse is in step with the one before it."""
-        if not 0 < place < len(self.pulses):
-            return False
-        return timecode.in_step(timecode.INTERVAL[self.kind], self.pulses[place][0] - self.pulses[place - 1][0])
+        """Whether a pulse is in step with the one before it: that step is also as long as those next to it, to a tenth of them."""
+        beside = [self.step(other) for other in (place - 1, place + 1) if self.follows(other)]
+        return self.follows(place) and all(10 * abs(self.step(place) - step) <= step for step in beside)
 
     def ahead(self, place, most):
         return next((n for n in range(most) if not self.in_step(place + n)), most)
@@ -209,13 +219,21 @@ class Counting:
         return None
 
     def jumps(self, one, other):
-        """Whether the pulses from one frame to the other are in step, whole hundreds, and the times are not as many periods apart."""
-        many, rest = divmod(other.marker - one.marker, 100)
-        if rest or not all(self.in_step(place) for place in range(one.marker + 100, other.marker + 1)):
+        """Whether the time jumps: all pulses are in step, whole hundreds, or the markers are whole periods apart, and the times are not."""
+        gap, distance, period = other.marker - one.marker - 100, other.rise - one.rise, PERIOD[self.kind]
+        if self.are_apart(1 if not gap else max(2, gap // 100 + 1) if gap >= 100 else 0, one, other):
             return False
+        if gap % 100 == 0 and all(self.follows(place) for place in range(one.marker + 100, other.marker + 1)):
+            return True
+        many, rest = (2 * distance + period) // (2 * period), distance % period
+        is_whole_apart = 2 * min(rest, period - rest) <= timecode.INTERVAL[self.kind]
+        return many > 0 and is_whole_apart and not self.are_apart(many, one, other)
+
+    def are_apart(self, many, one, other):
+        """Whether the second time is that many periods after the first."""
         if many == 1:
-            return not follows(self.kind, self.century, one.time, other.time)
-        return self.missing_of(many, one, other)[1] is None
+            return follows(self.kind, self.century, one.time, other.time)
+        return self.missing_of(many, one, other)[1] is not None
 
     def missing(self, one, other):
         """How many frames are missing between two, and the time of the first and of the last."""
@@ -236,6 +254,17 @@ class Counting:
         times = next_time(self.kind, one.time), time_before(self.kind, other.time)
         sound = all(time is not None and is_whole(self.kind, time) for time in times)
         return many - 1, *(times if sound else (None, None))
+
+    def are_apart(self, one, other):
+        """Whether the times of two frames are as far apart as they begin; over midnight that is known of two periods at most."""
+        period = PERIOD[self.kind]
+        many = (2 * (other.rise - one.rise) + period) // (2 * period)
+        if many < 2:
+            return follows(self.kind, self.century, one.time, other.time)
+        if many == 2:
+            return self.middle(one, other) is not None
+        same_day = (one.time.year, one.time.days) == (other.time.year, other.time.days)
+        return not same_day or of_day(other.time) - of_day(one.time) == many * period
 
     def between(self, one, other):
         many, first, last = self.missing(one, other)
@@ -282,7 +311,8 @@ class Track:
         self.pulses = pulses
         self.fine = frames_of(options.kind, options.expression, pulses)
         self.frames = believed(options, self.fine)
-        parts = Counting(options.kind, options.expression, self.century, pulses).parts(self.fine, self.frames)
+        self.counting = Counting(options.kind, options.expression, self.century, pulses)
+        parts = self.counting.parts(self.fine, self.frames)
         self.points = {part.number + k: (part.element + k, part.time) for part in parts for k in range(part.count)}
 
     def time_at(self, moment):
@@ -304,6 +334,26 @@ class Track:
         if following:
             return following == element + 1 and later == time
         return element == 99 and follows(self.kind, self.century, time, later)
+
+    def why(self, moment):
+        """Why a moment has no time: what is next to it, by the frames that have a time."""
+        begun = [place for place, frame in enumerate(self.fine) if frame.rise <= moment]
+        if not begun:
+            return "before"
+        frame, element = self.fine[begun[-1]], sum(self.fine[begun[-1]].rise < rise <= moment for rise, _ in self.pulses)
+        if frame not in self.frames and element < 100:
+            return "unbelieved"
+        if begun[-1] and element < TIME_ELEMENTS[self.kind] and self.why_between(self.fine[begun[-1] - 1], frame) == "step":
+            return "step"
+        later = self.fine[begun[-1] + 1:]
+        return self.why_between(frame, later[0]) if later else "after"
+
+    def why_between(self, one, other):
+        if one not in self.frames or other not in self.frames:
+            return "unbelieved"
+        if self.counting.jumps(one, other):
+            return "step"
+        return "hole" if self.counting.are_apart(one, other) else "set"
 
     def is_followed(self, frame):
         return any(
@@ -380,11 +430,14 @@ def aligned(options, pulses, text):
     for place, line in enumerate(lines):
         if len(line) > LONGEST_LINE:
             return b"".join(printed), 4
-        if place < options.header:
-            printed.append(line + b"\n")
+        if place < options.header:  # the last line of the header has the names of the columns
+            cell = options.name if place == options.header - 1 else b"-"
+            printed.append(cell + (options.comma or b"\t") + line + b"\n")
             continue
         moment = number(options, line)
         time = None if moment is None else track.time_at(moment - options.offset)
         status = status or int(moment is None)
-        printed.append(word(options, track, time).encode() + (options.comma or b"\t") + line + b"\n")
+        asked = options.why and moment is not None and time is None
+        shown = track.why(moment - options.offset) if asked else word(options, track, time)
+        printed.append(shown.encode() + (options.comma or b"\t") + line + b"\n")
     return b"".join(printed), status

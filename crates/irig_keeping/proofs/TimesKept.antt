@@ -110,9 +110,9 @@ moment f century micros ps track d n number element from to g x some p q here ne
     swap : (a b : ℕ) → a * b ≡ b * a
     swap a b = omega arith
 
-    ends : (element < 99) ⊎ ((element ≡ 99) × IsFollowed f century (frames f ps) number g) → IntervalEnds f century ps number element g p.rise to
+    ends : (element < 99) ⊎ ((element ≡ 99) × IsFollowed f century (frames f ps) number g) → IntervalEnds f century ps number element g to
     ends (inl few) = inl (few, record { next = q; stands = next; is = sym end })
-    ends (inr last) = inr (inl (last.0, (last.1, record { next = q; stands = next; is = sym end })))
+    ends (inr last) = inr (last.0, (last.1, record { next = q; stands = next; is = sym end }))
 
 -- what is known of a moment that has a time
 known : (f : FormatView) (century micros : ℕ) (ps : List Pulse) → IsTrack micros ps → (d n : ℕ) (x : Time) (has : TellsTime f century ps d n x)
@@ -124,18 +124,11 @@ known f century micros ps track d n x has = elim (cases_lt (n / d) has.point.ris
       absurd (omega (arith, below, has.last))
 ]
 
--- where the interval ends of an element before the last, and of the last of a frame that is followed
-inner : (f : FormatView) (century : ℕ) (ps : List Pulse) (number element : ℕ) (g : Fields) (from to : ℕ) → element < 99
-    → IntervalEnds f century ps number element g from to → NextRises ps number to
-inner f century ps number element g from to few (inl h) = h.1
-inner f century ps number element g from to few (inr (inl h)) = absurd (omega (arith, few, h.0))
-inner f century ps number element g from to few (inr (inr h)) = absurd (omega (arith, few, h.0))
-
-outer : (f : FormatView) (century : ℕ) (ps : List Pulse) (number element : ℕ) (g : Fields) (from to : ℕ) → element ≡ 99
-    → IsFollowed f century (frames f ps) number g → IntervalEnds f century ps number element g from to → NextRises ps number to
-outer f century ps number element g from to last followed (inl h) = absurd (omega (arith, last, h.0))
-outer f century ps number element g from to last followed (inr (inl h)) = h.1.1
-outer f century ps number element g from to last followed (inr (inr h)) = absurd (h.1.0 followed)
+-- where the interval of an element ends
+next-rises : (f : FormatView) (century : ℕ) (ps : List Pulse) (number element : ℕ) (g : Fields) (to : ℕ) → IntervalEnds f century ps number element g to
+    → NextRises ps number to
+next-rises f century ps number element g to (inl h) = h.1
+next-rises f century ps number element g to (inr h) = h.1.1
 
 pub told_times_stay : ToldTimesStay
 told_times_stay old new is_old is_new safe century d n x some has still which =
@@ -178,7 +171,7 @@ told_times_stay old new is_old is_new safe century d n x some has still which =
     after old new century d n x has still (inl few) each =
         let f = old.format in
         let q = stands f new.pulses still.marker has.fields still.begins (has.element + 1) (omega (arith, few)) in
-        let to = inner f century old.pulses has.number has.element has.fields has.point.rise has.to few has.ends in
+        let to = next-rises f century old.pulses has.number has.element has.fields has.to has.ends in
         let place : still.marker + (has.element + 1) ≡ still.marker + has.element + 1 = omega arith in
         let old_place : has.is_element.one.marker + (has.element + 1) ≡ has.number + 1 = (let at = has.is_element.place in omega (arith, at)) in
         let was = rise_there old.pulses has.is_element.one.marker (has.element + 1) (has.number + 1) to.next old_place to.stands in
@@ -187,7 +180,7 @@ told_times_stay old new is_old is_new safe century d n x some has still which =
     after old new century d n x has still (inr (last, followed)) each =
         let f = old.format in
         let q = marker-stands f new.pulses (still.marker + 99 + 1) followed.after.next followed.after.begins in
-        let to = outer f century old.pulses has.number has.element has.fields has.point.rise has.to last followed.before has.ends in
+        let to = next-rises f century old.pulses has.number has.element has.fields has.to has.ends in
         let place : still.marker + 99 + 1 ≡ still.marker + has.element + 1 = omega (arith, last) in
         let was = rise_there old.pulses has.number 1 (has.number + 1) to.next refl to.stands in
         let now = rise_there new.pulses still.marker 100 (still.marker + 99 + 1) q.0 (omega arith) q.1 in

@@ -3,7 +3,7 @@
 ghost use Rattle.irig_keeping.specs.Kept.{CountedTimesStay, TimesStay, ToldTimesStay};
 
 use irig_guarding::safe_states_are_kept_or_borne_out;
-use irig_times::times_are_exact;
+use irig_times::parts_are_exact;
 
 /// Does nothing. Its contract: a frame of a recording gives the same times after a safe repair, if it is
 /// still there; so moments keep their times if it is still believed, and by counting.
@@ -12,6 +12,6 @@ pub fn kept_frames_keep_their_times()
     ensures has { TimesStay }
     ensures counted { CountedTimesStay }
 {
-    times_are_exact();
+    parts_are_exact();
     safe_states_are_kept_or_borne_out();
 }

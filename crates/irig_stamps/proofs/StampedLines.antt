@@ -1,7 +1,7 @@
 -- Lines that were stamped, and one more.
 use Rattle.std.proofs.Common.{◌≡◌, ◌==◌, ◌&&◌, ◌||◌, ◌+◌, ◌^◌, ◌-◌, ◌<◌, ◌≤◌, ℕ, suc, Bool, true, not, ◌++◌, List, [], ◌∷◌, length, min, refl, sym, ap, ◌∙◌}
 use Rattle.std.proofs.Common.{append_assoc, subst, arith, inl, inr}
-use Rattle.std.specs.Prelude.{is_some}
+use Rattle.std.specs.Prelude.{false, is_some, Option, Some, None, if◌then◌else◌}
 use Rattle.std.proofs.Math.Bool.{and-true, and_assoc, true-and}
 use Rattle.std.proofs.lemmas.{Bool.and_from, Bool.and_parts, Bool.cases_lt, Bool.le-ltb, List.append-nil, List.length-append}
 use Rattle.std.specs.List.{flat_map}
@@ -9,7 +9,7 @@ use Rattle.irig_codes.specs.Format.{FormatView}
 use Rattle.irig_recording.specs.declared.pulse.Pulse.{Pulse}
 use Rattle.irig_track.specs.Looks.{counted}
 use Rattle.irig_stamps.specs.Runs.{AreOut, Stamped, are_numbered, is_plain, unlines}
-use Rattle.irig_stamps.specs.{Stamps.IsOut, Stamps.is_header, Stamps.is_numbered, Stamps.picos_in, declared.settings.Settings.Settings}
+use Rattle.irig_stamps.specs.{Stamps.IsOut, Stamps.header_word, Stamps.is_header, Stamps.is_numbered, Stamps.picos_in, declared.settings.Settings.Settings}
 
 pub plain-append : (xs ys : List ℕ) → is_plain xs ≡ true → is_plain ys ≡ true → is_plain (xs ++ ys) ≡ true
 plain-append [] ys h k = k
@@ -31,10 +31,10 @@ none-before n = omega arith
 
 module _ (f : FormatView) (ps : List Pulse) (s : Settings) where
   each-append : (n : ℕ) (ls os : List (List ℕ)) (line out : List ℕ) → AreOut f ps s n ls os → is_plain line ≡ true
-      → IsOut f ps s (is_header s (n + length ls)) line out → AreOut f ps s n (ls ++ line ∷ []) (os ++ out ∷ [])
-  each-append n [] [] line out h p k = (p, (subst (λ (m : ℕ). IsOut f ps s (is_header s m) line out) (none-later n) k, tt))
+      → IsOut f ps s (header_word s (n + length ls)) line out → AreOut f ps s n (ls ++ line ∷ []) (os ++ out ∷ [])
+  each-append n [] [] line out h p k = (p, (subst (λ (m : ℕ). IsOut f ps s (header_word s m) line out) (none-later n) k, tt))
   each-append n (l ∷ ls) (o ∷ os) line out h p k =
-      (h.0, (h.1.0, each-append (suc n) ls os line out h.1.1 p (subst (λ (m : ℕ). IsOut f ps s (is_header s m) line out) (sym (one-later n (length ls))) k)))
+      (h.0, (h.1.0, each-append (suc n) ls os line out h.1.1 p (subst (λ (m : ℕ). IsOut f ps s (header_word s m) line out) (sym (one-later n (length ls))) k)))
   each-append n [] (o ∷ os) line out h p k = absurd h
   each-append n (l ∷ ls) [] line out h p k = absurd h
 
@@ -71,13 +71,28 @@ module _ (f : FormatView) (ps : List Pulse) (s : Settings) where
         le-ltb count s.header low ∙ sym (le-ltb n s.header lower)
   ]
 
+  -- after the header there is no word of it
+  no-word : (n : ℕ) → is_header s n ≡ false → header_word s n ≡ None
+  no-word n h = ap (λ (b : Bool). if b then Some (if n + 1 == s.header then s.name.now else 45 ∷ []) else None) h
+
+  word-counted : (n count : ℕ) → s.header < 2 ^ 64 → count ≡ min n (2 ^ 64 - 1) → header_word s count ≡ header_word s n
+  word-counted n count small is = elim (cases_lt n (2 ^ 64 - 1)) [
+    | inl less ↦ (let same : count ≡ n = omega (arith, is, less) in ap (header_word s) same)
+    | inr more ↦
+        let low : s.header ≤ count = omega (arith, is, more, small) in
+        let lower : s.header ≤ n = omega (arith, more, small) in
+        no-word count (le-ltb count s.header low) ∙ sym (no-word n (le-ltb n s.header lower))
+  ]
+
   -- the end of a line
   pub stamped-line : (bytes text rest out : List ℕ) (count : ℕ) (all numbered : Bool) → s.header < 2 ^ 64
-      → Stamped f ps s bytes text rest count all → IsOut f ps s (is_header s count) rest out → numbered ≡ is_numbered s count rest
+      → Stamped f ps s bytes text rest count all → IsOut f ps s (header_word s count) rest out → numbered ≡ is_numbered s count rest
       → Stamped f ps s (bytes ++ 10 ∷ []) (text ++ out) [] (counted count 1) (all && numbered)
   stamped-line bytes text rest out count all numbered small h k e =
       let same : is_header s count ≡ is_header s (0 + length h.lines) =
       header-counted (length h.lines) count small h.counts ∙ ap (is_header s) (none-before (length h.lines)) in
+      let word : header_word s count ≡ header_word s (0 + length h.lines) =
+      word-counted (length h.lines) count small h.counts ∙ ap (header_word s) (none-before (length h.lines)) in
       let more : length (h.lines ++ rest ∷ []) ≡ length h.lines + 1 = length-append h.lines (rest ∷ []) in
       record {
         lines = h.lines ++ rest ∷ [];
@@ -85,7 +100,7 @@ module _ (f : FormatView) (ps : List Pulse) (s : Settings) where
         cut = ap (λ t. t ++ 10 ∷ []) h.cut ∙ (append_assoc (unlines h.lines) rest (10 ∷ [])
             ∙ sym (append-nil _ ∙ (flat-append (λ line. line ++ 10 ∷ []) h.lines (rest ∷ []) ∙ ap (λ t. unlines h.lines ++ t) (append-nil (rest ++ 10 ∷ [])))));
         begun = refl;
-        each = each-append 0 h.lines h.outs rest out h.each h.begun (subst (λ (b : Bool). IsOut f ps s b rest out) same k);
+        each = each-append 0 h.lines h.outs rest out h.each h.begun (subst (λ (w : Option (List ℕ)). IsOut f ps s w rest out) word k);
         whole = ap (λ t. t ++ out) h.whole ∙ sym (flat-append (λ o. o) h.outs (out ∷ []) ∙ ap (λ t. flat_map (λ o. o) h.outs ++ t) (append-nil out));
         counts = omega (arith, more, h.counts);
         numbers = ap (λ (b : Bool). b && numbered) h.numbers

@@ -6,7 +6,7 @@ use Rattle.std.proofs.lemmas.{Bool.and_from, Bool.eqb-true, List.append-nil, Lis
 use Rattle.irig_codes.specs.Format.{FormatView}
 use Rattle.irig_recording.specs.declared.pulse.Pulse.{Pulse}
 use Rattle.irig_track.specs.Looks.{counted}
-use Rattle.irig_stamps.specs.{Runs.Stamped, Runs.is_plain, Stamps.IsOut, Stamps.is_header, Stamps.is_numbered, Steps.PushesAs, Steps.Takes, Steps.TakesAs}
+use Rattle.irig_stamps.specs.{Runs.Stamped, Runs.is_plain, Stamps.IsOut, Stamps.header_word, Stamps.is_numbered, Steps.PushesAs, Steps.Takes, Steps.TakesAs}
 use Rattle.irig_stamps.specs.{declared.fault.TakeFault.TakeFault, declared.lines.Lines.Lines, declared.settings.Settings.Settings}
 use Rattle.irig_stamps.specs.declared.fault.TakeFault.TheVariants as take_fault
 use Rattle.irig_stamps.proofs.StampedLines.{stamped-line, stamped-part}
@@ -53,7 +53,7 @@ module _ (f : FormatView) (ps : List Pulse) (s : Settings) where
   pushed byte text was is (Err take_fault.OutOfMemory) plain h = tt
 
   pub line-taken : (was : Lines) (old new out rest' : List ℕ) (numbered : Bool) (count' : ℕ) (all' : Bool) → s.header < 2 ^ 64
-      → IsOut f ps s (is_header s was.count) was.line.items out → new ≡ old ++ out → numbered ≡ is_numbered s was.count was.line.items
+      → IsOut f ps s (header_word s was.count) was.line.items out → new ≡ old ++ out → numbered ≡ is_numbered s was.count was.line.items
       → rest' ≡ [] → count' ≡ counted was.count 1 → all' ≡ (was.all && numbered)
       → (bytes before : List ℕ) → Stamped f ps s bytes (before ++ old) was.line.items was.count was.all
       → Stamped f ps s (bytes ++ 10 ∷ []) (before ++ new) rest' count' all'

@@ -1,29 +1,50 @@
--- The word of a time that was found.
-use Rattle.std.proofs.Common.{◌≡◌, ◌↔◌, ℕ, Bool, true, false, ◌+◌, ◌-◌, ◌^◌, ◌<◌, ◌≤◌, List, Option, Some, None, min, refl, sym, ap, subst, arith}
-use Rattle.std.proofs.lemmas.Option.{none-some, same_Some}
+-- The word of a recorder's time.
+use Rattle.std.proofs.Common.{◌≡◌, ◌↔◌, ℕ, Bool, true, false, ◌+◌, ◌-◌, ◌/◌, ◌^◌, ◌<◌, ◌≤◌, List, [], ◌∷◌, Option, Some, None, min, refl, sym, ap, ◌∙◌, inl, inr, subst, arith}
+use Rattle.std.proofs.lemmas.{Bool.cases_lt, Option.none-some, Option.same_Some}
 use Rattle.std.specs.Prelude.{option_map, if◌then◌else◌}
 use Rattle.irig_codes.specs.Format.{FormatView}
 use Rattle.irig_recording.specs.declared.pulse.Pulse.{Pulse}
 use Rattle.irig_track.specs.Track.{IsTrack}
-use Rattle.irig_times.specs.{declared.time.Time.Time, Counted.IsTimed}
-use Rattle.irig_stamps.specs.{Numbers.capped, Stamps.IsTimeOf, Stamps.IsWord, Stamps.added, Stamps.taken, Texts.word_of}
+use Rattle.irig_track.specs.Splices.{risen_by}
+use Rattle.irig_times.specs.declared.why.Why.TheVariants.{Before}
+use Rattle.irig_times.specs.{declared.time.Time.Time, declared.why.Why.Why, Counted.IsTimed, Support.believed, Untimed.IsWhy}
+use Rattle.irig_stamps.specs.{Numbers.capped, Reasons.why_text, Stamps.IsNone, Stamps.IsTimeOf, Stamps.IsWhyOf, Stamps.IsWord, Stamps.added, Stamps.taken, Texts.word_of}
 use Rattle.irig_stamps.specs.{declared.picos.Picos.Picos, declared.settings.Settings.Settings}
-use Rattle.irig_stamps.proofs.Late.{none-late}
+use Rattle.irig_stamps.proofs.Late.{all-risen, none-late}
 
 module _ (f : FormatView) (ps : List Pulse) (s : Settings) where
-  pub word-exact : (v : Picos) (result : Option Time) → ((x : Time) → (result ≡ Some x) ↔ IsTimeOf f ps s v x) → IsWord f ps s (Some v) (word_of s result)
-  word-exact v (Some y) h = (λ x is. ap (word_of s) ((h x).1 is), λ none. absurd (none y ((h y).0 refl)))
-  word-exact v None h = (λ x is. absurd (none-some x ((h x).1 is)), λ none. refl)
-
-  pub word-some : (picos : Picos) (result : Option Time)
+  -- the word of a time that was found
+  pub word-time : (picos : Picos) (y : Time) (result : Option Time) → result ≡ Some y
       → ((v : Picos) → picos ≡ capped v → (x : Time) → (result ≡ Some x) ↔ IsTimeOf f ps s v x)
-      → (number : Option Picos) → Some picos ≡ option_map capped number → IsWord f ps s number (word_of s result)
-  word-some picos result h None e = absurd (none-some picos (sym e))
-  word-some picos result h (Some v) e = word-exact v result (h v (same_Some picos (capped v) e))
+      → (number : Option Picos) → Some picos ≡ option_map capped number → IsWord f ps s number (word_of s (Some y))
+  word-time picos y result is h None e = absurd (none-some picos (sym e))
+  word-time picos y result is h (Some v) e =
+      let k = h v (same_Some picos (capped v) e) in
+      (λ x t. ap (word_of s) (sym is ∙ (k x).1 t), λ none. absurd (none y ((k y).0 is)))
 
-  pub word-none : (number : Option Picos) → None ≡ option_map capped number → IsWord f ps s number (word_of s None)
+  -- the word of no time
+  pub word-untimed : (picos : Picos) (word : List ℕ) (result : Option Time) → result ≡ None
+      → ((v : Picos) → picos ≡ capped v → (x : Time) → (result ≡ Some x) ↔ IsTimeOf f ps s v x)
+      → ((v : Picos) → picos ≡ capped v → IsNone s.why f ps s v word)
+      → (number : Option Picos) → Some picos ≡ option_map capped number → IsWord f ps s number word
+  word-untimed picos word result is h why None e = absurd (none-some picos (sym e))
+  word-untimed picos word result is h why (Some v) e =
+      let same = same_Some picos (capped v) e in
+      let k = h v same in
+      (λ x t. absurd (none-some x (sym is ∙ (k x).1 t)), λ none. why v same)
+
+  pub word-none : (number : Option Picos) → None ≡ option_map capped number → IsWord f ps s number (45 ∷ [])
   word-none None e = refl
   word-none (Some v) e = absurd (none-some (capped v) e)
+
+  -- the word of a reason, if it is asked for
+  pub none-why : (asked : Bool) (v : Picos) (why : Why) (word : List ℕ) → true ≡ asked → IsWhyOf f ps s v why → word ≡ why_text why → IsNone asked f ps s v word
+  none-why true v why word e is text = (why, is, text)
+  none-why false v why word e is text = absurd (cc e)
+
+  pub none-hyphen : (asked : Bool) (v : Picos) → false ≡ asked → IsNone asked f ps s v (45 ∷ [])
+  none-hyphen true v e = absurd (cc e)
+  none-hyphen false v e = refl
 
   -- a time with a sign, and one with the greatest size instead
   near-same : (early negative : Bool) (size offset add take : ℕ) → offset ≤ 2 ^ 119
@@ -89,3 +110,39 @@ module _ (f : FormatView) (ps : List Pulse) (s : Settings) where
         λ r. (omega (arith, same.0, same.1, le), subst (λ n. IsTimed f s.alone s.century ps 1000000 n x) span ((is x).0 r)),
         λ t. (is x).1 (subst (λ n. IsTimed f s.alone s.century ps 1000000 n x) (sym span) t.1),
       )
+
+  -- the reason before the start of the track
+  pub why-before : (picos : Picos) (add take : ℕ) → s.offset ≤ 2 ^ 119 → Spans picos add take → add < take
+      → (v : Picos) → picos ≡ capped v → IsWhyOf f ps s v Before
+  why-before picos add take small h lt v e =
+      let k = spans-capped picos v add take e h in
+      elim (cases_lt (added s v) (taken s v)) [
+        | inl less ↦ inl (less, refl)
+        | inr le ↦ absurd (before-before s.early v.negative v.size s.offset add take small k.0 k.1 lt le)
+      ]
+
+  -- the reason within 2^62 picoseconds
+  pub why-exact : (picos : Picos) (add take : ℕ) (why : Why) → s.offset ≤ 2 ^ 119 → Spans picos add take → take ≤ add → add - take < 2 ^ 62
+      → IsWhy f (believed f s.alone ps) s.century ps (risen_by ((add - take) / 1000000) ps) why → (v : Picos) → picos ≡ capped v → IsWhyOf f ps s v why
+  why-exact picos add take why small h le near is v e =
+      let k = spans-capped picos v add take e h in
+      let same = near-same s.early v.negative v.size s.offset add take small k.0 k.1 le near in
+      let span : add - take ≡ added s v - taken s v = omega (arith, same.0, same.1) in
+      inr (
+        omega (arith, same.0, same.1, le),
+        subst (λ n. IsWhy f (believed f s.alone ps) s.century ps (risen_by (n / 1000000) ps) why) span is,
+      )
+
+  -- the reason later than that
+  pub why-late : (micros : ℕ) (picos : Picos) (add take : ℕ) (why : Why) → IsTrack micros ps → s.offset ≤ 2 ^ 119 → Spans picos add take → 2 ^ 62 ≤ add - take
+      → IsWhy f (believed f s.alone ps) s.century ps (risen_by (4611686018427387904 / 1000000) ps) why → (v : Picos) → picos ≡ capped v → IsWhyOf f ps s v why
+  why-late micros picos add take why track small h late is v e =
+      let k = spans-capped picos v add take e h in
+      let since = added s v - taken s v in
+      elim (cases_lt since (2 ^ 61)) [
+        | inl less ↦ absurd (late-late s.early v.negative v.size s.offset add take small k.0 k.1 late less)
+        | inr far ↦
+            let end : 2 ^ 40 ≤ since / 1000000 = omega (arith, far) in
+            let same = all-risen micros (4611686018427387904 / 1000000) ps track (omega arith) ∙ sym (all-risen micros (since / 1000000) ps track end) in
+            inr (omega (arith, far), subst (λ n. IsWhy f (believed f s.alone ps) s.century ps n why) same is)
+      ]

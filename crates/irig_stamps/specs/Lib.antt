@@ -4,7 +4,9 @@ pub mod Exponents
 pub mod Numbers
 pub mod Dates
 pub mod Texts
+pub mod Told
 pub mod Stamps
+pub mod Reasons
 pub mod Runs
 pub mod Steps
 pub mod Aligned

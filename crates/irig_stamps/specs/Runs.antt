@@ -7,7 +7,7 @@ use Rattle.std.specs.Io.KnownBytes.{Appends, Consumes, IsAtEnd}
 use Rattle.irig_codes.specs.Format.{FormatView}
 use Rattle.irig_recording.specs.declared.pulse.Pulse.{Pulse}
 use Rattle.irig_track.specs.Looks.{counted}
-use Rattle.irig_stamps.specs.Stamps.{IsOut, is_header, is_numbered}
+use Rattle.irig_stamps.specs.Stamps.{IsOut, header_word, is_numbered}
 use Rattle.irig_stamps.specs.declared.fault.RunFault.TheVariants.{ReadFailed, TooManyReads}
 use Rattle.irig_stamps.specs.declared.fault.RunFault.TheVariants.{PrintFailed, TooLong, OutOfMemory}
 use Rattle.irig_stamps.specs.{declared.fault.RunFault.RunFault, declared.settings.Settings.Settings}
@@ -21,7 +21,7 @@ abbrev pub AreOut : FormatView → List Pulse → Settings → ℕ → List (Lis
 AreOut f ps s n [] [] = Unit {0}
 AreOut f ps s n (line ∷ lines) (out ∷ outs) =
     (is_plain line ≡ true)
-    × (IsOut f ps s (is_header s n) line out × AreOut f ps s (suc n) lines outs)
+    × (IsOut f ps s (header_word s n) line out × AreOut f ps s (suc n) lines outs)
 AreOut f ps s n [] (out ∷ outs) = ⊥
 AreOut f ps s n (line ∷ lines) [] = ⊥
 

@@ -1,9 +1,13 @@
 -- A line with its time before it. This project's own.
 use Rattle.std.specs.Prelude.{◌≡◌, ℕ, ◌-◌, ◌≤◌, ◌++◌, List, [], ◌∷◌, Option, Some, None, unwrap_or}
-use Rattle.std.specs.Prelude.{Bool, true, false, ◌||◌, ◌+◌, nat_lt, is_some, if◌then◌else◌}
+use Rattle.std.specs.Prelude.{Bool, true, false, ◌⊎◌, ◌==◌, ◌||◌, ◌+◌, ◌/◌, ◌<◌, nat_lt, is_some}
+use Rattle.std.specs.Prelude.{if◌then◌else◌}
 use Rattle.irig_codes.specs.Format.{FormatView}
 use Rattle.irig_recording.specs.declared.pulse.Pulse.{Pulse}
-use Rattle.irig_times.specs.{declared.time.Time.Time, Counted.IsTimed}
+use Rattle.irig_track.specs.Splices.{risen_by}
+use Rattle.irig_times.specs.{declared.time.Time.Time, declared.why.Why.Why, Counted.IsTimed}
+use Rattle.irig_times.specs.{Support.believed, Untimed.IsWhy, declared.why.Why.TheVariants.Before}
+use Rattle.irig_stamps.specs.Reasons.{why_text}
 use Rattle.irig_stamps.specs.{declared.picos.Picos.Picos, declared.settings.Settings.Settings}
 use Rattle.irig_stamps.specs.{Columns.column_of, Numbers.number_in, Texts.word_of}
 
@@ -25,14 +29,27 @@ abbrev pub IsTimeOf : FormatView → List Pulse → Settings → Picos → Time 
 IsTimeOf f ps s v x =
     (taken s v ≤ added s v) × IsTimed f s.alone s.century ps 1000000 (added s v - taken s v) x
 
--- the word before a line: its time of year, or a hyphen if it has none
+-- why there is no time of year at the recorder's time v: it is before the start of the track, or by
+-- the pulses around it
+abbrev pub IsWhyOf : FormatView → List Pulse → Settings → Picos → Why → Type 0
+IsWhyOf f ps s v why =
+    ((added s v < taken s v) × (why ≡ Before))
+    ⊎ ((taken s v ≤ added s v) × IsWhy f (believed f s.alone ps) s.century ps
+    (risen_by ((added s v - taken s v) / 1000000) ps) why)
+
+-- the word of no time: a hyphen, or why there is none, if that is asked for
+abbrev pub IsNone : Bool → FormatView → List Pulse → Settings → Picos → List ℕ → Type 0
+IsNone false f ps s v word = word ≡ 45 ∷ []
+IsNone true f ps s v word = (why : Why) × IsWhyOf f ps s v why × (word ≡ why_text why)
+
+-- the word before a line: its time of year, or that of no time; a hyphen if its column has no number
 abbrev pub IsWord : FormatView → List Pulse → Settings → Option Picos → List ℕ → Type 0
 IsWord f ps s None word = word ≡ 45 ∷ []
 IsWord f ps s (Some v) word =
     ((x : Time) → IsTimeOf f ps s v x → word ≡ word_of s (Some x))
-    × (((x : Time) → IsTimeOf f ps s v x → ⊥) → word ≡ 45 ∷ [])
+    × (((x : Time) → IsTimeOf f ps s v x → ⊥) → IsNone s.why f ps s v word)
 
--- what comes out for a line: its word, the separator, and the line as it was
+-- what comes out for a line of no header: its word, the separator, and the line as it was
 pub record IsStamped (f : FormatView) (ps : List Pulse) (s : Settings) (line out : List ℕ)
     : Type 0 where
   pub word : List ℕ
@@ -43,10 +60,16 @@ pub record IsStamped (f : FormatView) (ps : List Pulse) (s : Settings) (line out
 abbrev pub is_header : Settings → ℕ → Bool
 is_header s n = nat_lt n s.header
 
--- what comes out for a line: the line as it was, if it is one of the header
-abbrev pub IsOut : FormatView → List Pulse → Settings → Bool → List ℕ → List ℕ → Type 0
-IsOut f ps s true line out = out ≡ line ++ 10 ∷ []
-IsOut f ps s false line out = IsStamped f ps s line out
+-- the word before such a line, if it is one of the header: the name of the column of times in the
+-- last one, else a hyphen
+abbrev pub header_word : Settings → ℕ → Option (List ℕ)
+header_word s n =
+    if is_header s n then Some (if n + 1 == s.header then s.name.now else 45 ∷ []) else None
+
+-- what comes out for a line: its word, the separator, and the line as it was
+abbrev pub IsOut : FormatView → List Pulse → Settings → Option (List ℕ) → List ℕ → List ℕ → Type 0
+IsOut f ps s (Some word) line out = out ≡ word ++ (unwrap_or s.comma 9 ∷ line ++ 10 ∷ [])
+IsOut f ps s None line out = IsStamped f ps s line out
 
 -- whether the column of a line has a number, if it is none of the header
 abbrev pub is_numbered : Settings → ℕ → List ℕ → Bool

@@ -6,13 +6,14 @@ ghost use Rattle.irig_stamps.specs.Runs.{Ends};
 
 use crate::fault::RunFault;
 use crate::first_day::{doubted, first_day};
+use crate::knowledge::known_of;
 use crate::outcome::{Outcome, Standing};
 use crate::running::run;
 use crate::settings::Settings;
 use irig_codes::Format;
 use irig_index::Index;
 use irig_recording::Recording;
-use irig_times::{FrameLens, held_frames, timed_parts};
+use irig_times::{FrameLens, held_frames};
 use irig_track::Track;
 use std::alloc::Global;
 use std::io::{Read, Write};
@@ -24,7 +25,7 @@ pub fn align<R: Read, W: Write>(
     lines: &mut R,
     out: &mut W,
     format: Format,
-    settings: &Settings,
+    settings: &Settings<'_>,
 ) -> Result<Outcome, RunFault>
     requires century { settings.now.century ≤ 99 }
     requires offset { settings.now.offset ≤ 2 ^ 119 }
@@ -46,7 +47,7 @@ fn align_track<R: Read, W: Write>(
     lines: &mut R,
     out: &mut W,
     format: Format,
-    settings: &Settings,
+    settings: &Settings<'_>,
 ) -> Result<Outcome, RunFault>
     requires century { settings.now.century ≤ 99 }
     requires offset { settings.now.offset ≤ 2 ^ 119 }
@@ -68,21 +69,14 @@ fn align_track<R: Read, W: Write>(
     };
     let day = first_day(&mut records, &held, format);
     let doubted = doubted(&mut records, &held, format);
-    let Ok(parts) = timed_parts(
-        alloc,
-        &mut lens,
-        &mut records,
-        format,
-        settings.century,
-        settings.alone,
-    ) else {
+    let Ok(known) = known_of(alloc, &mut lens, &mut records, &held, format, settings) else {
         return Err(RunFault::OutOfMemory);
     };
     let settings = Settings {
         first_day: day.unwrap_or(0),
         ..*settings
     };
-    match run(alloc, lines, out, &mut lens, &parts, format, &settings) {
+    match run(alloc, lines, out, &mut lens, &known, format, &settings) {
         Ok(numbered) => Ok(Outcome {
             numbered,
             standing: Standing {

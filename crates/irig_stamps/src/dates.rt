@@ -9,7 +9,7 @@ use jiff_core::civil::days_in_month;
 
 /// The year of a time: that of its field in the century, or else that of the first frame; a day
 /// before the one of the first frame is in the year after.
-pub fn year_in(settings: &Settings, time: &Time) -> Option<u32>
+pub fn year_in(settings: &Settings<'_>, time: &Time) -> Option<u32>
     requires century { settings.now.century ≤ 99 }
     requires year { IfSome settings.now.year (λ y. y ≤ 9998) }
     ensures value { result ≡ year_in settings.now time.now }
@@ -22,7 +22,7 @@ pub fn year_in(settings: &Settings, time: &Time) -> Option<u32>
 }
 
 /// The year of a day, if frames carry no year.
-fn counted_on(settings: &Settings, days: u32) -> Option<u32>
+fn counted_on(settings: &Settings<'_>, days: u32) -> Option<u32>
     requires year { IfSome settings.now.year (λ y. y ≤ 9998) }
     ensures value { result ≡ counted_on settings.now days }
     ensures range { IfSome result (λ y. y ≤ 9999) }

@@ -7,6 +7,7 @@ mod cutting;
 mod dates;
 mod fault;
 mod first_day;
+mod knowledge;
 mod law;
 mod lines;
 mod numbers;

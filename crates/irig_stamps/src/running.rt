@@ -3,17 +3,17 @@
 ghost use Rattle.std.specs.Prelude.{◌≡◌, ◌≤◌, ◌<◌, ◌^◌, [], ℕ, List, Option, true, OnOk, IfOk};
 ghost use Rattle.std.specs.Prelude.{IfSome};
 ghost use Rattle.std.specs.{Io.ReadsAtMost, Io.KnownBytes.IsAtEnd, Io.KnownBytes.ReadConsumes};
-ghost use Rattle.irig_times.specs.Counted.{timed_parts};
+ghost use Rattle.irig_stamps.specs.Reasons.{IsKnownOf};
 ghost use Rattle.irig_stamps.specs.Runs.{Ends};
 ghost use Rattle.irig_stamps.specs.Steps.{GoesOn, PrintsAll, Stops, Underway};
 
 use crate::fault::{RunFault, TakeFault};
+use crate::knowledge::Known;
 use crate::lines::Lines;
 use crate::printing::put_all;
 use crate::settings::Settings;
 use crate::taking::{end_line, take_part};
 use irig_codes::Format;
-use irig_times::Part;
 use irig_track::Lens;
 use std::alloc::Global;
 use std::io::{Read, Write};
@@ -32,12 +32,11 @@ pub fn run<R: Read, W: Write>(
     lines: &mut R,
     out: &mut W,
     pulses: &mut Lens<'_>,
-    parts: &[Part],
+    known: &Known,
     format: Format,
-    settings: &Settings,
+    settings: &Settings<'_>,
 ) -> Result<bool, RunFault>
-    requires parts { parts.now ≡ timed_parts format settings.now.alone
-        settings.now.century pulses.old.track.pulses }
+    requires known { IsKnownOf format settings.now pulses.old.track.pulses known.now }
     requires century { settings.now.century ≤ 99 }
     requires offset { settings.now.offset ≤ 2 ^ 119 }
     requires year { IfSome settings.now.year (λ y. y ≤ 9998) }
@@ -56,7 +55,7 @@ pub fn run<R: Read, W: Write>(
             &mut state,
             &mut text,
             pulses,
-            parts,
+            known,
             format,
             settings,
         ) {
@@ -76,12 +75,11 @@ fn run_read<R: Read, W: Write>(
     state: &mut Lines,
     text: &mut Vec<u8>,
     pulses: &mut Lens<'_>,
-    parts: &[Part],
+    known: &Known,
     format: Format,
-    settings: &Settings,
+    settings: &Settings<'_>,
 ) -> Result<bool, RunFault>
-    requires parts { parts.now ≡ timed_parts format settings.now.alone
-        settings.now.century pulses.old.track.pulses }
+    requires known { IsKnownOf format settings.now pulses.old.track.pulses known.now }
     requires century { settings.now.century ≤ 99 }
     requires offset { settings.now.offset ≤ 2 ^ 119 }
     requires year { IfSome settings.now.year (λ y. y ≤ 9998) }
@@ -99,13 +97,13 @@ fn run_read<R: Read, W: Write>(
         return Err(RunFault::ReadFailed);
     };
     if count == 0 {
-        return end(out, state, text, pulses, parts, format, settings);
+        return end(out, state, text, pulses, known, format, settings);
     }
     match take_part(
         state,
         text,
         pulses,
-        parts,
+        known,
         format,
         settings,
         &buffer[..count],
@@ -132,12 +130,11 @@ fn end<W: Write>(
     state: &mut Lines,
     text: &mut Vec<u8>,
     pulses: &mut Lens<'_>,
-    parts: &[Part],
+    known: &Known,
     format: Format,
-    settings: &Settings,
+    settings: &Settings<'_>,
 ) -> Result<bool, RunFault>
-    requires parts { parts.now ≡ timed_parts format settings.now.alone
-        settings.now.century pulses.old.track.pulses }
+    requires known { IsKnownOf format settings.now pulses.old.track.pulses known.now }
     requires century { settings.now.century ≤ 99 }
     requires offset { settings.now.offset ≤ 2 ^ 119 }
     requires year { IfSome settings.now.year (λ y. y ≤ 9998) }
@@ -155,7 +152,7 @@ fn end<W: Write>(
     if state.line.is_empty() {
         return Ok(true);
     }
-    match end_line(state, text, pulses, parts, format, settings) {
+    match end_line(state, text, pulses, known, format, settings) {
         Ok(()) => print(out, text, true),
         Err(_) => Err(RunFault::OutOfMemory),
     }

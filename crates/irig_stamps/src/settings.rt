@@ -13,7 +13,7 @@ pub enum Form {
 
 /// How lines are read and stamped.
 #[derive(Clone, Copy)]
-pub struct Settings {
+pub struct Settings<'a> {
     /// 10^`places` picoseconds are a unit of the recorder's time.
     pub places: usize,
     /// The recorder's time at the start of the track, in picoseconds from its zero.
@@ -24,8 +24,10 @@ pub struct Settings {
     pub column: usize,
     /// The byte that parts columns; white space if it is missing.
     pub comma: Option<u8>,
-    /// How many lines from the first on are handed through as they are.
+    /// How many lines from the first on are the header.
     pub header: u64,
+    /// The name of the column of times, for the last line of the header.
+    pub name: &'a [u8],
     /// The century of years of two digits.
     pub century: u32,
     /// The year of the first frame that is believed, if frames carry no year.
@@ -34,6 +36,8 @@ pub struct Settings {
     pub first_day: u32,
     /// Whether each fine frame is believed, and not only those that another one supports.
     pub alone: bool,
+    /// Whether a word says why a line has no time.
+    pub why: bool,
     /// How a time is written.
     pub form: Form,
 }

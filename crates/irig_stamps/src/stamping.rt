@@ -1,29 +1,34 @@
 //! A line with its time before it.
 
-ghost use Rattle.std.specs.Prelude.{◌≡◌, ◌↔◌, ◌≤◌, ◌^◌, ◌-◌, ◌++◌, ◌∷◌, [], ℕ, List, Some, min, Option};
+ghost use Rattle.std.specs.Prelude.{◌≡◌, ◌↔◌, ◌<◌, ◌≤◌, ◌^◌, ◌-◌, ◌++◌, ◌∷◌, [], ℕ, List, Some, min, Option};
 ghost use Rattle.std.specs.Prelude.{IfOk, IfSome, OnOk, is_some, option_map, unwrap_or};
 ghost use Rattle.irig_times.specs.Counted.{timed_parts};
 ghost use Rattle.irig_times.specs.declared.time.Time.{Time};
-ghost use Rattle.irig_stamps.specs.Stamps.{IsOut, IsStamped, IsTimeOf, IsWord, is_header};
-ghost use Rattle.irig_stamps.specs.Stamps.{added, is_numbered, picos_in, taken};
+ghost use Rattle.irig_stamps.specs.Stamps.{IsOut, IsStamped, IsTimeOf, IsWord, header_word};
+ghost use Rattle.irig_times.specs.{Support.believed, Untimed.IsKnown};
+ghost use Rattle.irig_stamps.specs.Stamps.{IsNone, IsWhyOf, added, is_numbered, picos_in, taken};
+ghost use Rattle.irig_stamps.specs.{Reasons.IsKnownOf, Reasons.why_text, Told.told_text};
 ghost use Rattle.irig_stamps.specs.{Numbers.capped, declared.picos.Picos.Picos};
-ghost use Rattle.irig_stamps.specs.Texts.{word_of};
 
 use crate::columns::column;
+use crate::knowledge::Known;
 use crate::numbers::number;
 use crate::picos::Picos;
 use crate::settings::Settings;
 use crate::text::put_word;
 use irig_codes::Format;
-use irig_times::{Part, Time, time_by};
+use irig_times::{Part, Time, Why, Whys, time_by, why_at};
 use irig_track::Lens;
 use std::alloc::AllocError;
 
 /// No time is as late, in picoseconds after the start of a track: 2^62.
 const LATE: u128 = 4_611_686_018_427_387_904;
 
+/// After the end of each track, in picoseconds after its start: 2^62.
+const END: u64 = 4_611_686_018_427_387_904;
+
 /// What is added to the start of the track and what is taken off, for a recorder's time.
-fn span(settings: &Settings, picos: Picos) -> (u128, u128)
+fn span(settings: &Settings<'_>, picos: Picos) -> (u128, u128)
     requires { settings.now.offset ≤ 2 ^ 119 }
     ensures added { result.0 ≡ min (added settings.now picos) (2 ^ 128 - 1) }
     ensures taken { result.1 ≡ min (taken settings.now picos) (2 ^ 128 - 1) }
@@ -41,7 +46,7 @@ fn time_of(
     pulses: &mut Lens<'_>,
     parts: &[Part],
     format: Format,
-    settings: &Settings,
+    settings: &Settings<'_>,
     picos: Picos,
 ) -> Option<Time>
     requires parts { parts.now ≡ timed_parts format settings.now.alone
@@ -65,26 +70,110 @@ fn time_of(
     time_by(pulses, parts, format, settings.century, since as u64)
 }
 
-/// The time of year of a recorder's time, if there is one.
-fn word_time(
+/// Why a recorder's time has no time of year, if it has none.
+fn why_of(
     pulses: &mut Lens<'_>,
-    parts: &[Part],
+    whys: &Whys,
     format: Format,
-    settings: &Settings,
-    told: Option<Picos>,
-) -> Option<Time>
-    requires parts { parts.now ≡ timed_parts format settings.now.alone
-        settings.now.century pulses.old.track.pulses }
-    requires century { settings.now.century ≤ 99 }
+    settings: &Settings<'_>,
+    picos: Picos,
+) -> Why
+    requires whys { IsKnown format (believed format settings.now.alone pulses.old.track.pulses)
+        settings.now.century pulses.old.track.pulses whys.now }
     requires offset { settings.now.offset ≤ 2 ^ 119 }
-    ensures word { (number : Option Picos) → told ≡ option_map capped number
-        → IsWord format pulses.old.track.pulses settings.now number
-        (word_of settings.now result) }
+    ensures why { (v : Picos) → picos ≡ capped v
+        → IsWhyOf format pulses.old.track.pulses settings.now v result }
     ensures pulses { pulses.new.track ≡ pulses.old.track }
 {
+    // Read for its bounds alone.
+    let _count = pulses.len();
+    let (added, taken) = span(settings, picos);
+    if added < taken {
+        return Why::Before;
+    }
+    let since = added - taken;
+    if since >= LATE {
+        return why_at(pulses, whys, format, END);
+    }
+    why_at(pulses, whys, format, since as u64)
+}
+
+/// The word of a reason.
+fn why_word<'a>(why: Why) -> &'a [u8]
+    ensures { result.now ≡ why_text why }
+{
+    match why {
+        Why::Before => b"before",
+        Why::After => b"after",
+        Why::Hole => b"hole",
+        Why::Step => b"step",
+        Why::Unbelieved => b"unbelieved",
+        Why::Set => b"set",
+    }
+}
+
+/// The word of no time: a hyphen, or why there is none, if that is asked for.
+fn none_word<'a>(
+    pulses: &mut Lens<'_>,
+    known: &Known,
+    format: Format,
+    settings: &Settings<'_>,
+    picos: Picos,
+) -> &'a [u8]
+    requires known { IsKnownOf format settings.now pulses.old.track.pulses known.now }
+    requires offset { settings.now.offset ≤ 2 ^ 119 }
+    ensures word { (v : Picos) → picos ≡ capped v
+        → IsNone settings.now.why format pulses.old.track.pulses settings.now v result.now }
+    ensures pulses { pulses.new.track ≡ pulses.old.track }
+{
+    match &known.whys {
+        Some(whys) => why_word(why_of(pulses, whys, format, settings, picos)),
+        None => b"-",
+    }
+}
+
+/// What is known of a recorder's time: its time of year, or the word of no time.
+#[derive(Clone, Copy)]
+enum Told<'a> {
+    /// Its time of year.
+    Time(Time),
+    /// The word of no time.
+    Word(&'a [u8]),
+}
+
+/// What is known of a recorder's time.
+fn told_of<'a>(
+    pulses: &mut Lens<'_>,
+    known: &Known,
+    format: Format,
+    settings: &Settings<'_>,
+    number: Option<Picos>,
+) -> Told<'a>
+    requires known { IsKnownOf format settings.now pulses.old.track.pulses known.now }
+    requires century { settings.now.century ≤ 99 }
+    requires offset { settings.now.offset ≤ 2 ^ 119 }
+    ensures word { (v : Option Picos) → number ≡ option_map capped v
+        → IsWord format pulses.old.track.pulses settings.now v (told_text settings.now result) }
+    ensures pulses { pulses.new.track ≡ pulses.old.track }
+{
+    let Some(picos) = number else {
+        return Told::Word(b"-");
+    };
+    match time_of(pulses, &known.parts, format, settings, picos) {
+        Some(time) => Told::Time(time),
+        None => Told::Word(none_word(pulses, known, format, settings, picos)),
+    }
+}
+
+/// Adds what is known of a recorder's time to a text.
+fn put_told(text: &mut Vec<u8>, settings: &Settings<'_>, told: Told<'_>) -> Result<(), AllocError>
+    requires century { settings.now.century ≤ 99 }
+    requires year { IfSome settings.now.year (λ y. y ≤ 9998) }
+    ensures { OnOk result (text.new.items ≡ text.old.items ++ told_text settings.now told.entry) }
+{
     match told {
-        Some(picos) => time_of(pulses, parts, format, settings, picos),
-        None => None,
+        Told::Time(time) => put_word(text, settings, Some(time)),
+        Told::Word(word) => text.extend_from_slice(word),
     }
 }
 
@@ -98,25 +187,29 @@ fn put_line(text: &mut Vec<u8>, comma: Option<u8>, line: &[u8]) -> Result<(), Al
     text.extend_from_slice(b"\n")
 }
 
-/// Adds a line to a text as it is.
-fn put_header(text: &mut Vec<u8>, line: &[u8]) -> Result<(), AllocError>
-    ensures { OnOk result (text.new.items ≡ text.old.items ++ (line.now ++ 10 ∷ [])) }
+/// What is in the column of times in a line of the header, if `count` lines are before it.
+fn header_word<'a>(settings: &Settings<'a>, count: u64) -> &'a [u8]
+    requires { count < settings.now.header }
+    ensures { header_word settings.now count ≡ Some result.now }
 {
-    text.extend_from_slice(line)?;
-    text.extend_from_slice(b"\n")
+    let header = settings.header;
+    if count + 1 == header {
+        settings.name
+    } else {
+        b"-"
+    }
 }
 
 /// Adds a line to a text with its time before it. Returns whether its column has a number.
 fn stamp(
     text: &mut Vec<u8>,
     pulses: &mut Lens<'_>,
-    parts: &[Part],
+    known: &Known,
     format: Format,
-    settings: &Settings,
+    settings: &Settings<'_>,
     line: &[u8],
 ) -> Result<bool, AllocError>
-    requires parts { parts.now ≡ timed_parts format settings.now.alone
-        settings.now.century pulses.old.track.pulses }
+    requires known { IsKnownOf format settings.now pulses.old.track.pulses known.now }
     requires century { settings.now.century ≤ 99 }
     requires offset { settings.now.offset ≤ 2 ^ 119 }
     requires year { IfSome settings.now.year (λ y. y ≤ 9998) }
@@ -128,39 +221,39 @@ fn stamp(
     ensures pulses { pulses.new.track ≡ pulses.old.track }
 {
     let column = column(settings.comma, settings.column, line);
-    let told = number(settings.places, column);
-    let time = word_time(pulses, parts, format, settings, told);
-    put_word(text, settings, time)?;
+    let number = number(settings.places, column);
+    let told = told_of(pulses, known, format, settings, number);
+    put_told(text, settings, told)?;
     put_line(text, settings.comma, line)?;
-    Ok(told.is_some())
+    Ok(number.is_some())
 }
 
-/// Adds to a text what comes out for a line, before which there are `count`. Returns whether its
-/// column has a number, or it is one of the header.
+/// Adds to a text what comes out for a line, if `count` are before it. Returns whether its column
+/// has a number, or it is one of the header.
 pub fn line_out(
     text: &mut Vec<u8>,
     pulses: &mut Lens<'_>,
-    parts: &[Part],
+    known: &Known,
     format: Format,
-    settings: &Settings,
+    settings: &Settings<'_>,
     count: u64,
     line: &[u8],
 ) -> Result<bool, AllocError>
-    requires parts { parts.now ≡ timed_parts format settings.now.alone
-        settings.now.century pulses.old.track.pulses }
+    requires known { IsKnownOf format settings.now pulses.old.track.pulses known.now }
     requires century { settings.now.century ≤ 99 }
     requires offset { settings.now.offset ≤ 2 ^ 119 }
     requires year { IfSome settings.now.year (λ y. y ≤ 9998) }
     ensures number { IfOk result (λ numbered.
         numbered ≡ is_numbered settings.now count line.now) }
     ensures out { OnOk result ((out : List ℕ)
-        × IsOut format pulses.old.track.pulses settings.now (is_header settings.now count) line.now
+        × IsOut format pulses.old.track.pulses settings.now (header_word settings.now count) line.now
         out × (text.new.items ≡ text.old.items ++ out)) }
     ensures pulses { pulses.new.track ≡ pulses.old.track }
 {
     if count < settings.header {
-        put_header(text, line)?;
+        text.extend_from_slice(header_word(settings, count))?;
+        put_line(text, settings.comma, line)?;
         return Ok(true);
     }
-    stamp(text, pulses, parts, format, settings, line)
+    stamp(text, pulses, known, format, settings, line)
 }

@@ -31,7 +31,7 @@ pub fn list<W: Write>(
     recording: Recording,
     out: &mut W,
     format: Format,
-    settings: &Settings,
+    settings: &Settings<'_>,
 ) -> Result<Standing, RunFault>
     requires century { settings.now.century ≤ 99 }
     requires year { IfSome settings.now.year (λ y. y ≤ 9998) }
@@ -50,7 +50,7 @@ fn list_track<W: Write>(
     track: &Track,
     out: &mut W,
     format: Format,
-    settings: &Settings,
+    settings: &Settings<'_>,
 ) -> Result<Standing, RunFault>
     requires century { settings.now.century ≤ 99 }
     requires year { IfSome settings.now.year (λ y. y ≤ 9998) }
@@ -90,7 +90,7 @@ fn table(
     records: &mut FrameLens<'_>,
     held: &[bool],
     format: Format,
-    settings: &Settings,
+    settings: &Settings<'_>,
 ) -> Result<Vec<u8>, AllocError>
     requires frames { records.old.records ≡ frames format pulses.old.track.pulses }
     requires held { held.now ≡ believed format settings.now.alone pulses.old.track.pulses }
@@ -113,7 +113,7 @@ fn put_frame(
     records: &mut FrameLens<'_>,
     held: &[bool],
     format: Format,
-    settings: &Settings,
+    settings: &Settings<'_>,
     place: usize,
 ) -> Result<(), AllocError>
     requires frames { records.old.records ≡ frames format pulses.old.track.pulses }
@@ -136,7 +136,7 @@ fn put_frame(
 /// Adds the row of a frame, if there is one.
 fn put_start(
     text: &mut Vec<u8>,
-    settings: &Settings,
+    settings: &Settings<'_>,
     held: Option<bool>,
     start: Option<FrameStart>,
 ) -> Result<(), AllocError>
@@ -153,7 +153,7 @@ fn put_start(
 /// Adds the row of a frame.
 fn put_row(
     text: &mut Vec<u8>,
-    settings: &Settings,
+    settings: &Settings<'_>,
     held: Option<bool>,
     start: &FrameStart,
 ) -> Result<(), AllocError>

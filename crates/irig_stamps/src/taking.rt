@@ -1,15 +1,15 @@
 //! Bytes of lines, as they come.
 
 ghost use Rattle.std.specs.Prelude.{◌≡◌, ◌≢◌, ◌≤◌, ◌<◌, ◌^◌, ◌∷◌, [], OnOk, IfSome};
-ghost use Rattle.irig_times.specs.Counted.{timed_parts};
+ghost use Rattle.irig_stamps.specs.Reasons.{IsKnownOf};
 ghost use Rattle.irig_stamps.specs.Steps.{PushesAs, Takes, TakesAs};
 
 use crate::fault::TakeFault;
+use crate::knowledge::Known;
 use crate::lines::Lines;
 use crate::settings::Settings;
 use crate::stamping::line_out;
 use irig_codes::Format;
-use irig_times::Part;
 use irig_track::Lens;
 use std::alloc::AllocError;
 
@@ -21,13 +21,12 @@ fn take_byte(
     lines: &mut Lines,
     text: &mut Vec<u8>,
     pulses: &mut Lens<'_>,
-    parts: &[Part],
+    known: &Known,
     format: Format,
-    settings: &Settings,
+    settings: &Settings<'_>,
     byte: u8,
 ) -> Result<(), TakeFault>
-    requires parts { parts.now ≡ timed_parts format settings.now.alone
-        settings.now.century pulses.old.track.pulses }
+    requires known { IsKnownOf format settings.now pulses.old.track.pulses known.now }
     requires century { settings.now.century ≤ 99 }
     requires offset { settings.now.offset ≤ 2 ^ 119 }
     requires year { IfSome settings.now.year (λ y. y ≤ 9998) }
@@ -39,7 +38,7 @@ fn take_byte(
     if byte != b'\n' {
         return push_byte(lines, byte);
     }
-    match end_line(lines, text, pulses, parts, format, settings) {
+    match end_line(lines, text, pulses, known, format, settings) {
         Ok(()) => Ok(()),
         Err(_) => Err(TakeFault::OutOfMemory),
     }
@@ -64,12 +63,11 @@ pub fn end_line(
     lines: &mut Lines,
     text: &mut Vec<u8>,
     pulses: &mut Lens<'_>,
-    parts: &[Part],
+    known: &Known,
     format: Format,
-    settings: &Settings,
+    settings: &Settings<'_>,
 ) -> Result<(), AllocError>
-    requires parts { parts.now ≡ timed_parts format settings.now.alone
-        settings.now.century pulses.old.track.pulses }
+    requires known { IsKnownOf format settings.now pulses.old.track.pulses known.now }
     requires century { settings.now.century ≤ 99 }
     requires offset { settings.now.offset ≤ 2 ^ 119 }
     requires year { IfSome settings.now.year (λ y. y ≤ 9998) }
@@ -80,7 +78,7 @@ pub fn end_line(
     ensures pulses { pulses.new.track ≡ pulses.old.track }
 {
     let line = lines.line.as_slice();
-    let numbered = line_out(text, pulses, parts, format, settings, lines.count, line)?;
+    let numbered = line_out(text, pulses, known, format, settings, lines.count, line)?;
     lines.all &= numbered;
     lines.count = lines.count.saturating_add(1);
     lines.line.clear();
@@ -92,13 +90,12 @@ pub fn take_part(
     lines: &mut Lines,
     text: &mut Vec<u8>,
     pulses: &mut Lens<'_>,
-    parts: &[Part],
+    known: &Known,
     format: Format,
-    settings: &Settings,
+    settings: &Settings<'_>,
     part: &[u8],
 ) -> Result<(), TakeFault>
-    requires parts { parts.now ≡ timed_parts format settings.now.alone
-        settings.now.century pulses.old.track.pulses }
+    requires known { IsKnownOf format settings.now pulses.old.track.pulses known.now }
     requires century { settings.now.century ≤ 99 }
     requires offset { settings.now.offset ≤ 2 ^ 119 }
     requires year { IfSome settings.now.year (λ y. y ≤ 9998) }
@@ -108,7 +105,7 @@ pub fn take_part(
     ensures pulses { pulses.new.track ≡ pulses.old.track }
 {
     for byte in part {
-        match take_byte(lines, text, pulses, parts, format, settings, *byte) {
+        match take_byte(lines, text, pulses, known, format, settings, *byte) {
             Ok(()) => {}
             Err(fault) => return Err(fault),
         }

@@ -26,7 +26,7 @@ fn digit(unit: u64, number: u64) -> u8
 /// Adds the word of a time to a text: a hyphen if there is none.
 pub fn put_word(
     text: &mut Vec<u8>,
-    settings: &Settings,
+    settings: &Settings<'_>,
     time: Option<Time>,
 ) -> Result<(), AllocError>
     requires century { settings.now.century ≤ 99 }
@@ -40,7 +40,7 @@ pub fn put_word(
 }
 
 /// Adds a time in its form.
-fn put_time(text: &mut Vec<u8>, settings: &Settings, time: &Time) -> Result<(), AllocError>
+fn put_time(text: &mut Vec<u8>, settings: &Settings<'_>, time: &Time) -> Result<(), AllocError>
     requires century { settings.now.century ≤ 99 }
     requires year { IfSome settings.now.year (λ y. y ≤ 9998) }
     ensures { OnOk result

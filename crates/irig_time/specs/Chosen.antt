@@ -1,6 +1,6 @@
 -- What a command line asks for, and which value it cannot have. This project's own.
-use Rattle.std.specs.Prelude.{◌≡◌, ◌⊎◌, ◌&&◌, ◌||◌, ◌+◌, ◌/◌, ◌^◌, ◌<◌, ◌≤◌, ℕ, Bool, true, false}
-use Rattle.std.specs.Prelude.{nat_lt, not, Option, Some, None, IfSome, codes, is_some}
+use Rattle.std.specs.Prelude.{◌≡◌, ◌==◌, ◌⊎◌, ◌&&◌, ◌||◌, ◌+◌, ◌/◌, ◌^◌, ◌<◌, ◌≤◌, ℕ, Bool, true}
+use Rattle.std.specs.Prelude.{false, nat_lt, not, List, Option, Some, None, IfSome, codes, is_some}
 use Rattle.std.specs.Str.{bytes_eq}
 use Rattle.irig_codes.specs.Format.{FormatView, is_permitted}
 use Rattle.irig_codes.specs.{Words.kind_named, declared.format.Kind.Kind}
@@ -8,7 +8,7 @@ use Rattle.irig_stamps.specs.declared.settings.Form.TheVariants.{Ordinal, Calend
 use Rattle.irig_stamps.specs.{declared.picos.Picos.Picos, declared.settings.Form.Form}
 use Rattle.irig_stamps.specs.declared.settings.Settings.{Settings}
 use Rattle.irig_time.specs.Values.{comma_named, digit_named, form_named, offset_named, places_named}
-use Rattle.irig_time.specs.Values.{text_or, whole_between}
+use Rattle.irig_time.specs.{Names.is_name, Values.text_or, Values.whole_between}
 use Rattle.irig_time.specs.Windows.{EndsEarly, IsWindow, end_of, first_of}
 use Rattle.irig_time.specs.declared.chosen.OptionFault.{OptionFault}
 use Rattle.irig_time.specs.{declared.asked.Asked.Asked, declared.chosen.Chosen.Chosen}
@@ -48,16 +48,28 @@ pub record HasDates (a : Asked) (century : ℕ) (year : Option ℕ) (form : Form
 abbrev pub stands_alone : Asked → Bool
 stands_alone a = bytes_eq (text_or a.alone (codes "false")) (codes "true")
 
+-- whether a word says why a line has no time
+abbrev pub asks_why : Asked → Bool
+asks_why a = bytes_eq (text_or a.why (codes "false")) (codes "true")
+
 -- the recorder's time at the start of the track
 abbrev pub start_of : Settings → Picos
 start_of s = record { negative = s.early; size = s.offset }
+
+-- the name of the column of times: time, if none is given; one that is given needs a header
+pub record HasName (a : Asked) (comma : Option ℕ) (header : ℕ) (name : List ℕ) : Type 0 where
+  pub name_is : name ≡ text_or a.name (codes "time")
+  pub sound : is_name comma name ≡ true
+  pub needed : (is_some a.name && (header == 0)) ≡ false
 
 -- how lines are read and stamped
 pub record HasSettings (a : Asked) (s : Settings) : Type 0 where
   pub columns : HasColumns a s.places (start_of s) s.column s.comma
   pub header : whole_between 0 4294967296 (text_or a.header (codes "0")) ≡ Some s.header
+  pub name : HasName a s.comma s.header s.name.now
   pub dates : HasDates a s.century s.year s.form
   pub alone : s.alone ≡ stands_alone a
+  pub why : s.why ≡ asks_why a
 
 -- the values are within their limits
 abbrev pub IsSound : Settings → Type 0
@@ -77,9 +89,10 @@ lacks_year f s = is_calendar s.form && (not (is_some s.year) && nat_lt f.express
 abbrev pub wants_table : Asked → Bool
 wants_table a = bytes_eq (text_or a.table (codes "false")) (codes "true")
 
--- whether an option is given that says how lines are read
+-- whether an option is given that says how lines are read, or printed
 abbrev pub tells_of_lines : Asked → Bool
-tells_of_lines a = is_some a.unit || (is_some a.offset || (is_some a.column || is_some a.header))
+tells_of_lines a = is_some a.unit || (is_some a.offset || (is_some a.column
+    || (is_some a.header || (is_some a.name || asks_why a))))
 
 -- the values ask for this
 pub record IsChosen (a : Asked) (c : Chosen) : Type 0 where
@@ -108,6 +121,10 @@ HasFault a fault.Offset = (n : ℕ) × (places_named (text_or a.unit (codes "us"
 HasFault a fault.Column = whole_between 1 65536 (text_or a.column (codes "1")) ≡ None
 HasFault a fault.Comma = comma_named (text_or a.comma (codes "")) ≡ None
 HasFault a fault.Header = whole_between 0 4294967296 (text_or a.header (codes "0")) ≡ None
+HasFault a fault.Name = (comma : Option ℕ) × IsComma a comma
+    × (is_name comma (text_or a.name (codes "time")) ≡ false)
+HasFault a fault.Unnamed = (is_some a.name ≡ true)
+    × (whole_between 0 4294967296 (text_or a.header (codes "0")) ≡ Some 0)
 HasFault a fault.Year = whole_between 1 9998 (text_or a.year (codes "")) ≡ None
 HasFault a fault.Form = form_named (text_or a.form (codes "ordinal")) ≡ None
 HasFault a fault.NoYear = (f : FormatView) × (s : Settings) × IsFormat a f × HasSettings a s

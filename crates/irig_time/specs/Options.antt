@@ -13,6 +13,10 @@ table = record (new_rule (codes "table")) { long = Some (codes "table"); action 
 abbrev pub alone : Rule
 alone = record (new_rule (codes "alone")) { long = Some (codes "alone"); action = Some SetTrue }
 
+-- the option that asks why lines have no time, which has no value
+abbrev pub why : Rule
+why = record (new_rule (codes "why")) { long = Some (codes "why"); action = Some SetTrue }
+
 -- which part of the dump is read
 abbrev pub taking : App
 taking =
@@ -30,15 +34,15 @@ placing =
     with_rule (with_rule (with_rule (with_rule reading (option (codes "unit") None))
     (option (codes "offset") None)) (option (codes "column") None)) (option (codes "comma") None)
 
--- and how a time is written
+-- and what the header is, and how a time is written
 abbrev pub writing : App
 writing =
-    with_rule (with_rule (with_rule placing (option (codes "header") None))
-    (option (codes "year") None)) (option (codes "form") None)
+    with_rule (with_rule (with_rule (with_rule placing (option (codes "header") None))
+    (option (codes "name") None)) (option (codes "year") None)) (option (codes "form") None)
 
 -- and which frames are taken, and what is printed of them
 abbrev pub marking : App
-marking = with_rule (with_rule writing alone) table
+marking = with_rule (with_rule (with_rule writing alone) why) table
 
 -- the command
 abbrev pub the_command : App

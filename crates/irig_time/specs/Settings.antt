@@ -22,9 +22,11 @@ pub record AreValues (f : Found) (a : Asked) : Type 0 where
   pub column : first_value f (codes "column") ≡ option_map (λ w. w.now) a.column
   pub comma : first_value f (codes "comma") ≡ option_map (λ w. w.now) a.comma
   pub header : first_value f (codes "header") ≡ option_map (λ w. w.now) a.header
+  pub name : first_value f (codes "name") ≡ option_map (λ w. w.now) a.name
   pub year : first_value f (codes "year") ≡ option_map (λ w. w.now) a.year
   pub form : first_value f (codes "form") ≡ option_map (λ w. w.now) a.form
   pub alone : first_value f (codes "alone") ≡ option_map (λ w. w.now) a.alone
+  pub why : first_value f (codes "why") ≡ option_map (λ w. w.now) a.why
   pub table : first_value f (codes "table") ≡ option_map (λ w. w.now) a.table
 
 -- there are matches that a parse of the words may give, and these are their values

@@ -39,14 +39,19 @@ places_named (b ∷ []) = if b == 115 then Some 12 else None
 places_named (p ∷ b ∷ []) = if b == 115 then prefix_places p else None
 places_named (p ∷ b ∷ c ∷ bs) = None
 
--- a byte that a number can have: a digit, a point, a sign, or the e of an exponent
-abbrev pub is_of_number : ℕ → Bool
-is_of_number b =
-    is_digit b || ((b == 46) || ((b == 43) || ((b == 45) || ((b == 69) || (b == 101)))))
+-- a letter of ASCII
+abbrev pub is_letter : ℕ → Bool
+is_letter b = (nat_le 65 b && nat_le b 90) || (nat_le 97 b && nat_le b 122)
 
--- a byte of ASCII that can part columns: none of a number, and no end of a line
+-- a byte that a number, a time, a word or a name can have: a letter, a digit, a point, a sign, a
+-- colon or a quote
+abbrev pub is_of_text : ℕ → Bool
+is_of_text b = is_letter b
+    || (is_digit b || ((b == 46) || ((b == 43) || ((b == 45) || ((b == 58) || (b == 34))))))
+
+-- a byte of ASCII that can part columns: none of those, and no end of a line
 abbrev pub is_parting : ℕ → Bool
-is_parting b = nat_le b 127 && (not (is_of_number b) && not (b == 10))
+is_parting b = nat_le b 127 && (not (is_of_text b) && (not (b == 10) && not (b == 13)))
 
 -- what parts columns, if it is given
 abbrev pub comma_named : List ℕ → Option ℕ

@@ -23,14 +23,18 @@ pub struct Asked<'a> {
     pub column: Option<&'a str>,
     /// What parts columns.
     pub comma: Option<&'a str>,
-    /// How many lines are handed through.
+    /// How many lines are the header.
     pub header: Option<&'a str>,
+    /// The name of the column of times.
+    pub name: Option<&'a str>,
     /// The year of the first frame.
     pub year: Option<&'a str>,
     /// The form of a time.
     pub form: Option<&'a str>,
     /// `true`, if each fine frame is believed.
     pub alone: Option<&'a str>,
+    /// `true`, if a word says why a line has no time.
+    pub why: Option<&'a str>,
     /// `true`, if the table is asked for.
     pub table: Option<&'a str>,
 }

@@ -17,7 +17,7 @@ pub struct Chosen<'a> {
     /// The format in which frames are read.
     pub format: Format,
     /// How lines are read and stamped.
-    pub settings: Settings,
+    pub settings: Settings<'a>,
     /// Whether the table of the frames is asked for, and no lines are read.
     pub table: bool,
 }
@@ -50,11 +50,17 @@ pub enum OptionFault {
     #[error("--column: not a number from 1 to 65536")]
     Column,
     /// Nothing that can part columns.
-    #[error("--comma: not one character of ASCII that no number has")]
+    #[error("--comma: not one character of ASCII that no number, word or time has")]
     Comma,
     /// No number of lines.
     #[error("--header: not a number of lines")]
     Header,
+    /// No name that a column can have.
+    #[error("--name: has a separator, a quote or an end of a line, or nothing")]
+    Name,
+    /// A name is given, and there is no header.
+    #[error("--name: there is no header, so give --header")]
+    Unnamed,
     /// No year.
     #[error("--year: not a year from 1 to 9998")]
     Year,
@@ -65,6 +71,6 @@ pub enum OptionFault {
     #[error("--form calendar: frames of this expression have no year, so give --year")]
     NoYear,
     /// The table is asked for, and an option for lines that are not read.
-    #[error("--table: reads no lines, so without --unit, --offset, --column and --header")]
+    #[error("--table: reads no lines, so without --unit, --offset, --column, --header, --name and --why")]
     Table,
 }

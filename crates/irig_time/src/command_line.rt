@@ -4,7 +4,7 @@ ghost use Rattle.std.specs.Prelude.{◌≡◌, IfErr, IfOk, false, map, string_b
 ghost use Rattle.clap.specs.Words.{app_of, found_of, rule_of};
 ghost use Rattle.irig_time.specs.Chosen.{IsSound};
 ghost use Rattle.irig_time.specs.Options.{IsCommand, IsMarking, IsParsed, IsPlacing, IsReading};
-ghost use Rattle.irig_time.specs.Options.{IsTaking, IsWriting, alone, table, the_command};
+ghost use Rattle.irig_time.specs.Options.{IsTaking, IsWriting, alone, table, the_command, why};
 ghost use Rattle.irig_time.specs.Settings.{AreValues, Reads, Values};
 ghost use Rattle.irig_words.specs.Errors.{IsMistake, MayRefuse, WantsMemory};
 
@@ -77,9 +77,11 @@ fn values_of<'a>(matches: &ArgMatches<'a>) -> Result<Asked<'a>, Error>
         column: matches.get_str("column"),
         comma: matches.get_str("comma"),
         header: matches.get_str("header"),
+        name: matches.get_str("name"),
         year: matches.get_str("year"),
         form: matches.get_str("form"),
         alone: matches.get_str("alone"),
+        why: matches.get_str("why"),
         table: matches.get_str("table"),
     })
 }
@@ -102,21 +104,25 @@ fn command<'a>(alloc: Global) -> Result<Command<'a>, AllocError>
     marking.arg(needed_arg(alloc, "TRACK", "the dump; lines come on standard input"))
 }
 
-/// Its options: also how a time is written.
+/// Its options: also what the header is, and how a time is written.
 fn writing<'a>(alloc: Global) -> Result<Command<'a>, AllocError>
     ensures { IfOk result (λ c. IsWriting (app_of c)) }
 {
-    let header = option_arg(alloc, "header", "NUMBER", "lines handed through: 0");
+    let header = option_arg(alloc, "header", "NUMBER", "lines of the header: 0");
+    let name = option_arg(alloc, "name", "NAME", "of the new column: time");
     let year = option_arg(alloc, "year", "YEAR", "the year of the first fine frame");
     let form = option_arg(alloc, "form", "FORM", "ordinal, calendar or seconds");
-    placing(alloc)?.arg(header)?.arg(year)?.arg(form)
+    placing(alloc)?.arg(header)?.arg(name)?.arg(year)?.arg(form)
 }
 
 /// Its options: also which frames are taken, and what is printed of them.
 fn marking<'a>(alloc: Global) -> Result<Command<'a>, AllocError>
     ensures { IfOk result (λ c. IsMarking (app_of c)) }
 {
-    writing(alloc)?.arg(alone_arg(alloc))?.arg(table_arg(alloc))
+    writing(alloc)?
+        .arg(alone_arg(alloc))?
+        .arg(why_arg(alloc))?
+        .arg(table_arg(alloc))
 }
 
 /// Its options: also where the recorder's time is in a line.
@@ -184,6 +190,17 @@ fn alone_arg<'a>(alloc: Global) -> Arg<'a>
     Arg::new(alloc, "alone")
         .long("alone")
         .help("take each frame that reads well, supported by another or not")
+        .action(ArgAction::SetTrue)
+}
+
+/// The option that asks why lines have no time.
+fn why_arg<'a>(alloc: Global) -> Arg<'a>
+    ensures rule { rule_of result ≡ why }
+    ensures local { result.global ≡ false }
+{
+    Arg::new(alloc, "why")
+        .long("why")
+        .help("a word in place of - says why a line has no time")
         .action(ArgAction::SetTrue)
 }
 

@@ -6,6 +6,7 @@ mod chosen;
 mod command_line;
 mod ending;
 mod file_run;
+mod naming;
 mod options;
 mod statuses;
 mod window;

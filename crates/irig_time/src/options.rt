@@ -4,14 +4,16 @@ ghost use Rattle.std.specs.Prelude.{◌≡◌, ◌≤◌, ◌<◌, ◌^◌, IfEr
 ghost use Rattle.std.specs.Str.{bytes_eq};
 ghost use Rattle.irig_time.specs.Chosen.{HasColumns, HasDates, HasFault, HasSettings, IsChosen};
 ghost use Rattle.irig_time.specs.Chosen.{IsComma, IsFormat, IsSound, lacks_year, stands_alone};
-ghost use Rattle.irig_time.specs.Chosen.{tells_of_lines, wants_table};
-ghost use Rattle.irig_time.specs.Values.{comma_named, digit_named, form_named, is_parting};
+ghost use Rattle.irig_time.specs.Chosen.{asks_why, tells_of_lines, wants_table};
+ghost use Rattle.irig_time.specs.Values.{comma_named, digit_named, form_named, is_of_text};
+ghost use Rattle.irig_time.specs.Values.{is_parting};
 ghost use Rattle.irig_time.specs.Values.{near, offset_named, places_named, prefix_places, text_or};
 ghost use Rattle.irig_time.specs.Values.{whole_between, within};
 ghost use Rattle.irig_time.specs.declared.chosen.OptionFault.TheVariants.{Comma};
 
 use crate::asked::Asked;
 use crate::chosen::{Chosen, OptionFault};
+use crate::naming::name_of;
 use crate::window::window_of;
 use irig_codes::{Format, kind_named};
 use irig_stamps::{Form, Picos, Settings, number, whole};
@@ -71,7 +73,14 @@ fn stands_alone(asked: &Asked<'_>) -> bool
     is_text(text_or(asked.alone, "false"), b"true")
 }
 
-/// Whether an option is given that says how lines are read.
+/// Whether a word says why a line has no time.
+fn asks_why(asked: &Asked<'_>) -> bool
+    ensures { result ≡ asks_why asked.now }
+{
+    is_text(text_or(asked.why, "false"), b"true")
+}
+
+/// Whether an option is given that says how lines are read, or printed.
 fn tells_of_lines(asked: &Asked<'_>) -> bool
     ensures { result ≡ tells_of_lines asked.now }
 {
@@ -79,6 +88,8 @@ fn tells_of_lines(asked: &Asked<'_>) -> bool
         || asked.offset.is_some()
         || asked.column.is_some()
         || asked.header.is_some()
+        || asked.name.is_some()
+        || asks_why(asked)
 }
 
 /// The format that is asked for.
@@ -99,7 +110,7 @@ fn format_of(asked: &Asked<'_>) -> Result<Format, OptionFault>
 }
 
 /// How lines are read and stamped.
-fn settings_of(asked: &Asked<'_>) -> Result<Settings, OptionFault>
+fn settings_of<'a>(asked: &Asked<'a>) -> Result<Settings<'a>, OptionFault>
     ensures settings { IfOk result (HasSettings asked.now) }
     ensures sound { IfOk result IsSound }
     ensures fault { IfErr result (HasFault asked.now) }
@@ -109,6 +120,7 @@ fn settings_of(asked: &Asked<'_>) -> Result<Settings, OptionFault>
     let Some(header) = whole_between(0, HEADER_LIMIT, text_or(asked.header, "0")) else {
         return Err(OptionFault::Header);
     };
+    let name = name_of(asked, columns.comma, header)?;
     Ok(Settings {
         places: columns.places,
         offset: columns.offset.size,
@@ -116,10 +128,12 @@ fn settings_of(asked: &Asked<'_>) -> Result<Settings, OptionFault>
         column: columns.column,
         comma: columns.comma,
         header: header as u64,
+        name,
         century: dates.century,
         year: dates.year,
         first_day: 0,
         alone: stands_alone(asked),
+        why: asks_why(asked),
         form: dates.form,
     })
 }
@@ -195,7 +209,7 @@ fn dates_of(asked: &Asked<'_>) -> Result<Dates, OptionFault>
 }
 
 /// Whether a date is asked for that nothing gives a year.
-fn lacks_year(format: Format, settings: &Settings) -> bool
+fn lacks_year(format: Format, settings: &Settings<'_>) -> bool
     ensures { result ≡ lacks_year format settings.now }
 {
     matches!(settings.form, Form::Calendar) && settings.year.is_none() && format.expression() < 4
@@ -316,11 +330,19 @@ fn comma_named(text: &[u8]) -> Option<u8>
     }
 }
 
-/// Whether a byte of ASCII can part columns: none that a number can have, and no end of a line.
+/// Whether a byte of ASCII can part columns: none of a number, a time, a word or a name, and no end
+/// of a line.
 fn is_parting(byte: u8) -> bool
     ensures { result ≡ is_parting byte }
 {
-    byte <= 127 && !matches!(byte, b'0'..=b'9' | b'.' | b'+' | b'-' | b'E' | b'e') && byte != b'\n'
+    byte <= 127 && !is_of_text(byte) && byte != b'\n' && byte != b'\r'
+}
+
+/// Whether a number, a time, a word or a name can have a byte.
+fn is_of_text(byte: u8) -> bool
+    ensures { result ≡ is_of_text byte }
+{
+    matches!(byte, b'A'..=b'Z' | b'a'..=b'z' | b'0'..=b'9' | b'.' | b'+' | b'-' | b':' | b'"')
 }
 
 /// The form with this name.

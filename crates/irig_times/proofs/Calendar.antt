@@ -9,11 +9,10 @@ use Rattle.irig_codes.specs.declared.note.Note.TheVariants.{Fine, Stray}
 use Rattle.irig_codes.specs.{Fields.is_in_range, Fields.part, Format.FormatView, Format.has_year, Layout.decimal, Reading.fields_read, Reading.value_of}
 use Rattle.irig_codes.specs.{declared.fields.Fields.Fields, declared.note.Name.Name, declared.note.Note.Note, declared.width.Element.Element}
 use Rattle.irig_recording.specs.declared.pulse.Pulse.{Pulse}
-use Rattle.irig_index.specs.{Frames.frame_at, Verdict.elements_of, Verdict.first_fault, Verdict.judged, Verdict.verdict_of}
+use Rattle.irig_index.specs.{Verdict.elements_of, Verdict.first_fault, Verdict.judged, Verdict.verdict_of}
 use Rattle.irig_index.specs.{declared.record.Verdict.Verdict, declared.record.Verdict.TheVariants.Broken, declared.record.Verdict.TheVariants.Read}
 use Rattle.irig_times.specs.{declared.time.Time.Time, Laws.IsOfCalendar}
-use Rattle.irig_times.proofs.ToldLaws.{ToldTimesAreOfCalendar}
-use Rattle.irig_times.proofs.{Records.frame-reads, SoundFrames.judged-read}
+use Rattle.irig_times.proofs.SoundFrames.{judged-read}
 
 -- none that is found
 find-none : {X : Type 0} (p : X → Bool) (x : X) (xs : List X) → find p (x ∷ xs) ≡ None → (p x ≡ false) × (find p xs ≡ None)
@@ -94,10 +93,3 @@ module _ (f : FormatView) (w : List Pulse) (g : Fields) (reads : verdict_of f w 
         },
         ap is_some (sym same-year) ∙ part-some (has_year f.expression) (value_of f es (decimal Year)),
       )
-
-pub times_are_of_calendar : ToldTimesAreOfCalendar
-times_are_of_calendar f century ps d n x a =
-    let is = a.is_element in
-    let reads = frame-reads f ps is.at is.one a.fields is.there is.tells in
-    of-calendar f (frame_at ps is.one.marker) a.fields reads x (ap (λ (z : Time). z.year) a.is) (ap (λ (z : Time). z.days) a.is)
-    (ap (λ (z : Time). z.hours) a.is) (ap (λ (z : Time). z.minutes) a.is)

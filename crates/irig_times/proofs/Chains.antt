@@ -1,17 +1,8 @@
--- Times in a chain of frames are in one order.
-use Rattle.std.proofs.Common.{◌≡◌, ℕ, suc, zero, ◌+◌, ◌-◌, ◌*◌, ◌<◌, ◌≤◌, ◌==◌, ◌&&◌, nat_lt, true, cond, List, Option, Some, None}
-use Rattle.std.proofs.Common.{refl, sym, ap, ◌∙◌, inl, inr, subst, arith}
+-- How much later one time is than another.
+use Rattle.std.proofs.Common.{◌≡◌, ℕ, suc, zero, ◌+◌, ◌≤◌, ◌==◌, ◌&&◌, nat_lt, true, cond, Option, Some, None, refl, sym, ap, ◌∙◌, inl, inr, subst, arith}
 use Rattle.std.proofs.lemmas.Bool.{and_parts, cases_Bool, eqb-true, or_cases}
-use Rattle.irig_codes.specs.{Format.FormatView, Format.frame_period_of, Format.interval_of, declared.fields.Fields.Fields}
-use Rattle.irig_recording.specs.declared.pulse.Pulse.{Pulse}
-use Rattle.irig_track.specs.Track.{IsTrack}
-use Rattle.irig_index.specs.{Frames.frames}
 use Rattle.irig_times.specs.Follows.{is_later, is_later_in, minute_follows, same_minute, same_year}
-use Rattle.irig_times.specs.{declared.time.Time.Time, Chains.IsAfter, Chains.IsChained, Chains.MinutesAfter, Chains.minute_of}
-use Rattle.irig_times.specs.{Elements.TellsTime, Elements.IsElement, Elements.share, Times.minute_micros, Times.time_in}
-use Rattle.irig_times.proofs.ToldLaws.{ToldChainsNeverFall}
-use Rattle.irig_times.proofs.{OneTime.element-once, Shares.hundred-intervals, TimeLaws.micros-of, TimeLaws.never_falls, TimeLaws.share-of}
-use Rattle.std.proofs.Math.Nat.{mul-le-mul_right}
+use Rattle.irig_times.specs.{declared.time.Time.Time, Chains.IsAfter, Chains.MinutesAfter, Chains.minute_of}
 
 year-same : (y z : Option ℕ) → same_year y z ≡ true → y ≡ z
 year-same None None h = refl
@@ -80,78 +71,3 @@ after-add century p q a b c h k = record {
   least = omega (arith, h.least, k.least);
   most = omega (arith, h.most, k.most);
 }
-
-one-more : (k p : ℕ) → p + k * p ≡ suc k * p
-one-more k p = omega arith
-
-module _ (f : FormatView) (century : ℕ) (ps : List Pulse) where
-  -- the frames of a chain are as many periods apart
-  frames-after : (k from to : ℕ) (g h : Fields) → IsElement f (frames f ps) from 0 g → IsElement f (frames f ps) to 0 h
-      → IsChained f century (frames f ps) k from g to → IsAfter century (k * frame_period_of f.kind) (time_in g 0) (time_in h 0)
-  frames-after zero from to g h a b chain =
-      let same = (element-once f ps from 0 0 g h a (subst (λ n. IsElement f (frames f ps) n 0 h) (sym chain) b)).1 in
-      let none : 0 ≡ 0 * frame_period_of f.kind = omega arith in
-      subst (λ n. IsAfter century n (time_in g 0) (time_in h 0)) none
-      (subst (λ (e : Fields). IsAfter century 0 (time_in g 0) (time_in e 0)) same (after-none century (time_in g 0)))
-  frames-after (suc k) from to g h a b chain =
-      let it = chain.0 in
-      let place : from + 99 + 1 ≡ from + 100 = omega arith in
-      let begins = subst (λ n. IsElement f (frames f ps) n 0 it.next) place it.begins in
-      let period = frame_period_of f.kind in
-      subst (λ n. IsAfter century n (time_in g 0) (time_in h 0)) (one-more k period)
-      (after-add century period (k * period) (time_in g 0) (time_in it.next 0) (time_in h 0) (later century period _ _ it.later)
-      (frames-after k (from + 100) to it.next h begins b chain.1))
-
-  module _ (micros : ℕ) (track : IsTrack micros ps) (d : ℕ) (some : 0 < d) (n m : ℕ) (x y : Time)
-      (a : TellsTime f century ps d n x) (b : TellsTime f century ps d m y) (le : n ≤ m) where
-    -- what of a frame is over
-    abbrev over-a : ℕ
-    over-a = a.element * interval_of f.kind + share (interval_of f.kind) (n - d * a.point.rise) (d * (a.to - a.point.rise))
-
-    abbrev over-b : ℕ
-    over-b = b.element * interval_of f.kind + share (interval_of f.kind) (m - d * b.point.rise) (d * (b.to - b.point.rise))
-
-    begins-of : (number element : ℕ) (g : Fields) (is : IsElement f (frames f ps) number element g) → IsElement f (frames f ps) is.one.marker 0 g
-    begins-of number element g is = record { at = is.at; one = is.one; there = is.there; tells = is.tells; place = omega arith; few = omega arith }
-
-    in-frame : (number element : ℕ) → element ≤ 99 → element * interval_of f.kind + interval_of f.kind ≤ frame_period_of f.kind
-    in-frame number element few = omega (arith, mul-le-mul_right (interval_of f.kind) few, hundred-intervals f.kind)
-
-    short-a : over-a < frame_period_of f.kind
-    short-a = omega (arith, in-frame a.number a.element a.is_element.few, share-of f century micros ps track d n x a)
-
-    short-b : over-b < frame_period_of f.kind
-    short-b = omega (arith, in-frame b.number b.element b.is_element.few, share-of f century micros ps track d m y b)
-
-    -- in one frame the second is not before the first
-    in-order : (k : ℕ) → IsChained f century (frames f ps) k a.is_element.one.marker a.fields b.is_element.one.marker
-        → over-a ≤ k * frame_period_of f.kind + over-b
-    in-order zero chain =
-        let falls = never_falls f century micros ps track d some n m x y a b le chain in
-        let same = (element-once f ps _ 0 0 a.fields b.fields (begins-of _ _ _ a.is_element)
-        (subst (λ i. IsElement f (frames f ps) i 0 b.fields) (sym chain) (begins-of _ _ _ b.is_element))).1 in
-        omega (arith, falls.micros, micros-of f century micros ps track d n x a, micros-of f century micros ps track d m y b, ap minute_micros same)
-    in-order (suc k) chain = omega (arith, short-a, one-more k (frame_period_of f.kind))
-
-    chain-after : (k : ℕ) → IsChained f century (frames f ps) k a.is_element.one.marker a.fields b.is_element.one.marker
-        → (since : ℕ) × (since < (k + 1) * frame_period_of f.kind) × IsAfter century since x y
-    chain-after k chain =
-        let apart = k * frame_period_of f.kind in
-        let it = frames-after k _ _ a.fields b.fields (begins-of _ _ _ a.is_element) (begins-of _ _ _ b.is_element) chain in
-        let order = in-order k chain in
-        let first : minute_of (time_in a.fields 0) ≡ minute_of x = sym (ap minute_of a.is) in
-        let second : minute_of (time_in b.fields 0) ≡ minute_of y = sym (ap minute_of b.is) in
-        let mx = micros-of f century micros ps track d n x a in
-        let my = micros-of f century micros ps track d m y b in (
-          apart + over-b - over-a,
-          omega (arith, short-b, order),
-          record {
-            minutes = it.minutes;
-            counted = minutes-of century it.minutes (time_in a.fields 0) (time_in b.fields 0) x y first second it.counted;
-            least = omega (arith, it.least, order, mx, my);
-            most = omega (arith, it.most, order, mx, my);
-          },
-        )
-
-pub chains_never_fall : ToldChainsNeverFall
-chains_never_fall f century micros ps track d some n m x y a b le k chain = chain-after f century ps micros track d some n m x y a b le k chain

@@ -15,12 +15,17 @@ use Rattle.irig_times.specs.Jumps.{after_jump, before_jump, is_jump_between}
 use Rattle.irig_times.specs.Follows.{is_later}
 use Rattle.irig_times.specs.Parts.{AreParts, IsFrameTime, IsPart, is_empty}
 use Rattle.irig_times.specs.Laws.{IsOfCalendar}
-use Rattle.irig_times.specs.Steps.{ahead, are_in_step, behind, is_in_step_at}
+use Rattle.irig_times.specs.Steps.{ahead, are_in_step, behind, follows_at, is_in_step_at}
 use Rattle.irig_times.proofs.WholeSteps.{from-at}
 
 pub cond-holds : {X : Type 0} (P : X → Type 0) (b : Bool) (x y : X) → (b ≡ true → P x) → (b ≡ false → P y) → P (cond b x y)
 cond-holds P true x y p q = p refl
 cond-holds P false x y p q = q refl
+
+-- a frame that ends with its minute ends with a long one
+whole-ends : (period : ℕ) (t : Time) → is_whole period t ≡ true → t.micros + period ≤ 61000000
+whole-ends period t on = cond-holds (λ m. nat_le (t.micros + period) m ≡ true → t.micros + period ≤ 61000000) (t.minutes == 59) 61000000 60000000
+    (λ long h. leb-true _ 61000000 h) (λ short h. (let le = leb-true _ 60000000 h in omega (arith, le))) on
 
 -- the first of a list from a place on
 first-of : {X : Type 0} (xs : List X) (k : ℕ) → slice_get (drop k xs) 0 ≡ slice_get xs k
@@ -62,13 +67,13 @@ module _ (f : FormatView) (century : ℕ) where
       let y = at_micros b (b.micros - period) in
       cond-holds (λ o. IfSome o (IsFrameTime f)) (is_middle century period a x b) _ _
       (λ on. record {
-        minute = leb-true _ 61000000 (and_parts (is_later century period x b) _ (and_parts (is_later century period a x) _ on).1).1;
+        minute = whole-ends period x (and_parts (is_later century period x b) _ (and_parts (is_later century period a x) _ on).1).1;
         calendar = in-minute-of a _ ha.calendar;
         year = ha.year;
       })
       (λ off. cond-holds (λ o. IfSome o (IsFrameTime f)) (nat_le period b.micros && is_middle century period a y b) _ _
       (λ on. record {
-        minute = leb-true _ 61000000 (and_parts (is_later century period y b) _ (and_parts (is_later century period a y) _ (and_parts (nat_le period b.micros) _ on).1).1).1;
+        minute = whole-ends period y (and_parts (is_later century period y b) _ (and_parts (is_later century period a y) _ (and_parts (nat_le period b.micros) _ on).1).1).1;
         calendar = in-minute-of b _ hb.calendar;
         year = hb.year;
       })
@@ -98,7 +103,7 @@ module _ (f : FormatView) (century : ℕ) where
   more-end (Some x) None hx hy = tt
   more-end (Some x) (Some y) hx hy = cond-holds (λ o. IfSome o BothEnd) (is_whole period x && is_whole period y) _ _
       (λ on. let both = and_parts (is_whole period x) _ on in
-      (record { minute = leb-true _ 61000000 both.0; calendar = hx.0; year = hx.1 }, record { minute = leb-true _ 61000000 both.1; calendar = hy.0; year = hy.1 }))
+      (record { minute = whole-ends period x both.0; calendar = hx.0; year = hx.1 }, record { minute = whole-ends period y both.1; calendar = hy.0; year = hy.1 }))
       (λ off. tt)
 
   missing-ends : (n : ℕ) (a b : Time) → IsFrameTime f a → IsFrameTime f b → IfSome (missing_in century period n a b) BothEnd
@@ -161,14 +166,17 @@ module _ (f : FormatView) (a b : Part) (order : a.number + a.count ≤ b.number)
 
 -- what is counted at an end fits there
 module _ (f : FormatView) (ps : List Pulse) where
-  step-within : (k : ℕ) → is_in_step_at f ps k ≡ true → k < length ps
-  step-within zero on = absurd (cc on)
-  step-within (suc k) on = both (slice_get ps k) (slice_get ps (suc k)) refl on
+  follows-within : (k : ℕ) → follows_at f ps k ≡ true → k < length ps
+  follows-within zero on = absurd (cc on)
+  follows-within (suc k) on = both (slice_get ps k) (slice_get ps (suc k)) refl on
     where
       both : (p q : Option Pulse) → slice_get ps (suc k) ≡ q → are_in_step f p q ≡ true → suc k < length ps
       both None q e h = absurd (cc h)
       both (Some p) None e h = absurd (cc h)
       both (Some p) (Some q) e h = slice_get_within ps (suc k) q e
+
+  step-within : (k : ℕ) → is_in_step_at f ps k ≡ true → k < length ps
+  step-within k on = follows-within k (and_parts (follows_at f ps k) _ on).0
 
   ahead-within : (n k : ℕ) → k ≤ length ps → k + ahead f ps k n ≤ length ps
   ahead-within zero k le = omega (arith, le)
@@ -179,7 +187,7 @@ module _ (f : FormatView) (ps : List Pulse) where
       → IsOfCalendar p.time × (is_some p.time.year ≡ has_year f.expression) → IfSome (alone f ps p) (Fit f from to)
   alone-fits from to p first few last cal = cond-holds (λ o. IfSome o (Fit f from to)) (is_borne_out f ps p) _ _
       (λ on. (let time : IsFrameTime f p.time = record {
-        minute = leb-true _ 61000000 (and_parts (is_whole (frame_period_of f.kind) p.time) _ on).0;
+        minute = whole-ends (frame_period_of f.kind) p.time (and_parts (is_whole (frame_period_of f.kind) p.time) _ on).0;
         calendar = cal.0;
         year = cal.1;
       } in

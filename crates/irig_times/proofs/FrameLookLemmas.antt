@@ -1,9 +1,9 @@
 -- Looks at records add up, and a search by halving makes few.
-use Rattle.std.proofs.Common.{◌≡◌, ℕ, suc, zero, ◌+◌, ◌*◌, ◌^◌, ◌<◌, ◌≤◌, refl, ap, ap₂, ◌∙◌, arith}
+use Rattle.std.proofs.Common.{◌≡◌, ℕ, suc, zero, ◌+◌, ◌*◌, ◌^◌, ◌<◌, ◌≤◌, ap, ap₂, ◌∙◌, arith}
 use Rattle.std.proofs.Math.Nat.{pow-suc}
 use Rattle.irig_track.specs.Looks.{after_looks, counted}
 use Rattle.irig_track.proofs.Looks.{after_looks-after_looks}
-use Rattle.irig_times.specs.FrameLooks.{FramesView, LookedAtFrames, frames_view}
+use Rattle.irig_times.specs.FrameLooks.{FramesView, frames_view}
 
 -- one more look
 pub look-next : (old lens new : FramesView) (made : ℕ) → lens ≡ frames_view old.records (after_looks old.looks made)
@@ -34,26 +34,3 @@ narrowed_half left half digits a b c less some h look = more h.rest h.small h.en
       enough = omega arith;
       lens = look-next a b c h.made h.lens look;
     }
-
--- looks and then one look
-pub looked-next : (a b c : FramesView) (most : ℕ) → LookedAtFrames a b most → c ≡ frames_view b.records (counted b.looks 1)
-    → LookedAtFrames a c (most + 1)
-looked-next a b c most h look =
-    record { made = h.made + 1; few = omega (arith, h.few); lens = look-next a b c h.made h.lens look }
-
--- no look
-pub looked-none : (a : FramesView) (most : ℕ) → LookedAtFrames a a most
-looked-none a most = record { made = 0; few = omega arith; lens = refl }
-
--- more are allowed
-pub looked-more : (a b : FramesView) (most more : ℕ) → most ≤ more → LookedAtFrames a b most → LookedAtFrames a b more
-looked-more a b most more le h = record { made = h.made; few = omega (arith, h.few); lens = h.lens }
-
--- looks and then looks
-pub looked-both : (a b c : FramesView) (most more : ℕ) → LookedAtFrames a b most → LookedAtFrames b c more → LookedAtFrames a c (most + more)
-looked-both a b c most more h k = record {
-  made = h.made + k.made;
-  few = omega (arith, h.few, k.few);
-  lens = k.lens ∙ ap₂ frames_view (ap (λ (v : FramesView). v.records) h.lens)
-      (ap (λ (v : FramesView). after_looks v.looks k.made) h.lens ∙ after_looks-after_looks a.looks h.made k.made);
-}

@@ -1,5 +1,5 @@
 -- A moment that has a time by a frame that is believed has it by the parts.
-use Rattle.std.proofs.Common.{◌≡◌, ◌⊎◌, inl, inr, ◌<◌, ◌≤◌, ◌+◌, ◌-◌, ◌*◌, ℕ, Bool, true, List, Option, Some, None, false, suc, zero, length, slice_get, refl, sym, ap, ◌∙◌, subst, arith}
+use Rattle.std.proofs.Common.{◌≡◌, inl, inr, ◌<◌, ◌≤◌, ◌+◌, ◌-◌, ◌*◌, ℕ, Bool, true, List, Option, Some, None, false, suc, zero, slice_get, refl, ap, ◌∙◌, subst, arith}
 use Rattle.std.specs.Prelude.{is_some}
 use Rattle.std.proofs.lemmas.{Bool.cases_lt}
 use Rattle.irig_track.specs.Track.{IsTrack}
@@ -88,18 +88,15 @@ module _ (f : FormatView) (alone : Bool) (century : ℕ) (ps : List Pulse) where
           )
 
   -- the interval ends at the next rise
-  next-rises : (number element : ℕ) (g : Fields) (from to : ℕ) → HeldGoesOn f alone century ps number element g
-      → IntervalEnds f century ps number element g from to → NextRises ps number to
-  next-rises number element g from to h (inl a) = a.1
-  next-rises number element g from to h (inr (inl a)) = a.1.1
-  next-rises number element g from to (inl less) (inr (inr a)) = absurd (omega (arith, less, a.0))
-  next-rises number element g from to (inr next) (inr (inr a)) = absurd (a.1.0 (record { next = next.0; begins = next.1.0; later = next.2 }))
+  next-rises : (number element : ℕ) (g : Fields) (to : ℕ) → IntervalEnds f century ps number element g to → NextRises ps number to
+  next-rises number element g to (inl a) = a.1
+  next-rises number element g to (inr a) = a.1.1
 
 pub keeps_times : KeepsTimes
 keeps_times f alone century ps d n x a steady h =
     let t = a.told in
     let held : IsHeldElement f (frames f ps) (believed f alone ps) t.number t.element t.fields = (t.is_element, a.is_held) in
-    let next = next-rises f alone century ps t.number t.element t.fields t.point.rise t.to h t.ends in
+    let next = next-rises f alone century ps t.number t.element t.fields t.to t.ends in
     record {
       number = t.number;
       element = t.element;

@@ -4,8 +4,6 @@ pub mod StandardFacts
 pub mod SoundFrames
 pub mod Records
 -- times
-pub mod ToldLaws
-pub mod OneTime
 pub mod PartPlaces
 pub mod SameTimes
 pub mod ByParts
@@ -15,10 +13,8 @@ pub mod WholeFrames
 pub mod StepCounts
 pub mod SupportCount
 pub mod Found
-pub mod Decisions
 pub mod SupportSteps
 pub mod Shares
-pub mod TimeLaws
 pub mod PartTimes
 pub mod KeptTimes
 pub mod NextTimes
@@ -26,8 +22,9 @@ pub mod Origin
 pub mod Chains
 pub mod PartChains
 pub mod Calendar
--- times by frames that are believed
-pub mod HeldTimes
+-- moments without a time
+pub mod Reasons
+-- frames that are believed
 pub mod Supported
 -- looks
 pub mod FrameLookLemmas

@@ -12,7 +12,7 @@ use Rattle.irig_times.specs.Parts.{AreParts, GoesOn, IsPoint, TellsByParts, plus
 use Rattle.irig_times.specs.PartLaws.{OfCalendarByParts, BeforeTheNextPoint, ExactAtParts, InMinuteByParts, NeverFallsInPart, OneTimeByParts, PicosecondsByParts}
 use Rattle.irig_times.proofs.{ByParts.goes-there, ByParts.parts-one-time, ByParts.time-by-parts, Found.last-risen, Found.next-later, PartPlaces.point-minute}
 use Rattle.irig_times.proofs.Shares.{divides, hundred-intervals, interval-some, picos-micros, picos-share, share-below, share-grows, share-none, times-less}
-use Rattle.irig_times.proofs.TimeLaws.{risen-at}
+use Rattle.irig_times.proofs.Found.{risen-at}
 
 pub parts_one : OneTimeByParts
 parts_one f century ps parts are d n x y a b = parts-one-time f century ps parts are d n x y a b

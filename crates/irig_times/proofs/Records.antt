@@ -8,7 +8,7 @@ use Rattle.irig_index.specs.declared.record.Verdict.TheVariants.{Read}
 use Rattle.irig_index.specs.{declared.record.Record.Record, Frames.frame_at, Frames.frames, Laws.TellsOfMarker, Verdict.verdict_of}
 use Rattle.irig_index.proofs.MarkerLaws.{frames_are_the_markers, markers_rise}
 use Rattle.irig_times.specs.{Elements.AreFrames, Elements.IsElement, FrameLooks.PartedAt, FrameLooks.MarkersRise, Times.timed}
-use Rattle.irig_times.proofs.SoundFrames.{element-stands, none-within, timed-read}
+use Rattle.irig_times.proofs.SoundFrames.{none-within, timed-read}
 
 module _ (f : FormatView) (ps : List Pulse) where
   -- the records rise
@@ -36,14 +36,6 @@ module _ (f : FormatView) (ps : List Pulse) where
     | inl far ↦ far
     | inr near ↦ absurd (none-within f ps r.marker g Fine (frame-reads i r g here tells) s (frame-tells j s there) lt near)
   ]
-
-  -- after each but the last element of a frame with a time comes another pulse
-  pub next-stands : (number element : ℕ) (g : Fields) → IsElement f (frames f ps) number element g → element < 99
-      → (p : Pulse) × (slice_get ps (number + 1) ≡ Some p)
-  next-stands number element g is lt =
-      let it = element-stands f ps is.one.marker g Fine (frame-reads is.at is.one g is.there is.tells) (element + 1) (omega arith) (omega arith) in
-      let place : is.one.marker + (element + 1) ≡ number + 1 = omega (arith, is.place) in
-      (it.0, ap (slice_get ps) (sym place) ∙ it.1)
 
   -- a marker is a pulse
   pub marker-stands : (number : ℕ) (g : Fields) → IsElement f (frames f ps) number 0 g → (p : Pulse) × (slice_get ps number ≡ Some p)
@@ -76,50 +68,6 @@ pub records-rise : (f : FormatView) (rs : List Record) → AreFrames f rs → Ma
 records-rise f rs are = subst MarkersRise (sym are.are) (frames-rise f are.pulses)
 
 module _ (f : FormatView) (rs : List Record) (are : AreFrames f rs) where
-  records-apart : (i j : ℕ) (r s : Record) (g : Fields) → slice_get rs i ≡ Some r → slice_get rs j ≡ Some s
-      → timed f r.verdict ≡ Some g → r.marker < s.marker → r.marker + 99 < s.marker
-  records-apart = subst (λ (ts : List Record). (i j : ℕ) (r s : Record) (g : Fields) → slice_get ts i ≡ Some r → slice_get ts j ≡ Some s
-      → timed f r.verdict ≡ Some g → r.marker < s.marker → r.marker + 99 < s.marker) (sym are.are) (frames-apart f are.pulses)
-
-  -- the record of the frame that has a pulse is the last one up to that pulse
-  pub element-last : (number element count : ℕ) (g : Fields) (r : Record) → PartedAt rs number (count + 1) → slice_get rs count ≡ Some r
-      → IsElement f rs number element g → (r.marker + element ≡ number) × (timed f r.verdict ≡ Some g)
-  element-last number element count g r parted here is = elim (cases_order is.at count) [
-    | inl same ↦
-        let one : is.one ≡ r = same_Some is.one r (sym is.there ∙ (ap (slice_get rs) same ∙ here)) in
-        subst (λ (z : Record). (z.marker + element ≡ number) × (timed f z.verdict ≡ Some g)) one (is.place, is.tells)
-    | inr other ↦ elim other [
-      | inl lt ↦
-          let rise = records-rise f rs are is.at count is.one r is.there here lt in
-          let apart = records-apart is.at count is.one r g is.there here is.tells rise in
-          let up = parted.before count r here (omega arith) in
-          absurd (omega (arith, apart, up, is.place, is.few))
-      | inr gt ↦
-          let after = parted.after is.at is.one is.there (omega arith) in
-          absurd (omega (arith, after, is.place))
-    ]
-  ]
-
-  -- a pulse is an element of one record's frame
-  pub element-at : (number d e : ℕ) (g h : Fields) (a : IsElement f rs number d g) (b : IsElement f rs number e h) → a.at ≡ b.at
-  element-at number d e g h a b = elim (cases_order a.at b.at) [
-    | inl same ↦ same
-    | inr other ↦ elim other [
-      | inl lt ↦
-          let apart = records-apart a.at b.at a.one b.one g a.there b.there a.tells (records-rise f rs are a.at b.at a.one b.one a.there b.there lt) in
-          absurd (omega (arith, apart, a.place, a.few, b.place))
-      | inr gt ↦
-          let apart = records-apart b.at a.at b.one a.one h b.there a.there b.tells (records-rise f rs are b.at a.at b.one a.one b.there a.there gt) in
-          absurd (omega (arith, apart, b.place, b.few, a.place))
-    ]
-  ]
-
-  -- a pulse up to which there is no marker is no element
-  pub element-none : (number element : ℕ) (g : Fields) → PartedAt rs number 0 → IsElement f rs number element g → ⊥
-  element-none number element g parted is =
-      let after = parted.after is.at is.one is.there (omega arith) in
-      omega (arith, after, is.place)
-
   -- a frame that begins with the next pulse has the next record
   pub begins-next : (number count : ℕ) (g : Fields) (r : Record) → PartedAt rs number count → slice_get rs count ≡ Some r
       → IsElement f rs (number + 1) 0 g → (r.marker ≡ number + 1) × (timed f r.verdict ≡ Some g)

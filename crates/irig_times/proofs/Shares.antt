@@ -1,7 +1,7 @@
 -- Shares of an interval, and the intervals of the formats.
-use Rattle.std.proofs.Common.{◌≡◌, ℕ, ◌+◌, ◌-◌, ◌*◌, ◌/◌, ◌<◌, ◌≤◌, refl, sym, ap, ◌∙◌, inl, inr, arith}
+use Rattle.std.proofs.Common.{◌≡◌, ℕ, ◌+◌, ◌-◌, ◌*◌, ◌/◌, ◌<◌, ◌≤◌, refl, sym, ap, ◌∙◌, arith}
 use Rattle.std.proofs.Math.Nat.{add-mul-div_left, div-div-eq-div-mul, mul-div-mul_left, div-le_self, div-mul-le_self, mul-le-mul_right}
-use Rattle.std.proofs.lemmas.{Nat.div_below, Nat.le-div, Bool.cases_lt}
+use Rattle.std.proofs.lemmas.{Nat.div_below, Nat.le-div}
 use Rattle.irig_codes.specs.declared.format.Kind.TheVariants.{A, B, E, G}
 use Rattle.irig_codes.specs.{Format.frame_period_of, Format.interval_of, declared.format.Kind.Kind}
 use Rattle.irig_times.specs.Elements.{share}
@@ -60,16 +60,6 @@ module _ (d n : ℕ) (some : 0 < d) where
       let also : d * 1000000 ≡ 1000000 * d = omega arith in
       let few : 0 < 1000000 = omega arith in
       div-div-eq-div-mul (n * 1000000) d 1000000 ∙ ((λ i. swapped i / also i) ∙ mul-div-mul_left n d few)
-
-  -- they are before a microsecond if the exact time is
-  pub picos-before : (to : ℕ) → n < d * to → n * 1000000 / d < 1000000 * to
-  picos-before to lt = div_below (n * 1000000) d (1000000 * to) some (omega (arith, lt))
-
-  pub picos-after : (to : ℕ) → n * 1000000 / d < 1000000 * to → n < d * to
-  picos-after to lt = elim (cases_lt n (d * to)) [
-    | inl less ↦ less
-    | inr le ↦ absurd (omega (arith, lt, le-div (1000000 * to) (n * 1000000) d some (omega (arith, le))))
-  ]
 
   -- those after a microsecond
   picos-since : (r : ℕ) → d * r ≤ n → n * 1000000 / d - 1000000 * r ≡ (n - d * r) * 1000000 / d

@@ -1,10 +1,10 @@
 -- How many pulses are in step, one by one.
-use Rattle.std.proofs.Common.{◌≡◌, ℕ, zero, suc, ◌+◌, ◌-◌, ◌<◌, ◌≤◌, cond, Bool, slice_get, true, false, List, refl, sym, ap, ◌∙◌, arith}
+use Rattle.std.proofs.Common.{◌≡◌, ℕ, zero, suc, ◌+◌, ◌-◌, ◌<◌, ◌≤◌, ◌&&◌, cond, Bool, slice_get, true, false, List, refl, sym, ap, ◌∙◌, arith}
 use Rattle.irig_codes.specs.Format.{FormatView}
 use Rattle.irig_recording.specs.declared.pulse.Pulse.{Pulse}
 use Rattle.irig_codes.specs.declared.width.Element.{Element}
 use Rattle.irig_times.specs.Ends.{contradictions, contradicts}
-use Rattle.irig_times.specs.Steps.{ahead, behind, is_in_step_at}
+use Rattle.irig_times.specs.Steps.{ahead, all_follow, behind, follows_at, is_in_step_at}
 
 module _ (f : FormatView) (ps : List Pulse) where
   ahead-step : (n k : ℕ) → is_in_step_at f ps k ≡ true → ahead f ps k (suc n) ≡ suc (ahead f ps (k + 1) n)
@@ -48,6 +48,24 @@ module _ (f : FormatView) (ps : List Pulse) where
       let step : behind f ps (number - count) (most - count) ≡ suc (behind f ps (number - (count + 1)) n) =
       ap (behind f ps (number - count)) left ∙ (behind-step n (number - count) on ∙ ap (λ k. suc (behind f ps k n)) next) in
       omega (arith, so_far, step)
+
+  -- the rest decides if the first ones follow
+  pub follow-more : (number many count : ℕ) (all : Bool) → count < many → follows_at f ps (number + count) ≡ true
+      → all ≡ all_follow f ps (number + count) (many - count) → all ≡ all_follow f ps (number + (count + 1)) (many - (count + 1))
+  follow-more number many count all lt on so_far =
+      let n = many - (count + 1) in
+      let left : many - count ≡ suc n = omega (arith, lt) in
+      let next : number + count + 1 ≡ number + (count + 1) = omega arith in
+      so_far ∙ (ap (all_follow f ps (number + count)) left ∙ (ap (λ b. b && all_follow f ps (number + count + 1) n) on ∙ ap (λ k. all_follow f ps k n) next))
+
+  pub follow-stop : (number many count : ℕ) (all : Bool) → count < many → follows_at f ps (number + count) ≡ false
+      → all ≡ all_follow f ps (number + count) (many - count) → all ≡ false
+  follow-stop number many count all lt off so_far =
+      let left : many - count ≡ suc (many - (count + 1)) = omega (arith, lt) in
+      so_far ∙ (ap (all_follow f ps (number + count)) left ∙ ap (λ b. b && all_follow f ps (number + count + 1) (many - (count + 1))) off)
+
+  pub follow-none : (number n : ℕ) → n ≡ 0 → all_follow f ps number n ≡ true
+  follow-none number n e = ap (all_follow f ps number) e
 
 -- how many pulses contradict, one by one
 module _ (f : FormatView) (ps : List Pulse) (wanted : List Element) where

@@ -1,6 +1,6 @@
 -- Frames that are believed, record by record.
 use Rattle.std.proofs.Common.{◌≡◌, ◌<◌, ◌≤◌, ◌+◌, ◌++◌, ◌∷◌, [], ℕ, suc, Bool, true, false, ◌&&◌, List, Option, Some, None, drop, get_or, length, slice_get}
-use Rattle.std.proofs.Common.{refl, sym, ap, ◌∙◌, subst, append_assoc, add-one}
+use Rattle.std.proofs.Common.{refl, sym, ap, ◌∙◌, append_assoc, add-one}
 use Rattle.std.specs.Prelude.{is_some}
 use Rattle.std.proofs.{Math.Seq.drop-cons}
 use Rattle.std.proofs.lemmas.List.{append-nil, drop_all}

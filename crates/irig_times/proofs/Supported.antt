@@ -1,4 +1,4 @@
--- A time is by a frame that another frame of the track agrees with, or that is the only one.
+-- A frame that is believed is one that another frame of the track agrees with, or the only one.
 use Rattle.std.proofs.Common.{◌≡◌, ◌⊎◌, inl, inr, ◌<◌, ◌≤◌, ◌+◌, ◌-◌, ◌||◌, ◌∷◌, [], ℕ, zero, suc, true, false, not, List, Option, Some, None}
 use Rattle.std.proofs.Common.{slice_get, refl, sym, ap, ◌∙◌, subst, arith}
 use Rattle.std.specs.Prelude.{is_some}
@@ -7,10 +7,10 @@ use Rattle.std.proofs.lemmas.Option.{none-some, same_Some}
 use Rattle.irig_codes.specs.Format.{FormatView}
 use Rattle.irig_recording.specs.declared.pulse.Pulse.{Pulse}
 use Rattle.irig_index.specs.{Frames.frames, declared.record.Record.Record}
-use Rattle.irig_safety.specs.{Bearing.agrees, declared.shown.Shown.Shown}
-use Rattle.irig_times.specs.Held.{HasTime, IsBacked, IsOnly, Shows}
+use Rattle.irig_safety.specs.{declared.shown.Shown.Shown}
+use Rattle.irig_times.specs.Held.{IsBacked, IsOnly, Shows}
 use Rattle.irig_times.specs.Support.{agrees_from, agrees_to, believed, farther, held_from, is_held, is_supported, nearer, shown_in, shown_of, with_frame}
-use Rattle.irig_times.specs.Laws.{TimesAreSupported}
+use Rattle.irig_times.specs.Origins.{FramesAreSupported}
 
 module _ (f : FormatView) (ps : List Pulse) where
   -- these records are those from a place on
@@ -160,11 +160,10 @@ module _ (f : FormatView) (ps : List Pulse) where
       let place : base + 1 + k ≡ base + suc k = omega arith in
       subst IsSure place (sure-next (shown_of f ps r) r rs base a2 a are far near none refl (sure rs (base + 1) (next-from r rs base are)) k e)
 
-pub times_are_supported : TimesAreSupported
+pub frames_are_supported : FramesAreSupported
 unfolding believed
-times_are_supported f century ps d n x a =
-    let k = a.told.is_element.at in
-    let place : 0 + k ≡ k = omega arith in
+frames_are_supported f ps number element g (is, on) =
+    let place : 0 + is.at ≡ is.at = omega arith in
     subst (λ i. (frame : Shown) × Shows f ps i frame × (IsBacked f ps i frame ⊎ IsOnly f ps i)) place
     (sure f ps (frames f ps) 0 (λ j. ap (slice_get (frames f ps)) (omega arith)) None None (λ y e. absurd (none-some y e)) (λ y e. absurd (none-some y e))
-    (λ e at y lt s. absurd (omega (arith, lt))) k a.is_held)
+    (λ e at y lt s. absurd (omega (arith, lt))) is.at on)

@@ -29,9 +29,13 @@ at_minute t hours minutes n = record {
   micros = n;
 }
 
+-- the microseconds of a minute: the last of an hour can have a leap second
+abbrev pub minute_end : ℕ → ℕ
+minute_end minutes = if minutes == 59 then 61000000 else 60000000
+
 -- a frame of a time ends with its minute
 abbrev pub is_whole : ℕ → Time → Bool
-is_whole period t = nat_le (t.micros + period) 61000000
+is_whole period t = nat_le (t.micros + period) (minute_end t.minutes)
 
 -- the second time is one period after the first and one before the third
 abbrev pub is_middle : ℕ → ℕ → Time → Time → Time → Bool

@@ -5,10 +5,11 @@ use Rattle.std.specs.Prelude.{ℕ, Bool, true, false, if◌then◌else◌, List,
 use Rattle.std.specs.Prelude.{None, slice_get}
 use Rattle.irig_codes.specs.Format.{FormatView}
 use Rattle.irig_recording.specs.declared.pulse.Pulse.{Pulse}
-use Rattle.irig_times.specs.{declared.part.Part.Part, Between.between, Whole.whole_parts}
+use Rattle.irig_index.specs.Frames.{frames}
+use Rattle.irig_times.specs.{declared.part.Part.Part, Between.between, Support.believed}
 use Rattle.irig_times.specs.{Ends.end_after, Ends.end_before, Jumps.after_jump, Jumps.before_jump}
 use Rattle.irig_times.specs.{Jumps.is_jump_between, declared.time.Time.Time}
-use Rattle.irig_times.specs.Parts.{TellsByParts, is_empty}
+use Rattle.irig_times.specs.{Parts.TellsByParts, Parts.is_empty, Whole.whole_in}
 
 -- two parts more before others, if there are two
 abbrev pub with_sides : Option (Part × Part) → List Part → List Part
@@ -46,9 +47,13 @@ filled f century ps before [] = with_sides (end_after f ps before) []
 filled f century ps before (b ∷ parts) =
     with_frame f century ps before b (slice_get parts 0) (filled f century ps (Some b) parts)
 
+-- all parts of a track that have a time, if of each record `held` says whether its frame is believed
+abbrev pub parts_by : FormatView → List Bool → ℕ → List Pulse → List Part
+parts_by f held century ps = filled f century ps None (whole_in f (frames f ps) held)
+
 -- all parts of a track that have a time
 abbrev pub timed_parts : FormatView → Bool → ℕ → List Pulse → List Part
-timed_parts f alone century ps = filled f century ps None (whole_parts f alone ps)
+timed_parts f alone century ps = parts_by f (believed f alone ps) century ps
 
 -- n / d microseconds after the start of a track it is this time
 abbrev pub IsTimed : FormatView → Bool → ℕ → List Pulse → ℕ → ℕ → Time → Type 0

@@ -37,21 +37,12 @@ pub record NextRises (ps : List Pulse) (number time : ℕ) : Type 0 where
   pub stands : slice_get ps (number + 1) ≡ Some next
   pub is : time ≡ next.rise
 
--- the last interval of a frame, from the pulse with this number, which rises at `from`, ends at `to`
--- if it is as long as the others are on average
-pub record MeanEnds (ps : List Pulse) (number from to : ℕ) : Type 0 where
-  pub first : Pulse
-  pub stands : slice_get ps (number - 99) ≡ Some first
-  pub is : to ≡ from + (from - first.rise) / 99
-
--- the interval from an index point, which rises at `from`, ends at `to`: at the next index point, in
--- this frame or in the one that follows it; or, if none follows, after the mean interval
-abbrev pub IntervalEnds : FormatView → ℕ → List Pulse → ℕ → ℕ → Fields → ℕ → ℕ → Type 0
-IntervalEnds f century ps number element g from to =
+-- the interval from an index point ends at `to`, at the next index point: in this frame, or in the one
+-- that follows it
+abbrev pub IntervalEnds : FormatView → ℕ → List Pulse → ℕ → ℕ → Fields → ℕ → Type 0
+IntervalEnds f century ps number element g to =
     ((element < 99) × NextRises ps number to)
-    ⊎ (((element ≡ 99) × (IsFollowed f century (frames f ps) number g × NextRises ps number to))
-    ⊎ ((element ≡ 99) × ((IsFollowed f century (frames f ps) number g → ⊥)
-    × MeanEnds ps number from to)))
+    ⊎ ((element ≡ 99) × (IsFollowed f century (frames f ps) number g × NextRises ps number to))
 
 -- how much of an interval is over, in whole microseconds, if `part` of the `whole` between two
 -- rises is; both in the same unit
@@ -70,7 +61,7 @@ pub record TellsTime (f : FormatView) (century : ℕ) (ps : List Pulse) (d n : �
   pub last : risen_by (n / d) ps ≡ number + 1
   pub stands : slice_get ps number ≡ Some point
   pub is_element : IsElement f (frames f ps) number element fields
-  pub ends : IntervalEnds f century ps number element fields point.rise to
+  pub ends : IntervalEnds f century ps number element fields to
   pub before : n < d * to
   pub is : time ≡ time_in fields (element * interval_of f.kind
       + share (interval_of f.kind) (n - d * point.rise) (d * (to - point.rise)))

@@ -1,16 +1,19 @@
 -- Where the time jumps between two frames though all pulses from the one to the other are in step: a
 -- clock was set, or a recorder lost whole frames. Nobody knows at which element. This project's own.
-use Rattle.std.specs.Prelude.{ℕ, ◌+◌, ◌-◌, ◌/◌, ◌%◌, ◌==◌, Bool, false, true, not, is_some, min}
-use Rattle.std.specs.Prelude.{if◌then◌else◌, List, Option, Some, None}
-use Rattle.irig_codes.specs.Format.{FormatView, frame_period_of}
+use Rattle.std.specs.Prelude.{ℕ, ◌+◌, ◌-◌, ◌*◌, ◌/◌, ◌%◌, ◌==◌, ◌&&◌, ◌||◌, nat_le, Bool, false, true}
+use Rattle.std.specs.Prelude.{is_some, min, not, if◌then◌else◌, List, Option, Some, None, slice_get}
+use Rattle.irig_codes.specs.Format.{FormatView, frame_period_of, interval_of}
 use Rattle.irig_codes.specs.declared.format.Kind.{Kind}
 use Rattle.irig_recording.specs.declared.pulse.Pulse.{Pulse}
 use Rattle.irig_times.specs.{declared.part.Part.Part, Between.gap, Between.missing_in}
-use Rattle.irig_times.specs.{Ends.time_elements, Follows.is_later, Parts.is_empty, Steps.ahead}
+use Rattle.irig_times.specs.{declared.time.Time.Time, Between.rounded}
+use Rattle.irig_times.specs.{Ends.time_elements, Follows.is_later, Parts.is_empty, Steps.all_follow}
 
--- each pulse after a frame, up to the first one of another, is in step with the one before it
+-- each pulse after a frame, up to the first one of another, rises one interval after the one before,
+-- and they are whole hundreds
 abbrev pub are_joined : FormatView → List Pulse → Part → Part → Bool
-are_joined f ps a b = ahead f ps (a.number + a.count) (gap a b + 1) == gap a b + 1
+are_joined f ps a b =
+    gap a b % 100 == 0 && all_follow f ps (a.number + a.count) (gap a b + 1)
 
 -- the second time is as many periods after the first as there are hundreds of pulses
 abbrev pub runs_on : FormatView → ℕ → Part → Part → Bool
@@ -18,13 +21,37 @@ runs_on f century a b =
     if gap a b == 0 then is_later century (frame_period_of f.kind) a.time b.time
     else is_some (missing_in century (frame_period_of f.kind) (gap a b / 100 + 1) a.time b.time)
 
+-- a distance is a whole number of periods, to half an interval
+abbrev pub is_whole_apart : ℕ → ℕ → ℕ → Bool
+is_whole_apart period interval distance =
+    nat_le (2 * (distance % period)) interval
+    || nat_le (2 * (period - distance % period)) interval
+
+-- the second time is that many periods after the first
+abbrev pub runs_for : ℕ → ℕ → ℕ → Time → Time → Bool
+runs_for century period n a b =
+    if n == 1 then is_later century period a b else is_some (missing_in century period n a b)
+
+-- the markers of two frames are whole periods apart, and their times are not that many: whole frames
+-- are lost, or a clock was set, and other damage is between them
+abbrev pub slips : FormatView → ℕ → Time → Time → Option Pulse → Option Pulse → Bool
+slips f century a b None q = false
+slips f century a b (Some p) None = false
+slips f century a b (Some p) (Some q) =
+    if is_whole_apart (frame_period_of f.kind) (interval_of f.kind) (q.rise - p.rise)
+    then (if rounded (frame_period_of f.kind) p.rise q.rise == 0 then false
+    else not (runs_for century (frame_period_of f.kind)
+    (rounded (frame_period_of f.kind) p.rise q.rise) a b))
+    else false
+
 -- the time jumps between two frames that are believed
 abbrev pub is_jump : FormatView → ℕ → List Pulse → Part → Part → Bool
 is_jump f century ps a b =
     if is_empty a then false
     else (if is_empty b then false
     else (if runs_on f century a b then false
-    else (if gap a b % 100 == 0 then are_joined f ps a b else false)))
+    else (if are_joined f ps a b then true
+    else slips f century a.time b.time (slice_get ps a.number) (slice_get ps b.number))))
 
 -- the same, if both are there
 abbrev pub is_jump_between : FormatView → ℕ → List Pulse → Option Part → Option Part → Bool

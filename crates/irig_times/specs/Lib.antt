@@ -15,4 +15,6 @@ pub mod Starts
 pub mod Steps
 pub mod Support
 pub mod Times
+pub mod Untimed
 pub mod Whole
+pub mod Whys

@@ -1,10 +1,12 @@
 -- Where the time of a pulse comes from, in the words of the subject. This project's own.
-use Rattle.std.specs.Prelude.{◌≡◌, ◌⊎◌, ℕ, ◌+◌, ◌≤◌, Bool, true, List}
+use Rattle.std.specs.Prelude.{◌≡◌, ◌⊎◌, ℕ, ◌+◌, ◌≤◌, Bool, false, true, List}
 use Rattle.irig_codes.specs.{Format.FormatView, Format.frame_period_of}
 use Rattle.irig_codes.specs.declared.fields.Fields.{Fields}
 use Rattle.irig_recording.specs.declared.pulse.Pulse.{Pulse}
 use Rattle.irig_index.specs.Frames.{frames}
-use Rattle.irig_times.specs.{Counted.timed_parts, Follows.is_later, Held.IsHeldElement}
+use Rattle.irig_safety.specs.declared.shown.Shown.{Shown}
+use Rattle.irig_times.specs.{Counted.timed_parts, Follows.is_later, Held.IsBacked, Held.IsHeldElement}
+use Rattle.irig_times.specs.Held.{IsOnly, Shows}
 use Rattle.irig_times.specs.{Parts.IsPoint, Steps.is_in_step_at, Support.believed, Times.time_in}
 use Rattle.irig_times.specs.declared.time.Time.{Time}
 
@@ -59,3 +61,10 @@ TimesAreCounted = (f : FormatView) (alone : Bool) (century : ℕ) (ps : List Pul
     → InFrame f alone ps number element time
     ⊎ (CountedOn f alone century ps number element time
     ⊎ CountedBack f alone century ps number element time)
+
+-- another frame of the track agrees with each frame that is believed, or it is the only one
+abbrev pub FramesAreSupported : Type 0
+FramesAreSupported = (f : FormatView) (ps : List Pulse) (number element : ℕ) (g : Fields)
+    → (is : IsHeldElement f (frames f ps) (believed f false ps) number element g)
+    → (frame : Shown) × Shows f ps is.0.at frame
+    × (IsBacked f ps is.0.at frame ⊎ IsOnly f ps is.0.at)

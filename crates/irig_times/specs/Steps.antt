@@ -1,7 +1,8 @@
 -- Pulses that follow one another in step. This project's own.
-use Rattle.std.specs.Prelude.{ℕ, zero, suc, ◌+◌, ◌-◌, Bool, false, List, Option, Some, None}
+use Rattle.std.specs.Prelude.{ℕ, zero, suc, ◌+◌, ◌-◌, ◌&&◌, Bool, true, false, List, Option}
+use Rattle.std.specs.Prelude.{Some, None}
 use Rattle.std.specs.Prelude.{slice_get, if◌then◌else◌}
-use Rattle.irig_codes.specs.Format.{FormatView}
+use Rattle.irig_codes.specs.{Format.FormatView, Width.is_in_step, Width.step_in}
 use Rattle.irig_recording.specs.declared.pulse.Pulse.{Pulse}
 use Rattle.irig_index.specs.Marker.{follows}
 
@@ -11,10 +12,40 @@ are_in_step f None q = false
 are_in_step f (Some p) None = false
 are_in_step f (Some p) (Some q) = follows f p q
 
+-- how long after the one before it the pulse with this number rises; 0 if one of them is not there
+abbrev pub apart : Option Pulse → Option Pulse → ℕ
+apart None q = 0
+apart (Some p) None = 0
+apart (Some p) (Some q) = q.rise - p.rise
+
+abbrev pub step_at : List Pulse → ℕ → ℕ
+step_at ps zero = 0
+step_at ps (suc k) = apart (slice_get ps k) (slice_get ps (suc k))
+
+-- a step is as long as one next to it, to a tenth of that one, if that one is in step at all
+abbrev pub is_as_long : FormatView → ℕ → ℕ → Bool
+is_as_long f step other = if is_in_step f other then step_in other step else true
+
+-- the step to the pulse with this number is as long as those next to it, so that a rise that is late
+-- or early by more than a tenth is not in step on a clock that is slow or fast
+abbrev pub is_even_at : FormatView → List Pulse → ℕ → Bool
+is_even_at f ps k =
+    is_as_long f (step_at ps k) (step_at ps (k - 1))
+    && is_as_long f (step_at ps k) (step_at ps (k + 1))
+
+-- the pulse with this number rises one interval after the one before it
+abbrev pub follows_at : FormatView → List Pulse → ℕ → Bool
+follows_at f ps zero = false
+follows_at f ps (suc k) = are_in_step f (slice_get ps k) (slice_get ps (suc k))
+
 -- the pulse with this number is in step with the one before it
 abbrev pub is_in_step_at : FormatView → List Pulse → ℕ → Bool
-is_in_step_at f ps zero = false
-is_in_step_at f ps (suc k) = are_in_step f (slice_get ps k) (slice_get ps (suc k))
+is_in_step_at f ps k = follows_at f ps k && is_even_at f ps k
+
+-- each of n pulses from the one with a number on rises one interval after the one before it
+abbrev pub all_follow : FormatView → List Pulse → ℕ → ℕ → Bool
+all_follow f ps number zero = true
+all_follow f ps number (suc n) = follows_at f ps number && all_follow f ps (number + 1) n
 
 -- of n pulses from the one with a number on, how many are each in step with the one before them
 abbrev pub ahead : FormatView → List Pulse → ℕ → ℕ → ℕ

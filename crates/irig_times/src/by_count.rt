@@ -9,7 +9,6 @@ ghost use Rattle.irig_times.specs.Parts.{AreParts, GoesOn, IsPoint, TellsByParts
 use crate::follows::{is_later, same_time};
 use crate::part::{Part, Place, place_of};
 use crate::time::Time;
-use crate::timing::share;
 use irig_codes::Format;
 use irig_track::Lens;
 
@@ -85,8 +84,19 @@ fn shared(format: Format, place: &Place, part: u64, whole: u64) -> Time
     later_by(&place.time, place.element as u64 * interval + over)
 }
 
+/// How much of an interval is over, if these microseconds and picoseconds of `whole` are.
+fn share(interval: u64, micros: u64, picos: u64, whole: u64) -> u64
+    requires interval { interval ≤ 100000 }
+    requires picos { picos < 1000000 }
+    requires order { micros < whole }
+    requires small { whole ≤ 2 ^ 41 }
+    ensures { result ≡ share interval (1000000 * micros + picos) (1000000 * whole) }
+{
+    (micros * interval + picos * interval / PICOS) / whole
+}
+
 /// The time some microseconds after another, in its minute.
-pub fn later_by(time: &Time, micros: u64) -> Time
+fn later_by(time: &Time, micros: u64) -> Time
     requires small { micros < 2 ^ 53 }
     requires minute { time.now.micros < 2 ^ 53 }
     ensures value { result ≡ plus time.now micros }

@@ -3,7 +3,7 @@
 ghost use Rattle.std.specs.Prelude.{[], ◌≡◌, ◌≤◌, ◌<◌, ◌++◌, ◌∷◌, IfOk, None, OnOk, Some, length};
 ghost use Rattle.irig_index.specs.Frames.{frames};
 ghost use Rattle.std.specs.Prelude.{IfSome, ◌^◌, ◌+◌, slice_get};
-ghost use Rattle.irig_times.specs.Counted.{filled, sides_without, timed_parts, with_frame};
+ghost use Rattle.irig_times.specs.Counted.{filled, parts_by, sides_without, with_frame};
 ghost use Rattle.irig_times.specs.Counted.{with_sides};
 ghost use Rattle.irig_times.specs.Parts.{AreParts};
 
@@ -12,33 +12,31 @@ use crate::ends::end_after;
 use crate::frame_lens::FrameLens;
 use crate::jumps::{after_jump, before_jump, is_jump_between};
 use crate::part::Part;
-use crate::support::held_frames;
 use crate::whole::whole_parts;
 use irig_codes::Format;
 use irig_track::Lens;
 use std::alloc::{AllocError, Global};
 
-/// All pulses of a track that have a time. If frames stand alone, each frame that has a time is
-/// believed.
+/// All pulses of a track that have a time: of each record `held` says whether its frame is believed.
 ///
 /// The years of two digits are of this century: 20 for 2000 to 2099.
 pub fn timed_parts(
     alloc: Global,
     pulses: &mut Lens<'_>,
     records: &mut FrameLens<'_>,
+    held: &[bool],
     format: Format,
     century: u32,
-    alone: bool,
 ) -> Result<Vec<Part>, AllocError>
     requires frames { records.old.records ≡ frames format pulses.old.track.pulses }
+    requires held { length held.now ≡ length records.old.records }
     requires century { century ≤ 99 }
     ensures parts { IfOk result (λ list. list.items
-        ≡ timed_parts format alone century pulses.old.track.pulses) }
+        ≡ parts_by format held.now century pulses.old.track.pulses) }
     ensures pulses { pulses.new.track ≡ pulses.old.track }
     ensures same { records.new.records ≡ records.old.records }
 {
-    let held = held_frames(alloc, pulses, records, format, alone)?;
-    let whole = whole_parts(alloc, records, &held, format)?;
+    let whole = whole_parts(alloc, records, held, format)?;
     counted_parts(alloc, pulses, &whole, format, century)
 }
 

@@ -1,27 +1,33 @@
 //! Where the time jumps between two frames that are in step.
 
-ghost use Rattle.std.specs.Prelude.{◌≡◌, ◌≤◌, ◌<◌, ◌+◌, ◌^◌, IfSome};
+ghost use Rattle.std.specs.Prelude.{◌≡◌, ◌≤◌, ◌<◌, ◌+◌, ◌^◌, IfSome, Some};
 ghost use Rattle.irig_times.specs.Jumps.{after_jump, are_joined, before_jump, is_jump};
-ghost use Rattle.irig_times.specs.Jumps.{is_jump_between, runs_on};
+ghost use Rattle.irig_times.specs.Jumps.{is_jump_between, is_whole_apart, runs_for, runs_on, slips};
 
 use crate::between::{gap, min};
 use crate::ends::time_elements;
 use crate::follows::is_later;
-use crate::missing::missing_in;
+use crate::missing::{missing_in, rounded};
 use crate::part::Part;
-use crate::steps::ahead;
+use crate::steps::{all_follow, pulse_at};
+use crate::time::Time;
 use irig_codes::Format;
+use irig_recording::Pulse;
 use irig_track::Lens;
 
-/// Whether each pulse after a frame, up to the first one of another, is in step with the one before.
+/// Whether each pulse after a frame, up to the first one of another, rises one interval after the one
+/// before, and they are whole hundreds.
 fn are_joined(pulses: &mut Lens<'_>, format: Format, from: &Part, to: &Part) -> bool
     requires order { from.now.number + from.now.count ≤ to.now.number }
     requires small { to.now.number < 2 ^ 30 }
     ensures joined { result ≡ are_joined format pulses.old.track.pulses from.now to.now }
     ensures pulses { pulses.new.track ≡ pulses.old.track }
 {
-    let count = gap(from, to) + 1;
-    ahead(pulses, format, from.number + from.count, count) == count
+    let gap = gap(from, to);
+    if gap % 100 != 0 {
+        return false;
+    }
+    all_follow(pulses, format, from.number + from.count, gap + 1)
 }
 
 /// Whether the second time is as many periods after the first as there are hundreds of pulses.
@@ -42,7 +48,7 @@ fn runs_on(format: Format, century: u32, from: &Part, to: &Part) -> bool
 }
 
 /// Whether the time jumps between two frames that are believed.
-fn is_jump(pulses: &mut Lens<'_>, format: Format, century: u32, from: &Part, to: &Part) -> bool
+pub fn is_jump(pulses: &mut Lens<'_>, format: Format, century: u32, from: &Part, to: &Part) -> bool
     requires century { century ≤ 99 }
     requires times { (from.now.time.micros < 2 ^ 59) × (to.now.time.micros < 2 ^ 59) }
     requires order { from.now.number + from.now.count ≤ to.now.number }
@@ -59,11 +65,82 @@ fn is_jump(pulses: &mut Lens<'_>, format: Format, century: u32, from: &Part, to:
     if runs_on(format, century, from, to) {
         return false;
     }
-    if gap(from, to) % 100 == 0 {
-        are_joined(pulses, format, from, to)
-    } else {
-        false
+    if are_joined(pulses, format, from, to) {
+        return true;
     }
+    let first = pulse_at(pulses, from.number);
+    let last = pulse_at(pulses, to.number);
+    slips(format, century, &from.time, &to.time, first, last)
+}
+
+/// Whether a distance is a whole number of periods, to half an interval.
+fn is_whole_apart(period: u64, interval: u64, distance: u64) -> bool
+    requires { (0 < period) × (period < 2 ^ 32) }
+    ensures { result ≡ is_whole_apart period interval distance }
+{
+    let rest = distance % period;
+    2 * rest <= interval || 2 * (period - rest) <= interval
+}
+
+/// Whether the second time is that many periods after the first.
+fn runs_for(century: u32, period: u64, count: u64, from: &Time, to: &Time) -> bool
+    requires century { century ≤ 99 }
+    requires small { (period < 2 ^ 25) × (count < 2 ^ 42 + 2) }
+    requires times { (from.now.micros < 2 ^ 59) × (to.now.micros < 2 ^ 59) }
+    ensures { result ≡ runs_for century period count from.now to.now }
+{
+    if count == 1 {
+        return is_later(century, period, from, to);
+    }
+    missing_in(century, period, count, from, to).is_some()
+}
+
+/// Whether the markers of two frames are whole periods apart, and their times are not that many.
+fn slips(
+    format: Format,
+    century: u32,
+    from: &Time,
+    to: &Time,
+    first: Option<Pulse>,
+    last: Option<Pulse>,
+) -> bool
+    requires century { century ≤ 99 }
+    requires times { (from.now.micros < 2 ^ 59) × (to.now.micros < 2 ^ 59) }
+    requires low { IfSome last (λ q. q.rise ≤ 2 ^ 40) }
+    ensures { result ≡ slips format century from.now to.now first last }
+{
+    match (first, last) {
+        (Some(first), Some(last)) => slips_by(format, century, from, to, first, last),
+        (Some(_), None) => false,
+        (None, Some(_)) => false,
+        (None, None) => false,
+    }
+}
+
+/// The same, if both markers are there.
+fn slips_by(
+    format: Format,
+    century: u32,
+    from: &Time,
+    to: &Time,
+    first: Pulse,
+    last: Pulse,
+) -> bool
+    requires century { century ≤ 99 }
+    requires times { (from.now.micros < 2 ^ 59) × (to.now.micros < 2 ^ 59) }
+    requires low { last.rise ≤ 2 ^ 40 }
+    ensures { result ≡ slips format century from.now to.now (Some first) (Some last) }
+{
+    let period = format.frame_period();
+    let distance = last.rise.saturating_sub(first.rise);
+    if !is_whole_apart(period, format.interval(), distance) {
+        return false;
+    }
+    let count = rounded(period, first.rise, last.rise);
+    if count == 0 {
+        return false;
+    }
+    !runs_for(century, period, count, from, to)
 }
 
 /// The same, if both are there.

@@ -2,7 +2,8 @@
 
 ghost use Rattle.std.specs.Prelude.{IfSome, ◌≡◌, ◌≤◌, ◌+◌, ◌*◌, ◌^◌, ◌<◌};
 ghost use Rattle.irig_times.specs.Between.{at_micros, at_minute, day_micros, is_middle, is_whole};
-ghost use Rattle.irig_times.specs.Between.{middle, missing_in, missing_more, missing_one};
+ghost use Rattle.irig_times.specs.Between.{middle, minute_end, missing_in, missing_more};
+ghost use Rattle.irig_times.specs.Between.{missing_one};
 ghost use Rattle.irig_times.specs.Between.{next_time, rounded, time_before};
 
 use crate::follows::{is_later, same_day};
@@ -44,12 +45,19 @@ fn at_minute(time: &Time, hours: u32, minutes: u32, micros: u64) -> Time
     }
 }
 
+/// The microseconds of a minute: the last of an hour can have a leap second.
+fn minute_end(minutes: u32) -> u64
+    ensures { result ≡ minute_end minutes }
+{
+    if minutes == 59 { LONG_MINUTE } else { MINUTE }
+}
+
 /// Whether a frame of a time ends with its minute.
 pub fn is_whole(period: u64, time: &Time) -> bool
     requires { (period < 2 ^ 32) × (time.now.micros < 2 ^ 60) }
     ensures { result ≡ is_whole period time.now }
 {
-    time.micros + period <= LONG_MINUTE
+    time.micros + period <= minute_end(time.minutes)
 }
 
 /// Whether a time is one period after another and one before a third.
@@ -65,7 +73,7 @@ fn is_middle(century: u32, period: u64, from: &Time, time: &Time, to: &Time) -> 
 }
 
 /// The time of the one frame that is missing between two.
-fn middle(century: u32, period: u64, from: &Time, to: &Time) -> Option<Time>
+pub fn middle(century: u32, period: u64, from: &Time, to: &Time) -> Option<Time>
     requires century { century ≤ 99 }
     requires small { period < 2 ^ 32 }
     requires times { (from.now.micros < 2 ^ 59) × (to.now.micros < 2 ^ 59) }
@@ -130,7 +138,7 @@ pub fn time_before(period: u64, time: &Time) -> Option<Time>
 }
 
 /// The microseconds since midnight, in minutes of 60 seconds.
-fn day_micros(time: &Time) -> u64
+pub fn day_micros(time: &Time) -> u64
     requires { time.now.micros < 2 ^ 59 }
     ensures { result ≡ day_micros time.now }
 {
@@ -167,7 +175,7 @@ pub fn missing_in(century: u32, period: u64, count: u64, from: &Time, to: &Time)
 }
 
 /// The microseconds since midnight some periods after a time.
-fn later_micros(period: u64, count: u64, from: &Time) -> u128
+pub fn later_micros(period: u64, count: u64, from: &Time) -> u128
     requires small { (period < 2 ^ 25) × (count < 2 ^ 42 + 2) }
     requires times { from.now.micros < 2 ^ 59 }
     ensures { result ≡ day_micros from.now + count * period }

@@ -40,7 +40,7 @@ pub struct Place {
 }
 
 /// How many parts begin with the pulse of a number, or before it.
-fn parts_up_to(parts: &[Part], format: Format, number: usize) -> usize
+pub fn parts_up_to(parts: &[Part], format: Format, number: usize) -> usize
     requires { (n : ℕ) × AreParts format 0 n parts.now }
     ensures parted { PartsAt parts.now number result }
     ensures within { result ≤ length parts.now }

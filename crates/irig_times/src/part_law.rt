@@ -3,7 +3,8 @@
 ghost use Rattle.irig_times.specs.PartLaws.{BeforeTheNextPoint, ExactAtParts, InMinuteByParts};
 ghost use Rattle.irig_times.specs.PartLaws.{NeverFallsInPart, OneTimeByParts, PicosecondsByParts};
 ghost use Rattle.irig_times.specs.PartLaws.{KeepsTimes, NeverFallsByParts, OfCalendarByParts};
-ghost use Rattle.irig_times.specs.{Origins.TimesAreCounted, PartLaws.TimedPartsAreParts};
+ghost use Rattle.irig_times.specs.Origins.{FramesAreSupported, TimesAreCounted};
+ghost use Rattle.irig_times.specs.PartLaws.{TimedPartsAreParts};
 
 /// Does nothing. Its contract is what holds of the times by the pulses that have one.
 pub fn parts_are_exact()
@@ -17,5 +18,6 @@ pub fn parts_are_exact()
     ensures picos { PicosecondsByParts }
     ensures parts { TimedPartsAreParts }
     ensures counted { TimesAreCounted }
+    ensures supported { FramesAreSupported }
     ensures keeps { KeepsTimes }
 {}

@@ -5,10 +5,11 @@ ghost use Rattle.irig_codes.specs.Format.{FormatView};
 ghost use Rattle.irig_index.specs.{Frames.frames, declared.record.Record.Record};
 ghost use Rattle.irig_recording.specs.declared.pulse.Pulse.{Pulse};
 ghost use Rattle.irig_times.specs.FrameLooks.{PartedAt};
-ghost use Rattle.irig_times.specs.{Elements.IsFollowed, Starts.IsStartOf, Times.time_in};
+ghost use Rattle.irig_times.specs.{Elements.AreFrames, Elements.IsFollowed, Starts.IsStartOf};
+ghost use Rattle.irig_times.specs.Times.{time_in};
 
+use crate::follows::is_later;
 use crate::frame_lens::FrameLens;
-use crate::point::{Point, is_followed};
 use crate::time::{Time, time_in, timed};
 use irig_codes::{Fields, Format};
 use irig_track::Lens;
@@ -81,14 +82,44 @@ fn started(
 {
     // Read for its bound alone.
     let _count = pulses.len();
-    let point = Point {
-        fields,
-        element: 99,
-        next,
-    };
     FrameStart {
         rise: pulses.pulse(marker).rise,
         time: time_in(&fields, 0),
-        is_followed: is_followed(records, format, century, marker + 99, &point),
+        is_followed: is_followed(records, format, century, marker + 99, &fields, next),
+    }
+}
+
+/// Whether a frame is followed by another, if its last pulse is `number`, up to which there are
+/// `next` records.
+fn is_followed(
+    records: &mut FrameLens<'_>,
+    format: Format,
+    century: u32,
+    number: usize,
+    fields: &Fields,
+    next: usize,
+) -> bool
+    requires frames { AreFrames format records.old.records }
+    requires century { century ≤ 99 }
+    requires parted { PartedAt records.old.records number next }
+    ensures exact { IsTrue result
+        ↔ IsFollowed format century records.old.records number fields.now }
+    ensures same { records.new.records ≡ records.old.records }
+{
+    if next >= records.len() {
+        return false;
+    }
+    let record = records.record(next);
+    if record.marker - 1 != number {
+        return false;
+    }
+    match timed(format, record.verdict) {
+        Some(later) => is_later(
+            century,
+            format.frame_period(),
+            &time_in(fields, 0),
+            &time_in(&later, 0),
+        ),
+        None => false,
     }
 }

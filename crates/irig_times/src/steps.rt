@@ -2,7 +2,8 @@
 
 ghost use Rattle.std.specs.Prelude.{◌≡◌, ◌<◌, ◌≤◌, ◌+◌, ◌^◌, IfSome, length, option_map, slice_get};
 ghost use Rattle.irig_recording.specs.declared.pulse.Pulse.{Pulse};
-ghost use Rattle.irig_times.specs.Steps.{ahead, behind, is_in_step_at};
+ghost use Rattle.irig_times.specs.Steps.{ahead, all_follow, are_in_step, behind, follows_at};
+ghost use Rattle.irig_times.specs.Steps.{is_as_long, is_even_at, is_in_step_at, step_at};
 
 use irig_codes::{Format, in_step};
 use irig_recording::Pulse;
@@ -23,7 +24,16 @@ pub fn pulse_at(pulses: &mut Lens<'_>, number: usize) -> Option<Pulse>
 
 /// Whether the pulse of a number is in step with the one before it.
 fn is_in_step_at(pulses: &mut Lens<'_>, format: Format, number: usize) -> bool
+    requires { number < 2 ^ 33 }
     ensures step { result ≡ is_in_step_at format pulses.old.track.pulses number }
+    ensures pulses { pulses.new.track ≡ pulses.old.track }
+{
+    follows_at(pulses, format, number) && is_even_at(pulses, format, number)
+}
+
+/// Whether the pulse of a number rises one interval after the one before it.
+fn follows_at(pulses: &mut Lens<'_>, format: Format, number: usize) -> bool
+    ensures step { result ≡ follows_at format pulses.old.track.pulses number }
     ensures pulses { pulses.new.track ≡ pulses.old.track }
 {
     if number == 0 {
@@ -31,12 +41,62 @@ fn is_in_step_at(pulses: &mut Lens<'_>, format: Format, number: usize) -> bool
     }
     let before = pulse_at(pulses, number - 1);
     let here = pulse_at(pulses, number);
+    are_in_step(format, before, here)
+}
+
+/// Whether two pulses are there, and the second rises one interval after the first.
+fn are_in_step(format: Format, before: Option<Pulse>, here: Option<Pulse>) -> bool
+    ensures { result ≡ are_in_step format before here }
+{
     match (before, here) {
         (Some(before), Some(here)) => in_step(format, here.rise.saturating_sub(before.rise)),
         (Some(_), None) => false,
         (None, Some(_)) => false,
         (None, None) => false,
     }
+}
+
+/// How long after the one before it the pulse of a number rises; 0 if one of them is not there.
+fn step_at(pulses: &mut Lens<'_>, number: usize) -> u64
+    ensures step { result ≡ step_at pulses.old.track.pulses number }
+    ensures low { result ≤ 2 ^ 40 }
+    ensures pulses { pulses.new.track ≡ pulses.old.track }
+{
+    if number == 0 {
+        return 0;
+    }
+    let before = pulse_at(pulses, number - 1);
+    let here = pulse_at(pulses, number);
+    match (before, here) {
+        (Some(before), Some(here)) => here.rise.saturating_sub(before.rise),
+        (Some(_), None) => 0,
+        (None, Some(_)) => 0,
+        (None, None) => 0,
+    }
+}
+
+/// Whether a step is as long as one next to it, if that one is in step at all.
+fn is_as_long(format: Format, step: u64, other: u64) -> bool
+    requires { (step ≤ 2 ^ 40) × (other ≤ 2 ^ 40) }
+    ensures { result ≡ is_as_long format step other }
+{
+    if in_step(format, other) {
+        10 * step.abs_diff(other) <= other
+    } else {
+        true
+    }
+}
+
+/// Whether the step to the pulse of a number is as long as those next to it.
+fn is_even_at(pulses: &mut Lens<'_>, format: Format, number: usize) -> bool
+    requires { number < 2 ^ 33 }
+    ensures even { result ≡ is_even_at format pulses.old.track.pulses number }
+    ensures pulses { pulses.new.track ≡ pulses.old.track }
+{
+    let before = step_at(pulses, number.saturating_sub(1));
+    let step = step_at(pulses, number);
+    let after = step_at(pulses, number + 1);
+    is_as_long(format, step, before) && is_as_long(format, step, after)
 }
 
 /// Of some pulses from the one of a number on, how many are each in step with the one before them.
@@ -56,9 +116,25 @@ pub fn ahead(pulses: &mut Lens<'_>, format: Format, number: usize, most: usize) 
     count
 }
 
+/// Whether each of some pulses from the one of a number on rises one interval after the one before it.
+pub fn all_follow(pulses: &mut Lens<'_>, format: Format, number: usize, many: usize) -> bool
+    requires { (number < 2 ^ 32) × (many < 2 ^ 32) }
+    ensures follow { result ≡ all_follow format pulses.old.track.pulses number many }
+    ensures pulses { pulses.new.track ≡ pulses.old.track }
+{
+    let mut count = 0;
+    while count < many {
+        if !follows_at(pulses, format, number + count) {
+            return false;
+        }
+        count += 1;
+    }
+    true
+}
+
 /// Of some pulses before the one of a number, how many are in step up to it.
 pub fn behind(pulses: &mut Lens<'_>, format: Format, number: usize, most: usize) -> usize
-    requires { most ≤ number }
+    requires { (most ≤ number) × (number < 2 ^ 32) }
     ensures count { result ≡ behind format pulses.old.track.pulses number most }
     ensures few { result ≤ most }
     ensures pulses { pulses.new.track ≡ pulses.old.track }

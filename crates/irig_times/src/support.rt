@@ -25,6 +25,7 @@ pub fn held_frames(
     requires frames { records.old.records ≡ frames format pulses.old.track.pulses }
     ensures held { IfOk result (λ list.
         list.items ≡ believed format alone pulses.old.track.pulses) }
+    ensures each { IfOk result (λ list. length list.items ≡ length records.old.records) }
     ensures pulses { pulses.new.track ≡ pulses.old.track }
     ensures same { records.new.records ≡ records.old.records }
 {

@@ -10,5 +10,5 @@ returns-in_default-clause-ends g c = stopped _ _ _ _ _ _ _ _ _ [] _ _ OutOfMemor
 pub returns-in_default-held_frames-clause-ends : goal.returns-in_default-held_frames-clause-ends
 returns-in_default-held_frames-clause-ends g c = stopped _ _ _ _ _ _ _ _ _ [] _ _ OutOfMemory (begun _ _ _ _ _) (Consumes-nil _) refl
 
-pub returns-in_default-timed_parts-clause-ends : goal.returns-in_default-timed_parts-clause-ends
-returns-in_default-timed_parts-clause-ends g c = stopped _ _ _ _ _ _ _ _ _ [] _ _ OutOfMemory (begun _ _ _ _ _) (Consumes-nil _) refl
+pub returns-in_default-known_of-clause-ends : goal.returns-in_default-known_of-clause-ends
+returns-in_default-known_of-clause-ends g c = stopped _ _ _ _ _ _ _ _ _ [] _ _ OutOfMemory (begun _ _ _ _ _) (Consumes-nil _) refl

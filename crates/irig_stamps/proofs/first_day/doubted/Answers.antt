@@ -1,4 +1,4 @@
-use Rattle.std.proofs.Common.{◌≡◌, ◌+◌, ◌≤◌, ◌<◌, length, slice_get, List, ap, sym, ◌∙◌, arith}
+use Rattle.std.proofs.Common.{◌≤◌, ◌<◌, length, slice_get, List, ap, ◌∙◌, arith}
 use Rattle.irig_index.specs.declared.record.Record.{Record}
 use Rattle.irig_times.proofs.SupportSteps.{stands}
 use Rattle.irig_stamps.proofs.DateSteps.{doubt-end, doubt-step}

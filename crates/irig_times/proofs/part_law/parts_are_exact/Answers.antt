@@ -1,7 +1,7 @@
 use Rattle.irig_times.proofs.PartTimes.{parts_calendar, parts_exact, parts_fall, parts_minute, parts_next, parts_one, parts_picos}
 use Rattle.irig_times.proofs.KeptTimes.{keeps_times, timed_parts_are}
 use Rattle.irig_times.proofs.PartChains.{parts_never_fall}
-use Rattle.irig_times.proofs.Origin.{times_are_counted}
+use Rattle.irig_times.proofs.{Origin.times_are_counted, Supported.frames_are_supported}
 use Rattle.irig_times.proofs.part_law.parts_are_exact.Goals as goal
 
 pub returns-clause-one : goal.returns-clause-one
@@ -36,3 +36,6 @@ returns-clause-over c = parts_never_fall
 
 pub returns-clause-counted : goal.returns-clause-counted
 returns-clause-counted c = times_are_counted
+
+pub returns-clause-supported : goal.returns-clause-supported
+returns-clause-supported c = frames_are_supported

@@ -1,7 +1,7 @@
-use Rattle.std.proofs.Common.{◌≡◌, ◌+◌, ◌<◌, ◌≤◌, length, List, drop, slice_get, ap, sym, ◌∙◌, arith}
+use Rattle.std.proofs.Common.{◌+◌, ◌<◌, ◌≤◌, length, List, drop, slice_get, ap, sym, ◌∙◌, arith}
 use Rattle.irig_index.specs.declared.record.Record.{Record}
 use Rattle.irig_times.specs.Support.{is_held, shown_in, shown_of}
-use Rattle.irig_times.proofs.SupportSteps.{held-all, held-more}
+use Rattle.irig_times.proofs.{SupportCount.believed-length, SupportSteps.held-all, SupportSteps.held-more}
 use Rattle.irig_times.proofs.support.held_frames.Goals as goal
 
 pub loop-place-preserved : goal.loop-place-preserved
@@ -32,3 +32,12 @@ returns-clause-held c =
     let past : length rs ≤ c.loop-place.place = omega (arith, c.loop-place-test.false, c.len-place-end.ensures) in
     held-all c.args.format c.args.pulses.now.track.pulses rs c.args.alone c.loop-place.before2 c.loop-place.before c.loop-place.place
     c.loop-place.list.items past c.requires.frames c.loop-place.invariant.left
+
+pub returns-clause-each : goal.returns-clause-each
+returns-clause-each c =
+    let rs = c.args.records.now.records in
+    let ps = c.args.pulses.now.track.pulses in
+    let past : length rs ≤ c.loop-place.place = omega (arith, c.loop-place-test.false, c.len-place-end.ensures) in
+    let held = held-all c.args.format ps rs c.args.alone c.loop-place.before2 c.loop-place.before c.loop-place.place
+    c.loop-place.list.items past c.requires.frames c.loop-place.invariant.left in
+    ap length held ∙ (believed-length c.args.format c.args.alone ps ∙ ap length (sym c.requires.frames))

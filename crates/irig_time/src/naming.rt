@@ -1,0 +1,61 @@
+//! The name of the column of times.
+
+ghost use Rattle.std.specs.Prelude.{◌≡◌, IfErr, IfOk, Some, codes};
+ghost use Rattle.irig_time.specs.Chosen.{HasFault, HasName, IsComma};
+ghost use Rattle.irig_time.specs.Names.{has, has_comma, is_name};
+ghost use Rattle.irig_time.specs.Values.{text_or, whole_between};
+
+use crate::asked::Asked;
+use crate::chosen::OptionFault;
+use crate::options::text_or;
+
+/// The name of the column of times, if a byte parts columns, or white space, and the header has a
+/// number of lines.
+pub fn name_of<'a>(
+    asked: &Asked<'a>,
+    comma: Option<u8>,
+    header: u128,
+) -> Result<&'a [u8], OptionFault>
+    requires comma { IsComma asked.now comma }
+    requires header { whole_between 0 4294967296 (text_or asked.now.header (codes "0"))
+        ≡ Some header }
+    ensures name { IfOk result (λ name. HasName asked.now comma header name.now) }
+    ensures fault { IfErr result (HasFault asked.now) }
+{
+    let name = text_or(asked.name, "time");
+    if !is_name(comma, name) {
+        return Err(OptionFault::Name);
+    }
+    if asked.name.is_some() && header == 0 {
+        return Err(OptionFault::Unnamed);
+    }
+    Ok(name)
+}
+
+/// Whether a column can have a name.
+fn is_name(comma: Option<u8>, name: &[u8]) -> bool
+    ensures { result ≡ is_name comma name.now }
+{
+    !name.is_empty()
+        && !has(b'"', name)
+        && !has(b'\n', name)
+        && !has(b'\r', name)
+        && !has_comma(comma, name)
+}
+
+/// Whether a text has something that parts columns.
+fn has_comma(comma: Option<u8>, text: &[u8]) -> bool
+    ensures { result ≡ has_comma comma text.now }
+{
+    match comma {
+        Some(comma) => has(comma, text),
+        None => has(b' ', text) || has(b'\t', text),
+    }
+}
+
+/// Whether a text has a byte.
+fn has(byte: u8, text: &[u8]) -> bool
+    ensures { result ≡ has byte text.now }
+{
+    text.contains(&byte)
+}

@@ -1,0 +1,14 @@
+use Rattle.std.proofs.Common.{◌≡◌, List, length, ap, sym, ◌∙◌, subst}
+use Rattle.irig_index.specs.{Frames.frames, declared.record.Record.Record}
+use Rattle.irig_times.specs.declared.part.Part.{Part}
+use Rattle.irig_times.specs.{Parts.AreParts, Whole.whole_in}
+use Rattle.irig_times.proofs.WholeFrames.{whole-are}
+use Rattle.irig_times.proofs.why.find_whys.Goals as goal
+
+pub gaps-requires-clause-whole : goal.gaps-requires-clause-whole
+gaps-requires-clause-whole c =
+    let ps = c.args.pulses.now.track.pulses in
+    let f = c.args.format in
+    let list : c.deref.result.now ≡ whole_in f (frames f ps) c.args.held.now =
+    c.deref.ensures.value ∙ (c.in_ok-frames.ensures.parts ∙ ap (λ (rs : List Record). whole_in f rs c.args.held.now) c.requires.frames) in
+    subst (λ (parts : List Part). AreParts f 0 (length ps) parts) (sym list) (whole-are f ps c.args.held.now)

@@ -1,0 +1,9 @@
+//! What holds of the reasons why moments have no time.
+
+ghost use Rattle.irig_times.specs.Untimed.{NoneIffWhy, OneWhy};
+
+/// Does nothing. Its contract is what holds of the reasons why moments have no time.
+pub fn reasons_are_exact()
+    ensures one { OneWhy }
+    ensures none { NoneIffWhy }
+{}
