@@ -118,14 +118,7 @@ fn slips(
 }
 
 /// The same, if both markers are there.
-fn slips_by(
-    format: Format,
-    century: u32,
-    from: &Time,
-    to: &Time,
-    first: Pulse,
-    last: Pulse,
-) -> bool
+fn slips_by(format: Format, century: u32, from: &Time, to: &Time, first: Pulse, last: Pulse) -> bool
     requires century { century ≤ 99 }
     requires times { (from.now.micros < 2 ^ 59) × (to.now.micros < 2 ^ 59) }
     requires low { last.rise ≤ 2 ^ 40 }
