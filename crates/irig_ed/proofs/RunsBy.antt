@@ -1,8 +1,8 @@
 -- An edit on the shelf of a file, as one by the settings.
-use Rattle.std.proofs.Common.{◌≡◌, [], ℕ, List, Option, Result, Err, inl, refl, subst}
+use Rattle.std.proofs.Common.{◌≡◌, ◌∙◌, [], ℕ, List, Option, None, Result, Err, inl, refl, subst}
 use Rattle.std.specs.Prelude.{option_map}
 use Rattle.irig_vcd.specs.{Parts.dump_parts, declared.fault.VcdFault.VcdFault}
-use Rattle.irig_vcd.proofs.WholeDump.{fails_now}
+use Rattle.irig_vcd.proofs.{WholeDump.fails_now, Windows.no_window_parts}
 use Rattle.irig_script.specs.{Obey.Desk.Desk, Obey.Desk.desk_at, Obey.DumpRun.RunsOnDump, Print.Screen.Shown, declared.obey.status.Status.Status}
 use Rattle.irig_script.specs.{declared.obey.dump_run.DumpRunFault.DumpRunFault, declared.obey.dump_run.DumpRunFault.TheVariants.Dump}
 use Rattle.irig_text.specs.Shelved.{shelved}
@@ -43,7 +43,7 @@ pub fails_by : (given : Files) (chosen : Settings) (source : List ℕ) (at : End
 fails_by given chosen source at fault kept is = record {
   label = [];
   failures = 0;
-  ran = (inl (fails_now fault (dump_parts (wire_in chosen) source) is), (λ e h. tells_heading (wire_in chosen) source fault e is h), refl, refl);
+  ran = (inl (fails_now fault (dump_parts (wire_in chosen) source) is), (λ e h. tells_heading None (wire_in chosen) source fault e (no_window_parts (wire_in chosen) source ∙ is) h), refl, refl);
   short = λ memory. absurd (never_parts (wire_in chosen) source fault is (cc memory));
   kept = kept;
 }
