@@ -219,11 +219,11 @@ class Counting:
         return None
 
     def jumps(self, one, other):
-        """Whether the time jumps: all pulses are in step, whole hundreds, or the markers are whole periods apart, and the times are not."""
+        """Whether the time jumps: all pulses follow, or the markers are whole periods apart, and they are not as many as the times show."""
         gap, distance, period = other.marker - one.marker - 100, other.rise - one.rise, PERIOD[self.kind]
-        if self.are_apart(1 if not gap else max(2, gap // 100 + 1) if gap >= 100 else 0, one, other):
+        if gap % 100 == 0 and self.are_apart(gap // 100 + 1, one, other):
             return False
-        if gap % 100 == 0 and all(self.follows(place) for place in range(one.marker + 100, other.marker + 1)):
+        if all(self.follows(place) for place in range(one.marker + 100, other.marker + 1)):
             return True
         many, rest = (2 * distance + period) // (2 * period), distance % period
         is_whole_apart = 2 * min(rest, period - rest) <= timecode.INTERVAL[self.kind]

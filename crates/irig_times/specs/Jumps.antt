@@ -9,17 +9,17 @@ use Rattle.irig_times.specs.{declared.part.Part.Part, Between.gap, Between.missi
 use Rattle.irig_times.specs.{declared.time.Time.Time, Between.rounded}
 use Rattle.irig_times.specs.{Ends.time_elements, Follows.is_later, Parts.is_empty, Steps.all_follow}
 
--- each pulse after a frame, up to the first one of another, rises one interval after the one before,
--- and they are whole hundreds
+-- each pulse after a frame, up to the first one of another, rises one interval after the one before
 abbrev pub are_joined : FormatView → List Pulse → Part → Part → Bool
-are_joined f ps a b =
-    gap a b % 100 == 0 && all_follow f ps (a.number + a.count) (gap a b + 1)
+are_joined f ps a b = all_follow f ps (a.number + a.count) (gap a b + 1)
 
--- the second time is as many periods after the first as there are hundreds of pulses
+-- there are whole hundreds of pulses, and the second time is as many periods after the first
 abbrev pub runs_on : FormatView → ℕ → Part → Part → Bool
 runs_on f century a b =
     if gap a b == 0 then is_later century (frame_period_of f.kind) a.time b.time
-    else is_some (missing_in century (frame_period_of f.kind) (gap a b / 100 + 1) a.time b.time)
+    else (if gap a b % 100 == 0
+    then is_some (missing_in century (frame_period_of f.kind) (gap a b / 100 + 1) a.time b.time)
+    else false)
 
 -- a distance is a whole number of periods, to half an interval
 abbrev pub is_whole_apart : ℕ → ℕ → ℕ → Bool

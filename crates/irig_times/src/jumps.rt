@@ -16,7 +16,7 @@ use irig_recording::Pulse;
 use irig_track::Lens;
 
 /// Whether each pulse after a frame, up to the first one of another, rises one interval after the one
-/// before, and they are whole hundreds.
+/// before.
 fn are_joined(pulses: &mut Lens<'_>, format: Format, from: &Part, to: &Part) -> bool
     requires order { from.now.number + from.now.count ≤ to.now.number }
     requires small { to.now.number < 2 ^ 30 }
@@ -24,13 +24,10 @@ fn are_joined(pulses: &mut Lens<'_>, format: Format, from: &Part, to: &Part) -> 
     ensures pulses { pulses.new.track ≡ pulses.old.track }
 {
     let gap = gap(from, to);
-    if gap % 100 != 0 {
-        return false;
-    }
     all_follow(pulses, format, from.number + from.count, gap + 1)
 }
 
-/// Whether the second time is as many periods after the first as there are hundreds of pulses.
+/// Whether there are whole hundreds of pulses, and the second time is as many periods after the first.
 fn runs_on(format: Format, century: u32, from: &Part, to: &Part) -> bool
     requires century { century ≤ 99 }
     requires times { (from.now.time.micros < 2 ^ 59) × (to.now.time.micros < 2 ^ 59) }
@@ -42,6 +39,9 @@ fn runs_on(format: Format, century: u32, from: &Part, to: &Part) -> bool
     let gap = gap(from, to);
     if gap == 0 {
         return is_later(century, period, &from.time, &to.time);
+    }
+    if gap % 100 != 0 {
+        return false;
     }
     let count = (gap / 100 + 1) as u64;
     missing_in(century, period, count, &from.time, &to.time).is_some()
