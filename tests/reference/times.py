@@ -221,16 +221,15 @@ class Counting:
     def jumps(self, one, other):
         """Whether the time jumps: all pulses follow, or the markers are whole periods apart, and they are not as many as the times show."""
         gap, distance, period = other.marker - one.marker - 100, other.rise - one.rise, PERIOD[self.kind]
-        if gap % 100 == 0 and self.are_apart(gap // 100 + 1, one, other):
+        if gap % 100 == 0 and self.runs_on(gap // 100 + 1, one, other):
             return False
         if all(self.follows(place) for place in range(one.marker + 100, other.marker + 1)):
             return True
-        many, rest = (2 * distance + period) // (2 * period), distance % period
-        is_whole_apart = 2 * min(rest, period - rest) <= timecode.INTERVAL[self.kind]
-        return many > 0 and is_whole_apart and not self.are_apart(many, one, other)
+        rest = distance % period
+        return 2 * min(rest, period - rest) <= timecode.INTERVAL[self.kind] and not self.are_apart(one, other)
 
-    def are_apart(self, many, one, other):
-        """Whether the second time is that many periods after the first."""
+    def runs_on(self, many, one, other):
+        """Whether the second time is that many periods after the first, as far as frames can be counted between them."""
         if many == 1:
             return follows(self.kind, self.century, one.time, other.time)
         return self.missing_of(many, one, other)[1] is not None

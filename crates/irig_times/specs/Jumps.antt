@@ -6,7 +6,8 @@ use Rattle.irig_codes.specs.Format.{FormatView, frame_period_of, interval_of}
 use Rattle.irig_codes.specs.declared.format.Kind.{Kind}
 use Rattle.irig_recording.specs.declared.pulse.Pulse.{Pulse}
 use Rattle.irig_times.specs.{declared.part.Part.Part, Between.gap, Between.missing_in}
-use Rattle.irig_times.specs.{declared.time.Time.Time, Between.rounded}
+use Rattle.irig_times.specs.{declared.time.Time.Time, Between.day_micros, Between.middle}
+use Rattle.irig_times.specs.{Between.rounded, Follows.same_day}
 use Rattle.irig_times.specs.{Ends.time_elements, Follows.is_later, Parts.is_empty, Steps.all_follow}
 
 -- each pulse after a frame, up to the first one of another, rises one interval after the one before
@@ -27,10 +28,13 @@ is_whole_apart period interval distance =
     nat_le (2 * (distance % period)) interval
     || nat_le (2 * (period - distance % period)) interval
 
--- the second time is that many periods after the first
-abbrev pub runs_for : ℕ → ℕ → ℕ → Time → Time → Bool
-runs_for century period n a b =
-    if n == 1 then is_later century period a b else is_some (missing_in century period n a b)
+-- two times can be those of frames that are n periods apart; of more than two over midnight nothing
+-- is known
+abbrev pub are_apart : ℕ → ℕ → ℕ → Time → Time → Bool
+are_apart century period n a b =
+    if nat_le n 1 then is_later century period a b
+    else (if n == 2 then is_some (middle century period a b)
+    else not (same_day a b) || (day_micros b == day_micros a + n * period))
 
 -- the markers of two frames are whole periods apart, and their times are not that many: whole frames
 -- are lost, or a clock was set, and other damage is between them
@@ -39,9 +43,8 @@ slips f century a b None q = false
 slips f century a b (Some p) None = false
 slips f century a b (Some p) (Some q) =
     if is_whole_apart (frame_period_of f.kind) (interval_of f.kind) (q.rise - p.rise)
-    then (if rounded (frame_period_of f.kind) p.rise q.rise == 0 then false
-    else not (runs_for century (frame_period_of f.kind)
-    (rounded (frame_period_of f.kind) p.rise q.rise) a b))
+    then not (are_apart century (frame_period_of f.kind)
+    (rounded (frame_period_of f.kind) p.rise q.rise) a b)
     else false
 
 -- the time jumps between two frames that are believed

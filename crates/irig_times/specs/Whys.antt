@@ -1,23 +1,15 @@
 -- Why pulses have no time: by the frames around them that have one. This project's own.
-use Rattle.std.specs.Prelude.{ℕ, zero, suc, ◌+◌, ◌-◌, ◌*◌, ◌==◌, ◌&&◌, ◌||◌, nat_le, nat_lt, not, is_some}
+use Rattle.std.specs.Prelude.{ℕ, zero, suc, ◌+◌, ◌-◌, ◌==◌, ◌&&◌, nat_le, nat_lt, not}
 use Rattle.std.specs.Prelude.{Bool, true, false, if◌then◌else◌, List, Option, Some, None, slice_get}
 use Rattle.irig_codes.specs.Format.{FormatView, frame_period_of}
 use Rattle.irig_recording.specs.declared.pulse.Pulse.{Pulse}
 use Rattle.irig_times.specs.declared.why.Why.TheVariants.{After, Before, Hole, Set, Step, Unbelieved}
 use Rattle.irig_times.specs.{declared.part.Part.Part, declared.time.Time.Time, declared.why.Why.Why}
-use Rattle.irig_times.specs.{Between.day_micros, Between.middle, Between.rounded}
-use Rattle.irig_times.specs.{Ends.time_elements, Follows.is_later, Follows.same_day}
+use Rattle.irig_times.specs.{Between.rounded, Jumps.are_apart}
+use Rattle.irig_times.specs.Ends.{time_elements}
 use Rattle.irig_times.specs.{Jumps.is_jump, Parts.is_empty}
 
--- two times can be those of frames that are n periods apart; of more than two over midnight nothing
--- is known
-abbrev pub are_apart : ℕ → ℕ → ℕ → Time → Time → Bool
-are_apart century period n a b =
-    if nat_le n 1 then is_later century period a b
-    else (if n == 2 then is_some (middle century period a b)
-    else not (same_day a b) || (day_micros b == day_micros a + n * period))
-
--- the same of two frames that begin with these pulses
+-- two times can be those of frames that begin with these pulses
 abbrev pub are_apart_by : ℕ → ℕ → Time → Time → Option Pulse → Option Pulse → Bool
 are_apart_by century period a b None q = true
 are_apart_by century period a b (Some p) None = true

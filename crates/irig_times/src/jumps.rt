@@ -1,13 +1,13 @@
 //! Where the time jumps between two frames that are in step.
 
 ghost use Rattle.std.specs.Prelude.{◌≡◌, ◌≤◌, ◌<◌, ◌+◌, ◌^◌, IfSome, Some};
-ghost use Rattle.irig_times.specs.Jumps.{after_jump, are_joined, before_jump, is_jump};
-ghost use Rattle.irig_times.specs.Jumps.{is_jump_between, is_whole_apart, runs_for, runs_on, slips};
+ghost use Rattle.irig_times.specs.Jumps.{after_jump, are_apart, are_joined, before_jump, is_jump};
+ghost use Rattle.irig_times.specs.Jumps.{is_jump_between, is_whole_apart, runs_on, slips};
 
 use crate::between::{gap, min};
 use crate::ends::time_elements;
-use crate::follows::is_later;
-use crate::missing::{missing_in, rounded};
+use crate::follows::{is_later, same_day};
+use crate::missing::{day_micros, later_micros, middle, missing_in, rounded};
 use crate::part::Part;
 use crate::steps::{all_follow, pulse_at};
 use crate::time::Time;
@@ -82,17 +82,20 @@ fn is_whole_apart(period: u64, interval: u64, distance: u64) -> bool
     2 * rest <= interval || 2 * (period - rest) <= interval
 }
 
-/// Whether the second time is that many periods after the first.
-fn runs_for(century: u32, period: u64, count: u64, from: &Time, to: &Time) -> bool
+/// Whether two times can be those of frames that are some periods apart.
+pub fn are_apart(century: u32, period: u64, count: u64, from: &Time, to: &Time) -> bool
     requires century { century ≤ 99 }
     requires small { (period < 2 ^ 25) × (count < 2 ^ 42 + 2) }
     requires times { (from.now.micros < 2 ^ 59) × (to.now.micros < 2 ^ 59) }
-    ensures { result ≡ runs_for century period count from.now to.now }
+    ensures { result ≡ are_apart century period count from.now to.now }
 {
-    if count == 1 {
+    if count <= 1 {
         return is_later(century, period, from, to);
     }
-    missing_in(century, period, count, from, to).is_some()
+    if count == 2 {
+        return middle(century, period, from, to).is_some();
+    }
+    !same_day(from, to) || u128::from(day_micros(to)) == later_micros(period, count, from)
 }
 
 /// Whether the markers of two frames are whole periods apart, and their times are not that many.
@@ -130,10 +133,7 @@ fn slips_by(format: Format, century: u32, from: &Time, to: &Time, first: Pulse, 
         return false;
     }
     let count = rounded(period, first.rise, last.rise);
-    if count == 0 {
-        return false;
-    }
-    !runs_for(century, period, count, from, to)
+    !are_apart(century, period, count, from, to)
 }
 
 /// The same, if both are there.

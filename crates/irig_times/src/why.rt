@@ -8,14 +8,13 @@ ghost use Rattle.irig_recording.specs.declared.pulse.Pulse.{Pulse};
 ghost use Rattle.irig_track.specs.Splices.{risen_by};
 ghost use Rattle.irig_times.specs.Parts.{AreParts};
 ghost use Rattle.irig_times.specs.Untimed.{AreWhys, IsKnown, IsKnownBy, IsWhy, IsWhyBy};
-ghost use Rattle.irig_times.specs.Whys.{are_apart, are_apart_by, is_step, why_after, why_between};
+ghost use Rattle.irig_times.specs.Whys.{are_apart_by, is_step, why_after, why_between};
 ghost use Rattle.irig_times.specs.{Whole.whole_in, Whys.why_next_to};
 
 use crate::ends::time_elements;
-use crate::follows::{is_later, same_day};
 use crate::frame_lens::FrameLens;
-use crate::jumps::is_jump;
-use crate::missing::{day_micros, later_micros, middle, rounded};
+use crate::jumps::{are_apart, is_jump};
+use crate::missing::rounded;
 use crate::part::{Part, parts_up_to};
 use crate::steps::pulse_at;
 use crate::time::Time;
@@ -171,22 +170,6 @@ fn are_apart_by(pulses: &mut Lens<'_>, format: Format, century: u32, from: &Part
         (None, Some(_)) => true,
         (None, None) => true,
     }
-}
-
-/// Whether two times can be those of frames that are some periods apart.
-fn are_apart(century: u32, period: u64, count: u64, from: &Time, to: &Time) -> bool
-    requires century { century ≤ 99 }
-    requires small { (period < 2 ^ 25) × (count < 2 ^ 42 + 2) }
-    requires times { (from.now.micros < 2 ^ 59) × (to.now.micros < 2 ^ 59) }
-    ensures { result ≡ are_apart century period count from.now to.now }
-{
-    if count <= 1 {
-        return is_later(century, period, from, to);
-    }
-    if count == 2 {
-        return middle(century, period, from, to).is_some();
-    }
-    !same_day(from, to) || u128::from(day_micros(to)) == later_micros(period, count, from)
 }
 
 /// Why the moment some picoseconds after the start of a track has no time, if it has none.
