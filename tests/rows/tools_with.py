@@ -49,6 +49,9 @@ class Track:
     def ask(self, _blocks):
         return self.found
 
+    def judged(self, listing, judge, *how):
+        return judge(listing, *how)
+
 
 def read(pulses, *codes):
     """What other recordings say of one with these pulses."""
