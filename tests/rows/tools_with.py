@@ -40,6 +40,9 @@ def slow(pulses, rate=0.0009, late=4321):
     return [[round((rise + late) * (1 + rate)), round((fall + late) * (1 + rate))] for rise, fall in pulses]
 
 
+FILLED = " not in the recording"  # how the line ends that counts frames whose control functions were filled in
+
+
 class Track:
     """A track that needs no editor."""
 
@@ -265,9 +268,9 @@ def dump(pulses, unit=None):
 
 
 def mend(*words, data=b""):
-    """The status, what is printed line by line, and what is said."""
+    """The status, what is printed line by line but the line of what was filled in, and what is said."""
     status, printed, said = run("irig_mend", ["--expression=4", *words, "rec.vcd"], data)
-    return status, printed.decode().splitlines(), said
+    return status, [line for line in printed.decode().splitlines() if not line.endswith(FILLED)], said
 
 
 def edges(text):
