@@ -221,6 +221,21 @@ def of_undamaged():
         yield same("undamaged %d" % number, (said, [part.faults.wanted for part in found.parts]), ([], [{}]))
 
 
+def of_ends():
+    """With wow of few elements nothing says when the end of a run should rise, but the end itself: no pulse that was recorded would move."""
+    for elements, share, begins in ((28.6, 0.022, (0, 15, 25, 40)), (20, 0.03, (5, 30))):  # of format E at 0.35 and 0.5 hertz
+        for begin in begins:
+            sound = wow(tools.recording(9), share, elements)[begin:-7]
+            name = "wow of %s in %s elements, from element %d on" % (share, elements, begin)
+            found = analysis.examine(listing_of(sound))
+            said = [remark.seen for part in found.parts for remark in part.remarks + part.faults.remarks]
+            yield same(name, (said, [part.faults.wanted for part in found.parts]), ([], [{}]))
+            holes = (200, 203), (333, 334), (500, 515)
+            holed = [pulse for at, pulse in enumerate(sound) if not any(low <= at < high for low, high in holes)]
+            part, = analysis.examine(listing_of(holed)).parts
+            yield same(name + ", three holes", [place for place in part.faults.wanted if part.track.pulses_at(place)], [])
+
+
 def of_strays():
     """A rise that is off by more than eight times the spread and three samples is damage, though its pulse is in step."""
     def trembling(pulses):
@@ -733,7 +748,8 @@ def cases():
     """Each part by its name."""
     return [case("mend: part: " + name, holds) for name, holds in (
         ("phases", of_phases), ("clock", of_clock), ("a clock that wanders", of_wander), ("polarity", of_polarity), ("slots", of_slots),
-        ("sure runs", of_parts), ("tenths", of_tenths), ("other code", of_other_code), ("a long hole on a clock that wanders", of_vague),
+        ("sure runs", of_parts), ("tenths", of_tenths), ("other code", of_other_code), ("ends of runs on a clock that wanders", of_ends),
+        ("a long hole on a clock that wanders", of_vague),
         ("undamaged", of_undamaged), ("a rise that is off", of_strays), ("a clock that was set", of_set), ("places", of_places),
         ("votes", of_votes),
         ("spans", of_spans), ("pieces", of_pieces), ("leap seconds", of_leap), ("moments", of_moments), ("times", of_times),

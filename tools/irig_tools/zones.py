@@ -24,7 +24,10 @@ class Zone:
         self.clock, self.left, self.right = clock, left, right
         self.interval = clock.interval_between(left, right)
         self.rises = clock.rises
+        # the last of the left run and the first of the right one are in step: that is their place
+        self.ends = {**({left.last: left.last_place} if left else {}), **({right.first: right.place} if right else {})}
         self.stray = clock.stray_over(right.step if left and right else 1)
+        self.end_stray = clock.stray_at_end(min([run.count for run in (left, right) if run], default=0), self.stray)
         self.late: float = 0
         if left and right and abs(right.late) > clock.least_late(right.step, right.fewest):
             self.late = right.late
@@ -130,6 +133,8 @@ class Zone:
         return plus(self.right.place, whole_steps(self.rises[pulse] - self.right.begin, self.interval))
 
     def place_of(self, pulse: PulseIndex) -> PlaceNumber:
+        if pulse in self.ends:
+            return self.ends[pulse]
         if not self.left or (self.border is not None and pulse >= self.border):
             return self._place_by_right(pulse)
         place = plus(self.left.last_place, whole_steps(self.rises[pulse] - self.left.end, self.local_interval()))
@@ -144,6 +149,10 @@ class Zone:
         if self.left and self.right and not self.late and self.right.step > 0:
             return (self.right.begin - self.left.end) / self.right.step
         return self.interval
+
+    def stray_at(self, place: PlaceNumber) -> float:
+        """How far the pulse of a place may be off."""
+        return self.end_stray if place in self.ends.values() else self.stray
 
     def _is_bent(self) -> bool:
         """Whether both runs are on one clock that wanders, so that the interval changes from one to the other."""
