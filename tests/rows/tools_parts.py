@@ -299,6 +299,16 @@ def of_other_code():
         yield same(name + ", what is repaired", [dict(part.faults.wanted) for part in found.parts], [{}])
         ended = analysis.examine(listing_of(pulses[:230] + other))
         yield same(name + ", at the end", any(part.faults.wanted for part in ended.parts), False)
+    for name, other, lost in (("of format A", frames_of(1000, 2331000, 230), 3), ("another signal", frames_of(3300, 2331000, 28), 4),
+                              ("of format E", frames_of(100000, 2320000, 28), 5)):
+        kept = [pulse for at, pulse in enumerate(other) if at % lost]
+        found = analysis.examine(listing_of(pulses[:230] + kept + pulses[other[-1][1] // 10000 + 20:]))
+        said = [remark.seen for part in found.parts for remark in part.remarks]
+        yield same(name + ", one of %d is lost" % lost, (["is other code" in each for each in said], [part.faults.wanted for part in found.parts]),
+                   ([True], [{}]))
+    lost = [at for at in range(232, 262) if at % 7 not in (0, 2, 4, 6)]  # distances of 2, 2, 2 and 1: no run
+    found = analysis.examine(listing_of([pulse for at, pulse in enumerate(tools.recording()) if at not in lost]))
+    yield same("four of seven elements are no other code", [sorted(part.faults.wanted) for part in found.parts], [lost])
     positions = [pulse for at, pulse in enumerate(tools.recording()) if not 230 <= at < 480 or at % 10 == 9 or at % 100 == 0]
     found = analysis.examine(listing_of(positions))
     lost = [at for at in range(230, 480) if at % 10 != 9 and at % 100]

@@ -53,11 +53,19 @@ class Zone:
         """What is between two runs, if it is no damaged part of this code."""
         left, right = self.left, self.right
         assert left and right
-        found = other_code(self.rises, self.clock.listing.falls, plus(left.last, 1), plus(right.first, -1), self.interval)
+        found = self._other_code(plus(left.last, 1), plus(right.first, -1))
         if not found:
             return None
         own = through(found.first, found.last)
         return None if survives(list(map(self.place_of, own)), self.clock.classes[found.first:found.last + 1]) else found
+
+    def _other_code(self, first: PulseIndex, last: PulseIndex) -> Optional[OtherCode]:
+        return other_code(self.rises, self.clock.listing.falls, through(first, last), self._is_own, self.interval)
+
+    def _is_own(self, pulse: PulseIndex) -> bool:
+        """Whether a pulse is of a class, about where this code has one."""
+        off = abs(self.rises[pulse] - self.rise_at(self.place_of(pulse)))
+        return self.clock.classes[pulse] != "b" and off <= limits.IN_STEP * self.interval
 
     def _find_pulses(self) -> List[PulseIndex]:
         """The last of the left run, the first of the right one, and what is between; at an end all that belong to a frame."""
@@ -65,11 +73,11 @@ class Zone:
         first, last = left.last if left else PulseIndex(-1), right.first if right else PulseIndex(-1)
         if right and not left:
             first = right.first if {"<", "["} & set(right.ends) else self._reach(right.first, -1)
-            if other_code(self.rises, self.clock.listing.falls, first, plus(right.first, -1), self.interval):
+            if self._other_code(first, plus(right.first, -1)):
                 first = right.first
         if left and not right:
             last = left.last if {">", "]"} & set(left.ends) else self._reach(left.last, 1)
-            if other_code(self.rises, self.clock.listing.falls, plus(left.last, 1), last, self.interval):
+            if self._other_code(plus(left.last, 1), last):
                 last = left.last
         return through(first, last)
 
