@@ -222,7 +222,7 @@ def of_undamaged():
 
 
 def of_ends():
-    """With wow of few elements nothing says when the end of a run should rise, but the end itself: no pulse that was recorded would move."""
+    """With wow of few elements nothing says when the end of a run should rise, but the end itself: no recorded pulse would move."""
     for elements, share, begins in ((28.6, 0.022, (0, 15, 25, 40)), (20, 0.03, (5, 30))):  # of format E at 0.35 and 0.5 hertz
         for begin in begins:
             sound = wow(tools.recording(9), share, elements)[begin:-7]
@@ -304,8 +304,8 @@ def of_other_code():
         kept = [pulse for at, pulse in enumerate(other) if at % lost]
         found = analysis.examine(listing_of(pulses[:230] + kept + pulses[other[-1][1] // 10000 + 20:]))
         said = [remark.seen for part in found.parts for remark in part.remarks]
-        yield same(name + ", one of %d is lost" % lost, (["is other code" in each for each in said], [part.faults.wanted for part in found.parts]),
-                   ([True], [{}]))
+        got = ["is other code" in each for each in said], [part.faults.wanted for part in found.parts]
+        yield same(name + ", one of %d is lost" % lost, got, ([True], [{}]))
     lost = [at for at in range(232, 262) if at % 7 not in (0, 2, 4, 6)]  # distances of 2, 2, 2 and 1: no run
     found = analysis.examine(listing_of([pulse for at, pulse in enumerate(tools.recording()) if at not in lost]))
     yield same("four of seven elements are no other code", [sorted(part.faults.wanted) for part in found.parts], [lost])

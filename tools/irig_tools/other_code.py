@@ -24,16 +24,17 @@ class OtherCode(NamedTuple):
         return abs(distance - self.interval) <= limits.IN_STEP * self.interval
 
 
-def other_code(rises: Sequence[int], falls: Sequence[int], own_pulses: Sequence[PulseIndex], is_own: Callable[[PulseIndex], bool],
+def other_code(rises: Sequence[int], falls: Sequence[int], pulses: Sequence[PulseIndex], is_own: Callable[[PulseIndex], bool],
                own: float) -> Optional[OtherCode]:
     """What these pulses are, if most of them follow each other by one interval that is not the own one; also if some are lost, but then
     most must not be where this code has pulses, as `is_own` says."""
-    if len(own_pulses) < limits.SURE_RUN:
+    if len(pulses) < limits.SURE_RUN:
         return None
-    first, last = own_pulses[0], own_pulses[-1]
+    first, last = pulses[0], pulses[-1]
     apart = [rises[at + 1] - rises[at] for at in range(first, last)]
     usual = median_low(apart)
-    if abs(usual - own) <= limits.IN_STEP * own or not (_is_steady(apart, usual) or _is_thinned(apart, usual) and not _are(own_pulses, is_own)):
+    is_steady = _is_steady(apart, usual) or _is_thinned(apart, usual) and not _are(pulses, is_own)
+    if not is_steady or abs(usual - own) <= limits.IN_STEP * own:
         return None
     return OtherCode(first, last, usual, _kind(usual, [falls[at] - rises[at] for at in range(first, last + 1)]))
 
