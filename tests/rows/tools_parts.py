@@ -306,9 +306,10 @@ def of_other_code():
         said = [remark.seen for part in found.parts for remark in part.remarks]
         got = ["is other code" in each for each in said], [part.faults.wanted for part in found.parts]
         yield same(name + ", one of %d is lost" % lost, got, ([True], [{}]))
-    lost = [at for at in range(232, 262) if at % 7 not in (0, 2, 4, 6)]  # distances of 2, 2, 2 and 1: no run
-    found = analysis.examine(listing_of([pulse for at, pulse in enumerate(tools.recording()) if at not in lost]))
-    yield same("four of seven elements are no other code", [sorted(part.faults.wanted) for part in found.parts], [lost])
+    for name, lost in (("four of seven, 2, 2, 2 and 1 apart", [at for at in range(232, 262) if at % 7 not in (0, 2, 4, 6)]),
+                       ("three of eight, 2, 2 and 4 apart", [at for at in range(232, 282) if at % 8 not in (0, 2, 4)])):
+        found = analysis.examine(listing_of([pulse for at, pulse in enumerate(tools.recording()) if at not in lost]))
+        yield same("elements of this code, " + name, [sorted(part.faults.wanted) for part in found.parts], [lost])
     positions = [pulse for at, pulse in enumerate(tools.recording()) if not 230 <= at < 480 or at % 10 == 9 or at % 100 == 0]
     found = analysis.examine(listing_of(positions))
     lost = [at for at in range(230, 480) if at % 10 != 9 and at % 100]
