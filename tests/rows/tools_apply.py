@@ -8,6 +8,7 @@ from unittest import mock
 from cases import case
 from irig_tools import damage_program, mend_program
 from random_input import damages
+from reference import timecode
 from rows import in_process, tools
 from rows.in_process import run
 
@@ -433,7 +434,7 @@ def objects():
     def holds():
         found = [json.loads(line) for line in run("irig_damage", ["--expression=4", "--json", "rec.vcd"])[1].splitlines()]
         wanted = [("split", [302, 303], ["2024-061T12:00:03"] * 2, [1, 1], 3010000, None),
-                  ("step", None, ["2024-061T12:00:04"] * 2, [50, 50], 4503300, 3300)]
+                  ("step", [452, 452], ["2024-061T12:00:04"] * 2, [50, 50], 4503300, 3300)]
         got = [tuple(each[name] for name in ("kind", "pulses", "frames", "elements", "time", "step")) for each in found]
         yield same("irig_damage --json", got, wanted)
         found = [json.loads(line) for line in run("irig_mend", ["--expression=4", "--json", "rec.vcd"])[1].splitlines()]
@@ -460,6 +461,42 @@ def objects():
         yield same("--quiet", run("irig_damage", ["--quiet", "rec.vcd"]), (1, b"", ""))
 
     return in_folder(lambda: list(holds()), rec=damages.dump(recorded(both), END + 3300))
+
+
+def ends():
+    """What a place concerns goes from its first to its last frame, element and pulse, also if the text does not name them."""
+    def early(pulses):
+        """Three pulses are lost, and the rest comes early, up to the end of the recording."""
+        tools.moved(pulses, 430, -3300)
+        del pulses[427:430]
+
+    def of_a():
+        """Eight tenths of a second of format A, whose frames have tenths; the pulse of element 45 of the fourth is lost."""
+        start, pulses = (tools.DAY, tools.NOON), []
+        for number in range(8):
+            for name in timecode.encode("A", 4, timecode.generated("A", start, number, 0)):
+                pulses.append([1000 * len(pulses), 1000 * len(pulses) + timecode.nominal(1000, name)])
+        return pulses[:345] + pulses[346:]
+
+    def holds():
+        noon = "2024-061T12:00:04"
+        for words, wanted in (
+                ("irig_damage drop.vcd", [("stretch", [418, 418], [noon] * 2, [17, 30], None)]),
+                ("irig_mend drop.vcd", [("stretch", [418, 418], [noon] * 2, [17, 30], None)]),
+                ("irig_damage early.vcd", [("step", [428, 428], [noon] * 2, [30, 30], -3300)]),
+                ("irig_mend --move early.vcd", [("step", [428, 428], [noon] * 2, [30, 30], -3300)]),
+                ("irig_damage control.vcd", [("control", None, ["2024-061T12:00:03"] * 2, [64, 64], None)]),
+                ("irig_damage a.vcd", [("missing", None, ["2024-061T12:00:00.30"] * 2, [45, 45], None)]),
+                ("irig_mend control.vcd", [("control", None, ["2024-061T12:00:03"] * 2, [64, 64], None)])):
+            program, *words = words.split()
+            kind = "A" if words[-1] == "a.vcd" else "B"
+            found = [json.loads(line) for line in run(program, ["--format", kind, "--expression=4", "--json", *words])[1].splitlines()]
+            got = [tuple(each[name] for name in ("kind", "pulses", "frames", "elements", "step")) for each in found]
+            yield same(" ".join([program, *words]), got, wanted)
+
+    made = {name: recorded(change) for name, change in (("drop", dropout), ("early", early), ("control", function))}
+    made["a"] = of_a()
+    return in_folder(lambda: list(holds()), **{name: damages.dump(pulses, pulses[-1][1]) for name, pulses in made.items()})
 
 
 def kinds():
@@ -495,4 +532,4 @@ def cases(top):
     return [*(case("apply: " + row[0], applied, *row) for row in APPLIED),
             *(case("apply: " + part.__name__, part)
               for part in (into, options_of_a_script, late_times, saved, page_alone, one_line, cut, growing, upside_down, steady,
-                           guarded, guesses, filled, refused, objects, kinds))]
+                           guarded, guesses, filled, refused, objects, ends, kinds))]

@@ -233,6 +233,21 @@ def of_undamaged():
         yield same("undamaged %d" % number, (said, [part.faults.wanted for part in found.parts]), ([], [{}]))
 
 
+def of_ends():
+    """With wow of few elements nothing says when the end of a run should rise, but the end itself: no recorded pulse would move."""
+    for elements, share, begins in ((28.6, 0.022, (0, 15, 25, 40)), (20, 0.03, (5, 30))):  # of format E at 0.35 and 0.5 hertz
+        for begin in begins:
+            sound = wow(tools.recording(9), share, elements)[begin:-7]
+            name = "wow of %s in %s elements, from element %d on" % (share, elements, begin)
+            found = analysis.examine(listing_of(sound))
+            said = [remark.seen for part in found.parts for remark in part.remarks + part.faults.remarks]
+            yield same(name, (said, [part.faults.wanted for part in found.parts]), ([], [{}]))
+            holes = (200, 203), (333, 334), (500, 515)
+            holed = [pulse for at, pulse in enumerate(sound) if not any(low <= at < high for low, high in holes)]
+            part, = analysis.examine(listing_of(holed)).parts
+            yield same(name + ", three holes", [place for place in part.faults.wanted if part.track.pulses_at(place)], [])
+
+
 def of_strays():
     """A rise that is off by more than eight times the spread and three samples is damage, though its pulse is in step."""
     def trembling(pulses):
@@ -296,6 +311,17 @@ def of_other_code():
         yield same(name + ", what is repaired", [dict(part.faults.wanted) for part in found.parts], [{}])
         ended = analysis.examine(listing_of(pulses[:230] + other))
         yield same(name + ", at the end", any(part.faults.wanted for part in ended.parts), False)
+    for name, other, lost in (("of format A", frames_of(1000, 2331000, 230), 3), ("another signal", frames_of(3300, 2331000, 28), 4),
+                              ("of format E", frames_of(100000, 2320000, 28), 5)):
+        kept = [pulse for at, pulse in enumerate(other) if at % lost]
+        found = analysis.examine(listing_of(pulses[:230] + kept + pulses[other[-1][1] // 10000 + 20:]))
+        said = [remark.seen for part in found.parts for remark in part.remarks]
+        got = ["is other code" in each for each in said], [part.faults.wanted for part in found.parts]
+        yield same(name + ", one of %d is lost" % lost, got, ([True], [{}]))
+    for name, lost in (("four of seven, 2, 2, 2 and 1 apart", [at for at in range(232, 262) if at % 7 not in (0, 2, 4, 6)]),
+                       ("three of eight, 2, 2 and 4 apart", [at for at in range(232, 282) if at % 8 not in (0, 2, 4)])):
+        found = analysis.examine(listing_of([pulse for at, pulse in enumerate(tools.recording()) if at not in lost]))
+        yield same("elements of this code, " + name, [sorted(part.faults.wanted) for part in found.parts], [lost])
     positions = [pulse for at, pulse in enumerate(tools.recording()) if not 230 <= at < 480 or at % 10 == 9 or at % 100 == 0]
     found = analysis.examine(listing_of(positions))
     lost = [at for at in range(230, 480) if at % 10 != 9 and at % 100]
@@ -746,7 +772,8 @@ def cases():
     return [case("mend: part: " + name, holds) for name, holds in (
         ("phases", of_phases), ("clock", of_clock), ("clock of samples", of_samples), ("clock that gains a sample", of_one_sample),
         ("clock of runs", of_runs), ("a clock that wanders", of_wander), ("polarity", of_polarity), ("slots", of_slots),
-        ("sure runs", of_parts), ("tenths", of_tenths), ("other code", of_other_code), ("a long hole on a clock that wanders", of_vague),
+        ("sure runs", of_parts), ("tenths", of_tenths), ("other code", of_other_code), ("ends of runs on a clock that wanders", of_ends),
+        ("a long hole on a clock that wanders", of_vague),
         ("undamaged", of_undamaged), ("a rise that is off", of_strays), ("a clock that was set", of_set), ("places", of_places),
         ("votes", of_votes),
         ("spans", of_spans), ("pieces", of_pieces), ("leap seconds", of_leap), ("moments", of_moments), ("times", of_times),

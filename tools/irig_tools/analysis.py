@@ -5,6 +5,7 @@ from dataclasses import dataclass, field
 from typing import Callable, Iterator, List, Optional, Sequence, Tuple
 
 from . import limits
+from .concern import NOTHING, Concern, ends_of_pulses
 from .confirmed import faults_of
 from .copies import settled, take_out
 from .edit import Edit, repair_of
@@ -68,8 +69,8 @@ class Findings:
         """That of the control functions, if a part has one."""
         return next((part.times.rule for part in self.parts if part.times.rule), None)
 
-    def remark(self, at: Microseconds, seen: str, choice: str, kind: DamageKind = DamageKind.FORMAT) -> None:
-        self.remarks.append(Remark(at, seen, choice, kind=kind, is_question=kind == DamageKind.FORMAT))
+    def remark(self, at: Microseconds, seen: str, choice: str, kind: DamageKind = DamageKind.FORMAT, concern: Concern = NOTHING) -> None:
+        self.remarks.append(Remark(at, seen, choice, kind=kind, is_question=kind == DamageKind.FORMAT, concern=concern))
 
 
 def looks(editor: Editor, obeyed: Callable[[], Listing], progress: Progress, script: Sequence[Repair], steady: bool = False,
@@ -130,7 +131,7 @@ def _examine_parts(clock: Clock, findings: Findings, move: bool, witnesses: Witn
         cost, linked = link(clock, runs, findings.layout.unused)
         if cost > limits.FAULTS_AT_LEAST + limits.FAULTS_A_PULSE * sum(run.count for run in runs):
             seen = "from pulse %d on the position identifiers are not ten apart" % number_of(runs[0].first)
-            findings.remark(clock.rises[runs[0].first], seen, OTHER_FORMAT)
+            findings.remark(clock.rises[runs[0].first], seen, OTHER_FORMAT, concern=ends_of_pulses(runs[0].first, runs[-1].last))
         else:
             for part in reversed(sure_parts(linked)):
                 track = Track(findings.layout, clock, part)
@@ -154,7 +155,7 @@ def _remark_unsure(findings: Findings, clock: Clock, run: Run) -> None:
     ends = number_of(run.first), number_of(run.last)
     seen = "pulses %d to %d may begin with element %s, and nothing decides which" % (*ends, elements)
     choice = "they are left, and what comes before and after them is mended for itself"
-    findings.remark(clock.rises[run.first], seen, choice, DamageKind.OTHER)
+    findings.remark(clock.rises[run.first], seen, choice, DamageKind.OTHER, ends_of_pulses(run.first, run.last))
 
 
 def _moved(track: Track, witnesses: Witnesses) -> List[Part]:

@@ -37,7 +37,8 @@ def _remark_unlike(faults: Faults) -> None:
         for element in elsewhere.unlike(number):
             place = place_in(number, element)
             if place not in faults.wanted:
-                faults.remark(place, "%s: %s" % (faults.name(place), elsewhere.said(number, element)), BY_HAND, DamageKind.DIFFERS)
+                faults.remark(place, "%s: %s" % (faults.name(place), elsewhere.said(number, element)), BY_HAND, DamageKind.DIFFERS,
+                              elements=[element])
         if number in elsewhere.contrary:
             seen = "%s: %s" % (faults.times.name(number), elsewhere.said_of_frame(number))
             faults.remark(faults.track.within(place_in(number)), seen, NOT_TAKEN, DamageKind.DIFFERS)

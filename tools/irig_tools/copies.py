@@ -7,6 +7,7 @@ from itertools import accumulate
 from typing import Dict, Iterable, List, NamedTuple, Optional, Tuple
 
 from . import limits
+from .concern import ends_of_pulses
 from .edit import moved_rest, of_pulses, repair_of
 from .frames import Times
 from .interval import Run
@@ -124,8 +125,9 @@ def without_copy(track: Track, again: Optional[Again]) -> Optional[Repair]:
         "the %d elements from %d on are there twice: at %d the times begin again; the second are deleted, "
         "and the rest goes back by %d" % (many, begin - by, begin, by)
     )
-    edits = [of_pulses("delete", again.first, PulseIndex(after - 1)), moved_rest(again.first, -by)]
-    return repair_of(DamageKind.TWICE, begin, [why], edits, removed=by)
+    own = again.first, PulseIndex(after - 1)
+    edits = [of_pulses("delete", *own), moved_rest(again.first, -by)]
+    return repair_of(DamageKind.TWICE, begin, [why], edits, removed=by, concern=ends_of_pulses(*own))
 
 
 def copy_between(track: Track, times: Times, left: List[Run], right: List[Run]) -> Optional[Again]:

@@ -6,6 +6,7 @@ from typing import Dict, List, Sequence, Tuple
 
 from . import limits
 from .analysis import START, Findings, Part, looks
+from .concern import NOTHING, Concern, ends_of_pulses
 from .editor import Editor, Listing, Progress
 from .faults import Faults, Remark, pulses_text
 from .grouping import grouped
@@ -26,12 +27,13 @@ class Damage:
     until: Microseconds
     name: str
     seen: str
-    pulses: Tuple[PulseIndex, ...] = ()  # the first and the last, if it concerns any
+    concern: Concern = NOTHING
     is_remark: bool = False  # it is named, and no damage
     kind: DamageKind = DamageKind.OTHER
+    is_told: bool = False  # the text names its pulses, if it has to
 
     def line(self) -> str:
-        pulses = [pulses_text(self.pulses[0], self.pulses[-1])] if self.pulses else []
+        pulses = [pulses_text(*self.concern.pulses)] if self.concern.pulses and not self.is_told else []
         names = [self.name, *pulses] if self.name else ["remark"] if self.is_remark else pulses
         return "%d %s%s" % (self.at, ", ".join(names) + ": " if names else "", self.seen)
 
@@ -58,7 +60,7 @@ def look(editor: Editor, progress: Progress, steady: bool = False, grid: float =
             found += _rest(listing, findings)
         else:
             first = findings.whole[0]
-            found.append(Damage(first.at, first.at, "", first.comments[0], kind=first.kind))
+            found.append(Damage(first.at, first.at, "", first.comments[0], kind=first.kind, concern=first.concern, is_told=True))
             script += [] if findings.turned and not findings.partly else findings.whole
     progress("")
     found = sorted(set(found), key=lambda each: (each.at, each.until, each.name, each.seen))
@@ -68,7 +70,7 @@ def look(editor: Editor, progress: Progress, steady: bool = False, grid: float =
 def _rest(listing: Listing, findings: Findings) -> List[Damage]:
     """What is found if every pulse has its own class."""
     said = findings.remarks + [remark for part in findings.parts for remark in part.remarks + part.faults.remarks]
-    found = [Damage(remark.at, remark.at, remark.name, _asked(remark), kind=remark.kind) for remark in said]
+    found = [Damage(remark.at, remark.at, remark.name, _asked(remark), remark.concern, kind=remark.kind, is_told=True) for remark in said]
     if findings.clock:
         found += _of_clock(findings.clock)
     for part in findings.parts:
@@ -133,10 +135,8 @@ def _of_places(faults: Faults, group: Sequence[PlaceNumber]) -> List[Damage]:
 
 
 def _of_stretch(faults: Faults, group: Sequence[PlaceNumber], name: str, seen: str, kind: DamageKind) -> Damage:
-    pulses = faults.track.pulses_of(group)
     until = plus(faults.track.rise_at(group[-1]), round(faults.clock.interval))
-    ends = (pulses[0], pulses[-1]) if pulses else ()
-    return Damage(faults.track.rise_at(group[0]), until, name, seen, ends, kind=kind)
+    return Damage(faults.track.rise_at(group[0]), until, name, seen, faults.concern(group[0], group[-1]), kind=kind)
 
 
 def _of_ends(listing: Listing, first: Part, last: Part) -> List[Damage]:
@@ -147,9 +147,11 @@ def _of_ends(listing: Listing, first: Part, last: Part) -> List[Damage]:
     before = plus(before, -(before == 1 and rises[0] == 0))  # cut by the beginning
     beyond = plus(after, 1 + (after == many - 2 and listing.falls[-1] == listing.length))  # cut by the end
     if before:
-        found.append(Damage(rises[0], rises[before], "", NO_FRAME, (PulseIndex(0), plus(before, -1)), kind=DamageKind.OUTSIDE))
+        own = ends_of_pulses(PulseIndex(0), plus(before, -1))
+        found.append(Damage(rises[0], rises[before], "", NO_FRAME, own, kind=DamageKind.OUTSIDE))
     if beyond < many:
-        found.append(Damage(rises[beyond], listing.length, "", NO_FRAME, (beyond, PulseIndex(many - 1)), kind=DamageKind.OUTSIDE))
+        own = ends_of_pulses(beyond, PulseIndex(many - 1))
+        found.append(Damage(rises[beyond], listing.length, "", NO_FRAME, own, kind=DamageKind.OUTSIDE))
     return found
 
 

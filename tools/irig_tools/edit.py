@@ -4,6 +4,7 @@ from __future__ import annotations
 from dataclasses import dataclass
 from typing import List, Optional, Sequence, Tuple, Union
 
+from .concern import NOTHING, Concern
 from .kinds import DamageKind
 from .script import Repair
 from .units import Microseconds, PulseIndex, number_of
@@ -65,7 +66,7 @@ def script_lines(edits: Sequence[Edit]) -> List[str]:
 
 
 def repair_of(kind: DamageKind, at: Microseconds, comments: Sequence[str], edits: Sequence[Edit], until: Microseconds = Microseconds(0),
-              removed: int = 0, instead: Sequence[Edit] = (), undecided: Sequence[str] = ()) -> Repair:
+              removed: int = 0, instead: Sequence[Edit] = (), undecided: Sequence[str] = (), concern: Concern = NOTHING) -> Repair:
     """The edits that belong together, with what they move; `removed` microseconds are taken out."""
     moves = [(at, edit.move, removed) for edit in edits if edit.move]
-    return Repair(at, list(comments), script_lines(edits), script_lines(instead), until, moves, kind, list(undecided))
+    return Repair(at, list(comments), script_lines(edits), script_lines(instead), until, moves, kind, list(undecided), concern)

@@ -26,6 +26,7 @@ class Item:
     targets: Dict[PlaceNumber, str] = field(default_factory=dict)  # the classes of a frame that is generated again
     kind: DamageKind = DamageKind.OTHER
     is_guess: bool = False  # nothing decides one of its classes
+    step: Optional[int] = None  # by how many microseconds a rest that it moves is late
 
 
 def items(faults: Faults) -> List[Item]:

@@ -3,9 +3,10 @@ from __future__ import annotations
 
 import copy
 from dataclasses import dataclass
-from typing import Container, Dict, Iterable, List, Optional, Set
+from typing import Container, Dict, Iterable, List, Optional, Sequence, Set
 
 from . import limits
+from .concern import NOTHING, Concern, of_frame
 from .frames import Times
 from .kinds import STEPS, DamageKind
 from .layout import NAMES, POSITIONS, READABLE, SHARE
@@ -27,6 +28,7 @@ class Remark:
     name: str = ""  # its frame and element, if they are to be named
     kind: DamageKind = DamageKind.OTHER
     is_question: bool = False  # the choice asks whether the recording is another one than was said
+    concern: Concern = NOTHING
 
     def comment(self) -> str:
         """A step of the recorder's clock stays; of all else nothing decides what is right."""
@@ -92,7 +94,7 @@ class Faults:
         if unknown and number not in self.left:
             elements = self.times.name(number), ", ".join(map(str, unknown))
             seen = "%s, element %s: neither its shape nor another frame says whether it is a zero or a one" % elements
-            self.remark(place_in(number, unknown[0]), seen, "force or insert the right one")
+            self.remark(place_in(number, unknown[0]), seen, "force or insert the right one", elements=unknown)
 
     def _doubt_time(self, number: FrameNumber) -> None:
         """A frame alone that shows another time than the others, too clearly to be damage."""
@@ -101,8 +103,15 @@ class Faults:
             shown = self.times.calendar.name(self.times.calendar.moment(number, own))
             self.remark(place_in(number), "a frame alone shows %s, to which no other frame leads" % shown, LEFT_FRAME)
 
-    def remark(self, place: PlaceNumber, seen: str, choice: str, kind: DamageKind = DamageKind.OTHER) -> None:
-        self.remarks.append(Remark(self.track.rise_at(place), seen, choice, kind=kind))
+    def remark(self, place: PlaceNumber, seen: str, choice: str, kind: DamageKind = DamageKind.OTHER, elements: Sequence[int] = ()) -> None:
+        """What is said of a frame, or of some of its elements."""
+        concern = of_frame(self.times.shown(frame_of(place)), elements)
+        self.remarks.append(Remark(self.track.rise_at(place), seen, choice, kind=kind, concern=concern))
+
+    def concern(self, first: PlaceNumber, last: PlaceNumber) -> Concern:
+        """The places from one to another, for programs."""
+        shown, pulses = [self.times.shown(frame_of(place)) for place in (first, last)], self.track.pulses_of(through(first, last))
+        return Concern(tuple(shown) if all(shown) else (), (first % ELEMENTS, last % ELEMENTS), (pulses[0], pulses[-1]) if pulses else ())
 
     def _contradicts(self, number: FrameNumber, text: str, expected: str) -> bool:
         """Whether a frame shows another time than its neighbours lead to, too clearly to be damage."""

@@ -164,5 +164,10 @@ class Times(Votes):
         return found
 
     def name(self, number: FrameNumber) -> str:
+        shown = self.shown(number)
+        return "frame " + shown if shown else "a frame of unknown time"
+
+    def shown(self, number: FrameNumber) -> str:
+        """The time that it has to show; an empty text if nothing says it."""
         moment = self.moment(number)
-        return "a frame of unknown time" if moment is None else "frame " + self.calendar.name(moment)
+        return "" if moment is None else self.calendar.name(moment)

@@ -380,6 +380,11 @@ class Clock:
             return self.stray
         return max(self.stray, min(limits.LOCAL_STRAY * self.nominal, self.stray + self.wander.over(steps)))
 
+    def stray_at_end(self, fewest: int, stray: float) -> float:
+        """How far the rise at an end of a run may be off, if that of a single pulse there may be off by `stray`: as far as in the run,
+        and as what its pulses say of its end can be off itself. The runs there have at least that many pulses."""
+        return max(stray, self.least_stray, stray + self.over(1, fewest))
+
     def least_late(self, steps: int, fewest: int = limits.BESIDE) -> float:
         """A rest that is less late than this is left as it is."""
         if self.wander and fewest < limits.BESIDE:  # few pulses do not show more than whether they are in step

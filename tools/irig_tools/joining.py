@@ -3,6 +3,7 @@ from __future__ import annotations
 
 from typing import Iterable, List, Sequence, Set
 
+from .concern import of_all
 from .grouping import grouped
 from .guard_words import Reason
 from .layout import INTERVAL
@@ -38,4 +39,5 @@ def one_of(repairs: Sequence[Repair]) -> Repair:
     moves = [move for each in repairs for move in each.moves]
     begin, end = min(each.at for each in repairs), max(max(each.at, each.until) for each in repairs)
     undecided = [comment for each in repairs for comment in each.undecided]
-    return Repair(begin, comments, edits, until=end, moves=moves, kind=repairs[0].kind, undecided=undecided)
+    return Repair(begin, comments, edits, until=end, moves=moves, kind=repairs[0].kind, undecided=undecided,
+                  concern=of_all([each.concern for each in reversed(repairs)]))

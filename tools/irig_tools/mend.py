@@ -8,6 +8,7 @@ from typing import Dict, List, Optional, Sequence, Set, Tuple
 from . import limits
 from .analysis import Findings, looks
 from .check import Check, Harm, Moved
+from .concern import NOTHING, Concern
 from .editor import Editor, Listing, Progress
 from .faults import Remark
 from .joining import one_of
@@ -31,12 +32,12 @@ def called_for(findings: Findings) -> List[Repair]:
 
 
 def _said(remarks: Sequence[Remark]) -> List[Repair]:
-    return [_of_remark(remark.at, remark.comment(), remark.kind) for remark in remarks]
+    return [_of_remark(remark.at, remark.comment(), remark.kind, remark.concern) for remark in remarks]
 
 
-def _of_remark(at: Microseconds, said: str, kind: DamageKind) -> Repair:
+def _of_remark(at: Microseconds, said: str, kind: DamageKind, concern: Concern = NOTHING) -> Repair:
     """A repair without edits: nothing decides what is right, but of a step."""
-    return Repair(at, [said], kind=kind, undecided=[] if kind in STEPS else [said])
+    return Repair(at, [said], kind=kind, undecided=[] if kind in STEPS else [said], concern=concern)
 
 
 def obeyed(editor: Editor, script: List[Repair], refused: Set[str]) -> Listing:
@@ -173,7 +174,7 @@ def _blamed(script: Sequence[Repair], harms: Sequence[Harm], all_of_them: bool) 
 def _left_out(repair: Repair, harm: Harm) -> Repair:
     lines = "; ".join(repair.edits)[:BY_LINE]
     said = "undecided: at %d: with these lines %s, so they are left out: %s" % (repair.at, harm.seen, lines)
-    return Repair(repair.at, [said], kind=repair.kind, undecided=[said])
+    return Repair(repair.at, [said], kind=repair.kind, undecided=[said], concern=repair.concern)
 
 
 def script_text(script: Sequence[Repair]) -> str:

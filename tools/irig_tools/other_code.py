@@ -2,7 +2,7 @@
 from __future__ import annotations
 
 from statistics import median_low
-from typing import NamedTuple, Optional, Sequence
+from typing import Callable, NamedTuple, Optional, Sequence
 
 from . import limits
 from .layout import INTERVAL, POSITIONS, SHARE
@@ -24,16 +24,37 @@ class OtherCode(NamedTuple):
         return abs(distance - self.interval) <= limits.IN_STEP * self.interval
 
 
-def other_code(rises: Sequence[int], falls: Sequence[int], first: PulseIndex, last: PulseIndex, own: float) -> Optional[OtherCode]:
-    """What these pulses are, if most of them follow each other by one interval that is not the own one."""
-    if last - first + 1 < limits.SURE_RUN:
+def other_code(rises: Sequence[int], falls: Sequence[int], pulses: Sequence[PulseIndex], is_own: Callable[[PulseIndex], bool],
+               own: float) -> Optional[OtherCode]:
+    """What these pulses are, if most of them follow each other by one interval that is not the own one; also if some are lost, but then
+    most must not be where this code has pulses, as `is_own` says."""
+    if len(pulses) < limits.SURE_RUN:
         return None
+    first, last = pulses[0], pulses[-1]
     apart = [rises[at + 1] - rises[at] for at in range(first, last)]
     usual = median_low(apart)
-    steady = sum(abs(each - usual) <= limits.IN_STEP * usual for each in apart)
-    if abs(usual - own) <= limits.IN_STEP * own or steady < limits.STEADY_CODE * len(apart):
+    is_steady = _is_steady(apart, usual) or _is_thinned(apart, usual) and not _are(pulses, is_own)
+    if not is_steady or abs(usual - own) <= limits.IN_STEP * own:
         return None
     return OtherCode(first, last, usual, _kind(usual, [falls[at] - rises[at] for at in range(first, last + 1)]))
+
+
+def _is_steady(apart: Sequence[int], usual: int) -> bool:
+    """Whether most distances are the usual one."""
+    return sum(abs(each - usual) <= limits.IN_STEP * usual for each in apart) >= limits.STEADY_CODE * len(apart)
+
+
+def _is_thinned(apart: Sequence[int], usual: int) -> bool:
+    """Whether half of the distances are the usual one, and most are some of it, as if pulses were lost between."""
+    many = [each / usual for each in apart]
+    once = sum(abs(each - 1) <= limits.IN_STEP for each in many)
+    some = sum(abs(each - max(1, round(each))) <= limits.IN_STEP for each in many)
+    return once >= limits.THINNED_CODE * len(many) and some >= limits.STEADY_CODE * len(many)
+
+
+def _are(pulses: Sequence[PulseIndex], is_own: Callable[[PulseIndex], bool]) -> bool:
+    """Whether most of them are pulses of this code."""
+    return sum(map(is_own, pulses)) >= limits.STEADY_CODE * len(pulses)
 
 
 def _kind(interval: int, widths: Sequence[int]) -> str:

@@ -6,6 +6,7 @@ from operator import itemgetter
 from typing import List, Optional
 
 from . import limits
+from .concern import of_frame, ends_of_pulses
 from .copies import again_within, without_copy
 from .faults import Remark
 from .frames import Times
@@ -78,7 +79,8 @@ def missing(zone: Zone, many: Optional[int]) -> str:
 
 def _of_other(track: Track, other: OtherCode) -> Remark:
     """Pulses in a hole that are not of this code."""
-    return Remark(track.rises[other.first], named(other, track.falls[other.last]), LEFT_OTHER, kind=DamageKind.FORMAT)
+    return Remark(track.rises[other.first], named(other, track.falls[other.last]), LEFT_OTHER, kind=DamageKind.FORMAT,
+                  concern=ends_of_pulses(other.first, other.last))
 
 
 def _of_vague(track: Track, zone: Zone) -> Remark:
@@ -127,5 +129,6 @@ def _of_control(track: Track, times: Times) -> List[Remark]:
             unlike = [each for each, a, b in zip(elements, value, usual) if a != b]
             seen = "%s, element %s: control functions that no other frame has" % (
                 times.name(number), ", ".join(map(str, unlike)))
-            found.append(Remark(track.rise_at(place_in(number, unlike[0])), seen, LEFT_CONTROL, kind=DamageKind.CONTROL))
+            at, concern = track.rise_at(place_in(number, unlike[0])), of_frame(times.shown(number), unlike)
+            found.append(Remark(at, seen, LEFT_CONTROL, kind=DamageKind.CONTROL, concern=concern))
     return found

@@ -9,6 +9,7 @@ from .edit import Edit, inserted, of_pulses, repair_of
 from .edits import Item, items
 from .faults import Faults, Remark
 from .grouping import grouped
+from .kinds import DamageKind
 from .layout import SHARE
 from .script import Repair
 from .units import PlaceNumber, plus, through
@@ -38,11 +39,19 @@ def _repair(faults: Faults, group: List[Item]) -> Repair:
         lost = []
     comments += _of_lost(faults, lost)
     track = faults.track
-    at, until = (track.rise_at(track.within(PlaceNumber(int(place + 0.5)))) for place in (group[-1].low, group[0].high))
+    first, last = (track.within(PlaceNumber(int(place + 0.5))) for place in (group[-1].low, group[0].high))
+    at, until = track.rise_at(first), track.rise_at(last)
+    concern = faults.concern(first, last)._replace(step=next((item.step for item in group if item.step), None))
     edits, instead = [edit for item in group for edit in item.edits], _written_again(faults, group)
     if all(item.single for item in group) and 0 < len(instead) < len(edits):
-        return repair_of(group[0].kind, at, comments, instead, until, undecided=undecided)
-    return repair_of(group[0].kind, at, comments, edits, until, instead=instead, undecided=undecided)
+        return repair_of(_kind_of(group), at, comments, instead, until, undecided=undecided, concern=concern)
+    return repair_of(_kind_of(group), at, comments, edits, until, instead=instead, undecided=undecided, concern=concern)
+
+
+def _kind_of(group: List[Item]) -> DamageKind:
+    """That of all, or of a rest that is moved; of several kinds of damage it is a stretch."""
+    kinds = {item.kind for item in group}
+    return kinds.pop() if len(kinds) == 1 else DamageKind.STEP if DamageKind.STEP in kinds else DamageKind.STRETCH
 
 
 def _written_again(faults: Faults, group: List[Item]) -> List[Edit]:

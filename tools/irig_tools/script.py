@@ -1,9 +1,10 @@
 """The script that is proposed: repairs, each with the sentences that say why."""
 from __future__ import annotations
 
-from dataclasses import dataclass, field
+from dataclasses import dataclass, field, replace
 from typing import List, Tuple
 
+from .concern import NOTHING, Concern
 from .kinds import DamageKind
 from .units import Microseconds
 
@@ -25,6 +26,7 @@ class Repair:
     moves: List[Move] = field(default_factory=list)  # edit by edit
     kind: DamageKind = DamageKind.OTHER  # of the damage
     undecided: List[str] = field(default_factory=list)  # the comments that say of what nothing decides
+    concern: Concern = NOTHING
 
     def text(self) -> str:
         """Its edits, by which it is known."""
@@ -40,9 +42,9 @@ class Repair:
     def refused(self) -> Repair:
         """The editor refuses one of the edits: the other way, or if there is none a remark."""
         if self.instead:
-            return Repair(self.at, self.comments, self.instead, until=self.until, kind=self.kind, undecided=self.undecided)
+            return replace(self, edits=self.instead, instead=[], moves=[])
         said = "the editor refuses these lines, so they are left out: " + "; ".join(self.edits)[:BY_LINE]
-        return Repair(self.at, self.comments + [said], kind=self.kind, undecided=self.undecided)
+        return Repair(self.at, self.comments + [said], kind=self.kind, undecided=self.undecided, concern=self.concern)
 
 
 def _bounded(comment: str) -> str:

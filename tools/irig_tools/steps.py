@@ -40,7 +40,8 @@ class Step:
     def remark(self, right: Faults) -> Remark:
         """What is said of it; `right` is what comes after it."""
         if self.copy:
-            return Remark(self.copy.at, self.copy.comments[0].partition("; ")[0], _choice(self.copy.edits), kind=DamageKind.TWICE)
+            return Remark(self.copy.at, self.copy.comments[0].partition("; ")[0], _choice(self.copy.edits), kind=DamageKind.TWICE,
+                          concern=self.copy.concern)
         if self.known and abs(self.late) > limits.LONGEST_CUT * self.zone.interval:
             return Remark(self.at, clock_was_set(-self.late / ONE_SECOND), LEFT_SET, kind=DamageKind.TIMES)
         if self.zone.glued and self._is_dense() and not (self.known and self.late > 0):
@@ -48,7 +49,8 @@ class Step:
             return Remark(self.at, missing(self.zone, many), _choice(self._edits()), kind=DamageKind.CUT)
         first = right.track.first
         place = plus(first, -round((right.track.rise_at(first) - self.at) / self.zone.interval))
-        return Remark(self.at, self._moved(), _choice(self._edits()), right.name(place), DamageKind.STEP)
+        concern = right.concern(place, place)._replace(pulses=(self.pulse, self.pulse), step=self.late)
+        return Remark(self.at, self._moved(), _choice(self._edits()), right.name(place), DamageKind.STEP, concern=concern)
 
     def _moved(self) -> str:
         """By how much the rest comes late or early."""

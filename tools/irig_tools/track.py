@@ -123,7 +123,7 @@ class Track:
         if place in self.strays:
             return self.clock.least_stray
         zone = self.zone_of.get(place)
-        return zone.stray if zone else self.clock.stray
+        return zone.stray_at(place) if zone else self.clock.stray
 
     def within(self, place: PlaceNumber) -> PlaceNumber:
         """The place, or the end of the track that is nearest to it."""

@@ -27,7 +27,8 @@ def left_rest(faults: Faults, zone: Zone) -> Remark:
     assert zone.right and zone.border is not None
     way = "late" if zone.late > 0 else "early"
     seen = "%d elements are missing, and the rest comes %d %s" % (zone.right.step - 1, abs(round(zone.late)), way)
-    return Remark(faults.rises[zone.border], seen, _why_not(faults, zone), kind=DamageKind.STEP)
+    return Remark(faults.rises[zone.border], seen, _why_not(faults, zone), kind=DamageKind.STEP,
+                  concern=faults.concern(zone.border_place, zone.border_place)._replace(step=round(zone.late)))
 
 
 def shift(faults: Faults, zone: Zone) -> Item:
@@ -39,8 +40,9 @@ def shift(faults: Faults, zone: Zone) -> Item:
         why += ", and %d elements before it are missing or damaged" % between
     if late > 0 and any(place in faults.wanted for place in through(zone.first, plus(zone.border_place, -1))):
         # what is before it is repaired first, and that may change the numbers of pulses
-        return Item(zone.first - 0.5, zone.border_place - 0.5, moved_from(at, -late), why, kind=DamageKind.STEP)
-    return Item(zone.border_place - 0.5, zone.border_place - 0.5, [moved_rest(zone.border, -late)], why, kind=DamageKind.STEP)
+        return Item(zone.first - 0.5, zone.border_place - 0.5, moved_from(at, -late), why, kind=DamageKind.STEP, step=late)
+    return Item(zone.border_place - 0.5, zone.border_place - 0.5, [moved_rest(zone.border, -late)], why, kind=DamageKind.STEP,
+                step=late)
 
 
 def _why_not(faults: Faults, zone: Zone) -> str:

@@ -24,7 +24,10 @@ class Zone:
         self.clock, self.left, self.right = clock, left, right
         self.interval = clock.interval_between(left, right)
         self.rises = clock.rises
+        # the last of the left run and the first of the right one are in step: that is their place
+        self.ends = {**({left.last: left.last_place} if left else {}), **({right.first: right.place} if right else {})}
         self.stray = clock.stray_over(right.step if left and right else 1)
+        self.end_stray = clock.stray_at_end(min([run.count for run in (left, right) if run], default=0), self.stray)
         self.late: float = 0
         if left and right and abs(right.late) > clock.least_late(right.step, right.fewest):
             self.late = right.late
@@ -50,11 +53,19 @@ class Zone:
         """What is between two runs, if it is no damaged part of this code."""
         left, right = self.left, self.right
         assert left and right
-        found = other_code(self.rises, self.clock.listing.falls, plus(left.last, 1), plus(right.first, -1), self.interval)
+        found = self._other_code(plus(left.last, 1), plus(right.first, -1))
         if not found:
             return None
         own = through(found.first, found.last)
         return None if survives(list(map(self.place_of, own)), self.clock.classes[found.first:found.last + 1]) else found
+
+    def _other_code(self, first: PulseIndex, last: PulseIndex) -> Optional[OtherCode]:
+        return other_code(self.rises, self.clock.listing.falls, through(first, last), self._is_own, self.interval)
+
+    def _is_own(self, pulse: PulseIndex) -> bool:
+        """Whether a pulse is of a class, about where this code has one."""
+        off = abs(self.rises[pulse] - self.rise_at(self.place_of(pulse)))
+        return self.clock.classes[pulse] != "b" and off <= limits.IN_STEP * self.interval
 
     def _find_pulses(self) -> List[PulseIndex]:
         """The last of the left run, the first of the right one, and what is between; at an end all that belong to a frame."""
@@ -62,11 +73,11 @@ class Zone:
         first, last = left.last if left else PulseIndex(-1), right.first if right else PulseIndex(-1)
         if right and not left:
             first = right.first if {"<", "["} & set(right.ends) else self._reach(right.first, -1)
-            if other_code(self.rises, self.clock.listing.falls, first, plus(right.first, -1), self.interval):
+            if self._other_code(first, plus(right.first, -1)):
                 first = right.first
         if left and not right:
             last = left.last if {">", "]"} & set(left.ends) else self._reach(left.last, 1)
-            if other_code(self.rises, self.clock.listing.falls, plus(left.last, 1), last, self.interval):
+            if self._other_code(plus(left.last, 1), last):
                 last = left.last
         return through(first, last)
 
@@ -130,6 +141,8 @@ class Zone:
         return plus(self.right.place, whole_steps(self.rises[pulse] - self.right.begin, self.interval))
 
     def place_of(self, pulse: PulseIndex) -> PlaceNumber:
+        if pulse in self.ends:
+            return self.ends[pulse]
         if not self.left or (self.border is not None and pulse >= self.border):
             return self._place_by_right(pulse)
         place = plus(self.left.last_place, whole_steps(self.rises[pulse] - self.left.end, self.local_interval()))
@@ -144,6 +157,10 @@ class Zone:
         if self.left and self.right and not self.late and self.right.step > 0:
             return (self.right.begin - self.left.end) / self.right.step
         return self.interval
+
+    def stray_at(self, place: PlaceNumber) -> float:
+        """How far the pulse of a place may be off."""
+        return self.end_stray if place in self.ends.values() else self.stray
 
     def _is_bent(self) -> bool:
         """Whether both runs are on one clock that wanders, so that the interval changes from one to the other."""
