@@ -2,11 +2,13 @@
 from __future__ import annotations
 
 from dataclasses import dataclass, replace
-from typing import Callable, List, Sequence, Tuple
+from typing import Callable, List, Sequence, Tuple, Union
 
+from .analysis import START
 from .apply import Counts, FrameCount, Refused, counts, find_guard, frames_of, run_script
-from .damage import Seen, look
+from .damage import Damage, Seen, look
 from .editor import Editor, Progress
+from .kinds import DamageKind
 from .opening import Opened
 from .script import Repair
 from .second_try import once_more
@@ -40,8 +42,13 @@ class Applied:
 
     def counts(self, script: Sequence[Repair]) -> Counts:
         """What the script did, of what counts."""
-        before, after = ([each for each in seen.damages if self.owns(each.at)] for seen in (self.before, self.after))
+        before, after = ([each for each in seen.damages if self.owns(each.at) or is_of_all(each)] for seen in (self.before, self.after))
         return counts(before, after, script, (self.frames[0].sound, self.frames[1].sound), self.refused)
+
+
+def is_of_all(seen: Union[Damage, Repair]) -> bool:
+    """Whether all that was looked at seems to be of another format, or of another wire."""
+    return seen.kind == DamageKind.FORMAT and seen.at == START
 
 
 def applied_to(track: Opened, editor: Editor, script: List[Repair], how: How, repaired: str) -> Applied:

@@ -65,7 +65,11 @@ class LongRecording:
 
     def reasons(self) -> List[str]:
         """Why something is left, from the end to the beginning as in a script."""
-        return [reason for part in reversed(self.parts) for reason in part.reasons] + cut_notes(self.track)
+        before, texts = 0, []  # type: int, List[List[str]]
+        for window, part in zip(self.windows, self.parts):
+            texts.append(part.texts(window.pulse, before // 2))
+            before += part.edges
+        return [text for found in reversed(texts) for text in found] + cut_notes(self.track)
 
     def code(self, name: str) -> Code:
         return Code(name, wire_or_none(self.track), self.parts[0].kind, self.parts[0].expression)

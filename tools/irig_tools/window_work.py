@@ -12,7 +12,7 @@ from bisect import bisect_left
 from dataclasses import dataclass, replace
 from typing import List, Sequence, Tuple
 
-from .applied import Applied, How, applied_to
+from .applied import Applied, How, applied_to, is_of_all
 from .apply import Counts, Refused
 from .editor import Editor
 from .ending import ALL_RIGHT, ended, heed_signals
@@ -29,6 +29,7 @@ MENDER = "irig_mend"
 ALL_PULSES = DamageKind.INVERTED, DamageKind.THRESHOLD  # repairs of these kinds concern the wire, so each window has them
 NUMBERS = re.compile(r"\b(pulses? )([0-9]+)(?:( to )([0-9]+))?|\b()([0-9]+)(?:(,)([0-9]+))?(?= (?:delete|join|force|shift)\b)")
 NO_WINDOW = TimeWindow(0, 0, 0, 0, 0, 0, False)
+NOT_REPAIRED = "from %d to %d nothing is repaired: %s"
 NONE_SOUND = "from %d to %d no frame is sound, so this part is left as it was"
 
 
@@ -59,12 +60,18 @@ class OwnPart:
     """What became of the own part of a window."""
 
     counts: Counts
-    reasons: List[str]
-    kind: str
-    expression: int
+    reasons: List[Tuple[str, bool]]  # and whether its pulses are counted in the repaired recording; numbers are those of the window
+    ahead: int  # pulses of the window before its own part, as they are when all is repaired
+    edges: int  # of the own part
+    last: int  # the last one of them, or -1
     before: bool  # its level at its beginning
     after: bool  # and at its end
-    last: int  # its last edge, or -1
+    kind: str
+    expression: int
+
+    def texts(self, recorded: int, repaired: int) -> List[str]:
+        """The reasons, if that many pulses are before the window, and before its own part when all is repaired."""
+        return [_numbered(text, repaired - self.ahead if is_repaired else recorded) for text, is_repaired in self.reasons]
 
 
 def own_part_of(task: Task) -> OwnPart:
@@ -79,16 +86,17 @@ def work(task: Task) -> int:
     _write_dump(task)
     editor = Editor(track.words)
     how = How(lambda asked, move: _own(task.window, propose(asked, _quiet, task.steady)), _quiet, task.steady, owns=task.window.owns)
-    script, repaired = how.propose(editor, False), task.path("repaired")
+    script, repaired = propose(editor, _quiet, task.steady), task.path("repaired")
+    ahead = bisect_left(editor.ask([each.lines() for each in script]).rises, task.window.begin)
+    script = _own(task.window, script)
     ran = applied_to(track, editor, script, how, repaired)
     counted, reasons = ran.counts(script), _own_reasons(task.window, script, ran.refused)
     if not _has_sound(ran, script):
-        repaired, reasons = track.path, [NONE_SOUND % (task.window.begin, task.window.end)]
+        repaired, reasons = track.path, [(NONE_SOUND % (task.window.begin, task.window.end), True)]
         counted = _left_as_it_was(counted)
-    ends = _write_part(task, repaired)
-    listing = ran.before.listing
+    written, listing = _write_part(task, repaired), ran.before.listing
     with open(task.path("json"), "w", encoding="utf-8") as file:
-        json.dump([list(vars(counted).values()), reasons, listing.kind, listing.expression, *ends], file)
+        json.dump([list(vars(counted).values()), reasons, ahead, *written, listing.kind, listing.expression], file)
     return ALL_RIGHT
 
 
@@ -98,7 +106,7 @@ def _quiet(text: str) -> None:
 
 def _own(window: TimeWindow, script: Sequence[Repair]) -> List[Repair]:
     """The repairs and the remarks of its own part; none reaches over its end."""
-    return [each for each in script if each.edits and each.kind in ALL_PULSES
+    return [each for each in script if each.edits and each.kind in ALL_PULSES or is_of_all(each)
             or window.owns(each.at) and window.owns(max(each.at, each.until))]
 
 
@@ -114,10 +122,12 @@ def _left_as_it_was(counted: Counts) -> Counts:
                    sound_after=counted.sound_before)
 
 
-def _own_reasons(window: TimeWindow, script: Sequence[Repair], refused: Refused) -> List[str]:
-    """Why something is left; pulses have the numbers of the recording."""
-    left = [comment for repair in script if not refused.drops(repair) and window.owns(repair.at) for comment in left_by(repair)]
-    return [_numbered(text, window.pulse) for text in [*(reason.text for reason in refused.reasons), *left]]
+def _own_reasons(window: TimeWindow, script: Sequence[Repair], refused: Refused) -> List[Tuple[str, bool]]:
+    """Why something is left. What is no repair is what the last look saw, at the repaired recording."""
+    left = [(comment if window.owns(repair.at) else NOT_REPAIRED % (window.begin, window.end, comment), not repair.edits)
+            for repair in script if not refused.drops(repair) and (window.owns(repair.at) or is_of_all(repair))
+            for comment in left_by(repair)]
+    return [*((reason.text, True) for reason in refused.reasons), *left]
 
 
 def left_by(repair: Repair) -> List[str]:
@@ -145,16 +155,17 @@ def _write_dump(task: Task) -> None:
             out.write(b"#%d\n" % task.window.stop)
 
 
-def _write_part(task: Task, repaired: str) -> Tuple[bool, bool, int]:
-    """Writes the edges of the own part; the levels before and after it, and its last edge. As a text it has no edge at 0."""
+def _write_part(task: Task, repaired: str) -> Tuple[int, int, bool, bool]:
+    """Writes the edges of the own part: how many, the last one, and the levels before and after it. As a text it has none at 0."""
     window, edges = task.window, WireEdges(repaired, Wish()).read().edges
     first, beyond = bisect_left(edges, window.begin), len(edges) if window.is_last else bisect_left(edges, window.end)
+    many = beyond - first
     first += task.is_text and edges[first:first + 1] == array("q", [0])
     part = edges[first:beyond]
     with open(task.path("part"), "wb") as out:
         out.write(edges_text(part, first % 2 == 0) if task.is_text else part.tobytes())
     os.unlink(repaired)
-    return bool(first % 2), bool(beyond % 2), part[-1] if part else -1
+    return many, part[-1] if part else -1, bool(first % 2), bool(beyond % 2)
 
 
 def main() -> int:
