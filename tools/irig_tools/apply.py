@@ -8,7 +8,7 @@ from bisect import bisect_left, bisect_right
 from contextlib import ExitStack
 from dataclasses import dataclass
 from functools import cached_property
-from typing import Dict, List, Optional, Sequence, Set, Tuple
+from typing import IO, Callable, Dict, List, Optional, Sequence, Set, Tuple
 
 from .damage import Damage
 from .dump_header import Reader
@@ -21,7 +21,7 @@ from .kinds import STEPS, DamageKind
 from .named import wire_named, wire_or_none
 from .opening import Opened
 from .output import output
-from .put_back import PutBack, TrackEdges
+from .put_back import PutBack, TrackEdges, TrackLevel
 from .script import Repair
 from .temporary import temporary_script
 from .wire import Wish
@@ -94,18 +94,42 @@ class Refused:
         return any(self.drops(repair) for repair in script if repair.moves)
 
 
-def summary(before: Sequence[Damage], after: Sequence[Damage], script: Sequence[Repair], frames: Sequence[FrameCount],
-            refused: Refused) -> Summary:
-    """Counts; `before` and `after` are what irig_damage finds, and `frames` those of both tracks. What is undecided are the comments that
-    say so, but not where another recording differs; a guess is a place that is repaired by one: not if it is dropped."""
+@dataclass(frozen=True)
+class Counts:
+    """What is counted of a recording, or of a part of it."""
+
+    found: int  # places of damage before
+    there: int  # and after
+    steps: int  # of these steps
+    undecided: int
+    guesses: int  # places that are repaired by one
+    filled: Optional[int]
+    refused: int
+    sound_before: int
+    sound_after: int
+
+    def plus(self, other: Counts) -> Counts:
+        """Of two parts that follow each other."""
+        sums = {name: (mine or 0) + (vars(other)[name] or 0) for name, mine in vars(self).items()}
+        sums["filled"] = None if self.filled is None or other.filled is None else sums["filled"]
+        return Counts(**sums)
+
+    def summary(self) -> Summary:
+        repaired = max(0, self.found - self.there)
+        left = max(0, self.there - self.steps - self.undecided)
+        return Summary(self.found, repaired, self.undecided, left, self.steps, min(repaired, self.guesses), self.filled, self.refused,
+                       self.sound_before, self.sound_after)
+
+
+def counts(before: Sequence[Damage], after: Sequence[Damage], script: Sequence[Repair], sound: Tuple[int, int], refused: Refused) -> Counts:
+    """`before` and `after` are what irig_damage finds, and `sound` how many frames of both tracks are. What is undecided are the comments
+    that say so, but not where another recording differs; a guess is a place that is repaired by one: not if it is dropped."""
     found, there = (sum(not each.is_remark for each in seen) for seen in (before, after))
     steps = sum(each.kind in STEPS for each in after)
     undecided = sum(len(each.undecided) for each in script if not each.edits and each.kind != DamageKind.DIFFERS)
-    repaired = max(0, found - there)
     guesses = [each for each in script if each.edits and each.undecided and not refused.drops(each)]
-    guessed = min(repaired, _places_of(guesses, [each for each in before if not each.is_remark]))
-    left = max(0, there - steps - undecided)
-    return Summary(found, repaired, undecided, left, steps, guessed, refused.filled, refused.lines, frames[0].sound, frames[1].sound)
+    guessed = _places_of(guesses, [each for each in before if not each.is_remark])
+    return Counts(found, there, steps, undecided, guessed, refused.filled, refused.lines, *sound)
 
 
 def _places_of(repairs: Sequence[Repair], damages: Sequence[Damage]) -> int:
@@ -221,14 +245,15 @@ class FrameCount:
     sound: int
 
 
-def frames_of(options: Sequence[str], path: str) -> FrameCount:
+def frames_of(options: Sequence[str], path: str, counts_at: Callable[[int], bool] = lambda time: True) -> FrameCount:
+    """Frames count that begin at times of which this is true."""
     with temporary_script("info\nframes\n") as script:
         done = subprocess.run([find_editor(), *options, path], stdin=script, stdout=subprocess.PIPE,
                               stderr=subprocess.DEVNULL, check=False)
     if done.returncode:
         raise Problem(CUT_OFF)
     first, *lines = done.stdout.splitlines()
-    return FrameCount(info_of(first.split()), sum(line.endswith(b" fine") for line in lines))
+    return FrameCount(info_of(first.split()), sum(line.endswith(b" fine") and counts_at(int(line.split(None, 3)[2])) for line in lines))
 
 
 @dataclass
@@ -252,8 +277,12 @@ class Target:
             return []
         level = TrackEdges(repaired, None)
         level.offset = track.offset
-        wish = Wish(self._wire(track), self.unit, self.dump)
-        report = PutBack(self.into, wish, level, out).run()
+        return self.put_back(level, track, out)
+
+    def put_back(self, level: TrackLevel, track: Opened, out: IO[bytes]) -> List[str]:
+        """Writes the file with the level of the repaired track; what is said of it."""
+        assert self.into is not None
+        report = PutBack(self.into, Wish(self._wire(track), self.unit, self.dump), level, out).run()
         return report.done + report.doubtful
 
     def _wire(self, track: Opened) -> Optional[str]:

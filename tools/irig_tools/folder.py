@@ -14,16 +14,14 @@ from typing import IO, Dict, Iterator, List, Optional, Sequence
 
 from .editor import Progress
 from .ending import ALL_RIGHT, FOUND, NOT_READ, SIGNALLED
+from .processes import LOOK_AGAIN, TOOLS, end_all
 from .proposal import no_option
 from .record import RECORD, Record, State, state_of_file
 from .recordings import Recording
 from .results import COUNTS, Result
 
-TOOLS = os.path.dirname(os.path.dirname(os.path.realpath(__file__)))
 START_OF_ONE = ("import sys; sys.dont_write_bytecode = True; sys.path.insert(0, sys.argv.pop(1)); "
                 "from irig_tools import mend_program; sys.exit(mend_program.main())")
-LOOK_AGAIN = 0.02  # seconds
-PATIENCE = 10.0  # seconds for a process to remove its files
 
 
 @dataclass
@@ -135,15 +133,7 @@ class Folder:
 
     def _end_all(self) -> None:
         """Lets those that run remove their files, and waits for them."""
-        for each in self.running:
-            with suppress(OSError):
-                each.process.terminate()
-        until = time.monotonic() + PATIENCE
-        for each in self.running:
-            try:
-                each.process.wait(max(0.0, until - time.monotonic()))
-            except subprocess.TimeoutExpired:
-                each.process.kill()
+        end_all([each.process for each in self.running])
 
 
 def _identity_of(path: str) -> object:

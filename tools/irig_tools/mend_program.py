@@ -5,24 +5,26 @@ import gc
 import os
 import sys
 from contextlib import ExitStack, contextmanager
-from dataclasses import replace
-from typing import Iterator, List, Optional, Sequence, Tuple
+from dataclasses import dataclass, replace
+from typing import Iterator, List, Optional, Sequence, Tuple, Union
 
 from .again import Names, again, is_kept
 from .analysis import START, examine
 from .changes import changes_of, find_differ
 from .command import kept, run, unchanged
-from .apply import Code, Refused, Summary, Target, as_object, code_of, find_guard, frames_of, run_script, summary
+from .applied import How, applied_to
+from .apply import Code, Refused, Summary, Target, as_object, code_of, find_guard
 from .cut_end import cut_notes, is_cut, note_if_cut
 from .damage import Seen, look
 from .damage_program import say_notes
-from .editor import Editor, Progress, progress_to
+from .editor import Editor, Problem, Progress, progress_to
 from .ending import ALL_RIGHT, ESCAPED, FOUND, Usage, complain, name_of
 from .explain import explained
 from .folder_program import APPLY_TO, JOBS, REPORT, mend_folder
 from .facts import json_lines, repairs_as_json
-from .kinds import STEPS, DamageKind
+from .kinds import DamageKind
 from .mend import called_for, propose, script_text
+from .mend_long import LongRecording
 from .named import wire_or_none
 from .opening import Opened, is_of_one_wire, opened
 from .options import DUMP, EDITOR, JSON, OUTPUT, TIMESCALE, WIRE, Command, Given, Option
@@ -32,9 +34,11 @@ from .output import check_apart, is_standard_output, output
 from .overview import of_program, sheet_of
 from .page import page
 from .script import Repair
-from .second_try import once_more
-from .temporary import temporary_folder
+from .sampled import can_be_long
+from .temporary import named_if_no_room, temporary_folder
 from .texts import counted
+from .window_work import Task, left_by
+from .windows import named_size
 from .wire import ENDS_WITHIN
 
 PAGE_OF_REPAIRS = Option("--page", "FILE", "also writes a page (HTML) to look at: the whole recording, each place before and "
@@ -73,6 +77,16 @@ it is for all recordings, and else 1.
 """)
 
 
+@dataclass(frozen=True)
+class Done:
+    """What became of the recording: why repairs are not kept, and what nothing decides; whether nothing is left."""
+
+    summary: Summary
+    code: Code
+    reasons: Sequence[str]
+    is_whole: bool
+
+
 def find_programs(given: Given) -> None:
     """Without the programs that --apply needs nothing is read or written."""
     if given.has(APPLY):
@@ -88,32 +102,79 @@ def work(given: Given) -> int:
         return mend_folder(given, (STEADY, MOVE, SAVE), PAGE_OF_REPAIRS)
     find_programs(given)
     progress = progress_to(sys.stderr)
-    with ExitStack() as outputs, taken(given) as (track, original):
-        note_if_cut(track)
-        say_notes(track, given.names[0], COMMAND.name)
-        editor = Editor(track.words)
-        others = read_others(given.texts(WITH), editor, progress, COMMAND.name)
-        if given.has(EXPLAIN):
-            return explain(editor, given, others)
-        script = proposed(editor, given, progress, others)
-        if given.has(APPLY):
-            target = Target(outputs, given.text(APPLY) or "", original, given.text(WIRE) or track.wire,
-                            given.text(TIMESCALE), given.number(DUMP))
-            done = apply(given, track, editor, script, progress, target, others)
-        else:
-            draw_proposal(given, track, script, progress, outputs)
+    with ExitStack() as outputs, sources(given) as (path, original):
+        windows = mend_windows(given, path, original, outputs, progress) if is_for_windows(given, path) else None
+        done = windows or mend_track(given, path, original, outputs, progress)
+    if isinstance(done, int):
+        return done
+    report(given, done)
+    return ALL_RIGHT if done.is_whole else FOUND
+
+
+def mend_track(given: Given, path: str, original: Optional[str], outputs: ExitStack, progress: Progress) -> Union[Done, int]:
+    """What became of a recording that fits in a track, or without --apply the status."""
+    with opened(path, given.names[0], given, wire_of(given, path)) as track:
+        return mend_opened(given, track, original, outputs, progress)
+
+
+def mend_opened(given: Given, track: Opened, original: Optional[str], outputs: ExitStack, progress: Progress) -> Union[Done, int]:
+    note_if_cut(track)
+    say_notes(track, given.names[0], COMMAND.name)
+    editor = Editor(track.words)
+    others = read_others(given.texts(WITH), editor, progress, COMMAND.name)
+    if given.has(EXPLAIN):
+        return explain(editor, given, others)
+    script, done = proposed(editor, given, progress, others, given.has(MOVE)), None
+    if given.has(APPLY):
+        done = apply(given, track, editor, script, progress, target_of(given, track, original, outputs), others)
+    else:
+        draw_proposal(given, track, script, progress, outputs)
     if given.has(OUTPUT) or not given.has(APPLY):
         with output(given.text(OUTPUT)) as out:
             out.write((repairs_as_json(script, track.offset) if given.has(JSON) else script_of(script, track)).encode("utf-8"))
-    if given.has(APPLY):
-        report(given, *done)
-        return ALL_RIGHT if done[0].is_whole and not is_cut(track) and not differs(script) else FOUND
-    return FOUND if script else ALL_RIGHT
+    return done or (FOUND if script else ALL_RIGHT)
 
 
-def proposed(editor: Editor, given: Given, progress: Progress, others: Others) -> List[Repair]:
+def target_of(given: Given, track: Opened, original: Optional[str], outputs: ExitStack) -> Target:
+    """Where the repaired recording goes."""
+    return Target(outputs, given.text(APPLY) or "", original, given.text(WIRE) or track.wire, given.text(TIMESCALE), given.number(DUMP))
+
+
+def is_for_windows(given: Given, path: str) -> bool:
+    """Whether the recording can be longer than a track. Of several dumps only the first one is looked at."""
+    return given.has(APPLY) and given.number(DUMP) in (None, 1) and (named_size() is not None or can_be_long(path))
+
+
+def mend_windows(given: Given, path: str, original: Optional[str], outputs: ExitStack, progress: Progress) -> Optional[Done]:
+    """Repairs a recording that is longer than a track; nothing is done if it fits in one."""
+    name = given.names[0]
+    recording = LongRecording(path, name, given, wire_of(given, path), progress)
+    with temporary_folder() as folder:
+        task = Task(folder, recording.track.code, given.has(STEADY), original is None)
+        if not recording.mend(task, given.number(JOBS) or len(os.sched_getaffinity(0)), lambda: check_windows(given)):
+            return None
+        say_notes(recording.track, name, COMMAND.name)
+        target = target_of(given, recording.track, original, outputs)
+        if original is None:
+            recording.write_text(folder, outputs.enter_context(output(target.out)))
+        else:
+            with recording.level(folder) as level, named_if_no_room():
+                say_put_back(given, target.put_back(level, recording.track, outputs.enter_context(output(target.out))))
+    summed = recording.counts().summary()
+    return Done(summed, recording.code(name), recording.reasons(), summed.is_whole and not is_cut(recording.track))
+
+
+def check_windows(given: Given) -> None:
+    """Refuses what is not there for windows."""
+    for option in (SAVE, MOVE, WITH, OUTPUT, PAGE_OF_REPAIRS):
+        if given.has(option):
+            raise Problem("%s: has more pulses than a track holds, so it is repaired in windows, and that goes without %s" % (
+                name_of(given.names[0]), option.name))
+
+
+def proposed(editor: Editor, given: Given, progress: Progress, others: Others, move: bool) -> List[Repair]:
     """The script for the editor's track, and what is said of other recordings."""
-    return others.remarks + propose(editor, progress, given.has(STEADY), given.has(MOVE), witnesses=others.witnesses)
+    return others.remarks + propose(editor, progress, given.has(STEADY), move, witnesses=others.witnesses)
 
 
 def differs(script: Sequence[Repair]) -> bool:
@@ -139,7 +200,7 @@ def explain(editor: Editor, given: Given, others: Others) -> int:
 
 def check(given: Given) -> None:
     """Refuses options that exclude each other, and outputs that are an input."""
-    for option, needed in ((SAVE, (APPLY, APPLY_TO)), (INTO, (APPLY,)), (REPORT, (APPLY_TO,)), (JOBS, (APPLY_TO,))):
+    for option, needed in ((SAVE, (APPLY, APPLY_TO)), (INTO, (APPLY,)), (REPORT, (APPLY_TO,)), (JOBS, (APPLY, APPLY_TO))):
         if given.has(option) and not any(map(given.has, needed)):
             raise Usage("%s is only for %s" % (option.name, " and ".join(each.name for each in needed)))
     for option in (APPLY, INTO, OUTPUT, EXPLAIN, WITH):
@@ -164,12 +225,10 @@ def wire_of(given: Given, path: str) -> Optional[str]:
 
 
 @contextmanager
-def taken(given: Given) -> Iterator[Tuple[Opened, Optional[str]]]:
-    """The track, and the path of the file that it goes back into, if it does."""
-    name = given.names[0]
-    with kept(name) as path, unchanged(path), original_of(given, path) as original:
-        with opened(path, name, given, wire_of(given, path)) as track:
-            yield track, original
+def sources(given: Given) -> Iterator[Tuple[str, Optional[str]]]:
+    """The path of the file of the track, and of the file that it goes back into, if it does."""
+    with kept(given.names[0]) as path, unchanged(path), original_of(given, path) as original:
+        yield path, original
 
 
 @contextmanager
@@ -202,42 +261,32 @@ def draw_proposal(given: Given, track: Opened, script: List[Repair], progress: P
 
 
 def apply(given: Given, track: Opened, editor: Editor, script: List[Repair], progress: Progress, target: Target,
-          others: Others) -> Tuple[Summary, Code, Sequence[str]]:
-    """Runs the script, writes what it gives, and counts what it did; why repairs are not kept, and what nothing decides."""
+          others: Others) -> Done:
+    """Runs the script, writes what it gives, and counts what it did."""
+    how = How(lambda asked, move: proposed(asked, given, progress, others, move), progress, given.has(STEADY), given.has(MOVE),
+              given.has(SAVE))
     with temporary_folder() as folder:
         repaired = os.path.join(folder, "repaired.vcd")
-        before = look(editor, progress, given.has(STEADY))
-        refused = run_script(track, script, given.has(SAVE), repaired, given.has(MOVE), before.listing.kind)
-        if refused.drops_moves(script):  # what comes after them in the script counts on them
-            script[:] = others.remarks + propose(editor, progress, given.has(STEADY), witnesses=others.witnesses)
-            again_refused = run_script(track, script, given.has(SAVE), repaired, False, before.listing.kind)
-            refused = replace(again_refused, reasons=[*refused.reasons, *again_refused.reasons])
-        command = [find_guard(), *["--moved"] * given.has(MOVE), *track.code, *["--save"] * given.has(SAVE)]
-        refused = once_more(script, refused, lambda: proposed(Editor([*track.code, repaired]), given, progress, others),
-                            command, repaired, before.listing.kind)
-        frames, result = (frames_of(track.options, track.path), frames_of(track.code, repaired)), Editor([*track.code, repaired])
-        if refused.is_nothing:  # it is what the last look of the proposal was at
-            result.knows(editor, [repair.lines() for repair in script], frames[1].info)
-        after = look(result, progress, given.has(STEADY), before.findings.grid)
-        done = summary(before.damages, after.damages, script, frames, refused)
+        ran = applied_to(track, editor, script, how, repaired)
+        done = ran.counts(script).summary()
         if given.has(PAGE_OF_REPAIRS):
-            drawn = drawing(given, track, script, (before, after, done), repaired)
+            drawn = drawing(given, track, script, (ran.before, ran.after, done), repaired)
             target.outputs.enter_context(output(given.text(PAGE_OF_REPAIRS))).write(drawn.encode("utf-8"))
-        for note in target.write(repaired, track):
-            complain("%s: %s" % (name_of(given.text(INTO) or ""), note), COMMAND.name)
-    code = code_of(given.names[0], track, before.listing)
-    return done, code, reasons_of(track, script, refused)
+        say_put_back(given, target.write(repaired, track))
+    code = code_of(given.names[0], track, ran.before.listing)
+    is_whole = done.is_whole and not is_cut(track) and not differs(script)
+    return Done(done, code, reasons_of(track, script, ran.refused), is_whole)
+
+
+def say_put_back(given: Given, notes: Sequence[str]) -> None:
+    for note in notes:
+        complain("%s: %s" % (name_of(given.text(INTO) or ""), note), COMMAND.name)
 
 
 def reasons_of(track: Opened, script: List[Repair], refused: Refused) -> List[str]:
     """Why something is left: repairs that are not kept, steps that stay, what nothing decides, and a file that is cut."""
     left = [comment for repair in script if not refused.drops(repair) for comment in left_by(repair)]
     return [reason.text for reason in refused.reasons] + left + cut_notes(track)
-
-
-def left_by(repair: Repair) -> List[str]:
-    """The comments on a step that stays, or on what nothing decides."""
-    return repair.comments if not repair.edits and repair.kind in STEPS else repair.undecided
 
 
 def drawing(given: Given, track: Opened, script: List[Repair], seen: Tuple[Seen, Seen, Summary], repaired: str) -> str:
@@ -253,14 +302,15 @@ def drawing(given: Given, track: Opened, script: List[Repair], seen: Tuple[Seen,
     return page(of_program(noted, COMMAND.name, "%s: %s" % (name_of(given.names[0]), done.text())))
 
 
-def report(given: Given, done: Summary, code: Code, reasons: Sequence[str]) -> None:
+def report(given: Given, done: Done) -> None:
     """Prints what became of the recording, and why something is left. Each line has its name."""
     written = filter(None, map(given.text, (APPLY, OUTPUT, PAGE_OF_REPAIRS)))
     stream = sys.stderr if any(map(is_standard_output, written)) else sys.stdout
     if given.has(JSON):
-        stream.write(json_lines([as_object(done, code, reasons)]))
+        stream.write(json_lines([as_object(done.summary, done.code, done.reasons)]))
         return
-    for line in (done.text(), *done.notes, *(reason for reason in reasons if reason not in ENDS_WITHIN.values())):
+    reasons = (reason for reason in done.reasons if reason not in ENDS_WITHIN.values())
+    for line in (done.summary.text(), *done.summary.notes, *reasons):
         stream.write("%s: %s\n" % (given.names[0].translate(ESCAPED), line))
 
 

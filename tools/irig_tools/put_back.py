@@ -5,7 +5,7 @@ own changes are taken out, and the edges of the track are written. All other wor
 """
 from __future__ import annotations
 
-from array import array
+from dataclasses import dataclass
 from typing import IO, Iterator, List, Optional, Tuple
 
 from .dump_body import Body, Change, Wanted
@@ -14,56 +14,30 @@ from .dump_copied import Copied
 from .dump_header import Header
 from .dump_offset import Offset
 from .dump_parts import each_dump
-from .dump_run import WireRun
-from .dump_source import Source
 from .dump_units import MICROSECOND
 from .editor import Problem
 from .merger import OTHER_LENGTH, Level, Merger, Origin
 from .wire import ENDS_WITHIN, Report, Wish, first_of, unit_in
+from .wire_edges import WireEdges
 from .wire_words import words_of
 
 ANOTHER = 0.9  # of the time for which a track is high: a wire that differs for longer is another one
 
 
-class TrackEdges:
-    """One wire of a dump by the microsecond, as the editor reads it, and what was subtracted from its times."""
+@dataclass
+class TrackLevel:
+    """A track by the microsecond, and what was subtracted from its times."""
+
+    level: Level
+    offset: Optional[Offset] = None
+
+
+class TrackEdges(TrackLevel):
+    """One wire of a dump, as the editor reads it."""
 
     def __init__(self, path: str, name: Optional[str]) -> None:
-        self.level, self.offset = Level((), 0), None  # type: Level, Optional[Offset]
-        self.source, self.name = Source(path), name
-        self.edges: "array[int]" = array("q")
-        each_dump(self.source, 1, self._read)
-
-    def _read(self, header: Header) -> Body:
-        unit, signal, wanted = unit_in(header, None, self.source.path), choose(header, self.name), Wanted()
-        wanted.add(0, signal.code, signal.place)
-        self.scale = unit.femtoseconds * unit.factor
-        body = Body(self.source, wanted, self._take_run)
-        for time, _, letter in body.changes():
-            self._take(time, letter)
-        self.level, self.offset = Level(self.edges, body.now * self.scale // MICROSECOND), header.offset
-        return body
-
-    def _take(self, time: int, letter: str) -> None:
-        if (letter == "1") != bool(len(self.edges) % 2):
-            at = time * self.scale // MICROSECOND
-            if self.edges and self.edges[-1] == at:
-                self.edges.pop()
-            else:
-                self.edges.append(at)
-
-    def _take_run(self, run: WireRun) -> bool:
-        """The changes of a part; if each is in a microsecond of its own, all after the second are edges."""
-        times = run.times()
-        alone = 2 if self.scale >= MICROSECOND else len(times)
-        for number, time in enumerate(times[:alone]):
-            self._take(time, run.letter(number))
-        factor = self.scale // MICROSECOND
-        if self.scale % MICROSECOND:
-            self.edges.extend(time * self.scale // MICROSECOND for time in times[alone:])
-        else:
-            self.edges.extend(times[alone:] if factor == 1 else [time * factor for time in times[alone:]])
-        return True
+        reading = WireEdges(path, Wish(name, start=0)).read()
+        super().__init__(Level(reading.edges, reading.length), reading.offset)
 
 
 class _Body(Body):
@@ -101,7 +75,7 @@ class _Body(Body):
 class PutBack:
     """One wire of a file of dumps, as it is in a track."""
 
-    def __init__(self, path: str, wish: Wish, track: TrackEdges, out: IO[bytes]) -> None:
+    def __init__(self, path: str, wish: Wish, track: TrackLevel, out: IO[bytes]) -> None:
         self.source, self.wish, self.track = Copied(path, out), wish, track
         self.report = Report()
 
