@@ -123,7 +123,7 @@ def believed(options, frames):
     return kept
 
 
-TIME_ELEMENTS = {"A": 45, "B": 42, "E": 42, "G": 45}  # the day, the hour, the minute and the second, and what is between
+TIME_ELEMENTS = {"A": 49, "B": 42, "E": 42, "G": 54}  # the day, the hour, the minute, the second and its parts, and what is between
 MINUTE, HOUR, DAY = 60_000_000, 3_600_000_000, 86_400_000_000  # microseconds
 
 
@@ -192,13 +192,12 @@ class Counting:
         for place, frame in enumerate(fine):
             if frame not in held:
                 continue
-            earlier = fine[place - 1] if place and fine[place - 1] in held else None
-            later = fine[place + 1] if place + 1 < len(fine) and fine[place + 1] in held else None
-            first = TIME_ELEMENTS[self.kind] if earlier and self.jumps(earlier, frame) else 0
-            end = 1 if later and self.jumps(frame, later) else 100
+            earlier, later = fine[place - 1] if place else None, fine[place + 1] if place + 1 < len(fine) else None
+            first = TIME_ELEMENTS[self.kind] if self.jumps_before(earlier, frame) else 0
+            end = 1 if self.jumps_after(frame, later) else 100
             if not place:
                 found += self.before(frame)
-            elif earlier and not first:
+            elif earlier in held and not first:
                 found += self.between(earlier, frame)
             found.append(Part(frame.marker + first, first, max(0, end - first), frame.time))
         return found + (self.after(fine[-1]) if fine and fine[-1] in held else [])
@@ -218,8 +217,19 @@ class Counting:
                 return time
         return None
 
+    def jumps_before(self, earlier, frame):
+        """Whether the time jumps before a frame that is believed; before the first one, if a pulse says another time."""
+        if earlier:
+            return self.jumps(earlier, frame)
+        return time_before(self.kind, frame.time) is not None and not self.before(frame)
+
+    def jumps_after(self, frame, later):
+        if later:
+            return self.jumps(frame, later)
+        return next_time(self.kind, frame.time) is not None and not self.after(frame)
+
     def jumps(self, one, other):
-        """Whether the time jumps: all pulses follow, or the markers are whole periods apart, and they are not as many as the times show."""
+        """Whether the time jumps between two frames, believed or not: all pulses follow, or the markers are whole periods apart, and they are not as many as the times show."""
         gap, distance, period = other.marker - one.marker - 100, other.rise - one.rise, PERIOD[self.kind]
         if gap % 100 == 0 and self.runs_on(gap // 100 + 1, one, other):
             return False
@@ -337,21 +347,26 @@ class Track:
     def why(self, moment):
         """Why a moment has no time: what is next to it, by the frames that have a time."""
         begun = [place for place, frame in enumerate(self.fine) if frame.rise <= moment]
+        first = self.fine[0] if self.fine else None
+        at_begin = first in self.frames and self.counting.jumps_before(None, first)
         if not begun:
-            return "before"
+            return "step" if at_begin and self.pulses[0][0] <= moment else "before"
         frame, element = self.fine[begun[-1]], sum(self.fine[begun[-1]].rise < rise <= moment for rise, _ in self.pulses)
         if frame not in self.frames and element < 100:
             return "unbelieved"
-        if begun[-1] and element < TIME_ELEMENTS[self.kind] and self.why_between(self.fine[begun[-1] - 1], frame) == "step":
-            return "step"
+        if element < TIME_ELEMENTS[self.kind]:
+            if self.why_between(self.fine[begun[-1] - 1], frame) == "step" if begun[-1] else at_begin:
+                return "step"
         later = self.fine[begun[-1] + 1:]
-        return self.why_between(frame, later[0]) if later else "after"
+        if not later:
+            return "step" if frame in self.frames and self.counting.jumps_after(frame, None) else "after"
+        return self.why_between(frame, later[0])
 
     def why_between(self, one, other):
-        if one not in self.frames or other not in self.frames:
-            return "unbelieved"
         if self.counting.jumps(one, other):
             return "step"
+        if one not in self.frames or other not in self.frames:
+            return "unbelieved"
         return "hole" if self.counting.are_apart(one, other) else "set"
 
     def is_followed(self, frame):

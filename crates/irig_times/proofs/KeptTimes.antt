@@ -26,23 +26,13 @@ module _ (f : FormatView) (alone : Bool) (century : ℕ) (ps : List Pulse) where
   -- the time does not jump between a frame and the one before it, if it is steady
   steady-before : (i : ℕ) (p : Part) → slice_get (whole_parts f alone ps) i ≡ Some p → IsSteady f alone century ps p.number
       → is_jump_between f century ps (earlier f century ps None (whole_parts f alone ps) i) (Some p) ≡ false
-  steady-before zero p here steady = refl
-  steady-before (suc k) p here steady = by (slice_get (whole_parts f alone ps) k) refl
-    where
-      by : (o : Option Part) → slice_get (whole_parts f alone ps) k ≡ o → is_jump_between f century ps o (Some p) ≡ false
-      by None e = refl
-      by (Some a) e =
-          let next : k + 1 ≡ suc k = omega arith in
-          steady k a p e (ap (slice_get (whole_parts f alone ps)) next ∙ here) (inr refl)
+  steady-before zero p here steady = (steady 0 p here refl).0
+  steady-before (suc k) p here steady = (steady (suc k) p here refl).0
 
   -- nor between it and the next one
   steady-after : (i : ℕ) (p : Part) → slice_get (whole_parts f alone ps) i ≡ Some p → IsSteady f alone century ps p.number
       → is_jump_between f century ps (Some p) (slice_get (whole_parts f alone ps) (i + 1)) ≡ false
-  steady-after i p here steady = by (slice_get (whole_parts f alone ps) (i + 1)) refl
-    where
-      by : (o : Option Part) → slice_get (whole_parts f alone ps) (i + 1) ≡ o → is_jump_between f century ps (Some p) o ≡ false
-      by None e = refl
-      by (Some b) e = steady i p b here e (inl refl)
+  steady-after i p here steady = (steady i p here refl).1
 
   -- each element of a frame that is believed has its time, if the time does not jump next to it
   held-point : (number element : ℕ) (g : Fields) → (is : IsHeldElement f (frames f ps) (believed f alone ps) number element g)

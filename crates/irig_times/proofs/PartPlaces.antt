@@ -1,6 +1,6 @@
 -- Parts by their places, and which of them a pulse belongs to.
 use Rattle.std.proofs.Common.{◌≡◌, ℕ, suc, zero, ◌+◌, ◌<◌, ◌≤◌, List, [], ◌∷◌, slice_get, Option, Some, ◌^◌, sym, ap, ◌∙◌, inl, inr, subst, None, arith}
-use Rattle.std.specs.Prelude.{IfSome}
+use Rattle.std.specs.Prelude.{IfSome, MatchOption}
 use Rattle.std.proofs.lemmas.{Bool.cases_lt, Bool.cases_order, Option.none-some, Option.same_Some}
 use Rattle.irig_codes.specs.Format.{FormatView}
 use Rattle.irig_times.specs.{Parts.AreParts, Parts.IsFrameTime, Parts.IsPart, Parts.IsPoint, Parts.PartsAt, declared.part.Part.Part, declared.time.Time.Time}
@@ -136,8 +136,14 @@ low f n parts are few j (Some a) h =
 -- what is known of a part after another
 pub known-next : (f : FormatView) (n : ℕ) (parts : List Part) → AreParts f 0 n parts → n ≤ 2 ^ 22 → (j : ℕ) (q : Part) → slice_get parts j ≡ Some q
     → (o : Option Part) → o ≡ slice_get parts (j + 1)
-    → IfSome o (λ (b : Part). (b.time.micros < 2 ^ 59) × (b.number < 2 ^ 30) × (q.number + q.count ≤ b.number))
+    → IfSome o (λ (b : Part). (b.time.micros < 2 ^ 59) × (b.number < 2 ^ 30))
 known-next f n parts are few j q here None e = tt
 known-next f n parts are few j q here (Some b) e =
     let it = part-of f n 0 parts are (j + 1) b (sym e) in
-    (omega (arith, it.2.time.minute), omega (arith, it.1, few), parts-apart f n 0 parts are j (j + 1) q b here (sym e) (omega arith))
+    (omega (arith, it.2.time.minute), omega (arith, it.1, few))
+
+-- and of a part before another, or before the end
+pub known-order : (f : FormatView) (n : ℕ) (parts : List Part) → AreParts f 0 n parts → n ≤ 2 ^ 22 → (j : ℕ) (q : Part) → slice_get parts j ≡ Some q
+    → (o : Option Part) → o ≡ slice_get parts (j + 1) → MatchOption o (q.number + q.count < 2 ^ 30) (λ (b : Part). q.number + q.count ≤ b.number)
+known-order f n parts are few j q here None e = (let it = part-of f n 0 parts are j q here in omega (arith, it.1, few))
+known-order f n parts are few j q here (Some b) e = parts-apart f n 0 parts are j (j + 1) q b here (sym e) (omega arith)

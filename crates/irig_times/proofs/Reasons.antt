@@ -89,11 +89,6 @@ before-known parts place None e = tt
 before-known parts zero (Some a) e = absurd (none-some a (sym e))
 before-known parts (suc k) (Some a) e = (k, omega arith, sym e)
 
-pub low-alone : (o : Option Part) → IfSome o (λ (a : Part). (a.time.micros < 2 ^ 59) × (a.number + a.count < 2 ^ 30))
-    → IfSome o (λ (a : Part). (a.time.micros < 2 ^ 59) × IfSome None (λ (b : Part). a.number + a.count ≤ b.number))
-low-alone None h = tt
-low-alone (Some a) h = (h.0, tt)
-
 pub next-before : (parts : List Part) (place : ℕ) (p : Part) → slice_get parts place ≡ Some p → Some p ≡ frame_before parts (place + 1)
 next-before parts place p here =
     let next : suc place ≡ place + 1 = omega arith in

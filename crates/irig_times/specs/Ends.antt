@@ -29,12 +29,13 @@ fields_at f t = record {
   control = part (has_control f.expression) 0;
 }
 
--- how many elements carry the day, the hour, the minute and the second, with what is between them
+-- how many elements carry the day, the hour, the minute, the second and, in A and G, its tenths and
+-- hundredths, with what is between them
 abbrev pub time_elements : Kind → ℕ
-time_elements A = 45
+time_elements A = 49
 time_elements B = 42
 time_elements E = 42
-time_elements G = 45
+time_elements G = 54
 
 -- whether a class is not the one that is wanted
 abbrev pub is_other : Option Element → Element → Bool

@@ -1,25 +1,31 @@
 -- Where the time jumps between two frames though all pulses from the one to the other are in step: a
--- clock was set, or a recorder lost whole frames. Nobody knows at which element. This project's own.
+-- clock was set, or a recorder lost whole frames. Nobody knows at which element. Both can be frames
+-- that are not believed: one that is damaged, or one that the jump is in. This project's own.
 use Rattle.std.specs.Prelude.{ℕ, ◌+◌, ◌-◌, ◌*◌, ◌/◌, ◌%◌, ◌==◌, ◌&&◌, ◌||◌, nat_le, Bool, false, true}
 use Rattle.std.specs.Prelude.{is_some, min, not, if◌then◌else◌, List, Option, Some, None, slice_get}
 use Rattle.irig_codes.specs.Format.{FormatView, frame_period_of, interval_of}
 use Rattle.irig_codes.specs.declared.format.Kind.{Kind}
 use Rattle.irig_recording.specs.declared.pulse.Pulse.{Pulse}
-use Rattle.irig_times.specs.{declared.part.Part.Part, Between.gap, Between.missing_in}
-use Rattle.irig_times.specs.{declared.time.Time.Time, Between.day_micros, Between.middle}
-use Rattle.irig_times.specs.{Between.rounded, Follows.same_day}
-use Rattle.irig_times.specs.{Ends.time_elements, Follows.is_later, Parts.is_empty, Steps.all_follow}
+use Rattle.irig_times.specs.{declared.part.Part.Part, declared.time.Time.Time}
+use Rattle.irig_times.specs.Between.{day_micros, middle, missing_in, next_time, rounded, time_before}
+use Rattle.irig_times.specs.{Ends.end_after, Ends.end_before, Ends.time_elements}
+use Rattle.irig_times.specs.{Follows.is_later, Follows.same_day, Parts.is_empty, Steps.all_follow}
+
+-- how many pulses are between two frames, believed or not
+abbrev pub pulses_between : Part → Part → ℕ
+pulses_between a b = b.number - (a.number + 100)
 
 -- each pulse after a frame, up to the first one of another, rises one interval after the one before
 abbrev pub are_joined : FormatView → List Pulse → Part → Part → Bool
-are_joined f ps a b = all_follow f ps (a.number + a.count) (gap a b + 1)
+are_joined f ps a b = all_follow f ps (a.number + 100) (pulses_between a b + 1)
 
 -- there are whole hundreds of pulses, and the second time is as many periods after the first
 abbrev pub runs_on : FormatView → ℕ → Part → Part → Bool
 runs_on f century a b =
-    if gap a b == 0 then is_later century (frame_period_of f.kind) a.time b.time
-    else (if gap a b % 100 == 0
-    then is_some (missing_in century (frame_period_of f.kind) (gap a b / 100 + 1) a.time b.time)
+    if pulses_between a b == 0 then is_later century (frame_period_of f.kind) a.time b.time
+    else (if pulses_between a b % 100 == 0
+    then is_some (missing_in century (frame_period_of f.kind) (pulses_between a b / 100 + 1) a.time
+    b.time)
     else false)
 
 -- a distance is a whole number of periods, to half an interval
@@ -47,19 +53,30 @@ slips f century a b (Some p) (Some q) =
     (rounded (frame_period_of f.kind) p.rise q.rise) a b)
     else false
 
--- the time jumps between two frames that are believed
+-- the time jumps between two frames
 abbrev pub is_jump : FormatView → ℕ → List Pulse → Part → Part → Bool
 is_jump f century ps a b =
-    if is_empty a then false
-    else (if is_empty b then false
-    else (if runs_on f century a b then false
+    if runs_on f century a b then false
     else (if are_joined f ps a b then true
-    else slips f century a.time b.time (slice_get ps a.number) (slice_get ps b.number))))
+    else slips f century a.time b.time (slice_get ps a.number) (slice_get ps b.number))
 
--- the same, if both are there
+-- the last frame is believed, and pulses that are in step after it say another time than one period
+-- later; or the first one, and pulses before it say another time than one period earlier
+abbrev pub is_denied_after : FormatView → List Pulse → Part → Bool
+is_denied_after f ps a =
+    is_some (next_time (frame_period_of f.kind) a.time)
+    && (not (is_empty a) && not (is_some (end_after f ps (Some a))))
+
+abbrev pub is_denied_before : FormatView → List Pulse → Part → Bool
+is_denied_before f ps b =
+    is_some (time_before (frame_period_of f.kind) b.time)
+    && (not (is_empty b) && not (is_some (end_before f ps b)))
+
+-- the time jumps between two frames, before the first one or after the last one
 abbrev pub is_jump_between : FormatView → ℕ → List Pulse → Option Part → Option Part → Bool
-is_jump_between f century ps None b = false
-is_jump_between f century ps (Some a) None = false
+is_jump_between f century ps None None = false
+is_jump_between f century ps None (Some b) = is_denied_before f ps b
+is_jump_between f century ps (Some a) None = is_denied_after f ps a
 is_jump_between f century ps (Some a) (Some b) = is_jump f century ps a b
 
 -- of a frame before a jump the marker alone has its time
@@ -72,7 +89,7 @@ before_jump true p = record {
   time = p.time;
 }
 
--- of a frame after a jump the pulses after those that carry the day, hour, minute and second
+-- of a frame after a jump the pulses after those that carry its time
 abbrev pub after_jump : Kind → Bool → Part → Part
 after_jump kind false p = p
 after_jump kind true p = record {

@@ -8,7 +8,8 @@ use Rattle.irig_recording.specs.declared.pulse.Pulse.{Pulse}
 use Rattle.irig_track.specs.Track.{IsTrack}
 use Rattle.irig_times.specs.{Chains.IsAfter, Laws.IsOfCalendar, Laws.NotBefore, declared.part.Part.Part, declared.time.Time.Time}
 use Rattle.irig_times.specs.{Counted.timed_parts, Follows.is_later, Held.HasTime, Held.IsHeldElement}
-use Rattle.irig_times.specs.{Jumps.is_jump, Support.believed, Times.time_in, Whole.whole_parts}
+use Rattle.irig_times.specs.{Jumps.is_jump_between, Support.believed, Times.time_in}
+use Rattle.irig_times.specs.{Whole.whole_parts, Whys.frame_before}
 use Rattle.irig_times.specs.Parts.{AreParts, GoesOn, IsPoint, TellsByParts, plus}
 
 -- n / d microseconds after the start there is one time at most
@@ -65,12 +66,13 @@ TimedPartsAreParts = (f : FormatView) (alone : Bool) (century : ℕ) (ps : List 
     → AreParts f 0 (length ps) (timed_parts f alone century ps)
 
 -- the time does not jump next to the frame with this marker: neither between the frame with a time
--- before it and this one, nor between this one and the next
+-- before it and this one, nor between this one and the next; and no pulse at an end of the track says
+-- another time than this frame, if it is the first or the last one
 abbrev pub IsSteady : FormatView → Bool → ℕ → List Pulse → ℕ → Type 0
-IsSteady f alone century ps marker = (k : ℕ) (a b : Part)
-    → slice_get (whole_parts f alone ps) k ≡ Some a
-    → slice_get (whole_parts f alone ps) (k + 1) ≡ Some b
-    → (a.number ≡ marker) ⊎ (b.number ≡ marker) → is_jump f century ps a b ≡ false
+IsSteady f alone century ps marker = (k : ℕ) (p : Part)
+    → slice_get (whole_parts f alone ps) k ≡ Some p → p.number ≡ marker
+    → (is_jump_between f century ps (frame_before (whole_parts f alone ps) k) (Some p) ≡ false)
+    × (is_jump_between f century ps (Some p) (slice_get (whole_parts f alone ps) (k + 1)) ≡ false)
 
 -- the time of an element of a frame that is believed goes on there, or in the next frame that is
 abbrev pub HeldGoesOn : FormatView → Bool → ℕ → List Pulse → ℕ → ℕ → Fields → Type 0

@@ -7,7 +7,7 @@ use Rattle.irig_times.specs.declared.why.Why.TheVariants.{After, Before, Hole, S
 use Rattle.irig_times.specs.{declared.part.Part.Part, declared.time.Time.Time, declared.why.Why.Why}
 use Rattle.irig_times.specs.{Between.rounded, Jumps.are_apart}
 use Rattle.irig_times.specs.Ends.{time_elements}
-use Rattle.irig_times.specs.{Jumps.is_jump, Parts.is_empty}
+use Rattle.irig_times.specs.{Jumps.is_jump_between, Parts.is_empty}
 
 -- two times can be those of frames that begin with these pulses
 abbrev pub are_apart_by : ℕ → ℕ → Time → Time → Option Pulse → Option Pulse → Bool
@@ -16,21 +16,25 @@ are_apart_by century period a b (Some p) None = true
 are_apart_by century period a b (Some p) (Some q) =
     are_apart century period (rounded period p.rise q.rise) a b
 
--- why pulses between two frames have no time: one of them is not believed; or the time jumps there;
+-- why pulses between two frames have no time, if it does not jump there: one of them is not believed;
 -- or their times are not as far apart as their pulses; or pulses are missing, or not in step
 abbrev pub why_between : FormatView → ℕ → List Pulse → Part → Part → Why
 why_between f century ps a b =
     if is_empty a then Unbelieved
     else (if is_empty b then Unbelieved
-    else (if is_jump f century ps a b then Step
     else (if are_apart_by century (frame_period_of f.kind) a.time b.time (slice_get ps a.number)
-    (slice_get ps b.number) then Hole else Set)))
+    (slice_get ps b.number) then Hole else Set))
 
 -- the same before the first frame, and after the last one
+abbrev pub why_steady : FormatView → ℕ → List Pulse → Option Part → Option Part → Why
+why_steady f century ps None b = Before
+why_steady f century ps (Some a) None = After
+why_steady f century ps (Some a) (Some b) = why_between f century ps a b
+
+-- the same, if the time can jump there
 abbrev pub why_next_to : FormatView → ℕ → List Pulse → Option Part → Option Part → Why
-why_next_to f century ps None b = Before
-why_next_to f century ps (Some a) None = After
-why_next_to f century ps (Some a) (Some b) = why_between f century ps a b
+why_next_to f century ps a b =
+    if is_jump_between f century ps a b then Step else why_steady f century ps a b
 
 -- the frame before that at a place
 abbrev pub frame_before : List Part → ℕ → Option Part

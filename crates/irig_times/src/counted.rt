@@ -2,7 +2,7 @@
 
 ghost use Rattle.std.specs.Prelude.{[], ◌≡◌, ◌≤◌, ◌<◌, ◌++◌, ◌∷◌, IfOk, None, OnOk, Some, length};
 ghost use Rattle.irig_index.specs.Frames.{frames};
-ghost use Rattle.std.specs.Prelude.{IfSome, ◌^◌, ◌+◌, slice_get};
+ghost use Rattle.std.specs.Prelude.{IfSome, MatchOption, ◌^◌, ◌+◌, slice_get};
 ghost use Rattle.irig_times.specs.Counted.{filled, parts_by, sides_without, with_frame};
 ghost use Rattle.irig_times.specs.Counted.{with_sides};
 ghost use Rattle.irig_times.specs.Parts.{AreParts};
@@ -95,8 +95,9 @@ fn put_frame(
         × (a.number + a.count ≤ part.number)) }
     requires part { (part.time.micros < 2 ^ 59) × (part.number < 2 ^ 30)
         × (part.element < 2 ^ 30) }
-    requires next { IfSome next (λ b. (b.time.micros < 2 ^ 59) × (b.number < 2 ^ 30)
-        × (part.number + part.count ≤ b.number)) }
+    requires next { IfSome next (λ b. (b.time.micros < 2 ^ 59) × (b.number < 2 ^ 30)) }
+    requires order { MatchOption next (part.number + part.count < 2 ^ 30)
+        (λ b. part.number + part.count ≤ b.number) }
     ensures parts { OnOk result (list.new.items ≡ list.old.items
         ++ with_frame format century pulses.old.track.pulses before part next []) }
     ensures pulses { pulses.new.track ≡ pulses.old.track }

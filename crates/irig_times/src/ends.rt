@@ -40,15 +40,15 @@ fn part(there: bool, value: u32) -> Option<u32>
     if there { Some(value) } else { None }
 }
 
-/// How many elements carry the day, the hour, the minute and the second.
+/// How many elements carry the day, the hour, the minute, the second and its tenths and hundredths.
 pub fn time_elements(format: Format) -> usize
     ensures { result ≡ time_elements format.kind }
 {
     match format.kind() {
-        Kind::A => 45,
+        Kind::A => 49,
         Kind::B => 42,
         Kind::E => 42,
-        Kind::G => 45,
+        Kind::G => 54,
     }
 }
 

@@ -1,19 +1,25 @@
 //! Where the time jumps between two frames that are in step.
 
-ghost use Rattle.std.specs.Prelude.{◌≡◌, ◌≤◌, ◌<◌, ◌+◌, ◌^◌, IfSome, Some};
+ghost use Rattle.std.specs.Prelude.{◌≡◌, ◌≤◌, ◌<◌, ◌+◌, ◌^◌, IfSome, MatchOption, Some};
 ghost use Rattle.irig_times.specs.Jumps.{after_jump, are_apart, are_joined, before_jump, is_jump};
-ghost use Rattle.irig_times.specs.Jumps.{is_jump_between, is_whole_apart, runs_on, slips};
+ghost use Rattle.irig_times.specs.Jumps.{is_denied_after, is_denied_before, is_jump_between};
+ghost use Rattle.irig_times.specs.Jumps.{is_whole_apart, pulses_between, runs_on, slips};
 
-use crate::between::{gap, min};
-use crate::ends::time_elements;
+use crate::between::min;
+use crate::ends::{end_after, end_before, time_elements};
 use crate::follows::{is_later, same_day};
-use crate::missing::{day_micros, later_micros, middle, missing_in, rounded};
+use crate::missing::{
+    day_micros, later_micros, middle, missing_in, next_time, rounded, time_before,
+};
 use crate::part::Part;
 use crate::steps::{all_follow, pulse_at};
 use crate::time::Time;
 use irig_codes::Format;
 use irig_recording::Pulse;
 use irig_track::Lens;
+
+/// The pulses of a frame.
+const FRAME_PULSES: usize = 100;
 
 /// Whether each pulse after a frame, up to the first one of another, rises one interval after the one
 /// before.
@@ -23,8 +29,16 @@ fn are_joined(pulses: &mut Lens<'_>, format: Format, from: &Part, to: &Part) -> 
     ensures joined { result ≡ are_joined format pulses.old.track.pulses from.now to.now }
     ensures pulses { pulses.new.track ≡ pulses.old.track }
 {
-    let gap = gap(from, to);
-    all_follow(pulses, format, from.number + from.count, gap + 1)
+    let many = pulses_between(from, to);
+    all_follow(pulses, format, from.number + FRAME_PULSES, many + 1)
+}
+
+/// How many pulses are between two frames, believed or not.
+fn pulses_between(from: &Part, to: &Part) -> usize
+    requires small { from.now.number < 2 ^ 30 }
+    ensures { result ≡ pulses_between from.now to.now }
+{
+    to.number.saturating_sub(from.number + FRAME_PULSES)
 }
 
 /// Whether there are whole hundreds of pulses, and the second time is as many periods after the first.
@@ -36,19 +50,19 @@ fn runs_on(format: Format, century: u32, from: &Part, to: &Part) -> bool
     ensures { result ≡ runs_on format century from.now to.now }
 {
     let period = format.frame_period();
-    let gap = gap(from, to);
-    if gap == 0 {
+    let many = pulses_between(from, to);
+    if many == 0 {
         return is_later(century, period, &from.time, &to.time);
     }
-    if gap % 100 != 0 {
+    if many % FRAME_PULSES != 0 {
         return false;
     }
-    let count = (gap / 100 + 1) as u64;
+    let count = (many / FRAME_PULSES + 1) as u64;
     missing_in(century, period, count, &from.time, &to.time).is_some()
 }
 
-/// Whether the time jumps between two frames that are believed.
-pub fn is_jump(pulses: &mut Lens<'_>, format: Format, century: u32, from: &Part, to: &Part) -> bool
+/// Whether the time jumps between two frames.
+fn is_jump(pulses: &mut Lens<'_>, format: Format, century: u32, from: &Part, to: &Part) -> bool
     requires century { century ≤ 99 }
     requires times { (from.now.time.micros < 2 ^ 59) × (to.now.time.micros < 2 ^ 59) }
     requires order { from.now.number + from.now.count ≤ to.now.number }
@@ -56,12 +70,6 @@ pub fn is_jump(pulses: &mut Lens<'_>, format: Format, century: u32, from: &Part,
     ensures jump { result ≡ is_jump format century pulses.old.track.pulses from.now to.now }
     ensures pulses { pulses.new.track ≡ pulses.old.track }
 {
-    if from.is_empty() {
-        return false;
-    }
-    if to.is_empty() {
-        return false;
-    }
     if runs_on(format, century, from, to) {
         return false;
     }
@@ -136,7 +144,29 @@ fn slips_by(format: Format, century: u32, from: &Time, to: &Time, first: Pulse, 
     !are_apart(century, period, count, from, to)
 }
 
-/// The same, if both are there.
+/// Whether pulses after the last frame, which is believed, say another time than one period later.
+fn is_denied_after(pulses: &mut Lens<'_>, format: Format, from: &Part) -> bool
+    requires small { (from.now.time.micros < 2 ^ 59) × (from.now.number + from.now.count < 2 ^ 30) }
+    ensures denied { result ≡ is_denied_after format pulses.old.track.pulses from.now }
+    ensures pulses { pulses.new.track ≡ pulses.old.track }
+{
+    next_time(format.frame_period(), &from.time).is_some()
+        && !from.is_empty()
+        && end_after(pulses, format, Some(*from)).is_none()
+}
+
+/// Whether pulses before the first frame, which is believed, say another time than one period earlier.
+fn is_denied_before(pulses: &mut Lens<'_>, format: Format, to: &Part) -> bool
+    requires small { (to.now.time.micros < 2 ^ 59) × (to.now.number < 2 ^ 30) }
+    ensures denied { result ≡ is_denied_before format pulses.old.track.pulses to.now }
+    ensures pulses { pulses.new.track ≡ pulses.old.track }
+{
+    time_before(format.frame_period(), &to.time).is_some()
+        && !to.is_empty()
+        && end_before(pulses, format, to).is_none()
+}
+
+/// Whether the time jumps between two frames, before the first one or after the last one.
 pub fn is_jump_between(
     pulses: &mut Lens<'_>,
     format: Format,
@@ -146,15 +176,15 @@ pub fn is_jump_between(
 ) -> bool
     requires century { century ≤ 99 }
     requires from { IfSome from (λ a. (a.time.micros < 2 ^ 59)
-        × IfSome to (λ b. a.number + a.count ≤ b.number)) }
+        × MatchOption to (a.number + a.count < 2 ^ 30) (λ b. a.number + a.count ≤ b.number)) }
     requires to { IfSome to (λ b. (b.time.micros < 2 ^ 59) × (b.number < 2 ^ 30)) }
     ensures jump { result ≡ is_jump_between format century pulses.old.track.pulses from to }
     ensures pulses { pulses.new.track ≡ pulses.old.track }
 {
     match (from, to) {
         (Some(from), Some(to)) => is_jump(pulses, format, century, &from, &to),
-        (Some(_), None) => false,
-        (None, Some(_)) => false,
+        (Some(from), None) => is_denied_after(pulses, format, &from),
+        (None, Some(to)) => is_denied_before(pulses, format, &to),
         (None, None) => false,
     }
 }
@@ -173,7 +203,7 @@ pub fn before_jump(jumps: bool, part: Part) -> Part
     }
 }
 
-/// Of a frame after a jump the pulses after those of the day, hour, minute and second.
+/// Of a frame after a jump the pulses after those of its time.
 pub fn after_jump(format: Format, jumps: bool, part: Part) -> Part
     requires small { (part.number < 2 ^ 32) × (part.element < 2 ^ 32) }
     ensures { result ≡ after_jump format.kind jumps part }

@@ -1,19 +1,19 @@
 //! Why moments have no time.
 
 ghost use Rattle.std.specs.Prelude.{◌≡◌, ◌≤◌, ◌<◌, ◌+◌, ◌/◌, ◌^◌, ℕ, IfOk, IfSome, List, Bool, Some};
-ghost use Rattle.std.specs.Prelude.{length, slice_get};
+ghost use Rattle.std.specs.Prelude.{MatchOption, length, slice_get};
 ghost use Rattle.irig_codes.specs.Format.{frame_period_of};
 ghost use Rattle.irig_index.specs.Frames.{frames};
 ghost use Rattle.irig_recording.specs.declared.pulse.Pulse.{Pulse};
 ghost use Rattle.irig_track.specs.Splices.{risen_by};
 ghost use Rattle.irig_times.specs.Parts.{AreParts};
 ghost use Rattle.irig_times.specs.Untimed.{AreWhys, IsKnown, IsKnownBy, IsWhy, IsWhyBy};
-ghost use Rattle.irig_times.specs.Whys.{are_apart_by, is_step, why_after, why_between};
+ghost use Rattle.irig_times.specs.Whys.{are_apart_by, is_step, why_after, why_between, why_steady};
 ghost use Rattle.irig_times.specs.{Whole.whole_in, Whys.why_next_to};
 
 use crate::ends::time_elements;
 use crate::frame_lens::FrameLens;
-use crate::jumps::{are_apart, is_jump};
+use crate::jumps::{are_apart, is_jump_between};
 use crate::missing::rounded;
 use crate::part::{Part, parts_up_to};
 use crate::steps::pulse_at;
@@ -111,9 +111,29 @@ fn why_next_to(
 ) -> Why
     requires century { century ≤ 99 }
     requires from { IfSome from (λ a. (a.time.micros < 2 ^ 59)
-        × IfSome to (λ b. a.number + a.count ≤ b.number)) }
+        × MatchOption to (a.number + a.count < 2 ^ 30) (λ b. a.number + a.count ≤ b.number)) }
     requires to { IfSome to (λ b. (b.time.micros < 2 ^ 59) × (b.number < 2 ^ 30)) }
     ensures why { result ≡ why_next_to format century pulses.old.track.pulses from to }
+    ensures pulses { pulses.new.track ≡ pulses.old.track }
+{
+    if is_jump_between(pulses, format, century, from, to) {
+        return Why::Step;
+    }
+    why_steady(pulses, format, century, from, to)
+}
+
+/// The same, if the time does not jump there.
+fn why_steady(
+    pulses: &mut Lens<'_>,
+    format: Format,
+    century: u32,
+    from: Option<Part>,
+    to: Option<Part>,
+) -> Why
+    requires century { century ≤ 99 }
+    requires from { IfSome from (λ a. a.time.micros < 2 ^ 59) }
+    requires to { IfSome to (λ b. b.time.micros < 2 ^ 59) }
+    ensures why { result ≡ why_steady format century pulses.old.track.pulses from to }
     ensures pulses { pulses.new.track ≡ pulses.old.track }
 {
     match (from, to) {
@@ -128,8 +148,6 @@ fn why_next_to(
 fn why_between(pulses: &mut Lens<'_>, format: Format, century: u32, from: &Part, to: &Part) -> Why
     requires century { century ≤ 99 }
     requires times { (from.now.time.micros < 2 ^ 59) × (to.now.time.micros < 2 ^ 59) }
-    requires order { from.now.number + from.now.count ≤ to.now.number }
-    requires small { to.now.number < 2 ^ 30 }
     ensures why { result ≡ why_between format century pulses.old.track.pulses from.now to.now }
     ensures pulses { pulses.new.track ≡ pulses.old.track }
 {
@@ -138,9 +156,6 @@ fn why_between(pulses: &mut Lens<'_>, format: Format, century: u32, from: &Part,
     }
     if to.is_empty() {
         return Why::Unbelieved;
-    }
-    if is_jump(pulses, format, century, from, to) {
-        return Why::Step;
     }
     if are_apart_by(pulses, format, century, from, to) {
         Why::Hole

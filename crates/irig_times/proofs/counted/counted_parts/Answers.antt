@@ -1,7 +1,7 @@
 use Rattle.std.proofs.Common.{[], ◌++◌, length, get_or, ◌∙◌, arith}
 use Rattle.std.proofs.lemmas.Option.{slice_get-get_or}
 use Rattle.irig_times.specs.Counted.{with_frame}
-use Rattle.irig_times.proofs.{Filling.filled-more, PartPlaces.known, PartPlaces.known-next, PartPlaces.low}
+use Rattle.irig_times.proofs.{Filling.filled-more, PartPlaces.known, PartPlaces.known-next, PartPlaces.known-order, PartPlaces.low}
 use Rattle.irig_times.proofs.PartPlaces.{none-part, part-of}
 use Rattle.irig_times.proofs.counted.counted_parts.Goals as goal
 
@@ -23,6 +23,13 @@ put_frame-requires-clause-next c =
     let whole = c.args.whole.now in
     let here = slice_get-get_or whole c.loop-place.place none-part c.loop-place-test.true in
     known-next c.args.format (length c.args.pulses.now.track.pulses) whole c.requires.whole c.len-count.ensures.track.few c.loop-place.place _ here c.part_at-next.result
+    c.part_at-next.ensures
+
+pub put_frame-requires-clause-order : goal.put_frame-requires-clause-order
+put_frame-requires-clause-order c =
+    let whole = c.args.whole.now in
+    let here = slice_get-get_or whole c.loop-place.place none-part c.loop-place-test.true in
+    known-order c.args.format (length c.args.pulses.now.track.pulses) whole c.requires.whole c.len-count.ensures.track.few c.loop-place.place _ here c.part_at-next.result
     c.part_at-next.ensures
 
 pub loop-place-preserved : goal.loop-place-preserved

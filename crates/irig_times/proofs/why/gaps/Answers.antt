@@ -2,7 +2,7 @@ use Rattle.std.proofs.Common.{◌≤◌, length, None, sym, ◌∙◌, arith}
 use Rattle.std.proofs.lemmas.Option.{slice_get-get_or}
 use Rattle.irig_times.specs.Whys.{why_next_to}
 use Rattle.irig_times.proofs.PartPlaces.{known, low, none-part, part-of}
-use Rattle.irig_times.proofs.Reasons.{before-known, length-more, low-alone, next-before, whys-last, whys-more}
+use Rattle.irig_times.proofs.Reasons.{before-known, length-more, next-before, whys-last, whys-more}
 use Rattle.irig_times.proofs.why.gaps.Goals as goal
 
 pub why_next_to-requires-clause-from : goal.why_next_to-requires-clause-from
@@ -37,9 +37,8 @@ loop-place-preserved c =
 pub why_next_to-requires-2-clause-from : goal.why_next_to-requires-2-clause-from
 why_next_to-requires-2-clause-from c =
     let whole = c.args.whole.now in
-    low-alone c.loop-place.before
-    (low c.args.format (length c.args.pulses.now.track.pulses) whole c.requires.whole c.len-count.ensures.track.few c.loop-place.place c.loop-place.before
-    (before-known whole c.loop-place.place c.loop-place.before c.loop-place.invariant.before))
+    low c.args.format (length c.args.pulses.now.track.pulses) whole c.requires.whole c.len-count.ensures.track.few c.loop-place.place c.loop-place.before
+    (before-known whole c.loop-place.place c.loop-place.before c.loop-place.invariant.before)
 
 pub returns-clause-whys : goal.returns-clause-whys
 returns-clause-whys c =
