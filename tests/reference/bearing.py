@@ -6,6 +6,8 @@ from typing import Dict, NamedTuple, Optional, Tuple
 
 from reference import timecode
 
+LONGEST_COUNT = 500  # frames
+
 
 class Shown(NamedTuple):
     """A frame that is fine: the rise of its marker, and what it shows."""
@@ -87,9 +89,11 @@ class Bearing:
     # the clock of two frames
 
     def shows_clock(self, one: Shown, other: Shown) -> bool:
-        """Whether two frames agree, so that they show how fast the clock of the recording goes."""
+        """Whether two frames agree, so that they show how fast the clock of the recording goes: it is off by a fortieth at most, or
+        by 8 in 100 if one is the next after the other."""
         many, stray = self.count(one, other), self.stray(one, other)
-        return many > 0 and 2 * stray < self.frame and 40 * stray <= many * self.frame
+        is_near = 40 * stray <= many * self.frame or (many == 1 and 100 * stray <= 8 * self.frame)
+        return many > 0 and 2 * stray < self.frame and is_near
 
     def in_time(self, clock_of: Tuple[Shown, Shown], one: Shown, other: Shown) -> bool:
         """Whether two frames are as far apart as that clock says, to half an interval."""
@@ -136,11 +140,48 @@ class Bearing:
         return self.in_time(two, near.before, frame) and self.in_time(two, frame, near.after)
 
     def by_clock(self, near: Near, frame: Shown) -> bool:
-        """Whether a frame is where the clock of the two nearest has it, which is off by a fortieth at most."""
+        """Whether a frame is where the clock of the two nearest has it, or where that of one side has it, a frame or two away."""
         two = near.two()
+        if self.by_next(near, frame):
+            return True
         if two is None or not self.shows_clock(*two):
             return False
         return self.in_time(two, near.before, frame) if near.before else self.in_time(two, frame, two[0])
+
+    def by_next(self, near: Near, frame: Shown) -> bool:
+        """Whether a frame is one of the next two after the two before it, of which one is the next after the other, and where their
+        clock has it; or so before the two after it."""
+        first, last = (near.before_last, near.before), (near.after, near.after_next)
+        return (
+            self.are_next(first) and self.count(near.before, frame) <= 2 and self.in_time(first, near.before, frame)
+            or self.are_next(last) and self.count(frame, near.after) <= 2 and self.in_time(last, frame, near.after)
+        )
+
+    def are_next(self, two: Tuple[Optional[Shown], Optional[Shown]]) -> bool:
+        """Whether two frames are there, one is the next after the other, and they show the clock."""
+        return None not in two and self.count(*two) == 1 and self.shows_clock(*two)
+
+    # how the clock wanders
+
+    def bend(self, near: Near, before: int, after: int) -> int:
+        """By how many microseconds a pulse between two rises later than the line between them has it, by the curve on which the clock
+        of the two frames before becomes that of the two after; it is that many elements after the one and before the other. 0 if
+        there is no such curve, or if it is off the line by more than two intervals."""
+        first, last = (near.before_last, near.before), (near.after, near.after_next)
+        if None in first or None in last or not self.shows_any_clock(*first) or not self.shows_any_clock(*last):
+            return 0
+        one, other, many = self.count(*first), self.count(*last), self.count(near.before, near.after)
+        fast, slow = other * (first[1].rise - first[0].rise), one * (last[1].rise - last[0].rise)
+        if not 0 < many <= LONGEST_COUNT or max(one, other) > LONGEST_COUNT or not self.is_mean(near, one * other, many, slow + fast):
+            return 0
+        size = abs(slow - fast) * before * after // (10000 * one * other * (2 * many + one + other))
+        if size > 2 * self.interval:
+            return 0
+        return -size if slow > fast else size
+
+    def is_mean(self, near: Near, seen: int, many: int, both: int) -> bool:
+        """Whether the frames on both sides are as far apart as the mean of both clocks says, to half an interval."""
+        return abs(2 * seen * (near.after.rise - near.before.rise) - many * both) <= seen * self.interval
 
     # what is heard
 

@@ -3,10 +3,9 @@ from bisect import bisect_left, bisect_right
 from typing import Iterator, List, NamedTuple, Optional, Sequence, Tuple
 
 from reference import language, machine, timecode
-from reference.bearing import Bearing, Near, Shown, clock
+from reference.bearing import LONGEST_COUNT, Bearing, Near, Shown, clock
 
 LONGEST_LINE, LONGEST_COMMENT = 1000, 900
-LONGEST_COUNT = 500  # frames
 LEAST_ANCHORS = 60  # of a frame, if nothing was fine
 NOTHING_FINE, NOT_KEPT = b"# nothing to go by: no frame of the recording is fine", b"# not kept: "
 NO_REPAIR, REFUSED = "not a repair", "refused: "
@@ -254,7 +253,7 @@ class Anchors:
 
     def _is_on_line(self, near: Near, before: Optional[Point], point: Point, after: Optional[Point]) -> bool:
         if before is not None and after is not None:
-            return self._is_between(before, point, after)
+            return self._is_between(before, point, after) or self._is_on_curve(near, before, point, after)
         if before is not None:
             return self._is_along(near, before, point)
         return after is not None and self._is_along(near, point, after)
@@ -264,6 +263,11 @@ class Anchors:
         many, whole = point[0] - before[0], after[0] - before[0]
         due, found = many * (after[1] - before[1]), whole * (point[1] - before[1])
         return 10 * abs(found - due) <= whole * self.bearing.interval
+
+    def _is_on_curve(self, near: Near, before: Point, point: Point, after: Point) -> bool:
+        """So on the curve on which the clock changes there."""
+        bend = self.bearing.bend(near, point[0] - before[0], after[0] - point[0])
+        return self._is_between(before, (point[0], max(before[1], point[1] - bend)), after)
 
     def _is_along(self, near: Near, one: Point, other: Point) -> bool:
         """Whether two points are as far apart as the nominal interval says, to a tenth of it and a thousandth of the distance;

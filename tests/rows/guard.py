@@ -151,6 +151,23 @@ def wander(at: int) -> int:
 WANDERING = moved(without(SOUND, 343, *range(401, 500)), wander)  # frame 3, and none after it
 WANDERING_PULSE = "insert %d %d" % (wander(3420000), wander(3422000))
 SLIPPED_WANDERING = WANDERING[:399] + moved(WANDERING[399:], lambda at: at + 30000)  # three intervals more after it
+TURNING = moved(hole(steady(many=9), 3, 3), wander)  # frames 3 to 5 are lost
+LINE = wander(2000000), wander(6000000)  # when frames 2 and 6 begin
+
+
+def on_line(at: int) -> int:
+    """A time on the line between frames 2 and 6 of TURNING."""
+    return LINE[0] + (at - 2000000) * (LINE[1] - LINE[0]) // 4000000
+
+
+def other_way(at: int) -> int:
+    """One on the curve that is as far from the line on the other side."""
+    return 2 * on_line(at) - wander(at)
+
+
+def lost_three(change: Callable[[int], int]) -> List[str]:
+    """The three lost frames of TURNING, at these times."""
+    return ["begin", *("insert %d %d" % (rise, fall) for rise, fall in moved(steady(many=9)[300:599], change)), "end"]
 
 
 def lone(micros: int) -> List[str]:
@@ -210,8 +227,17 @@ ROWS = (
     Row("the same ten intervals later, and a nominal six seconds after the one before it", "B4", SLOW_LONE, [*lone(105000), *lone(-300000)],
         [*unsafe("138 12:34:58", 8505000, UNSUPPORTED, *lone(105000)), *unsafe("138 12:34:58", 8100000, UNSUPPORTED, *lone(-300000))]),
     Row("a clock that wanders, between what the frames before and after show", "B4", WANDERING, [WANDERING_PULSE], [WANDERING_PULSE]),
-    Row("a slip of 3 intervals on a clock that wanders", "B4", SLIPPED_WANDERING, [WANDERING_PULSE],
-        unsafe("138 12:34:53", wander(3000000), UNSUPPORTED, WANDERING_PULSE)),
+    Row("a slip of 3 intervals on a clock that wanders, after the frame", "B4", SLIPPED_WANDERING, [WANDERING_PULSE], [WANDERING_PULSE]),
+    Row("three frames on the curve of a clock that wanders", "B4", TURNING, lost_three(wander), lost_three(wander), filled=3),
+    # a step before the first of the three is no interval, so that one stays broken
+    Row("three frames on the line between the frames next to them", "B4", TURNING, lost_three(on_line), lost_three(on_line), filled=2),
+    Row("three frames on the other side of that line", "B4", TURNING, lost_three(other_way),
+        unsafe("138 12:34:54", other_way(4000000), MISPLACED, *lost_three(other_way))),
+    Row("the first frame, by a clock that is 5 % slow", "B4", without(SLOWER, 143), ["insert 1491000 1493100"], ["insert 1491000 1493100"]),
+    Row("the first frame, by two frames after it of which one is not the next after the other", "B4", without(SLOWER, 143, *range(301, 401)),
+        ["insert 1491000 1493100"], unsafe("138 12:34:51", 1050000, UNSUPPORTED, "insert 1491000 1493100")),
+    Row("the last frame, by a clock that is 5 % slow", "B4", without(SLOWER, 643), ["insert 6741000 6743100"], ["insert 6741000 6743100"]),
+    Row("the last frame but one, by the two before it", "B4", without(SLOWER, 543), ["insert 5691000 5693100"], ["insert 5691000 5693100"]),
     Row("a slip of 10 intervals on such a clock", "B4", SLIPPED_LONE, [LONE_PULSE],
         unsafe("138 12:34:58", 8400000, UNSUPPORTED, LONE_PULSE)),
     Row("a slip of 10 intervals, like a clock that is 5 % slow", "B4", SLIPPED, SLIP, unsafe("138 12:34:53", 3066667, UNSUPPORTED, *SLIP)),

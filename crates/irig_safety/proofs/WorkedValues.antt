@@ -8,7 +8,8 @@ use Rattle.irig_codes.specs.declared.format.Kind.TheVariants.{E, G}
 use Rattle.irig_safety.specs.Bearing.{clock_of, is_far, is_later, leads, periods, slack, stray}
 use Rattle.irig_safety.specs.{Clocks.shows_clock, OwnClock.is_by_own_clock}
 use Rattle.irig_recording.specs.declared.pulse.Pulse.{Pulse}
-use Rattle.irig_safety.specs.{Anchors.is_anchor, Lines.is_between, Lines.is_nominal, Rises.rise_in, declared.lines.Anchor.Anchor}
+use Rattle.irig_safety.specs.{Anchors.is_anchor, Curves.is_bent, Lines.is_nominal, Rises.rise_in, Straight.is_straight}
+use Rattle.irig_safety.specs.{declared.curves.Sides.Sides, declared.lines.Anchor.Anchor}
 use Rattle.irig_safety.specs.{Heard.is_overruled, Witnesses.is_led}
 use Rattle.irig_safety.specs.Mended.{HasControlOfBoth, with_control}
 use Rattle.irig_safety.specs.{Controls.function_element, Witnesses.is_borne, declared.shown.Shown.Shown}
@@ -195,10 +196,10 @@ weights_double = refl
 abbrev anchor : ℕ → ℕ → Anchor
 anchor steps rise = record { steps = steps; rise = rise }
 
-on_line : is_between b4 (anchor 10 5000000) 5101000 (anchor 10 5200000) ≡ true
+on_line : is_straight b4 (anchor 10 5000000) 101000 (anchor 10 5200000) ≡ true
 on_line = refl
 
-beside_line : is_between b4 (anchor 10 5000000) 5101001 (anchor 10 5200000) ≡ false
+beside_line : is_straight b4 (anchor 10 5000000) 101001 (anchor 10 5200000) ≡ false
 beside_line = refl
 
 -- at the nominal interval to a tenth of it and a thousandth: 100 elements of 10 ms
@@ -256,3 +257,25 @@ own_clock_after = refl
 -- not if those show an exact clock: then it is a slip of 10 intervals
 no_own_clock : is_by_own_clock b4 (Some (slow_at 1050000 50)) (slow_at 2050000 51) (slow_at 4150000 53) (Some (slow_at 5150000 54)) (slow_at 3100000 52) ≡ false
 no_own_clock = refl
+
+-- two frames show a clock that is 5 % slow if one is the next after the other
+next_clock : shows_clock b4 (slow_at 1000000 50) (slow_at 2050000 51) ≡ true
+next_clock = refl
+
+far_clock : shows_clock b4 (slow_at 1000000 50) (slow_at 3100000 52) ≡ false
+far_clock = refl
+
+-- a clock that is 5 % slow, and each second takes 1.9 milliseconds more than the one before it: the curve between the frames of
+-- seconds 52 and 56
+abbrev turning : Sides
+turning = record { before2 = slow_at 1050950 51; before = slow_at 2103800 52; after = slow_at 6334200 56; after2 = slow_at 7396550 57 }
+
+-- it is a tenth of an interval from there, and a microsecond more; and on the other side of the line
+on_curve : is_bent b4 turning (anchor 200 2103800) 4216200 (anchor 200 6334200) ≡ true
+on_curve = refl
+
+beside_curve : is_bent b4 turning (anchor 200 2103800) 4216201 (anchor 200 6334200) ≡ false
+beside_curve = refl
+
+other_side : is_bent b4 turning (anchor 200 2103800) 4222800 (anchor 200 6334200) ≡ false
+other_side = refl

@@ -2,6 +2,7 @@ pub mod Anchors
 pub mod Bearing
 pub mod Clocks
 pub mod Controls
+pub mod Curves
 pub mod Faults
 pub mod Heard
 pub mod Lines
@@ -12,4 +13,5 @@ pub mod Original
 pub mod OwnClock
 pub mod Rises
 pub mod Safety
+pub mod Straight
 pub mod Witnesses

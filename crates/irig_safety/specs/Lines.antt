@@ -3,7 +3,8 @@ use Rattle.std.specs.Prelude.{◌+◌, ◌-◌, ◌*◌, ◌/◌, ◌&&◌, ◌|
 use Rattle.std.specs.Prelude.{Option, Some, None, if◌then◌else◌}
 use Rattle.irig_codes.specs.Format.{FormatView, interval_of}
 use Rattle.irig_safety.specs.{Bearing.agrees, Bearing.apart, Bearing.distance, Bearing.periods}
-use Rattle.irig_safety.specs.{Clocks.shows_clock, OwnClock.is_own}
+use Rattle.irig_safety.specs.{Clocks.shows_clock, Curves.is_on_curve, OwnClock.is_own}
+use Rattle.irig_safety.specs.{Straight.is_straight}
 use Rattle.irig_safety.specs.declared.lines.Anchor.{Anchor}
 use Rattle.irig_safety.specs.{declared.shown.Shown.Shown, declared.witnesses.Witnesses.Witnesses}
 
@@ -34,11 +35,9 @@ marker_before f w y j = from_before f w y j w.before
 abbrev pub marker_after : FormatView → Witnesses → Shown → ℕ → Option Anchor
 marker_after f w y j = from_after f w y j w.after
 
--- a time is on the line between two anchors, to a tenth of an interval
-abbrev pub is_between : FormatView → Anchor → ℕ → Anchor → Bool
-is_between f a t b =
-    nat_le (apart ((t - a.rise) * (a.steps + b.steps)) (a.steps * (b.rise - a.rise)))
-    ((a.steps + b.steps) * (interval_of f.kind / 10))
+-- a time is on the line between two anchors, or on the curve on which the clock changes there
+abbrev pub is_between : FormatView → Witnesses → Anchor → ℕ → Anchor → Bool
+is_between f w a t b = is_straight f a (t - a.rise) b || is_on_curve f w a t b
 
 -- that many elements are as long as they nominally are, to a tenth of an interval and a thousandth
 abbrev pub is_nominal : FormatView → ℕ → ℕ → Bool
@@ -75,4 +74,4 @@ abbrev pub is_on_line : FormatView → Witnesses → Option Anchor → ℕ → O
 is_on_line f w None t None = false
 is_on_line f w (Some a) t None = is_along f w a.steps (t - a.rise)
 is_on_line f w None t (Some b) = is_along f w b.steps (b.rise - t)
-is_on_line f w (Some a) t (Some b) = is_between f a t b
+is_on_line f w (Some a) t (Some b) = is_between f w a t b

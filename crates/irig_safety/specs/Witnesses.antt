@@ -2,7 +2,8 @@
 use Rattle.std.specs.Prelude.{◌&&◌, ◌||◌, Bool, true, false, nat_le, is_some, Option, Some, None}
 use Rattle.irig_codes.specs.Format.{FormatView}
 use Rattle.irig_safety.specs.Bearing.{allows, is_within, leads}
-use Rattle.irig_safety.specs.{Clocks.is_by_clock, Heard.heard, OwnClock.is_own}
+use Rattle.irig_safety.specs.Clocks.{is_by_clock, is_by_next}
+use Rattle.irig_safety.specs.{Heard.heard, OwnClock.is_own}
 use Rattle.irig_safety.specs.declared.shown.Shown.{Shown}
 use Rattle.irig_safety.specs.declared.witnesses.Witnesses.{Witnesses}
 
@@ -34,14 +35,24 @@ abbrev pub is_timed_to : FormatView → Shown → Shown → Option Shown → Boo
 is_timed_to f y b None = false
 is_timed_to f y b (Some b2) = is_by_clock f b b2 y b
 
--- it is in time by the clock of the frames on both sides, which is off by a fortieth at most; if one
--- side has none, by the two of the other
+-- the two frames before it, or the two after it, are next to each other and to it, and show the clock
+abbrev pub is_next_from : FormatView → Option Shown → Shown → Shown → Bool
+is_next_from f None a y = false
+is_next_from f (Some a2) a y = is_by_next f a2 a a y
+
+abbrev pub is_next_to : FormatView → Shown → Shown → Option Shown → Bool
+is_next_to f y b None = false
+is_next_to f y b (Some b2) = is_by_next f b b2 y b
+
+-- it is in time by the clock of the frames on both sides, or of two frames next to it; if one side has
+-- none, by that of the two of the other
 abbrev pub is_timed : FormatView → Option Shown → Option Shown → Option Shown → Option Shown
     → Shown → Bool
 is_timed f a2 None None b2 y = false
 is_timed f a2 (Some a) None b2 y = is_timed_from f a2 a y
 is_timed f a2 None (Some b) b2 y = is_timed_to f y b b2
-is_timed f a2 (Some a) (Some b) b2 y = is_by_clock f a b a y
+is_timed f a2 (Some a) (Some b) b2 y =
+    is_by_clock f a b a y || is_next_from f a2 a y || is_next_to f y b b2
 
 -- an inserted second is borne out from both sides alone
 abbrev pub may_stand : Option Shown → Option Shown → Shown → Bool

@@ -1,7 +1,8 @@
 //! When a frame begins by the clock that other frames show.
 
 ghost use Rattle.std.specs.Prelude.{◌≡◌, ◌<◌, ◌^◌, Some};
-ghost use Rattle.irig_safety.specs.Clocks.{is_by_clock, is_in_time, shows_any_clock, shows_clock};
+ghost use Rattle.irig_safety.specs.Clocks.{is_by_clock, is_by_next, is_in_time, shows_any_clock};
+ghost use Rattle.irig_safety.specs.Clocks.{shows_clock};
 ghost use Rattle.irig_safety.specs.OwnClock.{is_amid, is_amidst, is_by_own_clock, is_off};
 ghost use Rattle.irig_safety.specs.OwnClock.{is_own_from, is_own_to, is_same_clock, long_by};
 
@@ -9,13 +10,14 @@ use crate::bearing::{apart, distance, is_later, is_shown, periods, stray};
 use crate::shown::Shown;
 use irig_codes::Format;
 
-/// Whether two frames agree, and so show by how much the clock is off: by a fortieth at most.
+/// Whether two frames agree, and so show by how much the clock is off: by a fortieth at most, or by 8 in
+/// 100 if one is the next after the other.
 pub fn shows_clock(format: Format, one: &Shown, other: &Shown) -> bool
     ensures { result ≡ shows_clock format one.now other.now }
 {
-    is_shown(format, one, other)
-        && 40 * stray(format, one, other)
-            <= periods(format, one, other) * u128::from(format.frame_period())
+    let (off, many) = (stray(format, one, other), periods(format, one, other));
+    let frame = u128::from(format.frame_period());
+    is_shown(format, one, other) && (40 * off <= many * frame || many == 1 && 25 * off <= 2 * frame)
 }
 
 /// Whether by the clock of two frames another one begins when it should after some frame.
@@ -36,8 +38,17 @@ pub fn is_by_clock(format: Format, one: &Shown, other: &Shown, from: &Shown, fra
     shows_clock(format, one, other) && is_in_time(format, one, other, from, frame)
 }
 
+/// So by the clock of two frames, if one is the next after the other, and no more than two frames away.
+pub fn is_by_next(format: Format, one: &Shown, other: &Shown, from: &Shown, frame: &Shown) -> bool
+    ensures { result ≡ is_by_next format one.now other.now from.now frame.now }
+{
+    periods(format, one, other) == 1
+        && periods(format, from, frame) <= 2
+        && is_by_clock(format, one, other, from, frame)
+}
+
 /// Whether two frames agree, and show a clock that is off by 8 in 100 at most.
-fn shows_any_clock(format: Format, one: &Shown, other: &Shown) -> bool
+pub fn shows_any_clock(format: Format, one: &Shown, other: &Shown) -> bool
     ensures { result ≡ shows_any_clock format one.now other.now }
 {
     is_shown(format, one, other)

@@ -4,6 +4,7 @@
 mod bearing;
 mod clocks;
 mod controls;
+mod curves;
 mod fault;
 mod law;
 mod lines;

@@ -6,9 +6,11 @@ ghost use Rattle.irig_safety.specs.Bearing.{periods};
 ghost use Rattle.irig_safety.specs.Lines.{is_along, is_at_clock, is_at_clock_of, is_between};
 ghost use Rattle.irig_safety.specs.Lines.{is_clocked, is_counted, is_nominal, is_on_line};
 ghost use Rattle.irig_safety.specs.Lines.{marker_after, marker_before};
+ghost use Rattle.irig_safety.specs.Straight.{is_straight};
 
 use crate::bearing::{agrees, apart, distance, periods};
 use crate::clocks::shows_clock;
+use crate::curves::is_on_curve;
 use crate::shown::Shown;
 use crate::witnesses::{Witnesses, is_own};
 use irig_codes::Format;
@@ -96,22 +98,32 @@ fn tenth(format: Format) -> u128
 }
 
 /// How many microseconds a time is after another.
-fn between(from: u64, to: u64) -> u128
+pub fn between(from: u64, to: u64) -> u128
     ensures value { result ≡ to - from }
     ensures small { result < 2 ^ 64 }
 {
     u128::from(to.saturating_sub(from))
 }
 
-/// Whether a time is on the line between two anchors, to a tenth of an interval.
-fn is_between(format: Format, before: &Anchor, rise: u64, after: &Anchor) -> bool
-    requires { (before.now.steps ≤ 2 ^ 17) × (after.now.steps ≤ 2 ^ 17) }
-    ensures { result ≡ is_between format before.now rise after.now }
+/// Whether a time is on the line between two anchors, that many microseconds after the first, to a tenth of
+/// an interval.
+pub fn is_straight(format: Format, before: &Anchor, micros: u128, after: &Anchor) -> bool
+    requires { (before.now.steps ≤ 2 ^ 17) × (after.now.steps ≤ 2 ^ 17) × (micros < 2 ^ 65) }
+    ensures { result ≡ is_straight format before.now micros after.now }
 {
     let whole = before.steps + after.steps;
-    let found = between(before.rise, rise) * whole;
+    let found = micros * whole;
     let wanted = before.steps * between(before.rise, after.rise);
     apart(found, wanted) <= whole * tenth(format)
+}
+
+/// Whether a time is on the line between two anchors, or on the curve on which the clock changes there.
+fn is_between(format: Format, near: &Witnesses, before: &Anchor, rise: u64, after: &Anchor) -> bool
+    requires { (before.now.steps ≤ 2 ^ 17) × (after.now.steps ≤ 2 ^ 17) }
+    ensures { result ≡ is_between format near.now before.now rise after.now }
+{
+    is_straight(format, before, between(before.rise, rise), after)
+        || is_on_curve(format, near, before, rise, after)
 }
 
 /// Whether that many elements are as long as they nominally are, to a tenth of an interval and a
@@ -187,6 +199,6 @@ pub fn is_on_line(
         (None, None) => false,
         (Some(a), None) => is_along(format, near, a.steps, between(a.rise, rise)),
         (None, Some(b)) => is_along(format, near, b.steps, between(rise, b.rise)),
-        (Some(a), Some(b)) => is_between(format, &a, rise, &b),
+        (Some(a), Some(b)) => is_between(format, near, &a, rise, &b),
     }
 }

@@ -4,11 +4,11 @@ ghost use Rattle.std.specs.Prelude.{◌≡◌, Some};
 ghost use Rattle.irig_safety.specs.Heard.{heard, is_disputed, is_overruled};
 ghost use Rattle.irig_safety.specs.OwnClock.{is_own};
 ghost use Rattle.irig_safety.specs.Witnesses.{allows_from, allows_to, bears, is_borne, is_led};
-ghost use Rattle.irig_safety.specs.Witnesses.{is_timed, is_timed_from, is_timed_to};
-ghost use Rattle.irig_safety.specs.Witnesses.{may_stand};
+ghost use Rattle.irig_safety.specs.Witnesses.{is_next_from, is_next_to, is_timed, is_timed_from};
+ghost use Rattle.irig_safety.specs.Witnesses.{is_timed_to, may_stand};
 
 use crate::bearing::{allows, is_within, leads};
-use crate::clocks::{is_by_clock, is_by_own_clock};
+use crate::clocks::{is_by_clock, is_by_next, is_by_own_clock};
 use crate::shown::Shown;
 use irig_codes::Format;
 
@@ -82,13 +82,43 @@ fn is_timed_to(format: Format, frame: &Shown, after: &Shown, after2: Option<Show
     }
 }
 
+/// Whether the two frames before a frame, next to each other and to it, have it in time.
+fn is_next_from(format: Format, before2: Option<Shown>, before: &Shown, frame: &Shown) -> bool
+    ensures { result ≡ is_next_from format before2 before.now frame.now }
+{
+    match before2 {
+        Some(before2) => is_by_next(format, &before2, before, before, frame),
+        None => false,
+    }
+}
+
+/// Whether the two frames after it have it so.
+fn is_next_to(format: Format, frame: &Shown, after: &Shown, after2: Option<Shown>) -> bool
+    ensures { result ≡ is_next_to format frame.now after.now after2 }
+{
+    match after2 {
+        Some(after2) => is_by_next(format, after, &after2, frame, after),
+        None => false,
+    }
+}
+
+/// Whether a frame is in time by the clock of the frames on both sides, or of two frames next to it.
+fn is_timed_by(format: Format, near: &Witnesses, a: &Shown, b: &Shown, frame: &Shown) -> bool
+    ensures { result
+        ≡ is_timed format near.now.before2 (Some a.now) (Some b.now) near.now.after2 frame.now }
+{
+    is_by_clock(format, a, b, a, frame)
+        || is_next_from(format, near.before2, a, frame)
+        || is_next_to(format, frame, b, near.after2)
+}
+
 /// Whether a frame is in time by the clock of the frames next to it.
 fn is_timed(format: Format, near: &Witnesses, frame: &Shown) -> bool
     ensures { result
         ≡ is_timed format near.now.before2 near.now.before near.now.after near.now.after2 frame.now }
 {
     match (near.before, near.after) {
-        (Some(before), Some(after)) => is_by_clock(format, &before, &after, &before, frame),
+        (Some(before), Some(after)) => is_timed_by(format, near, &before, &after, frame),
         (Some(before), None) => is_timed_from(format, near.before2, &before, frame),
         (None, Some(after)) => is_timed_to(format, frame, &after, near.after2),
         (None, None) => false,

@@ -1,0 +1,199 @@
+//! Whether a pulse is on the curve on which the clock of two frames becomes that of two others.
+
+ghost use Rattle.std.specs.Prelude.{◌≡◌, ◌≤◌, ◌<◌, ◌*◌, ◌^◌, IsTrue};
+ghost use Rattle.irig_codes.specs.Format.{interval_of};
+ghost use Rattle.irig_safety.specs.Bearing.{apart, periods};
+ghost use Rattle.irig_safety.specs.Curves.{are_few, bend, is_bent, is_mean, is_on_curve, is_turning};
+ghost use Rattle.irig_safety.specs.Curves.{long_after, long_before, seen_over, straightened};
+ghost use Rattle.irig_safety.specs.Curves.{turned_over};
+
+use crate::bearing::{apart, distance, is_later, periods};
+use crate::clocks::shows_any_clock;
+use crate::lines::{Anchor, between, is_straight};
+use crate::shown::Shown;
+use crate::witnesses::Witnesses;
+use irig_codes::Format;
+
+/// The two frames before a place, the nearer one last, and the two after it.
+#[derive(Clone, Copy)]
+pub struct Sides {
+    pub before2: Shown,
+    pub before: Shown,
+    pub after: Shown,
+    pub after2: Shown,
+}
+
+/// Whether the frames are at most 500 frame periods from each other.
+fn are_few(format: Format, sides: &Sides) -> bool
+    ensures value { result ≡ are_few format sides.now }
+    ensures before { IsTrue result → periods format sides.now.before2 sides.now.before ≤ 500 }
+    ensures across { IsTrue result → periods format sides.now.before sides.now.after ≤ 500 }
+    ensures after { IsTrue result → periods format sides.now.after sides.now.after2 ≤ 500 }
+{
+    periods(format, &sides.before2, &sides.before) <= 500
+        && periods(format, &sides.before, &sides.after) <= 500
+        && periods(format, &sides.after, &sides.after2) <= 500
+}
+
+/// How long a frame period is by the clock of the two before.
+fn long_before(format: Format, sides: &Sides) -> u128
+    requires { periods format sides.now.after sides.now.after2 ≤ 500 }
+    ensures value { result ≡ long_before format sides.now }
+    ensures small { result < 2 ^ 73 }
+{
+    let many = periods(format, &sides.after, &sides.after2);
+    distance(&sides.before2, &sides.before) * many
+}
+
+/// How long it is by the clock of the two after, by the same measure.
+fn long_after(format: Format, sides: &Sides) -> u128
+    requires { periods format sides.now.before2 sides.now.before ≤ 500 }
+    ensures value { result ≡ long_after format sides.now }
+    ensures small { result < 2 ^ 73 }
+{
+    let many = periods(format, &sides.before2, &sides.before);
+    distance(&sides.after, &sides.after2) * many
+}
+
+/// The product of how many frame periods both clocks were seen over.
+fn seen_over(format: Format, sides: &Sides) -> u128
+    requires before { periods format sides.now.before2 sides.now.before ≤ 500 }
+    requires after { periods format sides.now.after sides.now.after2 ≤ 500 }
+    ensures value { result ≡ seen_over format sides.now }
+    ensures small { result < 2 ^ 18 }
+{
+    let many = periods(format, &sides.before2, &sides.before);
+    many * periods(format, &sides.after, &sides.after2)
+}
+
+/// Whether the frames on both sides are as far apart as the mean of both clocks says.
+fn is_mean(format: Format, sides: &Sides) -> bool
+    requires before { periods format sides.now.before2 sides.now.before ≤ 500 }
+    requires across { periods format sides.now.before sides.now.after ≤ 500 }
+    requires after { periods format sides.now.after sides.now.after2 ≤ 500 }
+    ensures { result ≡ is_mean format sides.now }
+{
+    let seen = seen_over(format, sides);
+    let both = long_before(format, sides) + long_after(format, sides);
+    let found = 2 * (seen * distance(&sides.before, &sides.after));
+    let wanted = periods(format, &sides.before, &sides.after) * both;
+    apart(found, wanted) <= seen * u128::from(format.interval())
+}
+
+/// Whether the clock changes from that of the two before to that of the two after.
+fn is_turning(format: Format, sides: &Sides) -> bool
+    ensures value { result ≡ is_turning format sides.now }
+    ensures before { IsTrue result → periods format sides.now.before2 sides.now.before ≤ 500 }
+    ensures across { IsTrue result → periods format sides.now.before sides.now.after ≤ 500 }
+    ensures after { IsTrue result → periods format sides.now.after sides.now.after2 ≤ 500 }
+{
+    shows_any_clock(format, &sides.before2, &sides.before)
+        && shows_any_clock(format, &sides.after, &sides.after2)
+        && is_later(format, &sides.before, &sides.after)
+        && are_few(format, sides)
+        && is_mean(format, sides)
+}
+
+/// Over how many elements it does.
+fn turned_over(format: Format, sides: &Sides) -> u128
+    requires before { periods format sides.now.before2 sides.now.before ≤ 500 }
+    requires across { periods format sides.now.before sides.now.after ≤ 500 }
+    requires after { periods format sides.now.after sides.now.after2 ≤ 500 }
+    ensures { result ≡ turned_over format sides.now }
+{
+    let many = periods(format, &sides.before2, &sides.before);
+    let across = periods(format, &sides.before, &sides.after);
+    let all = 2 * across + (many + periods(format, &sides.after, &sides.after2));
+    10_000 * (seen_over(format, sides) * all)
+}
+
+/// How far the curve is off the line, that many elements after one anchor and before another.
+fn bend(format: Format, sides: &Sides, since: u128, until: u128) -> u128
+    requires before { periods format sides.now.before2 sides.now.before ≤ 500 }
+    requires across { periods format sides.now.before sides.now.after ≤ 500 }
+    requires after { periods format sides.now.after sides.now.after2 ≤ 500 }
+    requires steps { (since ≤ 2 ^ 17) × (until ≤ 2 ^ 17) }
+    ensures { result ≡ bend format sides.now since until }
+{
+    let whole = turned_over(format, sides);
+    if whole == 0 {
+        0
+    } else {
+        difference(format, sides) * (since * until) / whole
+    }
+}
+
+/// By how much both clocks differ.
+fn difference(format: Format, sides: &Sides) -> u128
+    requires before { periods format sides.now.before2 sides.now.before ≤ 500 }
+    requires after { periods format sides.now.after sides.now.after2 ≤ 500 }
+    ensures value { result
+        ≡ apart (long_before format sides.now) (long_after format sides.now) }
+    ensures small { result < 2 ^ 73 }
+{
+    apart(long_before(format, sides), long_after(format, sides))
+}
+
+/// That many microseconds later, if the clock becomes slower; else earlier.
+fn straightened(format: Format, sides: &Sides, by: u128, micros: u128) -> u128
+    requires before { periods format sides.now.before2 sides.now.before ≤ 500 }
+    requires after { periods format sides.now.after sides.now.after2 ≤ 500 }
+    requires small { (by < 2 ^ 20) × (micros < 2 ^ 64) }
+    ensures value { result ≡ straightened format sides.now by micros }
+    ensures small { result < 2 ^ 65 }
+{
+    if long_before(format, sides) < long_after(format, sides) {
+        micros + by
+    } else {
+        micros.saturating_sub(by)
+    }
+}
+
+/// Two intervals, in microseconds.
+fn two_intervals(format: Format) -> u128
+    ensures value { result ≡ 2 * interval_of format.kind }
+    ensures small { result < 2 ^ 19 }
+{
+    2 * u128::from(format.interval())
+}
+
+/// Whether a time is on the curve between two anchors, to a tenth of an interval.
+fn is_bent(format: Format, sides: &Sides, before: &Anchor, rise: u64, after: &Anchor) -> bool
+    requires { (before.now.steps ≤ 2 ^ 17) × (after.now.steps ≤ 2 ^ 17) }
+    ensures { result ≡ is_bent format sides.now before.now rise after.now }
+{
+    if !is_turning(format, sides) {
+        return false;
+    }
+    let by = bend(format, sides, before.steps, after.steps);
+    if by > two_intervals(format) {
+        return false;
+    }
+    let micros = straightened(format, sides, by, between(before.rise, rise));
+    is_straight(format, before, micros, after)
+}
+
+/// So by the four nearest frames, if they are there.
+pub fn is_on_curve(
+    format: Format,
+    near: &Witnesses,
+    before: &Anchor,
+    rise: u64,
+    after: &Anchor,
+) -> bool
+    requires { (before.now.steps ≤ 2 ^ 17) × (after.now.steps ≤ 2 ^ 17) }
+    ensures { result ≡ is_on_curve format near.now before.now rise after.now }
+{
+    match (near.before2, near.before, near.after, near.after2) {
+        (Some(before2), Some(earlier), Some(later), Some(after2)) => {
+            let sides = Sides {
+                before2,
+                before: earlier,
+                after: later,
+                after2,
+            };
+            is_bent(format, &sides, before, rise, after)
+        }
+        _ => false,
+    }
+}
