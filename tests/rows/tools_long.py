@@ -7,6 +7,8 @@ from unittest import mock
 
 from cases import case
 from irig_tools import mend_long, sampled, seams
+from irig_tools.command import of_any_length
+from irig_tools.editor import Problem
 from random_input import damages
 from reference import timecode
 from rows.in_process import run
@@ -190,7 +192,26 @@ def looked_at_later():
     return in_folder(lambda: list(holds()), late="\n".join(lines))
 
 
+def proposed():
+    """Of a large file irig_what looks at a part, and the command that it prints repairs all of it."""
+    def holds():
+        with mock.patch.multiple(sampled, LARGE=100000, SAMPLE=300000):
+            status, printed, said = run("irig_what", ["track.vcd"])
+            command = printed.decode().splitlines()[-1].split()
+            yield same("irig_what", (status, b"only a part of it was looked at" in printed, said, command[0], command[-1]),
+                       (0, True, "", "irig_mend", "track.vcd"))
+            status, printed, said = in_windows(12000, "irig_mend", *command[1:])
+            yield same("the command", (status, b": 20 places found, 20 repaired, " in printed), (0, True))
+        try:
+            with of_any_length():
+                raise Problem("track.vcd: V12 TooManyPulses")
+        except Problem as error:
+            yield same("too many pulses", "V12 TooManyPulses; irig_mend --apply repairs" in str(error), True)
+
+    return in_folder(lambda: list(holds()), track=dump(damaged(1000, 20)))
+
+
 def cases(top):
     """Each part by its name."""
     return [case("long: " + part.__name__, part) for part in (chosen_seams, printed_windows, in_any_size, of_no_sound_frame, that_end_early,
-                                                              refused, looked_at_later)]
+                                                              refused, looked_at_later, proposed)]

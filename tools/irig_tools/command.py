@@ -41,6 +41,18 @@ def kept(path: str) -> Iterator[str]:
 
 
 @contextmanager
+def of_any_length() -> Iterator[None]:
+    """A complaint that a recording is longer than a track says what repairs it."""
+    try:
+        yield
+    except Problem as error:
+        if "V12 " not in str(error):
+            raise
+        hint = "irig_mend --apply repairs a recording of any length, and irig_wire --windows prints parts of it that fit in a track"
+        raise Problem("%s; %s" % (error, hint)) from error
+
+
+@contextmanager
 def unchanged(path: str) -> Iterator[None]:
     """A file that is read more than once has to stay as it is: a repair would be made of two recordings."""
     before = _state(path)

@@ -6,7 +6,7 @@ import os
 import sys
 from typing import Sequence
 
-from .command import kept, run
+from .command import kept, of_any_length, run
 from .cut_end import cut_notes, note_if_cut
 from .damage import Damage, look
 from .editor import Editor, progress_to
@@ -45,7 +45,7 @@ read, and 70 if memory ran out or the tool has a defect.
 def work(given: Given) -> int:
     name = given.names[0]
     check_apart(name, [(option.name, given.text(option)) for option in (PAGE, PICTURE)], not given.has(QUIET))
-    with kept(name) as path, opened(path, name, given, given.text(WIRE)) as track:
+    with of_any_length(), kept(name) as path, opened(path, name, given, given.text(WIRE)) as track:
         note_if_cut(track)
         if not given.has(QUIET):
             say_notes(track, name, COMMAND.name)

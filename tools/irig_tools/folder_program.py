@@ -22,7 +22,7 @@ PROGRAM = "irig_mend"
 APPLY_TO = Option("--apply-to", "FOLDER", "repairs each recording in the folder TRACK, and writes it with all its wires as a file of "
                   "the same name in this folder; prints a table, worst first. What a run before has done is not done again")
 REPORT = Option("--report", "FILE", "with --apply-to: also writes the table as CSV, with the reasons")
-JOBS = Option("--jobs", "N", "with --apply-to: that many recordings at once, and with --apply as many windows of a long one; if not given, one for "
+JOBS = Option("--jobs", "N", "with --apply-to: that many recordings at once, with --apply windows of a long one; if not given, one for "
               "each processor", whole(1))
 MOST_OTHERS = 5  # files that are named
 

@@ -5,17 +5,17 @@ import mmap
 import os
 import shutil
 from array import array
-from contextlib import contextmanager
+from contextlib import contextmanager, suppress
 from functools import reduce
 from typing import IO, Callable, Iterator, List, Optional, Tuple
 
 from .apply import Code, Counts
 from .cut_end import cut_notes
-from .editor import Problem, Progress, called
+from .editor import Problem, Progress
 from .merger import Level
 from .named import wire_or_none
 from .opening import Opened, opened
-from .options import DUMP, Given
+from .options import Given
 from .put_back import TrackLevel
 from .sampled import PLACES, sample
 from .temporary import named_if_no_room
@@ -31,10 +31,9 @@ EDGE = 8  # bytes
 class LongRecording:
     """A recording that can be longer than a track: what is on it, as a part of it shows, and its windows."""
 
-    def __init__(self, path: str, name: str, given: Given, wire: Optional[str], progress: Progress) -> None:
-        self.path, self.progress = path, progress
-        self.track = _looked_at(path, name, given, wire, progress)
-        self.wish = Wish(self.track.wire, self.track.unit, given.number(DUMP))
+    def __init__(self, track: Opened, progress: Progress) -> None:
+        self.track, self.progress = track, progress
+        self.wish = Wish(track.wire, track.unit, track.dump)
         self.parts: List[OwnPart] = []
         self.windows: List[TimeWindow] = []
         self.length = 0
@@ -50,7 +49,7 @@ class LongRecording:
 
         try:
             with named_if_no_room():
-                windows = Windows(self.path, self.wish, take)
+                windows = Windows(self.track.path, self.wish, take)
                 reading = windows.read()
             self.parts = work.finish()
         finally:
@@ -117,14 +116,10 @@ def _copy(folder: str, window: TimeWindow, out: IO[bytes]) -> None:
     os.unlink(path)
 
 
-def _looked_at(path: str, name: str, given: Given, wire: Optional[str], progress: Progress) -> Opened:
-    """The wire, the format and the expression, as the first part of the file shows them in which there is time code."""
-    problems = []
+def looked_at(path: str, name: str, given: Given, wire: Optional[str], progress: Progress) -> Optional[Opened]:
+    """The wire, the format and the expression, as the first part of the file shows them that has time code; nothing if none has."""
     for place in PLACES:
         progress("looking at a part of %s" % os.path.basename(name))
-        try:
-            with sample(path, place) as part, called(part, name), opened(part, name, given, wire) as track:
-                return Opened(path, track.code, track.wire, None, track.notes, unit=track.unit, dump=track.dump)
-        except Problem as error:
-            problems.append(error)
-    raise problems[0]
+        with suppress(Problem), sample(path, place) as part, opened(part, name, given, wire) as track:
+            return Opened(path, track.code, track.wire, None, track.notes, unit=track.unit, dump=track.dump)
+    return None

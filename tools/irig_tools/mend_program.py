@@ -11,7 +11,7 @@ from typing import Iterator, List, Optional, Sequence, Tuple, Union
 from .again import Names, again, is_kept
 from .analysis import START, examine
 from .changes import changes_of, find_differ
-from .command import kept, run, unchanged
+from .command import kept, of_any_length, run, unchanged
 from .applied import How, applied_to
 from .apply import Code, Refused, Summary, Target, as_object, code_of, find_guard
 from .cut_end import cut_notes, is_cut, note_if_cut
@@ -24,7 +24,7 @@ from .folder_program import APPLY_TO, JOBS, REPORT, mend_folder
 from .facts import json_lines, repairs_as_json
 from .kinds import DamageKind
 from .mend import called_for, propose, script_text
-from .mend_long import LongRecording
+from .mend_long import LongRecording, looked_at
 from .named import wire_or_none
 from .opening import Opened, is_of_one_wire, opened
 from .options import DUMP, EDITOR, JSON, OUTPUT, TIMESCALE, WIRE, Command, Given, Option
@@ -113,7 +113,7 @@ def work(given: Given) -> int:
 
 def mend_track(given: Given, path: str, original: Optional[str], outputs: ExitStack, progress: Progress) -> Union[Done, int]:
     """What became of a recording that fits in a track, or without --apply the status."""
-    with opened(path, given.names[0], given, wire_of(given, path)) as track:
+    with of_any_length(), opened(path, given.names[0], given, wire_of(given, path)) as track:
         return mend_opened(given, track, original, outputs, progress)
 
 
@@ -148,7 +148,10 @@ def is_for_windows(given: Given, path: str) -> bool:
 def mend_windows(given: Given, path: str, original: Optional[str], outputs: ExitStack, progress: Progress) -> Optional[Done]:
     """Repairs a recording that is longer than a track; nothing is done if it fits in one."""
     name = given.names[0]
-    recording = LongRecording(path, name, given, wire_of(given, path), progress)
+    track = looked_at(path, name, given, wire_of(given, path), progress)
+    if track is None:  # all of it is looked at then
+        return None
+    recording = LongRecording(track, progress)
     with temporary_folder() as folder:
         task = Task(folder, recording.track.code, given.has(STEADY), original is None)
         if not recording.mend(task, given.number(JOBS) or len(os.sched_getaffinity(0)), lambda: check_windows(given)):

@@ -7,6 +7,10 @@ from dataclasses import dataclass
 from typing import List, Optional, Sequence
 
 
+LARGE_ONE = ("the file is large, so only a part of it was looked at; the next line repairs all of it, in windows if it is longer than a "
+             "track, and writes the repaired recording as %s%s")
+
+
 def free_name(name: str) -> str:
     """The name, or the first one with a number that no file has."""
     stem, dot, end = name.rpartition(".")
@@ -35,14 +39,17 @@ class Proposal:
     repairs: int = 0  # that irig_mend proposes
     remarks: int = 0
     choice: Sequence[str] = ()  # the options of irig_mend for the unit and the dump
+    is_part: bool = False  # only a part of the dump was looked at
 
     def lines(self) -> List[str]:
         """The command is the last line; before it is what it is for, if the recording is damaged."""
         new = shlex.quote(free_name("new.vcd"))
+        mend = "irig_mend %s --apply %s %s" % (self._options(), new, self._track())
+        if self.is_part:
+            return [LARGE_ONE % (new, self._into()), mend]
         if not self.repairs + self.remarks:
             return [self._first() + "irig_ed %s --out %s %s" % (self._options(), new, self._track())]
         told = "damaged: irig_mend has %s; the next line writes the repaired recording as %s (without --apply %s it prints the script%s)"
-        mend = "irig_mend %s --apply %s %s" % (self._options(), new, self._track())
         return [told % (self._counted(), new, new, self._into()), self._first() + mend]
 
     def _counted(self) -> str:

@@ -107,8 +107,9 @@ class CodeWire:
 class What:
     """One dump of a file."""
 
-    def __init__(self, path: str, shown_path: str, unit: str, dump: int) -> None:
-        self.path, self.shown_path, self.unit, self.dump = path, shown_path, unit, dump
+    def __init__(self, path: str, shown_path: str, unit: str, dump: int, is_part: bool = False) -> None:
+        """The path can be that of a part of the dump."""
+        self.path, self.shown_path, self.unit, self.dump, self.is_part = path, shown_path, unit, dump, is_part
         self.found: Found = search(path, unit, dump)
         self.carriers = self._read_all(self.found.probes[:MOST_READ])
         self.carriers = sorted(self.carriers, key=lambda carrier: (-carrier.fine, -carrier.led))
@@ -175,9 +176,9 @@ class What:
         """How to continue, for the wire with the most fine frames."""
         carrier = self.carriers[0]
         name, edits = self._wire_option(), sum(1 for repair in carrier.script if repair.edits)
-        is_read = not carrier.inverted if carrier.script else self._is_read(carrier, name)
-        return Proposal(self.shown_path, name, carrier.kind, carrier.expression,
-                        None if is_read else self._extraction(carrier, name), edits, len(carrier.script) - edits, self._choice())
+        is_read = self.is_part or (not carrier.inverted if carrier.script else self._is_read(carrier, name))
+        return Proposal(self.shown_path, name, carrier.kind, carrier.expression, None if is_read else self._extraction(carrier, name),
+                        edits, len(carrier.script) - edits, self._choice(), self.is_part)
 
     def _is_read(self, carrier: CodeWire, name: Optional[str]) -> bool:
         """Whether the editor reads the wire of the dump as it is; irig_mend does, if it is upright."""

@@ -2,12 +2,16 @@
 from __future__ import annotations
 
 import sys
+from contextlib import ExitStack, suppress
+from typing import Optional
 
 from .command import kept, run
-from .ending import ALL_RIGHT, FOUND
+from .editor import Problem, progress_to
+from .ending import ALL_RIGHT, FOUND, name_of
 from .facts import json_lines as objects
 from .options import DUMP, JSON, TIMESCALE, Command, Given
 from .output import check_apart
+from .sampled import PLACES, can_be_long, sample
 from .search import HOPELESS, WINDOW
 from .texts import counted
 from .what import What
@@ -30,10 +34,25 @@ defect.
 def work(given: Given) -> int:
     name = given.names[0]
     check_apart(name)
-    with kept(name) as path:
-        what = What(path, name, given.text(TIMESCALE) or "", given.number(DUMP) or 1)
+    with kept(name) as path, ExitStack() as parts:
+        unit, dump = given.text(TIMESCALE) or "", given.number(DUMP)
+        part = what_of_a_part(path, name, unit, parts) if dump is None and can_be_long(path) else None
+        what = part or What(path, name, unit, dump or 1)
         sys.stdout.write(as_json(what) if given.has(JSON) else as_text(what))
     return ALL_RIGHT if what.carriers and what.sure() else FOUND
+
+
+def what_of_a_part(path: str, name: str, unit: str, parts: ExitStack) -> Optional[What]:
+    """What the first part of a large file shows in which a frame is fine; nothing if none is."""
+    progress = progress_to(sys.stderr)
+    for place in PLACES:
+        progress("looking at a part of %s" % name_of(name))
+        with suppress(Problem):
+            what = What(parts.enter_context(sample(path, place)), name, unit, 1, True)
+            if what.carriers and what.carriers[0].fine:
+                progress("")
+                return what
+    return None
 
 
 def as_text(what: What) -> str:
