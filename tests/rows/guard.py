@@ -234,7 +234,7 @@ ROWS = (
     Row("three frames on the other side of that line", "B4", TURNING, lost_three(other_way),
         unsafe("138 12:34:54", other_way(4000000), MISPLACED, *lost_three(other_way))),
     Row("the first frame, by a clock that is 5 % slow", "B4", without(SLOWER, 143), ["insert 1491000 1493100"], ["insert 1491000 1493100"]),
-    Row("the first frame, by two frames after it of which one is not the next after the other", "B4", without(SLOWER, 143, *range(301, 401)),
+    Row("the first frame, by two frames after it with a lost one between them", "B4", without(SLOWER, 143, *range(301, 401)),
         ["insert 1491000 1493100"], unsafe("138 12:34:51", 1050000, UNSUPPORTED, "insert 1491000 1493100")),
     Row("the last frame, by a clock that is 5 % slow", "B4", without(SLOWER, 643), ["insert 6741000 6743100"], ["insert 6741000 6743100"]),
     Row("the last frame but one, by the two before it", "B4", without(SLOWER, 543), ["insert 5691000 5693100"], ["insert 5691000 5693100"]),
