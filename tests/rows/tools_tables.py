@@ -215,6 +215,7 @@ def refused():
             ([], "Time [min],A\n0,0\n1,1\n", "the times of column 1 are in 'min', which is not read as a unit; change its head"),
             ([], "Time [s],A,B\n0,0,1\n", "as --column 'A': A, B"),
             ([], "Time [s],A,A\n0,0,1\n", "as --column '2': number 2, number 3"),
+            ([], old_scope(), "its heads are in its first columns; give the numbers of times and values, as --time-column 4 --column 5"),
             (["--column=A"], "Time [s],A,A\n0,0,1\n", "has several columns 'A'; give the number of one, from 1"),
             (["--column=C"], "Time [s],A,B\n0,0,1\n", "has no column 'C'; there are"),
             (["--column=4"], "Time [s],A,B\n0,0,1\n", "no row of numbers"), ([], "A\n0\n1\n", "has no column of times"),

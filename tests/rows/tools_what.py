@@ -72,6 +72,14 @@ def noisy():
     return sorted([each for each in edges if not begin <= each[0] < end] + noise), length
 
 
+def partly_turned():
+    """Frames 2 and 3 of six are upside down."""
+    edges, length = track("B", 6)
+    begin, end = 1049000, 3049000
+    levels = sorted([(time, 1 - level) if begin <= time < end else (time, level) for time, level in edges])
+    return sorted([*levels, (begin, 1), (end, 0)]), length
+
+
 LOST = B[0][:222] + B[0][642:], B[1]  # frame 1 but for its first ten elements, frame 2, and twenty elements of frame 3
 
 # name, dump, arguments, status, parts of what is printed, the frames that the last line lists as fine
@@ -85,6 +93,7 @@ ROWS = [
      ["in seconds: sound 4.010000, damaged 0.000000, lost 0.000000, without frames 0.050000"], 4),
     ("for how long it is lost", dump(*LOST), [], 0,
      ["in seconds: sound 1.010000, damaged 1.000000, lost 2.000000, without frames 0.050000"], None),
+    ("for how long it is upside down", dump(*partly_turned()), [], 0, ["in seconds: sound 3.9", ", damaged 2.0", "lost 0.000000"], None),
     ("noise that is near control elements", dump(*noisy()), [], 0,
      ["expression 2: 5 of ", "  expressions 2, 1, 5 and 6 fit equally; 2 is first, because it has no unused"], None),
     ("format A", dump(*track("A", 5)), [], 0, ["expression 2: 5 of 5", "12:34:20.00 to 061 12:34:20.40"], 5),

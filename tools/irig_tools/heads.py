@@ -86,7 +86,8 @@ class Heads:
 
     def __init__(self, heads: Sequence[str], first: str, path: str) -> None:
         self.path, self.parted = path, parted_by(first)
-        self.count = len(fields_of(first, self.parted))
+        self.first = fields_of(first, self.parted)
+        self.count = len(self.first)
         lines = [fields_of(head, self.parted) for head in heads if head and not head.startswith(";")]
         lines = [fields for fields in lines if len(fields) >= self.count - 1]
         last = lines[-1] if lines else []
@@ -103,7 +104,8 @@ class Heads:
             raise Problem("%s: column %d has no times, but '%s'; give --rate, in samples a second" % (self.path, place + 1, unit))
         if place is not None and not unit:
             self._check_unit(place)
-        return Columns(self.parted, place, self._place(value) if value else self._value(place), SECONDS_IN.get(unit, 1.0))
+        of_value = self._place(value) if value else self._value(place, counted)
+        return Columns(self.parted, place, of_value, SECONDS_IN.get(unit, 1.0))
 
     def others(self, form: Columns) -> List[Tuple[int, str]]:
         """The columns that are neither the time nor the value, with their names."""
@@ -130,16 +132,25 @@ class Heads:
                 return place
         return 0 if not self.names and self.count > 1 else None
 
-    def _value(self, time: Optional[int]) -> int:
+    def _value(self, time: Optional[int], counted: bool) -> int:
         named = any(self.names)
         places = [place for place in range(self.count) if place != time and not TIME.fullmatch(self._name(place))]
         places = [place for place in places if self._name(place) or not named] or places
         if len(places) == 1:
             return places[0]
+        numbered = [] if time is not None or counted else self._numbered()
+        if len(numbered) > 1:
+            text = "%s: its heads are in its first columns; give the numbers of times and values, as --time-column %d --column %d"
+            raise Problem(text % (self.path, numbered[0] + 1, numbered[1] + 1))
         own = [self._name(place) if self.names.count(self._name(place)) == 1 else "" for place in places]
         listed = ", ".join(name or "number %d" % (place + 1) for place, name in zip(places, own))
         raise Problem("%s: has several columns; name one or its number, as --column '%s': %s" % (
             self.path, own[0] or places[0] + 1, listed) if places else "%s: has no column of values" % self.path)
+
+    def _numbered(self) -> List[int]:
+        """The columns that have a number in the last of the heads, too: the rows begin there, and other columns have the heads."""
+        return [place for place, (name, field) in enumerate(zip(self.names, self.first))
+                if NUMBER.fullmatch(name) and NUMBER.fullmatch(field)]
 
     def _name(self, place: int) -> str:
         return self.names[place] if place < len(self.names) else ""

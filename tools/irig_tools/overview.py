@@ -106,11 +106,16 @@ def _stretches(findings: Findings, length: int) -> Tuple[Stretch, ...]:
     return merged(found) if found else (Stretch(0, length, DAMAGED),)
 
 
-def lasting_of(findings: Findings, length: int) -> Dict[str, int]:
-    """For how many microseconds a recording of this length is in each state."""
+def lasting_of(findings: Findings, length: int, turned: Sequence[Tuple[int, int]] = ()) -> Dict[str, int]:
+    """For how many microseconds a recording of this length is in each state. What is sound in these stretches is damaged: they were
+    upside down before."""
     found = dict.fromkeys(STATES, 0)
     for stretch in _stretches(findings, length):
+        spoilt = sum(max(0, min(end, stretch.end) - max(start, stretch.start)) for start, end in turned)
         found[stretch.state] += stretch.end - stretch.start
+        if stretch.state == SOUND:
+            found[SOUND] -= spoilt
+            found[DAMAGED] += spoilt
     return found
 
 

@@ -7,6 +7,7 @@ from dataclasses import dataclass, field
 from typing import IO, Dict, List, Optional, cast
 
 from .analysis import Findings
+from .damage import look
 from .dump_choice import Signal
 from .dump_header import shown
 from .editor import Editor
@@ -104,6 +105,15 @@ class CodeWire:
         return texts
 
 
+def _lasting(editor: Editor, first: Findings, length: int) -> Dict[str, int]:
+    """For how long it is in each state. If some of it is upside down, the rest is seen once that is turned over."""
+    if not first.partly:
+        return lasting_of(first, length)
+    inverts = [line.split() for repair in first.whole for line in repair.edits]  # `invert START END`
+    turned = [(int(start), int(end)) for _, start, end in inverts]
+    return lasting_of(look(editor, lambda text: None).findings, length, turned)
+
+
 class What:
     """One dump of a file."""
 
@@ -148,7 +158,7 @@ class What:
             editor = Editor(["--format", kind, "--expression", str(carrier.expression), track])
             seen: List[Findings] = []
             carrier.script = propose(editor, lambda text: None, seen=seen)
-            carrier.lasting = lasting_of(seen[0], carrier.readings.length)
+            carrier.lasting = _lasting(editor, seen[0], carrier.readings.length)
         return carrier
 
     def lines(self) -> List[str]:

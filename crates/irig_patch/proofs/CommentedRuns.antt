@@ -206,7 +206,7 @@ module _ (P : Reply → Type 0) (is_silent : P Silent) (f : FormatView) where
       let plain = is_patch f run [] ∙ ap script_lines (append-nil (patch_text run.before run.after)) in
       record { answers = its.answers; runs = subst (λ (ls : List (List ℕ)). Runs run.old ls its.answers run.texts run.new) plain its.runs; back = its.back; on = its.on }
 
-  its_write : (run : RunOf (commented_and_write f)) → AfterNote P run.old (script_lines (patch_and_write run.before run.after)) run.answers run.texts run.new
+  pub its_write : (run : RunOf (commented_and_write f)) → AfterNote P run.old (script_lines (patch_and_write run.before run.after)) run.answers run.texts run.new
   its_write run =
       let its = without P is_silent (its_parts f run) (codes "write\n") run.old run.new run.answers run.texts (are_comments f run) (are_lines f run) run.runs in
       record {
@@ -239,21 +239,22 @@ comments_make f run granted = (let its = its_run IsGranted tt f run in run_made 
 pub comments_stop : CommentsStop
 comments_stop f run = (let its = its_run MayStop tt f run in let stop = run_stops (plain_of f run its.answers its.runs) in (its.back stop.0, stop.1))
 
+-- and with the line that writes
+abbrev pub plain_write : (f : FormatView) (run : RunOf (commented_and_write f)) (answers : List Answer)
+    → Runs run.old (script_lines (patch_and_write run.before run.after)) answers run.texts run.new → RunOf patch_and_write
+plain_write f run answers runs = record {
+  before = run.before;
+  after = run.after;
+  is_before = run.is_before;
+  is_after = run.is_after;
+  covers = run.covers;
+  old = run.old;
+  new = run.new;
+  opened = run.opened;
+  answers = answers;
+  texts = run.texts;
+  runs = runs;
+}
+
 pub comments_write : CommentsWrite
-comments_write f run granted =
-    let its = its_write IsGranted tt f run in
-    run_writes
-    (record {
-      before = run.before;
-      after = run.after;
-      is_before = run.is_before;
-      is_after = run.is_after;
-      covers = run.covers;
-      old = run.old;
-      new = run.new;
-      opened = run.opened;
-      answers = its.answers;
-      texts = run.texts;
-      runs = its.runs;
-    })
-    (its.on granted)
+comments_write f run granted = (let its = its_write IsGranted tt f run in run_writes (plain_write f run its.answers its.runs) (its.on granted))

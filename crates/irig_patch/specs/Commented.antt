@@ -8,6 +8,7 @@ use Rattle.irig_recording.specs.Recording.{RecordingView}
 use Rattle.irig_difference.specs.Stretches.{stretches_between}
 use Rattle.irig_comments.specs.{Framed.framed, Parts.commented_text}
 use Rattle.irig_edit.specs.State.State.{recording_of}
+use Rattle.irig_patch.specs.Joined.{JoinedRun, WritesMade}
 use Rattle.irig_patch.specs.Patched.{Patches, made_of}
 use Rattle.irig_patch.specs.Scripts.{AreGranted, MayStop, RunOf}
 
@@ -36,3 +37,7 @@ CommentsStop = (f : FormatView) (run : RunOf (commented f))
 abbrev pub CommentsWrite : Type 0
 CommentsWrite = (f : FormatView) (run : RunOf (commented_and_write f)) → AreGranted run.answers
     → run.texts ≡ file_text (made_of run.before run.after) ∷ []
+
+-- what was printed of them, and run with `write` after it on the file before, writes it, too
+abbrev pub CommentsJoin : Type 0
+CommentsJoin = (f : FormatView) (run : JoinedRun (commented f)) → WritesMade run

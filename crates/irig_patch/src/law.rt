@@ -1,6 +1,7 @@
 //! What holds of patches as scripts.
 
-ghost use Rattle.irig_patch.specs.Commented.{CommentsMake, CommentsStop, CommentsWrite};
+ghost use Rattle.irig_patch.specs.Commented.{CommentsJoin, CommentsMake, CommentsStop};
+ghost use Rattle.irig_patch.specs.Commented.{CommentsWrite};
 ghost use Rattle.irig_patch.specs.Joined.{PatchesJoin};
 ghost use Rattle.irig_patch.specs.Scripts.{AsLong, PatchesMake, PatchesStop, PatchesWrite};
 
@@ -10,8 +11,9 @@ ghost use Rattle.irig_patch.specs.Scripts.{AsLong, PatchesMake, PatchesStop, Pat
 /// It is run on a session of the recording before, whose length no edge of the one after is above.
 /// If no line is refused, it leaves a session with the edges of the recording after, with one step
 /// for each stretch. A line is refused by E5 or E11 alone. With `write` after it, the text that is
-/// written is the dump of these edges. So it is if what `irig_diff` prints is run on the dump
-/// before, and no line is refused. If both recordings are as long, that is the recording after.
+/// written is the dump of these edges. So it is if what `irig_diff` prints is run on the file
+/// before, a dump or a saved session, and no line is refused. If both recordings are as long, that
+/// is the recording after.
 pub fn patches_are_scripts()
     ensures make { PatchesMake }
     ensures stop { PatchesStop }
@@ -27,4 +29,5 @@ pub fn commented_patches_are_scripts()
     ensures make { CommentsMake }
     ensures stop { CommentsStop }
     ensures write { CommentsWrite }
+    ensures joined { CommentsJoin }
 {}
