@@ -285,7 +285,16 @@ class Counting:
             return [self.head(one, 100, first)]
         if many == 1:  # no element that both reach
             after, before = min(after, 100 - before), min(before, 100 - after)
-        return [self.head(one, after, first), self.tail(other, before, last)] if after + before <= gap else []
+        if after + before > gap:
+            return []
+        after, before = self.apart(one.marker + 100, after, before, gap)
+        return [self.head(one, after, first), self.tail(other, before, last)]
+
+    def apart(self, place, after, before, gap):
+        """How many pulses of both sides have a time: one less if they are all of one or two frames, and do not meet in step."""
+        if after + before != gap or gap not in (100, 200) or self.follows(place + after):
+            return after, before
+        return (after - 1, before) if after else (after, before - 1)
 
     def before(self, frame):
         time = time_before(self.kind, frame.time)

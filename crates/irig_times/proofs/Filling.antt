@@ -9,7 +9,7 @@ use Rattle.irig_codes.specs.Format.{FormatView, frame_period_of, has_year}
 use Rattle.irig_recording.specs.declared.pulse.Pulse.{Pulse}
 use Rattle.irig_times.specs.{declared.missing.Missing.Missing, declared.part.Part.Part, declared.time.Time.Time, Follows.same_day}
 use Rattle.irig_times.specs.Between.{at_micros, at_minute, between, day_micros, gap, head_of, is_middle, is_whole, middle, missing_by, missing_in, missing_more, missing_one}
-use Rattle.irig_times.specs.Between.{kept, next_time, rounded, sides, sides_of, tail_of, time_before}
+use Rattle.irig_times.specs.Between.{head_left, is_seam, kept, next_time, rounded, sides, sides_by, sides_of, tail_left, tail_of, time_before}
 use Rattle.irig_times.specs.Counted.{filled, kept_at, sides_before, sides_without, with_frame, with_sides}
 use Rattle.irig_times.specs.Jumps.{after_jump, before_jump, is_jump_between}
 use Rattle.irig_times.specs.Follows.{is_later}
@@ -122,6 +122,13 @@ pub kept-few : (b : Bool) (m n : ℕ) → kept b m n ≤ m
 kept-few true m n = grind arith
 kept-few false m n = omega arith
 
+pub head-few : (b : Bool) (h : ℕ) → head_left b h ≤ h
+head-few true h = omega arith
+head-few false h = omega arith
+
+pub tail-few : (b : Bool) (h k : ℕ) → tail_left b h k ≤ k
+tail-few b h k = cond-holds (λ n. n ≤ k) (b && h == 0) _ _ (λ on. omega arith) (λ off. omega arith)
+
 -- two parts fit between two others, one after the other
 pub record Fit (f : FormatView) (from to : ℕ) (s : Part × Part) : Type 0 where
   pub first : from ≤ s.0.number
@@ -131,8 +138,23 @@ pub record Fit (f : FormatView) (from to : ℕ) (s : Part × Part) : Type 0 wher
   pub last : s.1.number + s.1.count ≤ to
 
 module _ (f : FormatView) (a b : Part) (order : a.number + a.count ≤ b.number) where
-  sides-fit : (m n : ℕ) (t : Missing) → m ≤ 100 → n ≤ 100 → BothEnd f 0 t → IfSome (sides a b m n t) (Fit f (a.number + a.count) b.number)
-  sides-fit m n t fm fn ends = cond-holds (λ o. IfSome o (Fit f (a.number + a.count) b.number)) (t.is_one && (gap a b == 100 && nat_lt 100 (m + n))) _ _
+  by-fit : (h k : ℕ) (t : Missing) (in_step : Bool) → h ≤ 100 → k ≤ 100 → BothEnd f 0 t
+      → IfSome (sides_by a b h k t in_step) (Fit f (a.number + a.count) b.number)
+  by-fit h k t in_step fh fk ends = cond-holds (λ o. IfSome o (Fit f (a.number + a.count) b.number)) (nat_le (h + k) (gap a b)) _ _
+      (λ on. (let few : h + k ≤ gap a b = leb-true _ _ on in
+      let lh = head-few (is_seam in_step (gap a b) h k) h in
+      let lk = tail-few (is_seam in_step (gap a b) h k) h k in
+      record {
+        first = omega arith;
+        one = record { few = omega (arith, fh, lh); time = ends.0 };
+        middle = omega (arith, few, order, lh, lk);
+        two = record { few = omega (arith, fk, lk); time = ends.1 };
+        last = omega (arith, few, order, lk);
+      })) (λ none. tt)
+
+  sides-fit : (m n : ℕ) (t : Missing) (in_step : Bool) → m ≤ 100 → n ≤ 100 → BothEnd f 0 t
+      → IfSome (sides a b m n t in_step) (Fit f (a.number + a.count) b.number)
+  sides-fit m n t in_step fm fn ends = cond-holds (λ o. IfSome o (Fit f (a.number + a.count) b.number)) (t.is_one && (gap a b == 100 && nat_lt 100 (m + n))) _ _
       (λ on. (let whole : gap a b ≡ 100 = eqb-true (gap a b) 100 (and_parts (gap a b == 100) _ (and_parts t.is_one _ on).1).0 in
       record {
         first = omega arith;
@@ -141,17 +163,9 @@ module _ (f : FormatView) (a b : Part) (order : a.number + a.count ≤ b.number)
         two = record { few = omega arith; time = ends.1 };
         last = omega arith;
       }))
-      (λ off. cond-holds (λ o. IfSome o (Fit f (a.number + a.count) b.number)) (nat_le (kept t.is_one m n + kept t.is_one n m) (gap a b)) _ _
-      (λ on. (let few : kept t.is_one m n + kept t.is_one n m ≤ gap a b = leb-true _ _ on in
-      let km = kept-few t.is_one m n in
+      (λ off. (let km = kept-few t.is_one m n in
       let kn = kept-few t.is_one n m in
-      record {
-        first = omega arith;
-        one = record { few = omega (arith, fm, km); time = ends.0 };
-        middle = omega (arith, few, order);
-        two = record { few = omega (arith, fn, kn); time = ends.1 };
-        last = omega (arith, few, order);
-      })) (λ none. tt))
+      by-fit (kept t.is_one m n) (kept t.is_one n m) t in_step (omega (arith, fm, km)) (omega (arith, fn, kn)) ends))
 
   module _ (ps : List Pulse) where
     sides-of-fit : (o : Option Missing) → IfSome o (BothEnd f 0) → IfSome (sides_of f ps a b o) (Fit f (a.number + a.count) b.number)
@@ -159,7 +173,7 @@ module _ (f : FormatView) (a b : Part) (order : a.number + a.count ≤ b.number)
     sides-of-fit (Some t) h =
         let m = ahead-few f ps (min (gap a b) 100) (a.number + a.count) in
         let n = behind-few f ps (min (gap a b) 100) b.number in
-        sides-fit _ _ t (grind (arith, m)) (grind (arith, n)) h
+        sides-fit _ _ t _ (grind (arith, m)) (grind (arith, n)) h
 
     pub between-fits : (century : ℕ) → IsPart f a → IsPart f b → IfSome (between f century ps a b) (Fit f (a.number + a.count) b.number)
     between-fits century ha hb = sides-of-fit _ (missing-by-ends f century a.time b.time (slice_get ps a.number) (slice_get ps b.number) ha.time hb.time)

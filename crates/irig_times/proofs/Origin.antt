@@ -9,13 +9,13 @@ use Rattle.irig_recording.specs.declared.pulse.Pulse.{Pulse}
 use Rattle.irig_index.specs.{Frames.frames, declared.record.Record.Record}
 use Rattle.irig_times.specs.{declared.missing.Missing.Missing, declared.part.Part.Part, declared.time.Time.Time}
 use Rattle.irig_times.specs.{Follows.is_later, Parts.IsFrameTime, Parts.IsPart, Parts.is_empty, Support.believed, Times.timed}
-use Rattle.irig_times.specs.Between.{between, gap, head_of, kept, sides, sides_of, tail_of}
+use Rattle.irig_times.specs.Between.{between, gap, head_left, head_of, is_seam, kept, sides, sides_by, sides_of, tail_left, tail_of}
 use Rattle.irig_times.specs.{Counted.filled, Counted.kept_at, Counted.sides_before, Counted.sides_without, Counted.with_sides, Jumps.is_jump_between}
 use Rattle.irig_times.specs.Ends.{after_last, alone, before_first, end_after, is_borne_out}
 use Rattle.irig_times.specs.Origins.{CountedBack, CountedOn, InFrame, IsBelieved, TimesAreCounted}
 use Rattle.irig_times.specs.Steps.{ahead, behind, is_in_step_at}
 use Rattle.irig_times.specs.Whole.{whole, whole_in, with_part}
-use Rattle.irig_times.proofs.Filling.{Cut, ahead-few, behind-few, cond-holds, kept-cut, kept-few}
+use Rattle.irig_times.proofs.Filling.{Cut, ahead-few, behind-few, cond-holds, head-few, kept-cut, kept-few, tail-few}
 use Rattle.irig_times.proofs.NextTimes.{before-later, missing-by-later, next-later}
 use Rattle.irig_times.proofs.{PartPlaces.part-of, WholeFrames.whole-are}
 
@@ -176,21 +176,28 @@ module _ (f : FormatView) (alone_frames : Bool) (century : ℕ) (ps : List Pulse
     tail-within : (g : ℕ) → min g 100 ≤ g → g ≡ gap a b → min g 100 ≤ b.number
     tail-within g le e = omega (arith, le, e)
 
-    sides-counted : (t : Missing) → IsNext a.time b.time t → IfSome (sides a b m n t) BothCounted
-    sides-counted t h = cond-holds (λ o. IfSome o BothCounted) (t.is_one && (gap a b == 100 && nat_lt 100 (m + n))) _ _
+    by-counted : (c d : ℕ) (t : Missing) (in_step : Bool) → IsNext a.time b.time t → c ≤ m → d ≤ n → IfSome (sides_by a b c d t in_step) BothCounted
+    by-counted c d t in_step h lc ld =
+        let hc = head-few (is_seam in_step (gap a b) c d) c in
+        let hd = tail-few (is_seam in_step (gap a b) c d) c d in
+        cond-holds (λ o. IfSome o BothCounted) (nat_le (c + d) (gap a b)) _ _
+        (λ on. (
+          head-counted a ha (min (gap a b) 100) (head_left (is_seam in_step (gap a b) c d) c) t.first h.0 (at-most (gap a b) 100).0 (omega (arith, hc, lc)),
+          tail-counted b hb (min (gap a b) 100) (tail_left (is_seam in_step (gap a b) c d) c d) t.last h.1 (at-most (gap a b) 100).0
+              (tail-within (gap a b) (at-most (gap a b) 100).1 refl) (omega (arith, hd, ld)),
+        ))
+        (λ none. tt)
+
+    sides-counted : (t : Missing) (in_step : Bool) → IsNext a.time b.time t → IfSome (sides a b m n t in_step) BothCounted
+    sides-counted t in_step h = cond-holds (λ o. IfSome o BothCounted) (t.is_one && (gap a b == 100 && nat_lt 100 (m + n))) _ _
         (λ on. (let it = and_parts t.is_one _ on in
         let rest = and_parts (gap a b == 100) _ it.1 in
         (all-counted t h it.0 (eqb-true (gap a b) 100 rest.0) (ltb-true 100 (m + n) rest.1), no-tail b t.last)))
-        (λ off. cond-holds (λ o. IfSome o BothCounted) (nat_le (kept t.is_one m n + kept t.is_one n m) (gap a b)) _ _
-        (λ on. (
-          head-counted a ha (min (gap a b) 100) (kept t.is_one m n) t.first h.0 (at-most (gap a b) 100).0 (kept-few t.is_one m n),
-          tail-counted b hb (min (gap a b) 100) (kept t.is_one n m) t.last h.1 (at-most (gap a b) 100).0 (tail-within (gap a b) (at-most (gap a b) 100).1 refl) (kept-few t.is_one n m),
-        ))
-        (λ none. tt))
+        (λ off. by-counted (kept t.is_one m n) (kept t.is_one n m) t in_step h (kept-few t.is_one m n) (kept-few t.is_one n m))
 
     sides-of-counted : (o : Option Missing) → IfSome o (IsNext a.time b.time) → IfSome (sides_of f ps a b o) BothCounted
     sides-of-counted None h = tt
-    sides-of-counted (Some t) h = sides-counted t h
+    sides-of-counted (Some t) h = sides-counted t _ h
 
     between-counted : IfSome (between f century ps a b) BothCounted
     between-counted = sides-of-counted _ (missing-by-later f century a.time b.time (slice_get ps a.number) (slice_get ps b.number) ha.time hb.time)

@@ -1,5 +1,5 @@
 -- Which pulses between two frames have a time: those in step with one of them. This project's own.
-use Rattle.std.specs.Prelude.{ℕ, ◌+◌, ◌-◌, ◌*◌, ◌/◌, ◌==◌, ◌&&◌, nat_lt, nat_le, min}
+use Rattle.std.specs.Prelude.{ℕ, ◌+◌, ◌-◌, ◌*◌, ◌/◌, ◌==◌, ◌&&◌, ◌||◌, nat_lt, nat_le, min, not}
 use Rattle.std.specs.Prelude.{Bool, true, false, List, Option, Some, None, if◌then◌else◌}
 use Rattle.std.specs.Prelude.{slice_get}
 use Rattle.irig_codes.specs.Format.{FormatView, frame_period_of}
@@ -7,7 +7,7 @@ use Rattle.irig_recording.specs.declared.pulse.Pulse.{Pulse}
 use Rattle.irig_times.specs.{declared.part.Part.Part, declared.missing.Missing.Missing}
 use Rattle.irig_times.specs.declared.time.Time.{Time}
 use Rattle.irig_times.specs.{Follows.is_later, Follows.same_day}
-use Rattle.irig_times.specs.Steps.{ahead, behind}
+use Rattle.irig_times.specs.Steps.{ahead, behind, follows_at}
 
 -- a time in the minute of another, with these microseconds
 abbrev pub at_micros : Time → ℕ → Time
@@ -121,21 +121,48 @@ gap a b = b.number - (a.number + a.count)
 abbrev pub kept : Bool → ℕ → ℕ → ℕ
 kept is_one m n = if is_one then min m (100 - n) else m
 
+-- h pulses of the first side and k of the second are all that one missing frame has, or two have,
+-- and the two sides do not meet in step
+abbrev pub is_seam : Bool → ℕ → ℕ → ℕ → Bool
+is_seam in_step gap h k = not in_step && (h + k == gap && (gap == 100 || gap == 200))
+
+-- at a seam the last pulse of the first side has no time, or, if that side has none, the first of
+-- the second
+abbrev pub head_left : Bool → ℕ → ℕ
+head_left seam h = if seam then h - 1 else h
+
+abbrev pub tail_left : Bool → ℕ → ℕ → ℕ
+tail_left seam h k = if seam && h == 0 then k - 1 else k
+
+-- the two sides, of h pulses and of k, if no pulse is of both
+abbrev pub sides_by : Part → Part → ℕ → ℕ → Missing → Bool → Option (Part × Part)
+sides_by a b h k t in_step =
+    if nat_le (h + k) (gap a b)
+    then Some (
+      head_of a (head_left (is_seam in_step (gap a b) h k) h) t.first,
+      tail_of b (tail_left (is_seam in_step (gap a b) h k) h k) t.last,
+    )
+    else None
+
 -- m pulses after a part and n before another are in step. If one frame is missing, there are as many
 -- pulses as it has, and each is reached, all have a time. Else those have one whose element is not
 -- reached from the other side too, if no pulse is
-abbrev pub sides : Part → Part → ℕ → ℕ → Missing → Option (Part × Part)
-sides a b m n t =
+abbrev pub sides : Part → Part → ℕ → ℕ → Missing → Bool → Option (Part × Part)
+sides a b m n t in_step =
     if t.is_one && (gap a b == 100 && nat_lt 100 (m + n))
     then Some (head_of a 100 t.first, tail_of b 0 t.last)
-    else (if nat_le (kept t.is_one m n + kept t.is_one n m) (gap a b)
-    then Some (head_of a (kept t.is_one m n) t.first, tail_of b (kept t.is_one n m) t.last)
-    else None)
+    else sides_by a b (kept t.is_one m n) (kept t.is_one n m) t in_step
+
+-- the pulse after the first side is in step with the last one of it
+abbrev pub sides_at : FormatView → List Pulse → Part → Part → ℕ → ℕ → Missing
+    → Option (Part × Part)
+sides_at f ps a b m n t =
+    sides a b m n t (follows_at f ps (a.number + a.count + kept t.is_one m n))
 
 abbrev pub sides_of : FormatView → List Pulse → Part → Part → Option Missing → Option (Part × Part)
 sides_of f ps a b None = None
 sides_of f ps a b (Some t) =
-    sides a b (ahead f ps (a.number + a.count) (min (gap a b) 100))
+    sides_at f ps a b (ahead f ps (a.number + a.count) (min (gap a b) 100))
     (behind f ps b.number (min (gap a b) 100)) t
 
 -- the pulses between two frames that have a time: those in step with the first, and those in step

@@ -2,14 +2,15 @@
 
 ghost use Rattle.std.specs.Prelude.{◌≡◌, ◌≤◌, ◌<◌, ◌+◌, ◌-◌, ◌^◌, IfSome, min, slice_get};
 ghost use Rattle.irig_codes.specs.Format.{frame_period_of};
-ghost use Rattle.irig_times.specs.Between.{between, gap, head_of, kept, missing_by, sides, sides_of};
-ghost use Rattle.irig_times.specs.Between.{tail_of};
+ghost use Rattle.irig_times.specs.Between.{between, gap, head_left, head_of, is_seam, kept};
+ghost use Rattle.irig_times.specs.Between.{missing_by, sides, sides_at, sides_by, sides_of};
+ghost use Rattle.irig_times.specs.Between.{tail_left, tail_of};
 ghost use Rattle.irig_times.specs.Counted.{sides_before};
 
 use crate::ends::end_before;
 use crate::missing::{Missing, missing_in, rounded};
 use crate::part::Part;
-use crate::steps::{ahead, behind, pulse_at};
+use crate::steps::{ahead, behind, follows_at, pulse_at};
 use crate::time::Time;
 use irig_codes::Format;
 use irig_track::Lens;
@@ -49,18 +50,20 @@ pub fn gap(from: &Part, to: &Part) -> usize
     to.number - (from.number + from.count)
 }
 
-/// The parts between two, if some pulses after the first and some before the second are in step.
+/// The parts between two, if some pulses after the first and some before the second are in step, and
+/// the pulse after the first ones is in step with them or not.
 fn sides(
     from: &Part,
     to: &Part,
     after: usize,
     before: usize,
     missing: &Missing,
+    in_step: bool,
 ) -> Option<(Part, Part)>
     requires order { from.now.number + from.now.count ≤ to.now.number }
     requires small { to.now.number < 2 ^ 32 }
     requires few { (after ≤ 100) × (before ≤ 100) × (before ≤ to.now.number) }
-    ensures { result ≡ sides from.now to.now after before missing.now }
+    ensures { result ≡ sides from.now to.now after before missing.now in_step }
 {
     let gap = gap(from, to);
     if missing.is_one && gap == 100 && after + before > 100 {
@@ -71,13 +74,60 @@ fn sides(
     }
     let head = kept(missing.is_one, after, before);
     let tail = kept(missing.is_one, before, after);
-    if head + tail <= gap {
-        Some((
-            head_of(from, head, missing.first),
-            tail_of(to, tail, missing.last),
-        ))
+    sides_by(from, to, head, tail, missing, in_step)
+}
+
+/// The parts between two, of some pulses after the first and some before the second, if no pulse is
+/// of both.
+fn sides_by(
+    from: &Part,
+    to: &Part,
+    head: usize,
+    tail: usize,
+    missing: &Missing,
+    in_step: bool,
+) -> Option<(Part, Part)>
+    requires order { from.now.number + from.now.count ≤ to.now.number }
+    requires small { to.now.number < 2 ^ 32 }
+    requires few { (head ≤ 100) × (tail ≤ 100) × (tail ≤ to.now.number) }
+    ensures { result ≡ sides_by from.now to.now head tail missing.now in_step }
+{
+    let gap = gap(from, to);
+    if head + tail > gap {
+        return None;
+    }
+    let seam = is_seam(in_step, gap, head, tail);
+    Some((
+        head_of(from, head_left(seam, head), missing.first),
+        tail_of(to, tail_left(seam, head, tail), missing.last),
+    ))
+}
+
+/// Whether two sides that do not meet in step are all that one or two missing frames have.
+fn is_seam(in_step: bool, gap: usize, head: usize, tail: usize) -> bool
+    requires { (head ≤ 100) × (tail ≤ 100) }
+    ensures { result ≡ is_seam in_step gap head tail }
+{
+    !in_step && head + tail == gap && (gap == 100 || gap == 200)
+}
+
+/// How many pulses of the first side have a time.
+fn head_left(seam: bool, head: usize) -> usize
+    ensures left { result ≡ head_left seam head }
+    ensures few { result ≤ head }
+{
+    if seam { head.saturating_sub(1) } else { head }
+}
+
+/// How many pulses of the second side have a time.
+fn tail_left(seam: bool, head: usize, tail: usize) -> usize
+    ensures left { result ≡ tail_left seam head tail }
+    ensures few { result ≤ tail }
+{
+    if seam && head == 0 {
+        tail.saturating_sub(1)
     } else {
-        None
+        tail
     }
 }
 
@@ -146,7 +196,29 @@ fn between(
     let gap = gap(from, to);
     let after = ahead(pulses, format, from.number + from.count, min(gap, 100));
     let before = behind(pulses, format, to.number, min(gap, 100));
-    sides(from, to, after, before, &missing)
+    sides_at(pulses, format, from, to, after, before, &missing)
+}
+
+/// The parts between two, if some pulses after the first and some before the second are in step.
+fn sides_at(
+    pulses: &mut Lens<'_>,
+    format: Format,
+    from: &Part,
+    to: &Part,
+    after: usize,
+    before: usize,
+    missing: &Missing,
+) -> Option<(Part, Part)>
+    requires order { from.now.number + from.now.count ≤ to.now.number }
+    requires small { to.now.number < 2 ^ 32 }
+    requires few { (after ≤ 100) × (before ≤ 100) × (before ≤ to.now.number) }
+    ensures sides { result ≡ sides_at format pulses.old.track.pulses from.now to.now after before
+        missing.now }
+    ensures pulses { pulses.new.track ≡ pulses.old.track }
+{
+    let head = kept(missing.is_one, after, before);
+    let in_step = follows_at(pulses, format, from.number + from.count + head);
+    sides(from, to, after, before, missing, in_step)
 }
 
 /// The smaller of two numbers.

@@ -32,7 +32,7 @@ fn is_in_step_at(pulses: &mut Lens<'_>, format: Format, number: usize) -> bool
 }
 
 /// Whether the pulse of a number rises one interval after the one before it.
-fn follows_at(pulses: &mut Lens<'_>, format: Format, number: usize) -> bool
+pub fn follows_at(pulses: &mut Lens<'_>, format: Format, number: usize) -> bool
     ensures step { result ≡ follows_at format pulses.old.track.pulses number }
     ensures pulses { pulses.new.track ≡ pulses.old.track }
 {
