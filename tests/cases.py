@@ -15,6 +15,7 @@ from built import BUILT
 
 WORKERS = len(os.sched_getaffinity(0))  # rows that run at once
 CHOSEN = []  # the cases that are run
+LEFT_OUT = object()  # the answer of a case that cannot be tried here; it prints what is missing
 
 
 @dataclass(frozen=True)
@@ -25,8 +26,16 @@ class Case:
     holds: Callable
 
     def results(self):
+        """Its answers, one after the other. A case without an answer does not hold; one that is left out has none."""
         found = self.holds()
-        return [found] if isinstance(found, (bool, int)) else found
+        if found is LEFT_OUT:
+            return
+        number = 0
+        for number, each in enumerate([found] if isinstance(found, (bool, int)) else found, 1):
+            yield each
+        if not number:
+            print("FAILED %s: no answer" % self.name)
+            yield False
 
 
 def case(name, holds, *values):
@@ -83,7 +92,7 @@ def run(cases, asked):
         print(said, end="", flush=True)
         passed, failed = passed + sum(results), failed + len(results) - sum(results)
         if asked.lists:
-            what = "holds" if all(results) else "FAILED"
+            what = ("holds" if all(results) else "FAILED") if results else "left out"
             print("%-6s %s (%d, %.1f s)" % (what, each.name, len(results), seconds), flush=True)
         if failed and asked.first:
             break

@@ -6,6 +6,7 @@ from pathlib import Path
 
 from browser import Browser, BrowserFailed, PageFailed
 from irig_tools.page import page
+from irig_tools.sheet import Changes
 from page_rows import WHOLE_DAY, check, eighteen, hostile, recording, repaired
 
 
@@ -154,6 +155,19 @@ def changes(browser: Browser, address: str) -> None:
     sheet = repaired().changes
     assert sheet is not None
     browser.open(address + "#changed-2")
+    listed(browser, sheet)
+    stretches(browser)
+    marks(browser)
+    taken_along(browser, sheet)
+    for width in (1500, 420):
+        browser.size(width, 900)
+        browser.settle()
+        check("it fits %d pixels" % width, True, browser.run("document.documentElement.scrollWidth <= innerWidth"))
+    browser.size(1500, 950)
+
+
+def listed(browser: Browser, sheet: Changes) -> None:
+    """The lines of what was changed, in groups."""
     lines = "[...document.querySelectorAll('#changes code')].map((line) => line.textContent)"
     check("the list has the lines of irig_diff", sheet.lines, browser.run(lines))
     words = ["low → high, 2000 µs", "low → high, 40 µs", "low → high, 4000 µs; 1 edge in it stays", "high → low, 990 µs"]
@@ -165,6 +179,10 @@ def changes(browser: Browser, address: str) -> None:
     check("the lines of a place are a group", groups, browser.run(heads))
     check("all are folded but the one that is looked at", [False, True, False],
           browser.run("[...document.querySelectorAll('#changes details')].map((each) => each.open)"))
+
+
+def stretches(browser: Browser) -> None:
+    """A stretch is picked by the address, by keys and by the line of a frame."""
     check("the address picks a stretch", ["invert 10500900 10500940", "2. A pulse is in two", True, "#changed-2"], picked(browser))
     browser.run("byId('changes').focus()")
     browser.press("ArrowDown")
@@ -174,6 +192,10 @@ def changes(browser: Browser, address: str) -> None:
     browser.click("#changes summary")
     browser.click("#changes .in-frame")
     check("the line of a frame leads to its first", ["invert 500000 502000", "1. A pulse is missing", True, "#changed-1"], picked(browser))
+
+
+def marks(browser: Browser) -> None:
+    """The marks of the stretches in the strip, also of those that are not listed."""
     browser.click("#whole")
     counts = "['.now-high', '.now-low'].map((name) => document.querySelectorAll('#strip ' + name).length)"
     check("each stretch has a mark", [3, 1], browser.run(counts))
@@ -191,6 +213,10 @@ def changes(browser: Browser, address: str) -> None:
         browser.mouse(kind, x, y, button="left", clickCount=1)
     browser.settle()
     check("a click on a mark picks it", "#changed-3", browser.run("location.hash"))
+
+
+def taken_along(browser: Browser, sheet: Changes) -> None:
+    """What was changed, on the clipboard and on paper."""
     browser.run("navigator.clipboard.writeText = async (words) => { window.got = words; }")
     browser.click("#copy-changes")
     check("the lines are copied", "\n".join(sheet.lines) + "\n", browser.run("window.got"))
@@ -200,11 +226,6 @@ def changes(browser: Browser, address: str) -> None:
                 " each.textContent); })")
     browser.paper()
     check("on paper is the command, and not the lines", [sheet.command], browser.run("window.printed"))
-    for width in (1500, 420):
-        browser.size(width, 900)
-        browser.settle()
-        check("it fits %d pixels" % width, True, browser.run("document.documentElement.scrollWidth <= innerWidth"))
-    browser.size(1500, 950)
 
 
 def attack(browser: Browser, address: str) -> None:

@@ -1,4 +1,4 @@
-"""Whether the fine frames next to a frame bear out its time, as docs/MENDING.md has it.
+"""Whether the fine frames next to a frame bear out its time, as docs/GUARD.md has it.
 
 Whole numbers only: microseconds, and hundredths of a second on the clock of a frame. A frame that is not there is None.
 """

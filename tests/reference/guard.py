@@ -1,4 +1,4 @@
-"""A guard for proposed repairs, as docs/MENDING.md has it: each is tried, and kept only if the result is safe."""
+"""A guard for proposed repairs, as docs/GUARD.md has it: each is tried, and kept only if the result is safe."""
 from bisect import bisect_left, bisect_right
 from typing import Iterator, List, NamedTuple, Optional, Sequence, Tuple
 

@@ -563,48 +563,63 @@ def processes(top):
         silent = os.path.join(folder, "silent.vcd")
         with open(silent, "w") as file:
             file.write(damages.dump([[rise + 31000, fall + 31000] for rise, fall in recording()], 8500000))
-        junk, missing = os.path.join(folder, "junk"), os.path.join(folder, "missing.vcd")
-        with open(junk, "wb") as file:
-            file.write(b"\0\xff junk")
         for tool in ("irig_damage", "irig_mend"):
             yield same(
                 tool + " on a sound track", run(top, "%s --expression 4 %s" % (tool, sound)), (0, "", "")
             )
-            status, said, complaint = run(top, "%s --expression 4 %s" % (tool, silent))
+            status, _, complaint = run(top, "%s --expression 4 %s" % (tool, silent))
             yield same(tool + " on a track with silence at its ends", (status, complaint), (0, ""))
-            status, said, complaint = run(top, "%s --expression 4 %s" % (tool, broken))
-            yield same(tool + " on a broken track", (status, bool(said), complaint), (1, True, ""))
-            for words in ("--expression=4 %s", "--expression 4 -- %s", "%s --expression 4", "- --expression 4 < %s"):
-                yield same("%s %s" % (tool, words), run(top, "%s %s" % (tool, words % broken)), (1, said, ""))
-            yield same(
-                tool + " in a pipe",
-                run(top, "cat %s | %s --expression 4 /dev/stdin" % (broken, tool)),
-                (1, said, ""),
-            )
-            yield same(
-                tool + " that nobody reads",
-                run(top, "%s --expression 4 %s | true" % (tool, broken))[1:],
-                ("", ""),
-            )
-            for words, complaint in (
-                (missing, "%s: %s: No such file or directory" % (tool, missing)),
-                (folder, "%s: %s: is a folder" % (tool, folder)),
-                ("", "%s: no TRACK is given (%s --help says more)" % (tool, tool)),
-                ("--expression 4", "%s: no TRACK is given (%s --help says more)" % (tool, tool)),
-                ("--page= " + sound, "%s: --page needs a file: --page FILE (%s --help says more)" % (tool, tool)),
-                ("--stedy " + sound, "%s: '--stedy' is no option (%s --help says more)" % (tool, tool)),
-            ):
-                yield same("%s %s" % (tool, words), run(top, "%s %s" % (tool, words)), (2, "", complaint))
-            yield same(tool + " on junk", run(top, "%s %s" % (tool, junk))[0], 2)
-            yield same(
-                tool + " without an editor",
-                run(top, "%s %s" % (tool, sound), IRIG_ED="/none"),
-                (2, "", "%s: IRIG_ED names '/none', which is no program that can be run" % tool),
-            )
-            status, said, _ = run(top, tool + " --help")
-            yield same(tool + " --help", (status, said[: 7 + len(tool)]), (0, "usage: " + tool))
-            full = run(top, tool + " --help > /dev/full")
-            yield same(tool + " --help on a full device", full, (2, "", tool + ": No space left on device"))
+            yield from on_damage(top, tool, broken)
+            yield from refusals(top, tool, folder, sound)
+            yield from helps(top, tool)
+
+
+def on_damage(top, tool, broken):
+    """A broken track: as a file, in a pipe, and if nobody reads what is printed."""
+    status, said, complaint = run(top, "%s --expression 4 %s" % (tool, broken))
+    yield same(tool + " on a broken track", (status, bool(said), complaint), (1, True, ""))
+    for words in ("--expression=4 %s", "--expression 4 -- %s", "%s --expression 4", "- --expression 4 < %s"):
+        yield same("%s %s" % (tool, words), run(top, "%s %s" % (tool, words % broken)), (1, said, ""))
+    yield same(
+        tool + " in a pipe",
+        run(top, "cat %s | %s --expression 4 /dev/stdin" % (broken, tool)),
+        (1, said, ""),
+    )
+    yield same(
+        tool + " that nobody reads",
+        run(top, "%s --expression 4 %s | true" % (tool, broken))[1:],
+        ("", ""),
+    )
+
+
+def refusals(top, tool, folder, sound):
+    """What ends with status 2, and what is said of it."""
+    junk, missing = os.path.join(folder, "junk"), os.path.join(folder, "missing.vcd")
+    with open(junk, "wb") as file:
+        file.write(b"\0\xff junk")
+    for words, complaint in (
+        (missing, "%s: %s: No such file or directory" % (tool, missing)),
+        (folder, "%s: %s: is a folder" % (tool, folder)),
+        ("", "%s: no TRACK is given (%s --help says more)" % (tool, tool)),
+        ("--expression 4", "%s: no TRACK is given (%s --help says more)" % (tool, tool)),
+        ("--page= " + sound, "%s: --page needs a file: --page FILE (%s --help says more)" % (tool, tool)),
+        ("--stedy " + sound, "%s: '--stedy' is no option (%s --help says more)" % (tool, tool)),
+    ):
+        yield same("%s %s" % (tool, words), run(top, "%s %s" % (tool, words)), (2, "", complaint))
+    yield same(tool + " on junk", run(top, "%s %s" % (tool, junk))[0], 2)
+    yield same(
+        tool + " without an editor",
+        run(top, "%s %s" % (tool, sound), IRIG_ED="/none"),
+        (2, "", "%s: IRIG_ED names '/none', which is no program that can be run" % tool),
+    )
+
+
+def helps(top, tool):
+    """The help, and if it cannot be printed."""
+    status, said, _ = run(top, tool + " --help")
+    yield same(tool + " --help", (status, said[: 7 + len(tool)]), (0, "usage: " + tool))
+    full = run(top, tool + " --help > /dev/full")
+    yield same(tool + " --help on a full device", full, (2, "", tool + ": No space left on device"))
 
 
 def no_line_refused(top):

@@ -83,7 +83,7 @@ def of_phases():
 
 
 def of_clock():
-    """The interval, the noise, the grid of samples and the runs."""
+    """The interval and the noise."""
     yield same("two of three in step", share_in_step([0, 10000, 20000, 31500], 10000), 2 / 3)
     yield same("a tenth is in step", share_in_step([0, 11000, 20000], 10000), 1)
     slow = tools.recording()
@@ -98,6 +98,10 @@ def of_clock():
         pulse[0] += (0, 10, 50, 30, 80)[at % 5]
     clock = Clock(listing_of(noisy), 10000)
     yield same("noise", (clock.noise, clock.exact, round(clock.interval)), (30, False, 10000))
+
+
+def of_samples():
+    """The grid of samples."""
     sampled = [[rise // 7 * 7, fall // 7 * 7] for rise, fall in tools.recording()]
     yield same("a grid of samples", Clock(listing_of(sampled), 10000).grid, 7)
     for name, size in (("48,000 samples in a second", 1e6 / 48000), ("16,000 samples in a second", 62.5)):
@@ -112,6 +116,13 @@ def of_clock():
                   for pulse in tools.recording()]
         clock = Clock(listing_of(coarse), 10000)
         yield same(name, (abs(clock.grid - 1e6 / rate) < 1, len(clock.runs)), (True, 1))
+    rough = [[-(-time // 600) * 600 for time in pulse] for pulse in tools.recording()]  # distances of 10,200 and 9,600
+    clock = Clock(listing_of(rough), 10000)
+    yield same("a sample is 6 % of the interval", (round(clock.grid), len(clock.runs), round(clock.interval, -1)), (600, 1, 10000))
+
+
+def of_one_sample():
+    """A recorder gains a sample: the grid, before and after repairs."""
     for rate, begin, millionths, by in ((3000, 620, 10, 7), (5000, 750, 20, 5)):
         gained = [[int(-(-(begin + time * (1 + millionths / 1e6)) * rate // 1000000) * 1000000 / rate) for time in pulse]
                   for pulse in tools.recording()]
@@ -121,12 +132,13 @@ def of_clock():
             clock = Clock(listing_of(gained), 10000)
             grids.append((round(clock.grid), len(clock.runs)))
         yield same("one is off by a sample, before and after repairs, %d" % rate, grids, [(round(1e6 / rate), 1)] * 2)
+
+
+def of_runs():
+    """The runs of pulses: a step, a hole, and single pulses that are late."""
     for begin, by in ((285, 333), (2000, 250)):
         exact = [[begin + time for time in pulse] for pulse in late(tools.recording(), 450, by)]
         yield same("a step of %d in a code that begins at %d" % (by, begin), len(Clock(listing_of(exact), 10000).runs), 2)
-    rough = [[-(-time // 600) * 600 for time in pulse] for pulse in tools.recording()]  # distances of 10,200 and 9,600
-    clock = Clock(listing_of(rough), 10000)
-    yield same("a sample is 6 % of the interval", (round(clock.grid), len(clock.runs), round(clock.interval, -1)), (600, 1, 10000))
     both = tools.recording()
     for at in (150, 420):  # which is no sample of 500
         both[at][:] = [time + 500 for time in both[at]]
@@ -732,7 +744,8 @@ def of_limits():
 def cases():
     """Each part by its name."""
     return [case("mend: part: " + name, holds) for name, holds in (
-        ("phases", of_phases), ("clock", of_clock), ("a clock that wanders", of_wander), ("polarity", of_polarity), ("slots", of_slots),
+        ("phases", of_phases), ("clock", of_clock), ("clock of samples", of_samples), ("clock that gains a sample", of_one_sample),
+        ("clock of runs", of_runs), ("a clock that wanders", of_wander), ("polarity", of_polarity), ("slots", of_slots),
         ("sure runs", of_parts), ("tenths", of_tenths), ("other code", of_other_code), ("a long hole on a clock that wanders", of_vague),
         ("undamaged", of_undamaged), ("a rise that is off", of_strays), ("a clock that was set", of_set), ("places", of_places),
         ("votes", of_votes),

@@ -4,14 +4,16 @@ A checker that is missing is left out by name. The versions whose findings count
 know more, so its findings are printed, and are no failure.
 """
 import ast
+import contextlib
 import glob
+import io
 import os
 import re
 import shutil
 import subprocess
 from collections import defaultdict
 
-from cases import case
+from cases import LEFT_OUT, case
 
 SHELL = ("install", "irig_ed", "package", "completions/irig_ed")  # what a user runs that is no Python
 TESTS = ("tests/tools", "tests/tools_wire", "tests/tools_planted", "tests/page")  # whose names do not end in .py
@@ -66,7 +68,7 @@ def finds_nothing(top, name, command):
     """Whether a checker finds nothing, if it is there and its version is the one that counts."""
     if not shutil.which(name):
         print("left out: tests/tools_wire, the style of the tools: it needs %s %s" % (name, VERSIONS[name]))
-        return []
+        return LEFT_OUT
     paths = dict(os.environ, MYPYPATH="tools:tests")
     done = subprocess.run(command, cwd=top, env=paths, stdout=subprocess.PIPE, stderr=subprocess.STDOUT, text=True,
                           check=False)
@@ -77,7 +79,14 @@ def finds_nothing(top, name, command):
     return [not counts]
 
 
+def no_answer_is_a_no():
+    """Whether a case without an answer does not hold, and one that is left out has none."""
+    with contextlib.redirect_stdout(io.StringIO()):
+        answers = list(case("empty", list).results())
+    return answers == [False] and not list(case("left out", lambda: LEFT_OUT).results())
+
+
 def cases(top):
     """The names, and each checker by its name."""
-    return [case("style: names", one_name, top), *(case("style: " + " ".join(command[:4]), finds_nothing, top, name, command)
-                                                   for name, command in commands(top))]
+    checkers = (case("style: " + " ".join(command[:4]), finds_nothing, top, name, command) for name, command in commands(top))
+    return [case("style: names", one_name, top), case("style: no answer", no_answer_is_a_no), *checkers]
