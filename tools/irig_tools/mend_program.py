@@ -6,7 +6,7 @@ import os
 import sys
 from contextlib import ExitStack, contextmanager
 from dataclasses import dataclass, replace
-from typing import Iterator, List, Optional, Sequence, Tuple, Union
+from typing import Iterator, List, Optional, Sequence, Tuple
 
 from .again import Names, again, is_kept
 from .analysis import START, examine
@@ -87,6 +87,15 @@ class Done:
     is_whole: bool
 
 
+@dataclass(frozen=True)
+class End:
+    """How the work ends, once all that was read is still as it was: its status, the script to write, and what became of the recording."""
+
+    status: int
+    script: Optional[str] = None
+    done: Optional[Done] = None
+
+
 def find_programs(given: Given) -> None:
     """Without the programs that --apply needs nothing is read or written."""
     if given.has(APPLY):
@@ -104,35 +113,43 @@ def work(given: Given) -> int:
     progress = progress_to(sys.stderr)
     with ExitStack() as outputs, sources(given) as (path, original):
         windows = mend_windows(given, path, original, outputs, progress) if is_for_windows(given, path) else None
-        done = windows or mend_track(given, path, original, outputs, progress)
-    if isinstance(done, int):
-        return done
-    report(given, done)
-    return ALL_RIGHT if done.is_whole else FOUND
+        end = windows or mend_track(given, path, original, outputs, progress)
+    if end.script is not None:
+        with output(given.text(OUTPUT)) as out:
+            out.write(end.script.encode("utf-8"))
+    if end.done:
+        report(given, end.done)
+    return end.status
 
 
-def mend_track(given: Given, path: str, original: Optional[str], outputs: ExitStack, progress: Progress) -> Union[Done, int]:
-    """What became of a recording that fits in a track, or without --apply the status."""
+def end_of(done: Done, script: Optional[str] = None) -> End:
+    """The end with --apply."""
+    return End(ALL_RIGHT if done.is_whole else FOUND, script, done)
+
+
+def mend_track(given: Given, path: str, original: Optional[str], outputs: ExitStack, progress: Progress) -> End:
+    """A recording that fits in a track."""
     with of_any_length(), opened(path, given.names[0], given, wire_of(given, path)) as track:
         return mend_opened(given, track, original, outputs, progress)
 
 
-def mend_opened(given: Given, track: Opened, original: Optional[str], outputs: ExitStack, progress: Progress) -> Union[Done, int]:
+def mend_opened(given: Given, track: Opened, original: Optional[str], outputs: ExitStack, progress: Progress) -> End:
     note_if_cut(track)
     say_notes(track, given.names[0], COMMAND.name)
     editor = Editor(track.words)
     others = read_others(given.texts(WITH), editor, progress, COMMAND.name)
     if given.has(EXPLAIN):
-        return explain(editor, given, others)
-    script, done = proposed(editor, given, progress, others, given.has(MOVE)), None
-    if given.has(APPLY):
-        done = apply(given, track, editor, script, progress, target_of(given, track, original, outputs), others)
-    else:
+        return End(explain(editor, given, others))
+    script = proposed(editor, given, progress, others, given.has(MOVE))
+    if not given.has(APPLY):
         draw_proposal(given, track, script, progress, outputs)
-    if given.has(OUTPUT) or not given.has(APPLY):
-        with output(given.text(OUTPUT)) as out:
-            out.write((repairs_as_json(script, track.offset) if given.has(JSON) else script_of(script, track)).encode("utf-8"))
-    return done or (FOUND if script else ALL_RIGHT)
+        return End(FOUND if script else ALL_RIGHT, text_to_write(given, script, track))
+    done = apply(given, track, editor, script, progress, target_of(given, track, original, outputs), others)
+    return end_of(done, text_to_write(given, script, track) if given.has(OUTPUT) else None)
+
+
+def text_to_write(given: Given, script: List[Repair], track: Opened) -> str:
+    return repairs_as_json(script, track.offset) if given.has(JSON) else script_of(script, track)
 
 
 def target_of(given: Given, track: Opened, original: Optional[str], outputs: ExitStack) -> Target:
@@ -145,7 +162,7 @@ def is_for_windows(given: Given, path: str) -> bool:
     return given.has(APPLY) and given.number(DUMP) in (None, 1) and (named_size() is not None or can_be_long(path))
 
 
-def mend_windows(given: Given, path: str, original: Optional[str], outputs: ExitStack, progress: Progress) -> Optional[Done]:
+def mend_windows(given: Given, path: str, original: Optional[str], outputs: ExitStack, progress: Progress) -> Optional[End]:
     """Repairs a recording that is longer than a track; nothing is done if it fits in one."""
     name = given.names[0]
     track = looked_at(path, name, given, wire_of(given, path), progress)
@@ -164,7 +181,7 @@ def mend_windows(given: Given, path: str, original: Optional[str], outputs: Exit
             with recording.level(folder) as level, named_if_no_room():
                 say_put_back(given, target.put_back(level, recording.track, outputs.enter_context(output(target.out))))
     summed = recording.counts().summary()
-    return Done(summed, recording.code(name), recording.reasons(), summed.is_whole and not is_cut(recording.track))
+    return end_of(Done(summed, recording.code(name), recording.reasons(), summed.is_whole and not is_cut(recording.track)))
 
 
 def check_windows(given: Given) -> None:

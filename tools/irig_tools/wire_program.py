@@ -15,7 +15,7 @@ INVERT = Option("--invert", about="high and low are swapped")
 PUT_INTO = Option("--into", "ORIGINAL", "DUMP is a track that was made of this file and repaired: writes this file with the "
                   "track instead of the wire, all else byte for byte")
 INTO_WIRE = Option("--wire", "NAME", "with --into: the wire of ORIGINAL, named as WIRE is")
-WINDOWS = Option("--windows", about="prints instead the windows in which irig_mend --apply repairs a recording that is longer than a "
+WINDOWS = Option("--windows", about="prints instead the windows in which irig_mend repairs a recording that is longer than a "
                  "track, a line each: from when to when it is read, and from when to when it counts, in the dump's unit")
 COMMAND = Command("irig_wire", ("DUMP", "[WIRE]"), """\
 Makes of any value change dump the dump of one wire, which irig_ed reads. It says
