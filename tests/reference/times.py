@@ -229,7 +229,8 @@ class Counting:
         return next_time(self.kind, frame.time) is not None and not self.after(frame)
 
     def jumps(self, one, other):
-        """Whether the time jumps between two frames, believed or not: all pulses follow, or the markers are whole periods apart, and they are not as many as the times show."""
+        """Whether the time jumps between two frames, believed or not: all pulses follow, or the markers are whole periods apart, and
+        they are not as many as the times show."""
         gap, distance, period = other.marker - one.marker - 100, other.rise - one.rise, PERIOD[self.kind]
         if gap % 100 == 0 and self.runs_on(gap // 100 + 1, one, other):
             return False
