@@ -12,6 +12,9 @@ pub cond-holds : {X : Type 0} (P : X → Type 0) (b : Bool) (x y : X) → (b ≡
 cond-holds P true x y p q = p refl
 cond-holds P false x y p q = q refl
 
+pub lt-false : (x y : ℕ) → y ≤ x → nat_lt x y ≡ false
+lt-false x y h = grind (arith, h)
+
 module _ (f : FormatView) (ps : List Pulse) (wanted : List Element) (s : Side) where
   undenied-step : (n k : ℕ) → denies f ps wanted s k ≡ false → undenied f ps wanted s k (suc n) ≡ suc (undenied f ps wanted s (k + 1) n)
   undenied-step n k off = ap (λ c. cond c 0 (suc (undenied f ps wanted s (k + 1) n))) off
