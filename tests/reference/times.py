@@ -284,12 +284,62 @@ class Counting:
         after, before = self.ahead(one.marker + 100, min(gap, 100)), self.behind(other.marker, min(gap, 100))
         if many == 1 and gap == 100 and after + before > 100:
             return [self.head(one, 100, first)]
+        if after + before <= gap and self.is_torn(one, other):
+            if self.lost_tens(one, other):
+                return []
+            after = self.borne([(one.marker + 100 + k, k) for k in range(after)], first)
+            before = self.borne([(other.marker - 1 - k, 99 - k) for k in range(before)], last)
         if many == 1:  # no element that both reach
             after, before = min(after, 100 - before), min(before, 100 - after)
         if after + before > gap:
             return []
         after, before = self.apart(one.marker + 100, after, before, gap)
         return [self.head(one, after, first), self.tail(other, before, last)]
+
+    def tenths(self, one, other):
+        """How many tenths of an interval the last elements of two frames are apart, by the mean interval in both."""
+        rises = [[self.pulses[frame.marker + place][0] for place in (0, 99)] for frame in (one, other)]
+        both = sum(last - first for first, last in rises)
+        return (2 * 1980 * (rises[1][0] - rises[0][1]) + both) // (2 * both) + 990
+
+    def is_torn(self, one, other):
+        """Whether they are not as many intervals apart as their times, to half an interval."""
+        period = PERIOD[self.kind]
+        many = (2 * (other.rise - one.rise) + period) // (2 * period)
+        return abs(self.tenths(one, other) - 1000 * many) > 5
+
+    def lost_tens(self, one, other):
+        """Whether tens of intervals are lost, to a fifth of one: each position identifier is at the place of another."""
+        return min(self.tenths(one, other) % 100, -self.tenths(one, other) % 100) <= 2
+
+    def borne(self, side, time):
+        """How many pulses of a side, each with its element, come before those that say another time: all, if none does; else up to the
+        last position identifier before the first that does."""
+        if time.micros > LONG_MINUTE:
+            return 0
+        wanted = self.wanted(time)
+        denied = [place for place, (number, element) in enumerate(side) if self.denies(number, element, wanted)]
+        if not denied:
+            return len(side)
+        marks = [place for place, (number, element) in enumerate(side[:denied[0]])
+                 if wanted[element] == "position" == self.class_at(number)]
+        return marks[-1] + 1 if marks else 0
+
+    def class_at(self, number):
+        rise, fall = self.pulses[number]
+        return timecode.class_of(timecode.INTERVAL[self.kind], fall - rise)
+
+    def wanted(self, time):
+        """The elements of a frame of a time; those that are no part of it are 0."""
+        return timecode.encode(self.kind, self.expression, {
+            "year": time.year, "days": time.days, "hours": time.hours, "minutes": time.minutes, "seconds": time.micros // 1_000_000,
+            "hundredths": time.micros // 10_000 % 100, "sbs": 0, "control": 0,
+        })
+
+    def denies(self, number, element, wanted):
+        """Whether a pulse is of another class than that of a position identifier, or of an element of the time, there."""
+        known = element < TIME_ELEMENTS[self.kind] or wanted[element] == "position"
+        return known and self.class_at(number) not in ("bad", wanted[element])
 
     def apart(self, place, after, before, gap):
         """How many pulses of both sides have a time: one less if they are all of one or two frames, and do not meet in step."""
@@ -308,16 +358,8 @@ class Counting:
         """The part, if none of its pulses says another time."""
         if part.time is None or not is_whole(self.kind, part.time):
             return []
-        time, wrong, interval = part.time, 0, timecode.INTERVAL[self.kind]
-        wanted = timecode.encode(self.kind, self.expression, {
-            "year": time.year, "days": time.days, "hours": time.hours, "minutes": time.minutes, "seconds": time.micros // 1_000_000,
-            "hundredths": time.micros // 10_000 % 100, "sbs": 0, "control": 0,
-        })
-        for place in range(part.count):
-            rise, fall = self.pulses[part.number + place]
-            known, name = part.element + place < TIME_ELEMENTS[self.kind], wanted[part.element + place]
-            found = timecode.class_of(interval, fall - rise)
-            wrong += found not in ("bad", name) and (known or name == "position")
+        wanted = self.wanted(part.time)
+        wrong = any(self.denies(part.number + k, part.element + k, wanted) for k in range(part.count))
         return [] if wrong else [part]
 
 

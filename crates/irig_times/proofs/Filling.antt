@@ -8,8 +8,10 @@ use Rattle.std.proofs.lemmas.Bool.{and_parts, eqb-true, leb-true, ltb-true}
 use Rattle.irig_codes.specs.Format.{FormatView, frame_period_of, has_year}
 use Rattle.irig_recording.specs.declared.pulse.Pulse.{Pulse}
 use Rattle.irig_times.specs.{declared.missing.Missing.Missing, declared.part.Part.Part, declared.time.Time.Time, Follows.same_day}
-use Rattle.irig_times.specs.Between.{at_micros, at_minute, between, day_micros, gap, head_of, is_middle, is_whole, middle, missing_by, missing_in, missing_more, missing_one}
-use Rattle.irig_times.specs.Between.{head_left, is_seam, kept, next_time, rounded, sides, sides_by, sides_of, tail_left, tail_of, time_before}
+use Rattle.irig_times.specs.Between.{at_micros, at_minute, day_micros, gap, head_of, is_middle, is_whole, middle, missing_by, missing_in, missing_more, missing_one}
+use Rattle.irig_times.specs.Between.{head_left, is_seam, kept, next_time, rounded, sides, sides_at, sides_by, tail_left, tail_of, time_before}
+use Rattle.irig_times.specs.Sides.{between, borne_at, side_after, side_before, sides_in, sides_of}
+use Rattle.irig_times.specs.Torn.{are_tens, is_torn, tenths_found}
 use Rattle.irig_times.specs.Counted.{filled, kept_at, sides_before, sides_without, with_frame, with_sides}
 use Rattle.irig_times.specs.Jumps.{after_jump, before_jump, is_jump_between}
 use Rattle.irig_times.specs.Follows.{is_later}
@@ -17,10 +19,7 @@ use Rattle.irig_times.specs.Parts.{AreParts, IsFrameTime, IsPart, is_empty}
 use Rattle.irig_times.specs.Laws.{IsOfCalendar}
 use Rattle.irig_times.specs.Steps.{ahead, are_in_step, behind, follows_at, is_in_step_at}
 use Rattle.irig_times.proofs.WholeSteps.{from-at}
-
-pub cond-holds : {X : Type 0} (P : X → Type 0) (b : Bool) (x y : X) → (b ≡ true → P x) → (b ≡ false → P y) → P (cond b x y)
-cond-holds P true x y p q = p refl
-cond-holds P false x y p q = q refl
+use Rattle.irig_times.proofs.SideCounts.{borne_at-few, cond-holds}
 
 -- a frame that ends with its minute ends with a long one
 whole-ends : (period : ℕ) (t : Time) → is_whole period t ≡ true → t.micros + period ≤ 61000000
@@ -168,12 +167,23 @@ module _ (f : FormatView) (a b : Part) (order : a.number + a.count ≤ b.number)
       by-fit (kept t.is_one m n) (kept t.is_one n m) t in_step (omega (arith, fm, km)) (omega (arith, fn, kn)) ends))
 
   module _ (ps : List Pulse) where
+    at-fit : (m n : ℕ) (t : Missing) → m ≤ 100 → n ≤ 100 → BothEnd f 0 t → IfSome (sides_at f ps a b m n t) (Fit f (a.number + a.count) b.number)
+    at-fit m n t fm fn h = sides-fit m n t _ fm fn h
+
+    in-fit : (m n : ℕ) (t : Missing) → m ≤ 100 → n ≤ 100 → BothEnd f 0 t → IfSome (sides_in f ps a b m n t) (Fit f (a.number + a.count) b.number)
+    in-fit m n t fm fn h = cond-holds (λ o. IfSome o (Fit f (a.number + a.count) b.number)) (is_torn f ps a b m n) _ _
+        (λ torn. cond-holds (λ o. IfSome o (Fit f (a.number + a.count) b.number)) (are_tens (tenths_found ps a b)) _ _ (λ tens. tt)
+        (λ some. (let lm = borne_at-few f ps t.first (side_after a) m in
+        let ln = borne_at-few f ps t.last (side_before b) n in
+        at-fit (borne_at f ps t.first (side_after a) m) (borne_at f ps t.last (side_before b) n) t (omega (arith, lm, fm)) (omega (arith, ln, fn)) h)))
+        (λ sound. at-fit m n t fm fn h)
+
     sides-of-fit : (o : Option Missing) → IfSome o (BothEnd f 0) → IfSome (sides_of f ps a b o) (Fit f (a.number + a.count) b.number)
     sides-of-fit None h = tt
     sides-of-fit (Some t) h =
         let m = ahead-few f ps (min (gap a b) 100) (a.number + a.count) in
         let n = behind-few f ps (min (gap a b) 100) b.number in
-        sides-fit _ _ t _ (grind (arith, m)) (grind (arith, n)) h
+        in-fit _ _ t (grind (arith, m)) (grind (arith, n)) h
 
     pub between-fits : (century : ℕ) → IsPart f a → IsPart f b → IfSome (between f century ps a b) (Fit f (a.number + a.count) b.number)
     between-fits century ha hb = sides-of-fit _ (missing-by-ends f century a.time b.time (slice_get ps a.number) (slice_get ps b.number) ha.time hb.time)

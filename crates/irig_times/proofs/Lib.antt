@@ -11,6 +11,7 @@ pub mod WholeSteps
 pub mod Filling
 pub mod WholeFrames
 pub mod StepCounts
+pub mod SideCounts
 pub mod SupportCount
 pub mod Found
 pub mod SupportSteps

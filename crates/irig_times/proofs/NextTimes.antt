@@ -9,7 +9,7 @@ use Rattle.irig_times.specs.{declared.missing.Missing.Missing, declared.time.Tim
 use Rattle.irig_times.specs.Follows.{same_year, is_later, is_later_in, minute_follows, same_day}
 use Rattle.irig_times.specs.Between.{at_micros, at_minute, day_micros, is_middle, is_whole, middle, missing_by, missing_in, missing_more, missing_one, next_time, rounded, time_before}
 use Rattle.irig_times.specs.Parts.{IsFrameTime}
-use Rattle.irig_times.proofs.{Filling.cond-holds, SameTimes.both, SameTimes.same-year}
+use Rattle.irig_times.proofs.{SideCounts.cond-holds, SameTimes.both, SameTimes.same-year}
 
 pub period-most : (k : Kind) → (0 < frame_period_of k) × (frame_period_of k ≤ 10000000)
 period-most A = (omega arith, omega arith)

@@ -9,13 +9,16 @@ use Rattle.irig_recording.specs.declared.pulse.Pulse.{Pulse}
 use Rattle.irig_index.specs.{Frames.frames, declared.record.Record.Record}
 use Rattle.irig_times.specs.{declared.missing.Missing.Missing, declared.part.Part.Part, declared.time.Time.Time}
 use Rattle.irig_times.specs.{Follows.is_later, Parts.IsFrameTime, Parts.IsPart, Parts.is_empty, Support.believed, Times.timed}
-use Rattle.irig_times.specs.Between.{between, gap, head_left, head_of, is_seam, kept, sides, sides_by, sides_of, tail_left, tail_of}
+use Rattle.irig_times.specs.Between.{gap, head_left, head_of, is_seam, kept, sides, sides_at, sides_by, tail_left, tail_of}
+use Rattle.irig_times.specs.Sides.{between, borne_at, side_after, side_before, sides_in, sides_of}
+use Rattle.irig_times.specs.Torn.{are_tens, is_torn, tenths_found}
 use Rattle.irig_times.specs.{Counted.filled, Counted.kept_at, Counted.sides_before, Counted.sides_without, Counted.with_sides, Jumps.is_jump_between}
 use Rattle.irig_times.specs.Ends.{after_last, alone, before_first, end_after, is_borne_out}
 use Rattle.irig_times.specs.Origins.{CountedBack, CountedOn, InFrame, IsBelieved, TimesAreCounted}
 use Rattle.irig_times.specs.Steps.{ahead, behind, is_in_step_at}
 use Rattle.irig_times.specs.Whole.{whole, whole_in, with_part}
-use Rattle.irig_times.proofs.Filling.{Cut, ahead-few, behind-few, cond-holds, head-few, kept-cut, kept-few, tail-few}
+use Rattle.irig_times.proofs.Filling.{Cut, ahead-few, behind-few, head-few, kept-cut, kept-few, tail-few}
+use Rattle.irig_times.proofs.SideCounts.{borne_at-few, cond-holds}
 use Rattle.irig_times.proofs.NextTimes.{before-later, missing-by-later, next-later}
 use Rattle.irig_times.proofs.{PartPlaces.part-of, WholeFrames.whole-are}
 
@@ -188,16 +191,26 @@ module _ (f : FormatView) (alone_frames : Bool) (century : ℕ) (ps : List Pulse
         ))
         (λ none. tt)
 
-    sides-counted : (t : Missing) (in_step : Bool) → IsNext a.time b.time t → IfSome (sides a b m n t in_step) BothCounted
-    sides-counted t in_step h = cond-holds (λ o. IfSome o BothCounted) (t.is_one && (gap a b == 100 && nat_lt 100 (m + n))) _ _
+    sides-counted : (c d : ℕ) (t : Missing) (in_step : Bool) → IsNext a.time b.time t → c ≤ m → d ≤ n → IfSome (sides a b c d t in_step) BothCounted
+    sides-counted c d t in_step h lc ld = cond-holds (λ o. IfSome o BothCounted) (t.is_one && (gap a b == 100 && nat_lt 100 (c + d))) _ _
         (λ on. (let it = and_parts t.is_one _ on in
         let rest = and_parts (gap a b == 100) _ it.1 in
-        (all-counted t h it.0 (eqb-true (gap a b) 100 rest.0) (ltb-true 100 (m + n) rest.1), no-tail b t.last)))
-        (λ off. by-counted (kept t.is_one m n) (kept t.is_one n m) t in_step h (kept-few t.is_one m n) (kept-few t.is_one n m))
+        let many : 100 < m + n = omega (arith, ltb-true 100 (c + d) rest.1, lc, ld) in
+        (all-counted t h it.0 (eqb-true (gap a b) 100 rest.0) many, no-tail b t.last)))
+        (λ off. (let lk = kept-few t.is_one c d in
+        let ll = kept-few t.is_one d c in
+        by-counted (kept t.is_one c d) (kept t.is_one d c) t in_step h (omega (arith, lk, lc)) (omega (arith, ll, ld))))
+
+    sides-in-counted : (t : Missing) → IsNext a.time b.time t → IfSome (sides_in f ps a b m n t) BothCounted
+    sides-in-counted t h = cond-holds (λ o. IfSome o BothCounted) (is_torn f ps a b m n) _ _
+        (λ torn. cond-holds (λ o. IfSome o BothCounted) (are_tens (tenths_found ps a b)) _ _ (λ tens. tt)
+        (λ some. sides-counted (borne_at f ps t.first (side_after a) m) (borne_at f ps t.last (side_before b) n) t _ h
+        (borne_at-few f ps t.first (side_after a) m) (borne_at-few f ps t.last (side_before b) n)))
+        (λ sound. sides-counted m n t _ h (omega arith) (omega arith))
 
     sides-of-counted : (o : Option Missing) → IfSome o (IsNext a.time b.time) → IfSome (sides_of f ps a b o) BothCounted
     sides-of-counted None h = tt
-    sides-of-counted (Some t) h = sides-counted t _ h
+    sides-of-counted (Some t) h = sides-in-counted t h
 
     between-counted : IfSome (between f century ps a b) BothCounted
     between-counted = sides-of-counted _ (missing-by-later f century a.time b.time (slice_get ps a.number) (slice_get ps b.number) ha.time hb.time)

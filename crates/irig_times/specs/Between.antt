@@ -7,7 +7,7 @@ use Rattle.irig_recording.specs.declared.pulse.Pulse.{Pulse}
 use Rattle.irig_times.specs.{declared.part.Part.Part, declared.missing.Missing.Missing}
 use Rattle.irig_times.specs.declared.time.Time.{Time}
 use Rattle.irig_times.specs.{Follows.is_later, Follows.same_day}
-use Rattle.irig_times.specs.Steps.{ahead, behind, follows_at}
+use Rattle.irig_times.specs.Steps.{follows_at}
 
 -- a time in the minute of another, with these microseconds
 abbrev pub at_micros : Time → ℕ → Time
@@ -158,16 +158,3 @@ abbrev pub sides_at : FormatView → List Pulse → Part → Part → ℕ → �
     → Option (Part × Part)
 sides_at f ps a b m n t =
     sides a b m n t (follows_at f ps (a.number + a.count + kept t.is_one m n))
-
-abbrev pub sides_of : FormatView → List Pulse → Part → Part → Option Missing → Option (Part × Part)
-sides_of f ps a b None = None
-sides_of f ps a b (Some t) =
-    sides_at f ps a b (ahead f ps (a.number + a.count) (min (gap a b) 100))
-    (behind f ps b.number (min (gap a b) 100)) t
-
--- the pulses between two frames that have a time: those in step with the first, and those in step
--- with the second
-abbrev pub between : FormatView → ℕ → List Pulse → Part → Part → Option (Part × Part)
-between f century ps a b =
-    sides_of f ps a b (missing_by century (frame_period_of f.kind) a.time b.time
-    (slice_get ps a.number) (slice_get ps b.number))

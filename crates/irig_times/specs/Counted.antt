@@ -6,7 +6,7 @@ use Rattle.std.specs.Prelude.{None, slice_get}
 use Rattle.irig_codes.specs.Format.{FormatView}
 use Rattle.irig_recording.specs.declared.pulse.Pulse.{Pulse}
 use Rattle.irig_index.specs.Frames.{frames}
-use Rattle.irig_times.specs.{declared.part.Part.Part, Between.between, Support.believed}
+use Rattle.irig_times.specs.{declared.part.Part.Part, Sides.between, Support.believed}
 use Rattle.irig_times.specs.{Ends.end_after, Ends.end_before, Jumps.after_jump, Jumps.before_jump}
 use Rattle.irig_times.specs.{Jumps.is_jump_between, declared.time.Time.Time}
 use Rattle.irig_times.specs.{Parts.TellsByParts, Parts.is_empty, Whole.whole_in}

@@ -11,10 +11,12 @@ pub mod Laws
 pub mod Origins
 pub mod PartLaws
 pub mod Parts
+pub mod Sides
 pub mod Starts
 pub mod Steps
 pub mod Support
 pub mod Times
+pub mod Torn
 pub mod Untimed
 pub mod Whole
 pub mod Whys

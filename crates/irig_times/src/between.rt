@@ -2,15 +2,16 @@
 
 ghost use Rattle.std.specs.Prelude.{◌≡◌, ◌≤◌, ◌<◌, ◌+◌, ◌-◌, ◌^◌, IfSome, min, slice_get};
 ghost use Rattle.irig_codes.specs.Format.{frame_period_of};
-ghost use Rattle.irig_times.specs.Between.{between, gap, head_left, head_of, is_seam, kept};
-ghost use Rattle.irig_times.specs.Between.{missing_by, sides, sides_at, sides_by, sides_of};
+ghost use Rattle.irig_times.specs.Between.{gap, head_left, head_of, is_seam, kept};
+ghost use Rattle.irig_times.specs.Between.{missing_by, sides, sides_at, sides_by};
 ghost use Rattle.irig_times.specs.Between.{tail_left, tail_of};
 ghost use Rattle.irig_times.specs.Counted.{sides_before};
 
 use crate::ends::end_before;
 use crate::missing::{Missing, missing_in, rounded};
 use crate::part::Part;
-use crate::steps::{ahead, behind, follows_at, pulse_at};
+use crate::sides::between;
+use crate::steps::{follows_at, pulse_at};
 use crate::time::Time;
 use irig_codes::Format;
 use irig_track::Lens;
@@ -146,7 +147,7 @@ fn kept(is_one: bool, count: usize, other: usize) -> usize
 }
 
 /// The frames that are missing between two parts, whose frames begin with their first pulses.
-fn missing_by(
+pub fn missing_by(
     pulses: &mut Lens<'_>,
     format: Format,
     century: u32,
@@ -174,33 +175,8 @@ fn missing_by(
     }
 }
 
-/// The pulses between two frames that have a time: those in step with the first, and those in step
-/// with the second.
-fn between(
-    pulses: &mut Lens<'_>,
-    format: Format,
-    century: u32,
-    from: &Part,
-    to: &Part,
-) -> Option<(Part, Part)>
-    requires century { century ≤ 99 }
-    requires times { (from.now.time.micros < 2 ^ 59) × (to.now.time.micros < 2 ^ 59) }
-    requires order { from.now.number + from.now.count ≤ to.now.number }
-    requires small { to.now.number < 2 ^ 32 }
-    ensures between { result ≡ between format century pulses.old.track.pulses from.now to.now }
-    ensures pulses { pulses.new.track ≡ pulses.old.track }
-{
-    let Some(missing) = missing_by(pulses, format, century, from, to) else {
-        return None;
-    };
-    let gap = gap(from, to);
-    let after = ahead(pulses, format, from.number + from.count, min(gap, 100));
-    let before = behind(pulses, format, to.number, min(gap, 100));
-    sides_at(pulses, format, from, to, after, before, &missing)
-}
-
 /// The parts between two, if some pulses after the first and some before the second are in step.
-fn sides_at(
+pub fn sides_at(
     pulses: &mut Lens<'_>,
     format: Format,
     from: &Part,

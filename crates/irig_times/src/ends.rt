@@ -17,7 +17,7 @@ use irig_codes::{Element, Fields, Format, Kind, class, encode, fits};
 use irig_track::Lens;
 
 /// The fields of a frame of a time; those that are no part of it are 0.
-fn fields_at(format: Format, time: &Time) -> Fields
+pub fn fields_at(format: Format, time: &Time) -> Fields
     requires { time.now.micros < 2 ^ 32 }
     ensures { result ≡ fields_at format time.now }
 {
@@ -68,7 +68,7 @@ fn is_other(class: Option<Element>, wanted: Element) -> bool
 }
 
 /// Whether an element is a position identifier.
-fn is_identifier(element: Element) -> bool
+pub fn is_identifier(element: Element) -> bool
     ensures { result ≡ is_identifier element }
 {
     match element {
@@ -78,7 +78,7 @@ fn is_identifier(element: Element) -> bool
 }
 
 /// Whether the pulse of a number says that an element is another one than that of a frame.
-fn contradicts(
+pub fn contradicts(
     pulses: &mut Lens<'_>,
     format: Format,
     wanted: &[Element; 100],

@@ -1,0 +1,199 @@
+//! What is counted between two frames: from both sides, as far as it is borne out.
+
+ghost use Rattle.std.specs.Prelude.{◌≡◌, ◌≤◌, ◌<◌, ◌+◌, ◌^◌};
+ghost use Rattle.irig_times.specs.Sides.{between, borne, borne_at, confirmed, side_after};
+ghost use Rattle.irig_times.specs.Sides.{side_before, sides_in, torn_sides, undenied};
+
+use crate::between::{gap, min, missing_by, sides_at};
+use crate::ends::fields_at;
+use crate::missing::Missing;
+use crate::part::Part;
+use crate::steps::{ahead, behind};
+use crate::time::Time;
+use crate::torn::{Side, are_tens, confirms, denies, is_torn, tenths_found};
+use irig_codes::{Element, Format, encode, fits};
+use irig_track::Lens;
+
+/// The microseconds of a minute with a second 60.
+const LONG_MINUTE: u64 = 61_000_000;
+
+/// Of some pulses of a side, how many there are before the first that says another element.
+fn undenied(
+    pulses: &mut Lens<'_>,
+    format: Format,
+    wanted: &[Element; 100],
+    side: &Side,
+    most: usize,
+) -> usize
+    requires { (side.now.number < 2 ^ 32) × (most ≤ 100) }
+    ensures count { result ≡ undenied format pulses.old.track.pulses wanted.now side.now 0 most }
+    ensures few { result ≤ most }
+    ensures pulses { pulses.new.track ≡ pulses.old.track }
+{
+    let mut count = 0;
+    while count < most {
+        if denies(pulses, format, wanted, side, count) {
+            return count;
+        }
+        count += 1;
+    }
+    count
+}
+
+/// Of some pulses of a side those up to the last position identifier.
+fn confirmed(
+    pulses: &mut Lens<'_>,
+    format: Format,
+    wanted: &[Element; 100],
+    side: &Side,
+    most: usize,
+) -> usize
+    requires { (side.now.number < 2 ^ 32) × (most ≤ 100) }
+    ensures count { result ≡ confirmed format pulses.old.track.pulses wanted.now side.now most }
+    ensures few { result ≤ most }
+    ensures pulses { pulses.new.track ≡ pulses.old.track }
+{
+    let mut left = most;
+    while left > 0 {
+        if confirms(pulses, format, wanted, side, left - 1) {
+            return left;
+        }
+        left -= 1;
+    }
+    0
+}
+
+/// All pulses of a side, if none says another element; else those up to the last position
+/// identifier before the first that does.
+fn borne(
+    pulses: &mut Lens<'_>,
+    format: Format,
+    wanted: &[Element; 100],
+    side: &Side,
+    most: usize,
+) -> usize
+    requires { (side.now.number < 2 ^ 32) × (most ≤ 100) }
+    ensures count { result ≡ borne format pulses.old.track.pulses wanted.now side.now most }
+    ensures few { result ≤ most }
+    ensures pulses { pulses.new.track ≡ pulses.old.track }
+{
+    let count = undenied(pulses, format, wanted, side, most);
+    if count == most {
+        return most;
+    }
+    confirmed(pulses, format, wanted, side, count)
+}
+
+/// The same of a side that is of a frame of a time.
+fn borne_at(pulses: &mut Lens<'_>, format: Format, time: &Time, side: &Side, most: usize) -> usize
+    requires { (side.now.number < 2 ^ 32) × (most ≤ 100) }
+    ensures count { result ≡ borne_at format pulses.old.track.pulses time.now side.now most }
+    ensures few { result ≤ most }
+    ensures pulses { pulses.new.track ≡ pulses.old.track }
+{
+    if time.micros > LONG_MINUTE {
+        return 0;
+    }
+    let fields = fields_at(format, time);
+    if !fits(format, &fields) {
+        return 0;
+    }
+    let wanted = encode(format, &fields);
+    borne(pulses, format, &wanted, side, most)
+}
+
+/// The pulses after a frame.
+fn side_after(part: &Part) -> Side
+    requires { part.now.number + part.now.count < 2 ^ 32 }
+    ensures { result ≡ side_after part.now }
+{
+    Side {
+        is_back: false,
+        number: part.number + part.count,
+    }
+}
+
+/// The pulses before a frame, from the last one back.
+fn side_before(part: &Part) -> Side
+    ensures { result ≡ side_before part.now }
+{
+    Side {
+        is_back: true,
+        number: part.number.saturating_sub(1),
+    }
+}
+
+/// The parts between two in a torn stretch, in which some pulses after the first and some before
+/// the second are in step.
+fn torn_sides(
+    pulses: &mut Lens<'_>,
+    format: Format,
+    from: &Part,
+    to: &Part,
+    after: usize,
+    before: usize,
+    missing: &Missing,
+) -> Option<(Part, Part)>
+    requires order { from.now.number + from.now.count ≤ to.now.number }
+    requires small { to.now.number < 2 ^ 32 }
+    requires few { (after ≤ 100) × (before ≤ 100) × (before ≤ to.now.number) }
+    ensures sides { result ≡ torn_sides format pulses.old.track.pulses from.now to.now after
+        before missing.now }
+    ensures pulses { pulses.new.track ≡ pulses.old.track }
+{
+    if are_tens(tenths_found(pulses, from, to)) {
+        return None;
+    }
+    let head = borne_at(pulses, format, &missing.first, &side_after(from), after);
+    let tail = borne_at(pulses, format, &missing.last, &side_before(to), before);
+    sides_at(pulses, format, from, to, head, tail, missing)
+}
+
+/// The parts between two, if some pulses after the first and some before the second are in step.
+fn sides_in(
+    pulses: &mut Lens<'_>,
+    format: Format,
+    from: &Part,
+    to: &Part,
+    after: usize,
+    before: usize,
+    missing: &Missing,
+) -> Option<(Part, Part)>
+    requires order { from.now.number + from.now.count ≤ to.now.number }
+    requires small { to.now.number < 2 ^ 32 }
+    requires few { (after ≤ 100) × (before ≤ 100) × (before ≤ to.now.number) }
+    ensures sides { result ≡ sides_in format pulses.old.track.pulses from.now to.now after before
+        missing.now }
+    ensures pulses { pulses.new.track ≡ pulses.old.track }
+{
+    if is_torn(pulses, format, from, to, after, before) {
+        torn_sides(pulses, format, from, to, after, before, missing)
+    } else {
+        sides_at(pulses, format, from, to, after, before, missing)
+    }
+}
+
+/// The pulses between two frames that have a time: those in step with the first, and those in step
+/// with the second.
+pub fn between(
+    pulses: &mut Lens<'_>,
+    format: Format,
+    century: u32,
+    from: &Part,
+    to: &Part,
+) -> Option<(Part, Part)>
+    requires century { century ≤ 99 }
+    requires times { (from.now.time.micros < 2 ^ 59) × (to.now.time.micros < 2 ^ 59) }
+    requires order { from.now.number + from.now.count ≤ to.now.number }
+    requires small { to.now.number < 2 ^ 32 }
+    ensures between { result ≡ between format century pulses.old.track.pulses from.now to.now }
+    ensures pulses { pulses.new.track ≡ pulses.old.track }
+{
+    let Some(missing) = missing_by(pulses, format, century, from, to) else {
+        return None;
+    };
+    let gap = gap(from, to);
+    let after = ahead(pulses, format, from.number + from.count, min(gap, 100));
+    let before = behind(pulses, format, to.number, min(gap, 100));
+    sides_in(pulses, format, from, to, after, before, &missing)
+}

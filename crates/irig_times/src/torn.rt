@@ -1,0 +1,209 @@
+//! Whether intervals are lost between two frames, and what pulses say of the elements there.
+
+ghost use Rattle.std.specs.Prelude.{◌≡◌, ◌≤◌, ◌<◌, ◌+◌, ◌*◌, ◌^◌, Some, slice_get};
+ghost use Rattle.irig_codes.specs.Format.{frame_period_of};
+ghost use Rattle.irig_index.specs.Marker.{is_position};
+ghost use Rattle.irig_times.specs.Torn.{are_near, are_tens, both_last, confirms, denies};
+ghost use Rattle.irig_times.specs.Torn.{element_of, from_to, is_mark, is_torn, pulse_of};
+ghost use Rattle.irig_times.specs.Torn.{tenths_by, tenths_found, tenths_told};
+
+use crate::between::gap;
+use crate::ends::{contradicts, is_identifier};
+use crate::missing::rounded;
+use crate::part::Part;
+use crate::steps::pulse_at;
+use irig_codes::{Element, Format, class};
+use irig_recording::Pulse;
+use irig_track::Lens;
+
+/// The last element of a frame.
+const LAST: usize = 99;
+
+/// Pulses next to a frame: from the one of a number on, or back.
+#[derive(Clone, Copy)]
+pub struct Side {
+    /// Whether they go back.
+    pub is_back: bool,
+    /// The number of the first.
+    pub number: usize,
+}
+
+/// How long after one pulse another rises; 0 if one of them is not there.
+fn from_to(pulses: &mut Lens<'_>, one: usize, other: usize) -> u64
+    ensures time { result ≡ from_to pulses.old.track.pulses one other }
+    ensures low { result ≤ 2 ^ 40 }
+    ensures pulses { pulses.new.track ≡ pulses.old.track }
+{
+    let first = pulse_at(pulses, one);
+    let last = pulse_at(pulses, other);
+    match (first, last) {
+        (Some(first), Some(last)) => last.rise.saturating_sub(first.rise),
+        (Some(_), None) => 0,
+        (None, Some(_)) => 0,
+        (None, None) => 0,
+    }
+}
+
+/// How long two frames last, each from its marker to its last element.
+fn both_last(pulses: &mut Lens<'_>, from: &Part, to: &Part) -> u64
+    requires { (from.now.number < 2 ^ 32) × (to.now.number < 2 ^ 32) }
+    ensures time { result ≡ both_last pulses.old.track.pulses from.now to.now }
+    ensures low { result ≤ 2 ^ 41 }
+    ensures pulses { pulses.new.track ≡ pulses.old.track }
+{
+    let first = from_to(pulses, from.number, from.number + LAST);
+    let last = from_to(pulses, to.number, to.number + LAST);
+    first + last
+}
+
+/// How many tenths of an interval a time has, by the mean interval of two frames that last so long.
+fn tenths_by(both: u64, time: u64) -> u64
+    requires { (both ≤ 2 ^ 41) × (time ≤ 2 ^ 40) }
+    ensures count { result ≡ tenths_by both time }
+    ensures few { result ≤ 2 ^ 53 }
+{
+    if both == 0 {
+        0
+    } else {
+        (3960 * time + both) / (2 * both)
+    }
+}
+
+/// How many tenths of an interval one frame ends after another, as it was recorded.
+pub fn tenths_found(pulses: &mut Lens<'_>, from: &Part, to: &Part) -> u64
+    requires { (from.now.number < 2 ^ 32) × (to.now.number < 2 ^ 32) }
+    ensures count { result ≡ tenths_found pulses.old.track.pulses from.now to.now }
+    ensures few { result ≤ 2 ^ 54 }
+    ensures pulses { pulses.new.track ≡ pulses.old.track }
+{
+    let both = both_last(pulses, from, to);
+    let time = from_to(pulses, from.number + LAST, to.number);
+    tenths_by(both, time) + 990
+}
+
+/// The same by their times.
+fn tenths_told(pulses: &mut Lens<'_>, format: Format, from: &Part, to: &Part) -> u64
+    ensures count { result ≡ tenths_told format pulses.old.track.pulses from.now to.now }
+    ensures few { result ≤ 2 ^ 54 }
+    ensures pulses { pulses.new.track ≡ pulses.old.track }
+{
+    let time = from_to(pulses, from.number, to.number);
+    1000 * rounded(format.frame_period(), 0, time)
+}
+
+/// Whether two numbers of tenths are the same, to half an interval.
+fn are_near(one: u64, other: u64) -> bool
+    requires { (one ≤ 2 ^ 54) × (other ≤ 2 ^ 54) }
+    ensures { result ≡ are_near one other }
+{
+    one <= other + 5 && other <= one + 5
+}
+
+/// Whether these tenths are tens of intervals, to a fifth of one.
+pub fn are_tens(count: u64) -> bool
+    requires { count ≤ 2 ^ 54 }
+    ensures { result ≡ are_tens count }
+{
+    (count + 2) % 100 <= 4
+}
+
+/// Whether the stretch between two frames is torn, in which some pulses after the first and some
+/// before the second are in step.
+pub fn is_torn(
+    pulses: &mut Lens<'_>,
+    format: Format,
+    from: &Part,
+    to: &Part,
+    after: usize,
+    before: usize,
+) -> bool
+    requires order { from.now.number + from.now.count ≤ to.now.number }
+    requires small { to.now.number < 2 ^ 32 }
+    requires few { (after ≤ 100) × (before ≤ 100) }
+    ensures torn { result ≡ is_torn format pulses.old.track.pulses from.now to.now after before }
+    ensures pulses { pulses.new.track ≡ pulses.old.track }
+{
+    if gap(from, to) < after + before {
+        return false;
+    }
+    let found = tenths_found(pulses, from, to);
+    let told = tenths_told(pulses, format, from, to);
+    !are_near(found, told)
+}
+
+/// The number of a pulse of a side.
+fn pulse_of(side: &Side, place: usize) -> usize
+    requires { (side.now.number < 2 ^ 32) × (place < 2 ^ 32) }
+    ensures { result ≡ pulse_of side.now place }
+{
+    if side.is_back {
+        side.number.saturating_sub(place)
+    } else {
+        side.number + place
+    }
+}
+
+/// The element of a pulse of a side.
+fn element_of(side: &Side, place: usize) -> usize
+    requires { place < 100 }
+    ensures element { result ≡ element_of side.now place }
+    ensures few { result < 100 }
+{
+    if side.is_back { LAST - place } else { place }
+}
+
+/// Whether a pulse of a side says another element.
+pub fn denies(
+    pulses: &mut Lens<'_>,
+    format: Format,
+    wanted: &[Element; 100],
+    side: &Side,
+    place: usize,
+) -> bool
+    requires { (side.now.number < 2 ^ 32) × (place < 100) }
+    ensures answer { result ≡ denies format pulses.old.track.pulses wanted.now side.now place }
+    ensures pulses { pulses.new.track ≡ pulses.old.track }
+{
+    let number = pulse_of(side, place);
+    let element = element_of(side, place);
+    contradicts(pulses, format, wanted, number, element)
+}
+
+/// Whether a pulse is a position identifier, as it should be.
+fn is_mark(format: Format, pulse: Option<Pulse>, wanted: Element) -> bool
+    ensures { result ≡ is_mark format pulse (Some wanted) }
+{
+    match pulse {
+        Some(pulse) => {
+            is_identifier(wanted)
+                && is_position(class(format, pulse.fall.saturating_sub(pulse.rise)))
+        }
+        None => false,
+    }
+}
+
+/// Whether a class is that of a position identifier.
+fn is_position(class: Option<Element>) -> bool
+    ensures { result ≡ is_position class }
+{
+    match class {
+        Some(Element::Position) => true,
+        _ => false,
+    }
+}
+
+/// Whether a pulse of a side is a position identifier, as it should be.
+pub fn confirms(
+    pulses: &mut Lens<'_>,
+    format: Format,
+    wanted: &[Element; 100],
+    side: &Side,
+    place: usize,
+) -> bool
+    requires { (side.now.number < 2 ^ 32) × (place < 100) }
+    ensures answer { result ≡ confirms format pulses.old.track.pulses wanted.now side.now place }
+    ensures pulses { pulses.new.track ≡ pulses.old.track }
+{
+    let pulse = pulse_at(pulses, pulse_of(side, place));
+    is_mark(format, pulse, wanted[element_of(side, place)])
+}
