@@ -1,20 +1,7 @@
--- The name of a column, and the header that it needs.
-use Rattle.std.proofs.Common.{◌≡◌, ◌==◌, ◌&&◌, ◌<◌, ◌^◌, ℕ, suc, Bool, true, false, List, Option, Some, None, min, refl, sym, ap, ◌∙◌, arith}
-use Rattle.std.specs.Prelude.{IfSome, is_some, option_map}
-use Rattle.std.proofs.lemmas.{Bool.true≢false}
-use denote.Ref.{Bor}
-use Rattle.irig_time.specs.{Samples.IsNamed, Samples.names_column, declared.asked.Asked.Asked}
+-- A number that is too great for its bits is a number.
+use Rattle.std.proofs.Common.{◌≡◌, ◌^◌, ℕ, Option, Some, None, min, refl}
+use Rattle.std.specs.Prelude.{is_some, option_map}
 
-not-zero : (n : ℕ) → (n == 0) ≡ false → 0 < n
-not-zero 0 e = absurd (true≢false e)
-not-zero (suc n) e = omega arith
-
-pub headed-by : (a : Asked) (number : ℕ) (named : Option (Bor (List ℕ))) (header : ℕ) → IsNamed a number named
-    → (names_column a && (header == 0)) ≡ false → IfSome named (λ n. 0 < header)
-headed-by a number None header h k = tt
-headed-by a number (Some name) header h k = not-zero header (sym (ap (λ (b : Bool). b && (header == 0)) h.0) ∙ k)
-
--- a number that is too great is a number
-pub some-capped : (x : Option ℕ) → is_some (option_map (λ v. min v (2 ^ 120)) x) ≡ is_some x
-some-capped None = refl
-some-capped (Some v) = refl
+pub some_capped : (x : Option ℕ) → is_some (option_map (λ v. min v (2 ^ 120)) x) ≡ is_some x
+some_capped None = refl
+some_capped (Some v) = refl

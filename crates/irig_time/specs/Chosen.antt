@@ -1,12 +1,12 @@
 -- What a command line asks for. This project's own.
-use Rattle.std.specs.Prelude.{◌≡◌, ◌==◌, ◌&&◌, ◌||◌, ◌^◌, ◌<◌, ◌≤◌, Bool, true, false, nat_lt, not}
+use Rattle.std.specs.Prelude.{◌≡◌, ◌&&◌, ◌||◌, ◌^◌, ◌<◌, ◌≤◌, Bool, true, false, nat_lt, not}
 use Rattle.std.specs.Prelude.{Some, IfSome, codes, is_some}
 use Rattle.std.specs.Str.{bytes_eq}
 use Rattle.irig_codes.specs.{Format.FormatView, Format.is_permitted, Words.kind_named}
 use Rattle.irig_stamps.specs.declared.settings.Form.TheVariants.{Ordinal, Calendar, Seconds}
 use Rattle.irig_stamps.specs.{declared.picos.Picos.Picos, declared.settings.Form.Form}
 use Rattle.irig_stamps.specs.declared.settings.Settings.{Settings}
-use Rattle.irig_time.specs.Samples.{HasColumns, HasDates, HasName, names_column}
+use Rattle.irig_time.specs.Samples.{HasColumns, HasDates, HasName}
 use Rattle.irig_time.specs.{Values.digit_named, Values.text_or, Values.whole_between}
 use Rattle.irig_time.specs.{Windows.IsWindow, declared.samples.Column.Column}
 use Rattle.irig_time.specs.{declared.asked.Asked.Asked, declared.chosen.Chosen.Chosen}
@@ -37,7 +37,7 @@ column_of s = record { number = s.column; named = s.named }
 pub record HasSettings (a : Asked) (s : Settings) : Type 0 where
   pub columns : HasColumns a s.places (start_of s) (column_of s) s.comma
   pub header : whole_between 0 4294967296 (text_or a.header (codes "0")) ≡ Some s.header
-  pub headed : (names_column a && (s.header == 0)) ≡ false
+  pub headed : IfSome s.named (λ n. 0 < s.header)
   pub name : HasName a s.comma s.header s.name.now
   pub dates : HasDates a s.century s.year s.form
   pub alone : s.alone ≡ stands_alone a

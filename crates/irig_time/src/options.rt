@@ -98,7 +98,7 @@ fn settings_of<'a>(asked: &Asked<'a>) -> Result<Settings<'a>, OptionFault>
 {
     let columns = columns_of(asked)?;
     let dates = dates_of(asked)?;
-    let header = header_of(asked)?;
+    let header = header_of(asked, columns.column.named)?;
     let name = name_of(asked, columns.comma, header)?;
     Ok(Settings {
         places: columns.places,

@@ -1,7 +1,6 @@
 //! How the lines of the samples are read, and how a time is written.
 
-ghost use Rattle.std.specs.Prelude.{◌≡◌, ◌==◌, ◌&&◌, ◌≤◌, ◌<◌, ◌^◌, IfErr, IfOk, IfSome, Some, codes};
-ghost use Rattle.std.specs.Prelude.{false};
+ghost use Rattle.std.specs.Prelude.{◌≡◌, ◌≤◌, ◌<◌, ◌^◌, IfErr, IfOk, IfSome, Some, codes, true};
 ghost use Rattle.irig_time.specs.Faults.{HasFault};
 ghost use Rattle.irig_time.specs.Samples.{HasColumns, HasDates, IsColumn, IsComma, is_column_name};
 ghost use Rattle.irig_time.specs.Samples.{names_column};
@@ -51,6 +50,8 @@ pub struct Column<'a> {
 pub fn columns_of<'a>(asked: &Asked<'a>) -> Result<Columns<'a>, OptionFault>
     ensures columns { IfOk result (λ c. HasColumns asked.now c.places c.offset c.column c.comma) }
     ensures sound { IfOk result (λ c. c.offset.size ≤ 2 ^ 119) }
+    ensures named { IfOk result (λ c.
+        IfSome c.column.named (λ n. names_column asked.now ≡ true)) }
     ensures fault { IfErr result (HasFault asked.now) }
 {
     let Some(places) = places_named(text_or(asked.unit, "us")) else {
@@ -74,6 +75,7 @@ pub fn columns_of<'a>(asked: &Asked<'a>) -> Result<Columns<'a>, OptionFault>
 /// The column that is asked for: a number, or a name if it is none.
 fn column_of<'a>(asked: &Asked<'a>) -> Result<Column<'a>, OptionFault>
     ensures column { IfOk result (IsColumn asked.now) }
+    ensures named { IfOk result (λ c. IfSome c.named (λ n. names_column asked.now ≡ true)) }
     ensures fault { IfErr result (HasFault asked.now) }
 {
     let text = text_or(asked.column, "1");
@@ -93,6 +95,7 @@ fn column_of<'a>(asked: &Asked<'a>) -> Result<Column<'a>, OptionFault>
 }
 
 /// Whether a text is the name of a column, and no number.
+#[tactic(auto, using(crate::proofs::Headed::some_capped))]
 fn is_column_name(text: &[u8]) -> bool
     ensures { result ≡ is_column_name text.now }
 {
@@ -100,17 +103,21 @@ fn is_column_name(text: &[u8]) -> bool
 }
 
 /// How many lines are the header. A column with a name needs one.
-pub fn header_of(asked: &Asked<'_>) -> Result<u64, OptionFault>
+pub fn header_of(asked: &Asked<'_>, named: Option<&[u8]>) -> Result<u64, OptionFault>
+    requires { IfSome named (λ n. names_column asked.now ≡ true) }
     ensures header { IfOk result (λ header.
         whole_between 0 4294967296 (text_or asked.now.header (codes "0")) ≡ Some header) }
-    ensures headed { IfOk result (λ header. (names_column asked.now && (header == 0)) ≡ false) }
+    ensures headed { IfOk result (λ header. IfSome named.entry (λ n. 0 < header)) }
     ensures sound { IfOk result (λ header. header < 2 ^ 64) }
     ensures fault { IfErr result (HasFault asked.now) }
 {
     let Some(header) = whole_between(0, HEADER_LIMIT, text_or(asked.header, "0")) else {
         return Err(OptionFault::Header);
     };
-    if header == 0 && is_column_name(text_or(asked.column, "1")) {
+    let Some(_) = named else {
+        return Ok(header as u64);
+    };
+    if header == 0 {
         return Err(OptionFault::Headless);
     }
     Ok(header as u64)
