@@ -11,6 +11,7 @@ UNITS = {"s": Fraction(10**6), "ms": Fraction(10**3), "us": Fraction(1), "ns": F
 LONG_MINUTE = 61_000_000  # microseconds
 LONGEST_LINE = 2**20
 NUMBER = re.compile(rb"[ \t\r]*([+-]?[0-9]+(?:\.[0-9]+)?)(?:[eE]([+-]?[0-9]+))?[ \t\r]*")
+COLUMNS = 65536  # that a number can name
 FARTHEST = 4000  # an exponent that is greater says no more, as long as a column has fewer digits
 
 
@@ -462,6 +463,21 @@ def number(options, line):
         return None
     exponent = max(-FARTHEST, min(int(found[2] or 0), FARTHEST))
     return Fraction(found[1].decode()) * Fraction(10)**exponent * UNITS[options.unit]
+
+
+def column_named(options, name, text):
+    """The column, from 1, with a name in the last line of the header; or why there is none."""
+    lines = text.split(b"\n")
+    if not lines[-1]:
+        lines.pop()
+    if len(lines) < options.header:
+        return "the lines end before the header does"
+    last = lines[options.header - 1]
+    columns = re.findall(rb"[^ \t\r]+", last) if options.comma is None else last.split(options.comma)
+    places = [place for place, column in enumerate(columns[:COLUMNS], 1) if column.strip(b" \t\r") == name]
+    if len(places) == 1:
+        return places[0]
+    return "two columns of the header have this name" if places else "no column of the header has this name"
 
 
 def table(options, pulses):

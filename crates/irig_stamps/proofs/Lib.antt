@@ -9,6 +9,8 @@ pub mod DateSteps
 pub mod TakenBytes
 pub mod Added
 pub mod Known
+pub mod Places
+pub mod HeaderReads
 pub mod RunSteps
 -- rows of a table
 pub mod TableRows

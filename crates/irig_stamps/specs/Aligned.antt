@@ -1,6 +1,7 @@
 -- Lines that are aligned with a recording. This project's own.
-use Rattle.std.specs.Prelude.{◌≡◌, ◌⊎◌, ℕ, Bool, List, Option, Result, Ok, Err, IfOk, is_some}
-use Rattle.std.specs.Prelude.{unwrap_or}
+use Rattle.std.specs.Prelude.{◌≡◌, ◌⊎◌, ℕ, Bool, List, Option, Some, None, Result, Ok, Err, IfOk}
+use Rattle.std.specs.Prelude.{is_some, unwrap_or}
+use denote.Ref.{Bor}
 use Rattle.irig_codes.specs.Format.{FormatView}
 use Rattle.irig_index.specs.Frames.{frames}
 use Rattle.irig_recording.specs.declared.pulse.Pulse.{Pulse}
@@ -8,7 +9,7 @@ use Rattle.irig_track.specs.Edges.{edges_of}
 use Rattle.irig_stamps.specs.declared.fault.RunFault.TheVariants.{OutOfMemory}
 use Rattle.irig_stamps.specs.declared.settings.Settings.{Settings}
 use Rattle.irig_stamps.specs.{Dates.doubted, Dates.first_day, Runs.Ends, declared.fault.RunFault.RunFault}
-use Rattle.irig_stamps.specs.declared.outcome.Outcome.{Outcome}
+use Rattle.irig_stamps.specs.{Named.Finds, declared.outcome.Outcome.Outcome}
 use Rattle.irig_stamps.specs.declared.outcome.Standing.{Standing}
 use Rattle.irig_times.specs.Support.{believed}
 
@@ -46,8 +47,34 @@ pub record AlignsPulses (f : FormatView) (edges : List ℕ) (s : Settings)
   pub stands : IfOk result (λ outcome. outcome.standing ≡ standing_of f pulses s)
 
 -- the same; or memory ran out, and nothing was read or printed
-abbrev pub Aligns : FormatView → List ℕ → Settings → Option (List ℕ) → Option (List ℕ)
+abbrev pub AlignsNumbered : FormatView → List ℕ → Settings → Option (List ℕ) → Option (List ℕ)
     → Option (List ℕ) → Option (List ℕ) → Result Outcome RunFault → Type 0
-Aligns f edges s lines left from to result =
+AlignsNumbered f edges s lines left from to result =
     AlignsPulses f edges s lines left from to result
     ⊎ ((result ≡ Err OutOfMemory) × ((left ≡ lines) × (to ≡ from)))
+
+-- the settings with the number of a column, from 0
+abbrev pub with_column : Settings → ℕ → Settings
+with_column s k = record s { column = k }
+
+-- the run ended as with the number of the column that has the name in the header; or that column is
+-- not known, and nothing was printed
+abbrev pub AlignsNamed : List ℕ → FormatView → List ℕ → Settings → Option (List ℕ)
+    → Option (List ℕ) → Option (List ℕ) → Option (List ℕ) → Result Outcome RunFault → Type 0
+AlignsNamed name f edges s lines left from to result =
+    ((k : ℕ) × (mid : Option (List ℕ)) × (bytes : List ℕ) × Finds s name lines mid bytes (Ok k)
+    × AlignsPulses f edges (with_column s k) lines left from to result)
+    ⊎ ((fault : RunFault) × (bytes : List ℕ) × (result ≡ Err fault)
+    × (Finds s name lines left bytes (Err fault) × (to ≡ from)))
+
+-- by the number of the column, or by its name
+abbrev pub AlignsBy : Option (Bor (List ℕ)) → FormatView → List ℕ → Settings → Option (List ℕ)
+    → Option (List ℕ) → Option (List ℕ) → Option (List ℕ) → Result Outcome RunFault → Type 0
+AlignsBy None f edges s lines left from to result =
+    AlignsNumbered f edges s lines left from to result
+AlignsBy (Some name) f edges s lines left from to result =
+    AlignsNamed name.now f edges s lines left from to result
+
+abbrev pub Aligns : FormatView → List ℕ → Settings → Option (List ℕ) → Option (List ℕ)
+    → Option (List ℕ) → Option (List ℕ) → Result Outcome RunFault → Type 0
+Aligns f edges s = AlignsBy s.named f edges s

@@ -46,6 +46,11 @@ abbrev pub part_at : ℕ → ℕ → List ℕ → List ℕ
 part_at c zero text = before (Comma c) text
 part_at c (suc k) text = part_at c k (rest_of (onward (Comma c) text))
 
+-- what is after the first column
+abbrev pub passed : Option ℕ → List ℕ → List ℕ
+passed None text = onward Blank (onward Text text)
+passed (Some c) text = rest_of (onward (Comma c) text)
+
 -- column k of a line, from 0; no byte if it is not there
 abbrev pub column_of : Option ℕ → ℕ → List ℕ → List ℕ
 column_of None k text = word_at k text

@@ -8,6 +8,8 @@ pub mod Told
 pub mod Stamps
 pub mod Reasons
 pub mod Runs
+pub mod Named
+pub mod HeaderSteps
 pub mod Steps
 pub mod Aligned
 pub mod Front

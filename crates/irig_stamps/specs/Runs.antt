@@ -74,6 +74,7 @@ IsCause OutOfMemory more back rest count = back ≡ []
 IsCause (TooLong number) more back rest count =
     (byte : ℕ) × (others : List ℕ) × (more ≡ byte ∷ others) × (byte ≢ 10) × (2 ^ 20 ≤ length rest)
     × (number ≡ counted count 1) × (back ≡ [])
+IsCause _ more back rest count = ⊥
 
 -- a front of what comes out for the lines that were read was printed
 pub record Broke (f : FormatView) (ps : List Pulse) (s : Settings)

@@ -1,10 +1,13 @@
 //! Lines that are aligned with a track.
 
-ghost use Rattle.std.specs.Prelude.{◌≡◌, ◌≤◌, ◌<◌, ◌^◌, IfOk, IfSome};
-ghost use Rattle.irig_stamps.specs.Aligned.{Aligns, numbers_of, standing_of, with_first_day};
+ghost use Rattle.std.specs.Prelude.{◌≡◌, ◌≤◌, ◌<◌, ◌^◌, ℕ, List, Option, IfOk, IfSome};
+ghost use Rattle.std.specs.Io.KnownBytes.{Consumes};
+ghost use Rattle.irig_stamps.specs.Aligned.{Aligns, AlignsNamed, AlignsNumbered, numbers_of};
+ghost use Rattle.irig_stamps.specs.Aligned.{standing_of, with_first_day};
 ghost use Rattle.irig_stamps.specs.Runs.{Ends};
 
 use crate::fault::RunFault;
+use crate::finding::find;
 use crate::first_day::{doubted, first_day};
 use crate::knowledge::known_of;
 use crate::outcome::{Outcome, Standing};
@@ -31,19 +34,20 @@ pub fn align<R: Read, W: Write>(
     requires offset { settings.now.offset ≤ 2 ^ 119 }
     requires year { IfSome settings.now.year (λ y. y ≤ 9998) }
     requires header { settings.now.header < 2 ^ 64 }
+    requires named { IfSome settings.now.named (λ n. 0 < settings.now.header) }
     ensures { Aligns format recording.edges settings.now (R.remaining lines.old)
         (R.remaining lines.new) (W.contents out.old) (W.contents out.new) result }
 {
-    let Ok(track) = Track::new(recording) else {
-        return Err(RunFault::OutOfMemory);
+    let Some(name) = settings.named else {
+        return align_numbered(alloc, recording, lines, out, format, settings);
     };
-    align_track(alloc, &track, lines, out, format, settings)
+    align_named(alloc, recording, lines, out, format, settings, name)
 }
 
-/// The same with a track.
-fn align_track<R: Read, W: Write>(
+/// The same, if the number of the column is known.
+fn align_numbered<R: Read, W: Write>(
     alloc: Global,
-    track: &Track,
+    recording: Recording,
     lines: &mut R,
     out: &mut W,
     format: Format,
@@ -53,8 +57,64 @@ fn align_track<R: Read, W: Write>(
     requires offset { settings.now.offset ≤ 2 ^ 119 }
     requires year { IfSome settings.now.year (λ y. y ≤ 9998) }
     requires header { settings.now.header < 2 ^ 64 }
-    ensures ends { Ends format track.now.pulses
-        (with_first_day format track.now.pulses settings.now) (R.remaining lines.old)
+    ensures { AlignsNumbered format recording.edges settings.now (R.remaining lines.old)
+        (R.remaining lines.new) (W.contents out.old) (W.contents out.new) result }
+{
+    let Ok(track) = Track::new(recording) else {
+        return Err(RunFault::OutOfMemory);
+    };
+    align_track(alloc, &track, b"", lines, out, format, settings)
+}
+
+/// The same, if the column has this name in the header.
+fn align_named<R: Read, W: Write>(
+    alloc: Global,
+    recording: Recording,
+    lines: &mut R,
+    out: &mut W,
+    format: Format,
+    settings: &Settings<'_>,
+    name: &[u8],
+) -> Result<Outcome, RunFault>
+    requires century { settings.now.century ≤ 99 }
+    requires offset { settings.now.offset ≤ 2 ^ 119 }
+    requires year { IfSome settings.now.year (λ y. y ≤ 9998) }
+    requires header { settings.now.header < 2 ^ 64 }
+    requires named { 0 < settings.now.header }
+    ensures { AlignsNamed name.now format recording.edges settings.now (R.remaining lines.old)
+        (R.remaining lines.new) (W.contents out.old) (W.contents out.new) result }
+{
+    let found = match find(alloc, lines, settings, name) {
+        Ok(found) => found,
+        Err(fault) => return Err(fault),
+    };
+    let Ok(track) = Track::new(recording) else {
+        return Err(RunFault::OutOfMemory);
+    };
+    let settings = Settings {
+        column: found.column,
+        ..*settings
+    };
+    let before = found.bytes.as_slice();
+    align_track(alloc, &track, before, lines, out, format, &settings)
+}
+
+/// The same with a track, and with what was read of the lines before.
+fn align_track<R: Read, W: Write>(
+    alloc: Global,
+    track: &Track,
+    before: &[u8],
+    lines: &mut R,
+    out: &mut W,
+    format: Format,
+    settings: &Settings<'_>,
+) -> Result<Outcome, RunFault>
+    requires century { settings.now.century ≤ 99 }
+    requires offset { settings.now.offset ≤ 2 ^ 119 }
+    requires year { IfSome settings.now.year (λ y. y ≤ 9998) }
+    requires header { settings.now.header < 2 ^ 64 }
+    ensures ends { (start : Option (List ℕ)) → Consumes start (R.remaining lines.old) before.now
+        → Ends format track.now.pulses (with_first_day format track.now.pulses settings.now) start
         (R.remaining lines.new) (W.contents out.old) (W.contents out.new) (numbers_of result) }
     ensures stands { IfOk result (λ outcome.
         outcome.standing ≡ standing_of format track.now.pulses settings.now) }
@@ -76,7 +136,9 @@ fn align_track<R: Read, W: Write>(
         first_day: day.unwrap_or(0),
         ..*settings
     };
-    match run(alloc, lines, out, &mut lens, &known, format, &settings) {
+    match run(
+        alloc, before, lines, out, &mut lens, &known, format, &settings,
+    ) {
         Ok(numbered) => Ok(Outcome {
             numbered,
             standing: Standing {

@@ -1,7 +1,7 @@
 //! The columns of a line.
 
-ghost use Rattle.std.specs.Prelude.{◌≡◌};
-ghost use Rattle.irig_stamps.specs.Columns.{column_of, word_at, part_at, rest_of};
+ghost use Rattle.std.specs.Prelude.{◌≡◌, Some, None};
+ghost use Rattle.irig_stamps.specs.Columns.{column_of, passed, word_at, part_at, rest_of};
 
 use crate::cutting::{Until, cut};
 
@@ -41,6 +41,33 @@ fn part(comma: u8, k: usize, line: &[u8]) -> &[u8]
     }
     let (part, _) = cut(left, Until::Comma(comma));
     part
+}
+
+/// What is after the first column of a line.
+pub fn passed(comma: Option<u8>, line: &[u8]) -> &[u8]
+    ensures { result.now ≡ passed comma line.now }
+{
+    match comma {
+        Some(comma) => after_part(comma, line),
+        None => after_word(line),
+    }
+}
+
+/// What is after the first column, if white space parts them.
+fn after_word(line: &[u8]) -> &[u8]
+    ensures { result.now ≡ passed None line.now }
+{
+    let (_, text) = cut(line, Until::Text);
+    let (_, left) = cut(text, Until::Blank);
+    left
+}
+
+/// What is after the first column, if a byte parts them.
+fn after_part(comma: u8, line: &[u8]) -> &[u8]
+    ensures { result.now ≡ passed (Some comma) line.now }
+{
+    let (_, text) = cut(line, Until::Comma(comma));
+    rest(text)
 }
 
 /// All but the first byte.

@@ -20,6 +20,18 @@ pub enum RunFault {
     /// There is no memory.
     #[error("out of memory")]
     OutOfMemory,
+    /// The lines ended before their header did.
+    #[error("the lines end before the header does")]
+    NoHeader,
+    /// A column is looked for in a header that did not end in the first 1 MiB.
+    #[error("the header has more than 1 MiB")]
+    LongHeader,
+    /// No column has the name that is looked for.
+    #[error("no column of the header has this name")]
+    NoColumn,
+    /// Two columns have it.
+    #[error("two columns of the header have this name")]
+    TwoColumns,
 }
 
 /// Why a line was not taken.

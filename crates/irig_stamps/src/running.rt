@@ -1,8 +1,8 @@
 //! The run over a text of lines.
 
-ghost use Rattle.std.specs.Prelude.{◌≡◌, ◌≤◌, ◌<◌, ◌^◌, [], ℕ, List, Option, true, OnOk, IfOk};
+ghost use Rattle.std.specs.Prelude.{◌≡◌, ◌≤◌, ◌<◌, ◌^◌, [], ℕ, List, Option, true, false, OnOk, IfOk};
 ghost use Rattle.std.specs.Prelude.{IfSome};
-ghost use Rattle.std.specs.{Io.ReadsAtMost, Io.KnownBytes.IsAtEnd, Io.KnownBytes.ReadConsumes};
+ghost use Rattle.std.specs.Io.KnownBytes.{Consumes, IsAtEnd};
 ghost use Rattle.irig_stamps.specs.Reasons.{IsKnownOf};
 ghost use Rattle.irig_stamps.specs.Runs.{Ends};
 ghost use Rattle.irig_stamps.specs.Steps.{GoesOn, PrintsAll, Stops, Underway};
@@ -11,6 +11,7 @@ use crate::fault::{RunFault, TakeFault};
 use crate::knowledge::Known;
 use crate::lines::Lines;
 use crate::printing::put_all;
+use crate::reading::{READ_LIMIT, READS_LIMIT, read_part};
 use crate::settings::Settings;
 use crate::taking::{end_line, take_part};
 use irig_codes::Format;
@@ -18,17 +19,11 @@ use irig_track::Lens;
 use std::alloc::Global;
 use std::io::{Read, Write};
 
-/// The most bytes of one read. What comes out for them is at most 16 times as long, for lines of
-/// two bytes.
-const READ_LIMIT: usize = 32_768;
-
-/// The most reads.
-const READS_LIMIT: u64 = 4_294_967_296;
-
-/// Reads lines to their end, and prints each with its time before it. Returns whether the column of
-/// each has a number, but for the header.
+/// Takes what was read of the lines before, reads them to their end, and prints each with its time
+/// before it. Returns whether the column of each has a number, but for the header.
 pub fn run<R: Read, W: Write>(
     alloc: Global,
+    before: &[u8],
     lines: &mut R,
     out: &mut W,
     pulses: &mut Lens<'_>,
@@ -41,19 +36,53 @@ pub fn run<R: Read, W: Write>(
     requires offset { settings.now.offset ≤ 2 ^ 119 }
     requires year { IfSome settings.now.year (λ y. y ≤ 9998) }
     requires header { settings.now.header < 2 ^ 64 }
-    ensures { Ends format pulses.old.track.pulses settings.now (R.remaining lines.old)
-        (R.remaining lines.new) (W.contents out.old) (W.contents out.new) result }
+    ensures { (start : Option (List ℕ)) → Consumes start (R.remaining lines.old) before.now
+        → Ends format pulses.old.track.pulses settings.now start (R.remaining lines.new)
+        (W.contents out.old) (W.contents out.new) result }
 {
-    let mut buffer = [0; READ_LIMIT];
     let mut state = Lines::new(alloc);
     let mut text = Vec::new(alloc);
+    match put_part(
+        out, &mut state, &mut text, pulses, known, format, settings, before,
+    ) {
+        Ok(_) => run_on(
+            lines, out, &mut state, &mut text, pulses, known, format, settings,
+        ),
+        Err(fault) => Err(fault),
+    }
+}
+
+/// Reads the rest of the lines, and prints what comes out for it.
+fn run_on<R: Read, W: Write>(
+    lines: &mut R,
+    out: &mut W,
+    state: &mut Lines,
+    text: &mut Vec<u8>,
+    pulses: &mut Lens<'_>,
+    known: &Known,
+    format: Format,
+    settings: &Settings<'_>,
+) -> Result<bool, RunFault>
+    requires known { IsKnownOf format settings.now pulses.old.track.pulses known.now }
+    requires century { settings.now.century ≤ 99 }
+    requires offset { settings.now.offset ≤ 2 ^ 119 }
+    requires year { IfSome settings.now.year (λ y. y ≤ 9998) }
+    requires header { settings.now.header < 2 ^ 64 }
+    requires empty { text.old.items ≡ [] }
+    ensures { (start : Option (List ℕ)) (from : Option (List ℕ))
+        → Underway format pulses.old.track.pulses settings.now start (R.remaining lines.old) from
+        (W.contents out.old) state.old.line.items state.old.count state.old.all
+        → Ends format pulses.old.track.pulses settings.now start (R.remaining lines.new) from
+        (W.contents out.new) result }
+{
+    let mut buffer = [0; READ_LIMIT];
     for reads in 0..READS_LIMIT {
         match run_read(
             lines,
             out,
             &mut buffer,
-            &mut state,
-            &mut text,
+            state,
+            text,
             pulses,
             known,
             format,
@@ -99,7 +128,8 @@ fn run_read<R: Read, W: Write>(
     if count == 0 {
         return end(out, state, text, pulses, known, format, settings);
     }
-    match take_part(
+    put_part(
+        out,
         state,
         text,
         pulses,
@@ -107,20 +137,38 @@ fn run_read<R: Read, W: Write>(
         format,
         settings,
         &buffer[..count],
-    ) {
-        Ok(()) => print(out, text, false),
-        Err(fault) => Err(stop(out, text, state.count, fault)),
-    }
+    )
 }
 
-/// One read. An error of the system goes no further than this.
-fn read_part<R: Read>(lines: &mut R, buffer: &mut [u8; READ_LIMIT]) -> Result<usize, RunFault>
-    ensures bound { ReadsAtMost result buffer.new }
-    ensures bytes { ReadConsumes (R.remaining lines.old) (R.remaining lines.new) result buffer.new }
+/// Takes a part of the lines and prints what comes out for it. Returns that it was not the last.
+fn put_part<W: Write>(
+    out: &mut W,
+    state: &mut Lines,
+    text: &mut Vec<u8>,
+    pulses: &mut Lens<'_>,
+    known: &Known,
+    format: Format,
+    settings: &Settings<'_>,
+    part: &[u8],
+) -> Result<bool, RunFault>
+    requires known { IsKnownOf format settings.now pulses.old.track.pulses known.now }
+    requires century { settings.now.century ≤ 99 }
+    requires offset { settings.now.offset ≤ 2 ^ 119 }
+    requires year { IfSome settings.now.year (λ y. y ≤ 9998) }
+    requires header { settings.now.header < 2 ^ 64 }
+    requires empty { text.old.items ≡ [] }
+    ensures step { (start : Option (List ℕ)) (was : Option (List ℕ)) (is : Option (List ℕ))
+        (from : Option (List ℕ)) → Underway format pulses.old.track.pulses settings.now start was
+        from (W.contents out.old) state.old.line.items state.old.count state.old.all
+        → Consumes was is part.now → GoesOn format pulses.old.track.pulses settings.now start is
+        from (W.contents out.new) state.new result }
+    ensures empty { OnOk result (text.new.items ≡ []) }
+    ensures more { IfOk result (λ ended. ended ≡ false) }
+    ensures pulses { pulses.new.track ≡ pulses.old.track }
 {
-    match lines.read(buffer) {
-        Ok(count) => Ok(count),
-        Err(_) => Err(RunFault::ReadFailed),
+    match take_part(state, text, pulses, known, format, settings, part) {
+        Ok(()) => print(out, text, false),
+        Err(fault) => Err(stop(out, text, state.count, fault)),
     }
 }
 

@@ -22,6 +22,8 @@ pub struct Settings<'a> {
     pub early: bool,
     /// The column of the recorder's time, from 0.
     pub column: usize,
+    /// The name of that column in the last line of the header, if its number is not known.
+    pub named: Option<&'a [u8]>,
     /// The byte that parts columns; white space if it is missing.
     pub comma: Option<u8>,
     /// How many lines from the first on are the header.

@@ -2,7 +2,9 @@ pub mod Options
 pub mod Values
 pub mod Windows
 pub mod Names
+pub mod Samples
 pub mod Chosen
+pub mod Faults
 pub mod Settings
 pub mod Ending
 pub mod Statuses

@@ -6,7 +6,7 @@ use Rattle.clap.specs.declared.parser.matches.ArgMatches.{ArgMatches}
 use Rattle.irig_words.specs.Errors.{MayRefuse}
 use Rattle.irig_time.specs.declared.command_line.UsageFault.{UsageFault}
 use Rattle.irig_time.specs.declared.command_line.UsageFault.TheVariants.{Words, Value}
-use Rattle.irig_time.specs.{Chosen.HasFault, Chosen.IsChosen, Options.IsParsed, Options.the_command}
+use Rattle.irig_time.specs.{Faults.HasFault, Chosen.IsChosen, Options.IsParsed, Options.the_command}
 use Rattle.irig_time.specs.{declared.asked.Asked.Asked, declared.chosen.Chosen.Chosen}
 
 -- the values are those of the matches

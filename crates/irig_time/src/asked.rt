@@ -19,7 +19,7 @@ pub struct Asked<'a> {
     pub unit: Option<&'a str>,
     /// The recorder's time at the start of the track.
     pub offset: Option<&'a str>,
-    /// The column of the recorder's time, from 1.
+    /// The column of the recorder's time: its number from 1, or its name.
     pub column: Option<&'a str>,
     /// What parts columns.
     pub comma: Option<&'a str>,

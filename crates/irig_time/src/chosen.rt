@@ -49,6 +49,9 @@ pub enum OptionFault {
     /// No number of a column.
     #[error("--column: not a number from 1 to 65536")]
     Column,
+    /// A column is given by its name, and there is no header.
+    #[error("--column: a name is looked for in the header, so give --header")]
+    Headless,
     /// Nothing that can part columns.
     #[error("--comma: not one character of ASCII that no number, word or time has")]
     Comma,

@@ -139,8 +139,8 @@ fn placing<'a>(alloc: Global) -> Result<Command<'a>, AllocError>
     let column = option_arg(
         alloc,
         "column",
-        "NUMBER",
-        "the column of its time, from 1: 1",
+        "COLUMN",
+        "of its time: a number from 1, or its name in the header: 1",
     );
     let comma = option_arg(
         alloc,

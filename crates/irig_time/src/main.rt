@@ -8,7 +8,9 @@ mod ending;
 mod file_run;
 mod naming;
 mod options;
+mod samples;
 mod statuses;
+mod values;
 mod window;
 
 ghost use Rattle.std.specs.Prelude.{◌≡◌, map, string_bytes};

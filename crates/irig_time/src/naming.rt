@@ -1,20 +1,21 @@
 //! The name of the column of times.
 
 ghost use Rattle.std.specs.Prelude.{◌≡◌, IfErr, IfOk, Some, codes};
-ghost use Rattle.irig_time.specs.Chosen.{HasFault, HasName, IsComma};
+ghost use Rattle.irig_time.specs.Faults.{HasFault};
+ghost use Rattle.irig_time.specs.Samples.{HasName, IsComma};
 ghost use Rattle.irig_time.specs.Names.{has, has_comma, is_name};
 ghost use Rattle.irig_time.specs.Values.{text_or, whole_between};
 
 use crate::asked::Asked;
 use crate::chosen::OptionFault;
-use crate::options::text_or;
+use crate::values::text_or;
 
 /// The name of the column of times, if a byte parts columns, or white space, and the header has a
 /// number of lines.
 pub fn name_of<'a>(
     asked: &Asked<'a>,
     comma: Option<u8>,
-    header: u128,
+    header: u64,
 ) -> Result<&'a [u8], OptionFault>
     requires comma { IsComma asked.now comma }
     requires header { whole_between 0 4294967296 (text_or asked.now.header (codes "0"))

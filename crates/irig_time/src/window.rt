@@ -1,12 +1,12 @@
 //! The window of the dump that the values of a command line ask for.
 
 ghost use Rattle.std.specs.Prelude.{◌≡◌, IfErr, IfOk};
-ghost use Rattle.irig_time.specs.Chosen.{HasFault};
+ghost use Rattle.irig_time.specs.Faults.{HasFault};
 ghost use Rattle.irig_time.specs.Windows.{IsWindow, time_named};
 
 use crate::asked::Asked;
 use crate::chosen::OptionFault;
-use crate::options::{text_or, whole_between};
+use crate::values::{text_or, whole_between};
 use irig_vcd::Window;
 
 /// The greatest time in microseconds: 2^64 - 1.

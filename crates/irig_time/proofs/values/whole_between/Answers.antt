@@ -1,7 +1,7 @@
 use Rattle.std.proofs.Common.{◌∙◌}
 use Rattle.irig_stamps.specs.Numbers.{whole_in}
 use Rattle.irig_time.proofs.Limits.{capped}
-use Rattle.irig_time.proofs.options.whole_between.Goals as goal
+use Rattle.irig_time.proofs.values.whole_between.Goals as goal
 
 pub returns-in-Some-clause-value : goal.returns-in-Some-clause-value
 returns-in-Some-clause-value c =

@@ -1,0 +1,150 @@
+//! What the texts of single values mean.
+
+ghost use Rattle.std.specs.Prelude.{◌≡◌, ◌≤◌, ◌<◌, ◌^◌, IfSome, Some};
+ghost use Rattle.std.specs.Str.{bytes_eq};
+ghost use Rattle.irig_time.specs.Values.{comma_named, digit_named, form_named, is_of_text};
+ghost use Rattle.irig_time.specs.Values.{is_parting, near, offset_named, places_named};
+ghost use Rattle.irig_time.specs.Values.{prefix_places, text_or, whole_between, within};
+
+use irig_stamps::{Form, Picos, number, whole};
+
+/// The greatest offset: 2^119 picoseconds.
+const LATEST: u128 = 664_613_997_892_457_936_451_903_530_140_172_288;
+
+/// The bytes of an option, or others if it is not given.
+pub fn text_or<'a>(value: Option<&'a str>, other: &'a str) -> &'a [u8]
+    ensures { result.now ≡ text_or value.entry other.entry.now }
+{
+    match value {
+        Some(text) => text.as_bytes(),
+        None => other.as_bytes(),
+    }
+}
+
+/// The number of a text that is one digit.
+pub fn digit_named(text: &[u8]) -> Option<u8>
+    ensures { result ≡ digit_named text.now }
+{
+    match text {
+        [digit @ b'0'..=b'9'] => Some(*digit - b'0'),
+        _ => None,
+    }
+}
+
+/// A whole number from the first to the last.
+pub fn whole_between(first: u128, last: u128, text: &[u8]) -> Option<u128>
+    requires { last < 2 ^ 120 }
+    ensures value { result ≡ whole_between first last text.now }
+    ensures range { IfSome result (λ v. (first ≤ v) × (v ≤ last)) }
+{
+    match whole(text) {
+        Some(number) => within(first, last, number),
+        None => None,
+    }
+}
+
+/// A number, if it is one from the first to the last.
+fn within(first: u128, last: u128, number: u128) -> Option<u128>
+    ensures value { result ≡ within first last (Some number) }
+    ensures range { IfSome result (λ v. (first ≤ v) × (v ≤ last)) }
+{
+    if first <= number && number <= last {
+        Some(number)
+    } else {
+        None
+    }
+}
+
+/// 10^n picoseconds are the unit with this name.
+pub fn places_named(name: &[u8]) -> Option<usize>
+    ensures { result ≡ places_named name.now }
+{
+    match name {
+        [b's'] => Some(12),
+        [prefix, b's'] => prefix_places(*prefix),
+        _ => None,
+    }
+}
+
+/// 10^n picoseconds are the unit with this letter before its s.
+fn prefix_places(prefix: u8) -> Option<usize>
+    ensures { result ≡ prefix_places prefix }
+{
+    match prefix {
+        b'm' => Some(9),
+        b'u' => Some(6),
+        b'n' => Some(3),
+        b'p' => Some(0),
+        _ => None,
+    }
+}
+
+/// A number in a unit, in picoseconds.
+pub fn offset_named(places: usize, text: &[u8]) -> Option<Picos>
+    ensures value { result ≡ offset_named places text.now }
+    ensures range { IfSome result (λ v. v.size ≤ 2 ^ 119) }
+{
+    match number(places, text) {
+        Some(picos) => near(picos),
+        None => None,
+    }
+}
+
+/// A time, if it is not too far from zero.
+fn near(picos: Picos) -> Option<Picos>
+    ensures value { result ≡ near (Some picos) }
+    ensures range { IfSome result (λ v. v.size ≤ 2 ^ 119) }
+{
+    if picos.size <= LATEST {
+        Some(picos)
+    } else {
+        None
+    }
+}
+
+/// A byte that can part columns.
+pub fn comma_named(text: &[u8]) -> Option<u8>
+    ensures { result ≡ comma_named text.now }
+{
+    match text {
+        [byte] if is_parting(*byte) => Some(*byte),
+        _ => None,
+    }
+}
+
+/// Whether a byte of ASCII can part columns: none of a number, a time, a word or a name, and no end
+/// of a line.
+fn is_parting(byte: u8) -> bool
+    ensures { result ≡ is_parting byte }
+{
+    byte <= 127 && !is_of_text(byte) && byte != b'\n' && byte != b'\r'
+}
+
+/// Whether a number, a time, a word or a name can have a byte.
+fn is_of_text(byte: u8) -> bool
+    ensures { result ≡ is_of_text byte }
+{
+    matches!(byte, b'A'..=b'Z' | b'a'..=b'z' | b'0'..=b'9' | b'.' | b'+' | b'-' | b':' | b'"')
+}
+
+/// The form with this name.
+pub fn form_named(name: &[u8]) -> Option<Form>
+    ensures { result ≡ form_named name.now }
+{
+    if is_text(name, b"ordinal") {
+        Some(Form::Ordinal)
+    } else if is_text(name, b"calendar") {
+        Some(Form::Calendar)
+    } else if is_text(name, b"seconds") {
+        Some(Form::Seconds)
+    } else {
+        None
+    }
+}
+
+/// Whether two texts are the same.
+pub fn is_text(text: &[u8], word: &[u8]) -> bool
+    ensures { result ≡ bytes_eq text.now word.now }
+{
+    text == word
+}
