@@ -7,8 +7,7 @@ use Rattle.irig_recording.specs.{Recording.RecordingView, Recording.RisesFrom, R
 use Rattle.irig_track.specs.Edges.{edges_of}
 use Rattle.irig_index.specs.{Frames.frames, declared.record.Record.Record}
 use Rattle.irig_index.proofs.MarkerBounds.{length-records_in}
-use Rattle.irig_times.specs.FrameLooks.{MarkersRise}
-use Rattle.irig_times.proofs.Records.{frame-tells, frames-rise}
+use Rattle.irig_comments.proofs.Markers.{MarkersRise, frame-tells, frames-rise}
 use Rattle.irig_difference.specs.Stretches.{pairs}
 use Rattle.irig_comments.specs.Framed.{FramedView, FramesRise, IsFramed, framed, framed_view, rise_of, shown_as, shown_frames, shown_from}
 

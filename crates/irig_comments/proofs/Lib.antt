@@ -1,3 +1,4 @@
+pub mod Markers
 pub mod FramedViews
 pub mod SidesSteps
 pub mod PlaceLaws

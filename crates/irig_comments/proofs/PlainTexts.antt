@@ -10,8 +10,8 @@ use Rattle.irig_codes.specs.declared.note.Note.TheVariants as note
 use Rattle.irig_index.specs.{declared.record.Cause.Cause, declared.record.Verdict.Verdict}
 use Rattle.irig_index.specs.declared.record.Cause.TheVariants as cause
 use Rattle.irig_index.specs.declared.record.Verdict.TheVariants as verdict
-use Rattle.irig_script.specs.Print.FrameLine.{cause_word, clock_text, hundredths_text, name_word, note_text, part_text, parts_text, time_text, verdict_text}
-use Rattle.irig_script.specs.Print.Row.{hexadecimal, padded}
+use Rattle.irig_print.specs.FrameLine.{cause_word, clock_text, hundredths_text, name_word, note_text, part_text, parts_text, time_text, verdict_text}
+use Rattle.irig_print.specs.Row.{hexadecimal, padded}
 use Rattle.irig_comments.specs.Comments.{IsComment, IsPlain, after_text, before_text, comment_text, whole_text}
 use Rattle.irig_comments.proofs.ShortTexts.{IsShort, short_both, short_counted, short_sides}
 use Rattle.irig_comments.specs.{Counts.counts_text, declared.counts.Counts.Counts, declared.shown.Shown.Shown, declared.sides.Sides.Sides}

@@ -5,7 +5,7 @@ use Rattle.std.specs.List.{AllByRecursion}
 use Rattle.irig_recording.specs.declared.pulse.Pulse.{Pulse}
 use Rattle.irig_index.specs.{Frames.frame_at, Kept.IsNarrow, declared.record.Record.Record}
 use Rattle.irig_index.proofs.NarrowVerdicts.{narrow-verdict_of}
-use Rattle.irig_times.proofs.Records.{frame-tells}
+use Rattle.irig_comments.proofs.Markers.{frame-tells}
 use Rattle.irig_comments.specs.{Framed.FramedView, Framed.IsFramed, Framed.shown_frames, Framed.shown_from, Parts.begun_by, Parts.not_begun_by}
 use Rattle.irig_comments.specs.Sides.{at_place, begun_after, begun_before, changes, differs, made, place, sides, sides_of}
 use Rattle.irig_comments.specs.{declared.shown.Shown.Shown, declared.sides.Sides.Sides}

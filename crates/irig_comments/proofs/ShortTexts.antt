@@ -10,8 +10,8 @@ use Rattle.irig_codes.specs.declared.note.Note.TheVariants as note
 use Rattle.irig_index.specs.{Kept.IsNarrow, declared.record.Cause.Cause, declared.record.Verdict.Verdict}
 use Rattle.irig_index.specs.declared.record.Cause.TheVariants as cause
 use Rattle.irig_index.specs.declared.record.Verdict.TheVariants as verdict
-use Rattle.irig_script.specs.Print.FrameLine.{cause_word, clock_text, hundredths_text, name_word, note_text, part_text, parts_text, time_text, verdict_text}
-use Rattle.irig_script.specs.Print.Row.{hexadecimal, padded}
+use Rattle.irig_print.specs.FrameLine.{cause_word, clock_text, hundredths_text, name_word, note_text, part_text, parts_text, time_text, verdict_text}
+use Rattle.irig_print.specs.Row.{hexadecimal, padded}
 use Rattle.irig_comments.specs.Comments.{after_text, before_text, whole_text}
 use Rattle.irig_comments.specs.declared.shown.Shown.{Shown}
 

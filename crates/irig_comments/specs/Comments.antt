@@ -2,7 +2,7 @@
 use Rattle.std.specs.Prelude.{◌≡◌, ◌⊎◌, ◌==◌, ◌<◌, ◌++◌, ℕ, List, [], ◌∷◌, codes, decimal, length}
 use Rattle.std.specs.Prelude.{Option, Some, None, not, true}
 use Rattle.std.specs.List.{list_all}
-use Rattle.irig_script.specs.Print.FrameLine.{verdict_text}
+use Rattle.irig_print.specs.FrameLine.{verdict_text}
 use Rattle.irig_comments.specs.{declared.shown.Shown.Shown, declared.sides.Sides.Sides}
 
 -- a frame with its number, from 1, and the rise of its marker in microseconds

@@ -6,7 +6,7 @@ ghost use Rattle.irig_comments.specs.Comments.{after_text, before_text, comment_
 use crate::shown::Shown;
 use crate::sides::Sides;
 use irig_difference::put_number;
-use irig_script::put_verdict_text;
+use irig_print::put_verdict_text;
 use std::alloc::AllocError;
 
 /// Writes the comment on the frames at one place.

@@ -6,12 +6,9 @@ ghost use Rattle.std.specs.Io.KnownBytes.{Appends};
 ghost use Rattle.irig_diff.specs.Printing.{AppendsFront};
 ghost use Rattle.irig_text.specs.declared.block.TheConstants.{ENOUGH};
 
+use irig_print::{PrintFault, put_all};
 use irig_text::{ENOUGH, Text};
 use std::io::Write;
-
-/// The output failed.
-#[derive(Clone, Copy)]
-pub struct PrintFault;
 
 /// Prints a text. Its parts wait in the block, and what it holds before is lost. Returns whether
 /// the text has no byte.
@@ -65,21 +62,4 @@ fn print_next<W: Write, T: Text>(
         Ok(()) => Ok(ended),
         Err(fault) => Err(fault),
     }
-}
-
-/// Prints all of the bytes. A write that fails or takes none ends it.
-fn put_all<W: Write>(out: &mut W, bytes: &[u8]) -> Result<(), PrintFault>
-    ensures ok { OnOk result (Appends (W.contents out.old) (W.contents out.new) bytes.now) }
-    ensures err { OnErr result
-        (AppendsFront (W.contents out.old) (W.contents out.new) bytes.now) }
-{
-    let mut done = 0;
-    while done < bytes.len() {
-        match out.write(&bytes[done..]) {
-            Ok(0) => return Err(PrintFault),
-            Ok(count) => done += count,
-            Err(_) => return Err(PrintFault),
-        }
-    }
-    Ok(())
 }

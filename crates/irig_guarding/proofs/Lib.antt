@@ -5,7 +5,6 @@ pub mod DropLemmas
 pub mod FillingLemmas
 pub mod GuardLemmas
 pub mod KnownLemmas
-pub mod PaddedLemmas
 pub mod PlaceLemmas
 pub mod PrintedLemmas
 pub mod PulseLemmas

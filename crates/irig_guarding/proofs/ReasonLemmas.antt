@@ -8,7 +8,8 @@ use Rattle.std.proofs.lemmas.{Bool.and_from, Bool.Decides.nat_tests, List.append
 use Rattle.irig_codes.specs.declared.fields.Fields.{Fields}
 use Rattle.irig_edit.specs.declared.session.refusal.Refusal.{Refusal}
 use Rattle.irig_edit.specs.declared.session.refusal.Refusal.TheVariants as refusal
-use Rattle.irig_script.specs.{Obey.Run.IsPlain, Obey.Run.unlines, Print.FrameLine.clock_text, Print.FrameLine.hundredths_text, Print.FrameLine.time_text, Print.Row.padded}
+use Rattle.irig_script.specs.{Obey.Run.IsPlain, Obey.Run.unlines}
+use Rattle.irig_print.specs.{FrameLine.clock_text, FrameLine.hundredths_text, FrameLine.time_text, Row.padded}
 use Rattle.irig_guarding.specs.{Guarded.IsRemark, Reasons.fault_text, Reasons.frame_text, Reasons.head_lines, Reasons.reason_line, Reasons.reason_text, Reasons.refusal_name}
 use Rattle.irig_guarding.specs.declared.reason.Reason.{Reason}
 use Rattle.irig_guarding.specs.declared.reason.Reason.TheVariants.{NoRepair, NotSafe, OutOfMemory, Refused}

@@ -5,7 +5,8 @@ use Rattle.irig_codes.specs.Format.{FormatView}
 use Rattle.irig_edit.specs.Opened.Openings.{IsOpened, IsUnopened}
 use Rattle.irig_edit.specs.{Saved.SavedSession.saved_text, Session.Session.work_in}
 use Rattle.irig_script.specs.{Obey.Desk.Desk, Obey.Machine.Machine, Obey.Replies.dump_text}
-use Rattle.irig_script.specs.{Print.Front.AppendsFront, declared.obey.status.Status.Status}
+use Rattle.irig_script.specs.declared.obey.status.Status.{Status}
+use Rattle.irig_print.specs.Front.{AppendsFront}
 use Rattle.irig_text.specs.Shelved.{Puts}
 use Rattle.irig_guarding.specs.declared.product.GuardFault.{GuardFault}
 use Rattle.irig_guarding.specs.declared.product.GuardFault.TheVariants.{Dump, ReadFailed}

@@ -1,7 +1,8 @@
 -- The comments that a run under guard prints of its own. This project's own.
 use Rattle.std.specs.Prelude.{ℕ, ◌-◌, ◌++◌, List, [], ◌∷◌, codes, decimal, drop, length, take}
 use Rattle.irig_edit.specs.declared.session.refusal.Refusal.{Refusal}
-use Rattle.irig_script.specs.{Print.FrameLine.time_text, Print.Printed.refusal_text}
+use Rattle.irig_script.specs.Print.Printed.{refusal_text}
+use Rattle.irig_print.specs.FrameLine.{time_text}
 use Rattle.irig_guarding.specs.declared.reason.Reason.{Reason}
 use Rattle.irig_guarding.specs.declared.reason.Reason.TheVariants.{NoRepair, NotSafe, OutOfMemory}
 use Rattle.irig_guarding.specs.declared.reason.Reason.TheVariants.{Refused}

@@ -3,8 +3,10 @@ use Rattle.std.specs.Prelude.{◌≡◌, ◌≤◌, ◌++◌, ℕ, List, [], ◌
 use Rattle.irig_edit.specs.{Session.Calls.Call, Session.Session.work_in, Session.Work.grouped_in}
 use Rattle.irig_journal.specs.History.{Step}
 use Rattle.irig_saved.specs.declared.change.Change.{Change}
-use Rattle.irig_lines.specs.{Grammar.Means, declared.command.Command.Command}
+use Rattle.irig_lines.specs.{Grammar.Means, Purposes.purpose_of, declared.command.Command.Command}
 use Rattle.irig_lines.specs.declared.command.Command.TheVariants as command
+use Rattle.irig_lines.specs.declared.purpose.Purpose.{Purpose}
+use Rattle.irig_lines.specs.declared.purpose.Purpose.TheVariants as purpose
 use Rattle.irig_script.specs.declared.print.reply.Reply.TheVariants.{Silent}
 use Rattle.irig_script.specs.{Obey.Machine.Machine, Obey.Obeying.Obeys, Obey.Replies.Calls}
 use Rattle.irig_guarding.specs.declared.line.Line.{Line}
@@ -16,34 +18,20 @@ pub record Agrees (one other : Machine) : Type 0 where
   pub past : one.past ≡ other.past
   pub floor : one.floor ≡ other.floor
 
--- a command that a repair may consist of: an edit of pulses or marks. Each command is named, so that one
--- that is added to the language has to be
+-- a repair may consist of commands for this
+abbrev pub Repairs : Purpose → Type 0
+Repairs purpose.Edit = Unit {0}
+Repairs purpose.Mark = Unit {0}
+Repairs purpose.Nothing = ⊥
+Repairs purpose.Format = ⊥
+Repairs purpose.Question = ⊥
+Repairs purpose.Steps = ⊥
+Repairs purpose.Text = ⊥
+Repairs purpose.End = ⊥
+
+-- a command that a repair may consist of: an edit of pulses or marks
 abbrev pub IsRepair : Command → Type 0
-IsRepair (command.Delete r) = Unit {0}
-IsRepair (command.Shift r d) = Unit {0}
-IsRepair (command.Join r) = Unit {0}
-IsRepair (command.Split a s t) = Unit {0}
-IsRepair (command.Force a e) = Unit {0}
-IsRepair (command.Insert s t) = Unit {0}
-IsRepair (command.Invert s t) = Unit {0}
-IsRepair (command.Regen s frames moment control) = Unit {0}
-IsRepair (command.Mark letter t) = Unit {0}
-IsRepair (command.Unmark letter) = Unit {0}
-IsRepair command.Nothing = ⊥
-IsRepair (command.Show a) = ⊥
-IsRepair (command.List r) = ⊥
-IsRepair (command.Format kind n) = ⊥
-IsRepair command.Undo = ⊥
-IsRepair command.Redo = ⊥
-IsRepair command.Begin = ⊥
-IsRepair command.End = ⊥
-IsRepair command.Abort = ⊥
-IsRepair command.Frames = ⊥
-IsRepair command.Marks = ⊥
-IsRepair command.Info = ⊥
-IsRepair command.Write = ⊥
-IsRepair command.Save = ⊥
-IsRepair command.Quit = ⊥
+IsRepair c = Repairs (purpose_of c)
 
 -- a line that is not too long asks for the command
 abbrev pub Asks : Command → List ℕ → Type 0

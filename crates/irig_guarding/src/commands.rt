@@ -7,7 +7,7 @@ ghost use Rattle.irig_lines.specs.declared.command.Command.{Command as SomeComma
 ghost use Rattle.irig_lines.specs.declared.command.Command.TheVariants as command;
 
 use crate::line::Line;
-use irig_lines::{Command, parse_line};
+use irig_lines::{Command, Purpose, parse_line};
 
 /// The most bytes of a line of a script.
 const LINE_LIMIT: usize = 1000;
@@ -38,19 +38,15 @@ fn command_in(line: &[u8]) -> Option<Command>
 pub fn is_repair(command: &Command) -> bool
     ensures { IsTrue result ↔ IsRepair command.now }
 {
-    matches!(
-        command,
-        Command::Delete(_)
-            | Command::Shift(_, _)
-            | Command::Join(_)
-            | Command::Split(_, _, _)
-            | Command::Force(_, _)
-            | Command::Insert(_, _)
-            | Command::Invert(_, _)
-            | Command::Regen(_, _, _, _)
-            | Command::Mark(_, _)
-            | Command::Unmark(_)
-    )
+    match command.purpose() {
+        Purpose::Edit | Purpose::Mark => true,
+        Purpose::Nothing
+        | Purpose::Format
+        | Purpose::Question
+        | Purpose::Steps
+        | Purpose::Text
+        | Purpose::End => false,
+    }
 }
 
 /// Whether a line opens a group.

@@ -14,7 +14,6 @@ mod line;
 mod lines;
 mod mending;
 mod opening;
-mod output;
 mod place;
 mod printing;
 mod product;

@@ -9,10 +9,10 @@ ghost use Rattle.irig_script.specs.Obey.Desk.{desk};
 ghost use Rattle.irig_text.specs.Shelved.{Puts};
 
 use crate::guarding::guard;
-use crate::output::put_all;
 use crate::product::{GuardFault, Kept, Product};
 use irig_codes::Format;
 use irig_edit::Session;
+use irig_print::put_all;
 use irig_recording::Recording;
 use irig_text::{Shelf, ShelfFault, Text};
 use irig_vcd::VcdFault;

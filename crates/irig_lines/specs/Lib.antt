@@ -7,6 +7,7 @@ pub mod Tables
 pub mod Keywords
 pub mod Arguments
 pub mod Commands
+pub mod Purposes
 pub mod Grammar
 pub mod Lines
 pub mod OneCommand

@@ -1,5 +1,4 @@
 -- Lines, what is left of a script, and the runs of scripts.
-pub mod Known
 pub mod Sights
 pub mod Desks
 pub mod Lines

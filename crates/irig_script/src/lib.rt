@@ -17,5 +17,4 @@ pub use obey::pulse_numbers::{ends, number_at, time};
 pub use obey::status::{RunFault, Status};
 pub use print::reply::Reply;
 pub use print::screen::Screen;
-pub use print::verdict_text::put_verdict_text;
 pub use print::witness::{NoWitness, Witness};

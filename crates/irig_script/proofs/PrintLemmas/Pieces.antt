@@ -8,9 +8,10 @@ use Rattle.irig_recording.specs.declared.pulse.Pulse.{Pulse}
 use Rattle.irig_track.specs.{Edges.pulse, Splices.piece}
 use Rattle.irig_track.proofs.Items.{drop-item}
 use Rattle.irig_edit.specs.State.State.{State}
-use Rattle.irig_script.specs.{Print.Front.AppendsFront, Print.Listings.list_text, Print.Listings.pulse_line, Print.Numbered.numbered}
+use Rattle.irig_script.specs.Print.Listings.{list_text}
+use Rattle.irig_print.specs.{Front.AppendsFront, Numbered.numbered, PulseLine.pulse_line}
 use Rattle.irig_lines.proofs.WordLemmas.{rest_whole}
-use Rattle.irig_script.proofs.PrintLemmas.Blocks.{front_behind, front_longer}
+use Rattle.irig_print.proofs.Blocks.{front_behind, front_longer}
 
 -- the first line of a listing, and those after it
 listing_opened : (s : State) (m k : ℕ) (p : Pulse) → slice_get s.pulses m ≡ Some p → list_text m (suc k) s ≡ pulse_line s.format (m + 1) p

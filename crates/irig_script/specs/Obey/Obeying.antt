@@ -7,20 +7,6 @@ use Rattle.irig_script.specs.Obey.Machine.{Machine, present_in}
 use Rattle.irig_script.specs.Obey.Replies.{Calls, Shows, Writes, dump_text}
 use Rattle.irig_script.specs.{Obey.Asked.Asked, Obey.Asked.asked, declared.print.reply.Reply.Reply}
 use Rattle.irig_lines.specs.declared.command.Command.{Command}
-use Rattle.irig_lines.specs.declared.command.Command.TheVariants as command
-
--- a command that edits the level or the format
-abbrev pub IsEdit : Command → Type 0
-IsEdit (command.Delete r) = Unit {0}
-IsEdit (command.Shift r d) = Unit {0}
-IsEdit (command.Join r) = Unit {0}
-IsEdit (command.Split a s t) = Unit {0}
-IsEdit (command.Force a e) = Unit {0}
-IsEdit (command.Insert s t) = Unit {0}
-IsEdit (command.Invert s t) = Unit {0}
-IsEdit (command.Regen s frames moment control) = Unit {0}
-IsEdit (command.Format kind n) = Unit {0}
-IsEdit _ = ⊥
 
 -- the session may give this reply to what is asked, and go on to new
 abbrev pub Gives : Asked → Machine → Reply → Machine → Type 0

@@ -1,18 +1,12 @@
 -- The lines that `list`, `marks` and `info` print. This project's own.
-use Rattle.std.specs.Prelude.{ℕ, ◌+◌, ◌-◌, List, [], ◌++◌, Option, Some, None, codes, decimal}
+use Rattle.std.specs.Prelude.{ℕ, ◌+◌, List, [], ◌++◌, Option, Some, None, codes, decimal}
 use Rattle.std.specs.Prelude.{length, take}
-use Rattle.irig_codes.specs.{Width.class_of, Format.FormatView, Words.class_word, Words.kind_word}
-use Rattle.irig_recording.specs.declared.pulse.Pulse.{Pulse}
+use Rattle.irig_codes.specs.Words.{kind_word}
 use Rattle.irig_track.specs.Splices.{piece}
 use Rattle.irig_saved.specs.Letters.{letter_word}
 use Rattle.irig_edit.specs.State.State.{State, frames_of}
-use Rattle.irig_script.specs.{Obey.Machine.Machine, Print.Numbered.numbered}
-
--- a pulse with its number, from 1
-abbrev pub pulse_line : FormatView → ℕ → Pulse → List ℕ
-pulse_line f number p =
-    decimal number ++ codes " " ++ decimal p.rise ++ codes " " ++ decimal p.fall ++ codes " "
-    ++ class_word (class_of f (p.fall - p.rise)) ++ codes "\n"
+use Rattle.irig_script.specs.Obey.Machine.{Machine}
+use Rattle.irig_print.specs.{Numbered.numbered, PulseLine.pulse_line}
 
 -- a line for each of this many pulses after the first `before`
 abbrev pub list_text : ℕ → ℕ → State → List ℕ

@@ -11,8 +11,10 @@ use Rattle.irig_script.specs.declared.print.reply.Reply.TheVariants.{Silent, Wri
 use Rattle.irig_script.specs.declared.print.reply.Reply.TheVariants.{Frames, Marks, Info, Refused}
 use Rattle.irig_script.specs.declared.print.reply.Reply.TheVariants.{BadLine, LineTooLong}
 use Rattle.irig_script.specs.declared.print.reply.Reply.TheVariants.{WriteFailed}
-use Rattle.irig_script.specs.{Print.FrameLine.frame_line, Obey.Machine.Machine}
-use Rattle.irig_script.specs.{Print.Numbered.numbered, declared.print.reply.Reply.Reply}
+use Rattle.irig_script.specs.Obey.Machine.{Machine}
+use Rattle.irig_print.specs.FrameLine.{frame_line}
+use Rattle.irig_script.specs.declared.print.reply.Reply.{Reply}
+use Rattle.irig_print.specs.Numbered.{numbered}
 
 -- why a command is refused, as a line
 abbrev pub refusal_text : Refusal → List ℕ

@@ -9,17 +9,18 @@ ghost use Rattle.irig_script.specs.Obey.Desk.{Desk, desk_at, status_after};
 ghost use Rattle.irig_script.specs.Obey.Progress.{BrokeIn, Holds, Obeyed};
 ghost use Rattle.irig_script.specs.Obey.Reads.{GoesOn, IsUnderway, with_end};
 ghost use Rattle.irig_script.specs.{Obey.Ending.EndsAs, Obey.Reading.ReadsTo, Obey.Machine.Machine};
-ghost use Rattle.irig_script.specs.{Print.Front.Prints, Print.Screen.sight};
+ghost use Rattle.irig_script.specs.Print.Screen.{sight};
+ghost use Rattle.irig_print.specs.Front.{Prints};
 ghost use Rattle.irig_text.specs.Shelved.{GrowsBy};
 
 use crate::obey::line::Line;
 use crate::obey::obeying::obey_line;
 use crate::obey::status::{RunFault, Status};
-use crate::print::output::PrintFault;
 use crate::print::reply::Reply;
 use crate::print::screen::Screen;
 use crate::print::witness::Witness;
 use irig_edit::Session;
+use irig_print::PrintFault;
 use irig_text::Shelf;
 use std::io::{Read, Write};
 

@@ -1,12 +1,13 @@
 //! What is replied to a line of a script, and done for it.
 
 ghost use Rattle.std.specs.Prelude.{◌≡◌, ◌≢◌, length};
-ghost use Rattle.irig_script.specs.Obey.Obeying.{IsEdit, Obeys};
+ghost use Rattle.irig_script.specs.Obey.Obeying.{Obeys};
 ghost use Rattle.irig_script.specs.Obey.Desk.{IsQuiet, failures_of};
 ghost use Rattle.irig_script.specs.{Obey.Answer.texts_of, Obey.Seen.numbers_of};
 ghost use Rattle.irig_script.specs.{Obey.Progress.Answers, Obey.Replies.texts_put};
 ghost use Rattle.irig_text.specs.Shelved.{Puts};
-ghost use Rattle.irig_lines.specs.declared.command.Command.{Command};
+ghost use Rattle.irig_lines.specs.{Purposes.purpose_of, declared.command.Command.Command};
+ghost use Rattle.irig_lines.specs.declared.purpose.Purpose.{Purpose};
 
 use crate::obey::calls::{
     abort, begin, delete, end, force, insert, invert, join, list, mark, redo, regen, set_format,
@@ -16,7 +17,7 @@ use crate::obey::line::Line;
 use crate::obey::writing::{write_dump, write_saved};
 use crate::print::reply::Reply;
 use irig_edit::Session;
-use irig_lines::{BadLine, Command, parse_line};
+use irig_lines::{BadLine, Command, Purpose, parse_line};
 use irig_text::Shelf;
 
 /// Obeys a line; `None` if it ends the script.
@@ -60,27 +61,19 @@ pub fn obey(command: Command, session: &mut Session) -> Reply
     ensures answer { Obeys command session.old result session.new }
     ensures quiet { IsQuiet result }
 {
-    match command {
-        Command::Nothing | Command::Write | Command::Save | Command::Quit => Reply::Silent,
-        Command::Show(address) => show(session, address),
-        Command::List(range) => list(session, range),
-        Command::Mark(letter, at) => mark(session, letter, at),
-        Command::Unmark(letter) => unmark(session, letter),
-        Command::Undo => undo(session),
-        Command::Redo => redo(session),
-        Command::Begin => begin(session),
-        Command::End => end(session),
-        Command::Abort => abort(session),
-        Command::Frames => Reply::Frames,
-        Command::Marks => Reply::Marks,
-        Command::Info => Reply::Info,
-        _ => edit(command, session),
+    match command.purpose() {
+        Purpose::Edit => edit(command, session),
+        Purpose::Mark => set_mark(command, session),
+        Purpose::Format => choose_format(command, session),
+        Purpose::Question => answer(command, session),
+        Purpose::Steps => change_steps(command, session),
+        Purpose::Nothing | Purpose::Text | Purpose::End => Reply::Silent,
     }
 }
 
-/// Obeys an edit of the level or of the format.
+/// Obeys an edit of the level.
 fn edit(command: Command, session: &mut Session) -> Reply
-    requires { IsEdit command }
+    requires { purpose_of command ≡ Purpose.Edit }
     ensures answer { Obeys command session.old result session.new }
     ensures quiet { IsQuiet result }
 {
@@ -95,7 +88,63 @@ fn edit(command: Command, session: &mut Session) -> Reply
         Command::Regen(start, frames, from, control) => {
             regen(session, start, frames, from, control)
         }
+        _ => unreachable!(),
+    }
+}
+
+/// Sets or clears a mark.
+fn set_mark(command: Command, session: &mut Session) -> Reply
+    requires { purpose_of command ≡ Purpose.Mark }
+    ensures answer { Obeys command session.old result session.new }
+    ensures quiet { IsQuiet result }
+{
+    match command {
+        Command::Mark(letter, at) => mark(session, letter, at),
+        Command::Unmark(letter) => unmark(session, letter),
+        _ => unreachable!(),
+    }
+}
+
+/// Sets the format in which frames are read.
+fn choose_format(command: Command, session: &mut Session) -> Reply
+    requires { purpose_of command ≡ Purpose.Format }
+    ensures answer { Obeys command session.old result session.new }
+    ensures quiet { IsQuiet result }
+{
+    match command {
         Command::Format(kind, expression) => set_format(session, kind, expression),
-        _ => Reply::Silent,
+        _ => unreachable!(),
+    }
+}
+
+/// Lists what is asked for.
+fn answer(command: Command, session: &mut Session) -> Reply
+    requires { purpose_of command ≡ Purpose.Question }
+    ensures answer { Obeys command session.old result session.new }
+    ensures quiet { IsQuiet result }
+{
+    match command {
+        Command::Show(address) => show(session, address),
+        Command::List(range) => list(session, range),
+        Command::Frames => Reply::Frames,
+        Command::Marks => Reply::Marks,
+        Command::Info => Reply::Info,
+        _ => unreachable!(),
+    }
+}
+
+/// Undoes or redoes a step, or opens or closes a group.
+fn change_steps(command: Command, session: &mut Session) -> Reply
+    requires { purpose_of command ≡ Purpose.Steps }
+    ensures answer { Obeys command session.old result session.new }
+    ensures quiet { IsQuiet result }
+{
+    match command {
+        Command::Undo => undo(session),
+        Command::Redo => redo(session),
+        Command::Begin => begin(session),
+        Command::End => end(session),
+        Command::Abort => abort(session),
+        _ => unreachable!(),
     }
 }

@@ -3,12 +3,12 @@
 ghost use Rattle.std.specs.Prelude.{◌≡◌, ◌≤◌, ◌+◌, ◌++◌, [], codes, length, decimal};
 ghost use Rattle.irig_codes.specs.Words.{kind_word};
 ghost use Rattle.irig_edit.specs.State.State.{frames_of};
-ghost use Rattle.irig_script.specs.{Print.Front.Prints, Print.Listings.info_text};
+ghost use Rattle.irig_script.specs.Print.Listings.{info_text};
+ghost use Rattle.irig_print.specs.Front.{Prints};
 
-use crate::print::output::{PrintFault, put_all};
-use crate::print::row::Row;
 use irig_codes::kind_word;
 use irig_edit::Session;
+use irig_print::{PrintFault, Row, put_all};
 use std::io::Write;
 
 /// Prints counts, format and cursor.

@@ -3,14 +3,11 @@
 ghost use Rattle.std.specs.Prelude.{◌≡◌, ◌≤◌, ◌-◌, Some, length, slice_get};
 ghost use Rattle.irig_index.specs.declared.record.Record.{Record};
 ghost use Rattle.irig_edit.specs.State.State.{frames_of};
-ghost use Rattle.irig_script.specs.Print.Front.{Prints};
+ghost use Rattle.irig_print.specs.Front.{Prints};
 ghost use Rattle.irig_script.specs.Print.Printed.{frames_text, record_line};
 
-use crate::print::block::Block;
-use crate::print::frame_line::put_frame;
-use crate::print::output::PrintFault;
-use crate::print::row::Row;
 use irig_edit::Session;
+use irig_print::{Block, PrintFault, Row, put_frame};
 use std::io::Write;
 
 /// Prints a line for each frame of the track, in blocks.

@@ -1,13 +1,11 @@
 //! The listing of the marks.
 
 ghost use Rattle.std.specs.Prelude.{◌≡◌};
-ghost use Rattle.irig_script.specs.Print.Front.{Prints};
+ghost use Rattle.irig_print.specs.Front.{Prints};
 ghost use Rattle.irig_script.specs.Print.Listings.{marks_text, mark_line};
 
-use crate::print::block::Block;
-use crate::print::output::PrintFault;
-use crate::print::row::Row;
 use irig_edit::Session;
+use irig_print::{Block, PrintFault, Row};
 use irig_saved::Letter;
 use std::io::Write;
 

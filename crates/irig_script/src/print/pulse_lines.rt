@@ -1,11 +1,11 @@
 //! The listing of pulses.
 
 ghost use Rattle.std.specs.Prelude.{◌≡◌, ◌≤◌, ◌-◌, ◌*◌, length, drop};
-ghost use Rattle.irig_script.specs.{Print.Front.Prints, Print.Listings.list_text};
+ghost use Rattle.irig_script.specs.Print.Listings.{list_text};
+ghost use Rattle.irig_print.specs.Front.{Prints};
 
-use crate::print::output::{PrintFault, put_all};
-use crate::print::pulse_line::{LINE_ROOM, write_pulse};
 use irig_edit::Session;
+use irig_print::{LINE_ROOM, PrintFault, put_all, write_pulse};
 use std::io::Write;
 
 /// A listing of this many lines at most goes out by a small block: a block is cleared first.

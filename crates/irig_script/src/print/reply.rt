@@ -2,14 +2,15 @@
 
 ghost use Rattle.std.specs.Prelude.{◌≡◌, ◌++◌, ◌∷◌, [], true, decimal};
 ghost use Rattle.irig_script.specs.Print.Printed.{refusal_text, reply_text};
-ghost use Rattle.irig_script.specs.{Obey.Desk.is_refusal, Obey.Machine.Machine, Print.Front.Prints};
+ghost use Rattle.irig_script.specs.{Obey.Desk.is_refusal, Obey.Machine.Machine};
+ghost use Rattle.irig_print.specs.Front.{Prints};
 
 use crate::print::info_line::print_info;
 use crate::print::listing::print_frames;
 use crate::print::mark_lines::print_marks;
-use crate::print::output::{PrintFault, put_all};
 use crate::print::pulse_lines::print_pulses;
 use irig_edit::{Refusal, Session};
+use irig_print::{PrintFault, put_all};
 use std::io::Write;
 
 /// What is answered to a line of a script.

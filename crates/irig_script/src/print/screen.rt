@@ -2,13 +2,14 @@
 
 ghost use Rattle.std.specs.Prelude.{◌≡◌, ◌∷◌, []};
 ghost use Rattle.irig_script.specs.Print.Printed.{reply_text};
-ghost use Rattle.irig_script.specs.{Print.Front.Prints, Print.Screen.shown, Print.Screen.sight};
+ghost use Rattle.irig_script.specs.{Print.Screen.shown, Print.Screen.sight};
+ghost use Rattle.irig_print.specs.Front.{Prints};
 ghost use Rattle.irig_text.specs.Shelved.{GrowsBy};
 
-use crate::print::output::PrintFault;
 use crate::print::reply::{Reply, print};
 use crate::print::witness::Witness;
 use irig_edit::Session;
+use irig_print::PrintFault;
 use irig_text::Shelf;
 use std::io::Write;
 use std::marker::Model;

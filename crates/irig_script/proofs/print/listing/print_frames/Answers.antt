@@ -1,9 +1,10 @@
 use Rattle.std.proofs.Common.{rules, ◌≡◌, ◌<◌, length}
 use Rattle.std.proofs.Math.Seq.{take-length}
 use Rattle.irig_edit.specs.State.State.{frames_of}
-use Rattle.irig_script.specs.{Print.Numbered.numbered, Print.Printed.record_line}
+use Rattle.irig_script.specs.Print.Printed.{record_line}
+use Rattle.irig_print.specs.Numbered.{numbered}
 use Rattle.irig_script.proofs.PrintLemmas.FrameLines.{no_record, frame_listed}
-use Rattle.irig_script.proofs.{PrintLemmas.Blocks.prints_end, PrintLemmas.Numbered.listed_front, PrintLemmas.Numbered.listed_more}
+use Rattle.irig_print.proofs.{Blocks.prints_end, Numbered.listed_front, Numbered.listed_more}
 use Rattle.irig_script.proofs.print.listing.print_frames.Goals as goal
 
 pub returns-in_default : goal.returns-in_default

@@ -1,6 +1,7 @@
 use Rattle.std.proofs.Common.{[], take}
 use Rattle.irig_edit.specs.State.State.{frames_of}
-use Rattle.irig_script.specs.{Print.Blocks.Sends, Print.Numbered.numbered, Print.Printed.record_line}
+use Rattle.irig_script.specs.Print.Printed.{record_line}
+use Rattle.irig_print.specs.{Blocks.Sends, Numbered.numbered}
 use Rattle.irig_script.proofs.print.listing.print_frames.Given as goal
 
 abbrev pub invariant-loop-index : goal.invariant-loop-index

@@ -2,7 +2,7 @@ use Rattle.std.proofs.Common.{◌≡◌, ◌+◌, ◌-◌, Some, get_or, slice_g
 use Rattle.std.proofs.lemmas.Option.{get_or_from_slice_get, slice_get-get_or}
 use Rattle.irig_track.specs.Edges.{pulse}
 use Rattle.irig_edit.specs.State.State.{frames_of}
-use Rattle.irig_script.specs.Print.FrameLine.{frame_line}
+use Rattle.irig_print.specs.FrameLine.{frame_line}
 use Rattle.irig_script.proofs.PrintLemmas.FrameLines.{marker_within, no_record}
 use Rattle.irig_script.proofs.print.listing.put_record.Goals as goal
 

@@ -1,7 +1,9 @@
 use Rattle.std.proofs.Common.{rules, ◌≡◌, None, take, arith}
-use Rattle.irig_script.specs.{Print.Listings.mark_line, Print.Numbered.numbered}
-use Rattle.irig_script.proofs.PrintLemmas.Numbered.{listed_front, listed_more}
-use Rattle.irig_script.proofs.{PrintLemmas.Blocks.prints_end, PrintLemmas.MarkLines.few_marks, PrintLemmas.MarkLines.mark_listed}
+use Rattle.irig_script.specs.Print.Listings.{mark_line}
+use Rattle.irig_print.specs.Numbered.{numbered}
+use Rattle.irig_print.proofs.Numbered.{listed_front, listed_more}
+use Rattle.irig_script.proofs.{PrintLemmas.MarkLines.few_marks, PrintLemmas.MarkLines.mark_listed}
+use Rattle.irig_print.proofs.Blocks.{prints_end}
 use Rattle.irig_script.proofs.print.mark_lines.print_marks.Goals as goal
 
 pub returns-in_default : goal.returns-in_default

@@ -1,5 +1,6 @@
 use Rattle.std.proofs.Common.{[], take}
-use Rattle.irig_script.specs.{Print.Blocks.Sends, Print.Listings.mark_line, Print.Numbered.numbered}
+use Rattle.irig_script.specs.Print.Listings.{mark_line}
+use Rattle.irig_print.specs.{Blocks.Sends, Numbered.numbered}
 use Rattle.irig_script.proofs.print.mark_lines.print_marks.Given as goal
 
 abbrev pub invariant-loop-place : goal.invariant-loop-place

@@ -1,5 +1,6 @@
 use Rattle.std.proofs.Common.{◌≡◌, ◌+◌, ◌-◌, ◌++◌, drop, ap, ◌∙◌, arith}
-use Rattle.irig_script.specs.Print.Listings.{list_text, pulse_line}
+use Rattle.irig_script.specs.Print.Listings.{list_text}
+use Rattle.irig_print.specs.PulseLine.{pulse_line}
 use Rattle.irig_script.proofs.PrintLemmas.Pieces.{listing_before}
 use Rattle.irig_script.proofs.print.pulse_lines.write_pulses.Goals as goal
 

@@ -1,0 +1,18 @@
+//! What is reported of a frame, in a block.
+
+ghost use Rattle.std.specs.Prelude.{◌≡◌, ◌++◌, OnOk};
+ghost use Rattle.irig_print.specs.FrameLine.{verdict_text};
+
+use crate::frame_line::put_verdict;
+use crate::row::Row;
+use irig_index::Verdict;
+use std::alloc::AllocError;
+
+/// Writes what the command `frames` reports of a frame, as in its line.
+pub fn put_verdict_text(block: &mut Vec<u8>, verdict: &Verdict) -> Result<(), AllocError>
+    ensures { OnOk result (block.new.items ≡ block.old.items ++ verdict_text verdict.now) }
+{
+    let mut row = Row::new();
+    put_verdict(&mut row, verdict);
+    block.extend_from_slice(row.text())
+}
