@@ -32,9 +32,9 @@ def same(name, got, wanted):
     return got == wanted
 
 
-def listing_of(pulses, length=0, expression=4):
-    layout, listing = Layout("B", expression), Listing()
-    listing.length, listing.expression = length or pulses[-1][1] + 2000, expression
+def listing_of(pulses, length=0, expression=4, kind="B"):
+    layout, listing = Layout(kind, expression), Listing()
+    listing.length, listing.kind, listing.expression = length or pulses[-1][1] + 2000, kind, expression
     listing.rises, listing.falls = [rise for rise, _ in pulses], [fall for _, fall in pulses]
     listing.classes = "".join(layout.class_of(fall - rise) for rise, fall in pulses)
     return listing
@@ -326,6 +326,34 @@ def of_other_code():
     found = analysis.examine(listing_of(positions))
     lost = [at for at in range(230, 480) if at % 10 != 9 and at % 100]
     yield same("position identifiers alone are no other code", [sorted(part.faults.wanted) for part in found.parts], [lost])
+
+
+def of_every_second():
+    """A hole in which every second or third pulse of this code is left is filled if position identifiers are among these; what has the
+    distance, but is not wide just where this code is, is left."""
+    for name, lost in (("every second", range(232, 301, 2)), ("every third", [at for at in range(231, 330) if at % 3 != 2])):
+        found = analysis.examine(listing_of([pulse for at, pulse in enumerate(tools.recording()) if at not in lost]))
+        yield same(name + " is left", [sorted(part.faults.wanted) for part in found.parts], [list(lost)])
+    steps = range(2330000, 3170000, 20000)
+    names = [name for k in range(20) for name in timecode.encode("G", 2, timecode.generated("G", (tools.DAY, tools.NOON), k, 0))]
+    of_g = [[100 * at, 100 * at + timecode.nominal(100, name)] for at, name in enumerate(names)]
+    for name, kind, whole, other in (
+            ("without position identifiers", "B", tools.recording(), [tools.recording()[at] for at in range(232, 300, 2)]),
+            ("50 hertz, narrow", "B", tools.recording(), [[rise, rise + 2000] for rise in steps]),
+            ("50 hertz, wide", "B", tools.recording(), [[rise, rise + 8000] for rise in steps]),
+            ("50 hertz between them", "B", tools.recording(), [[rise + 10000, rise + 15000] for rise in steps[:-1]]),
+            ("wide at other places", "B", tools.recording(),
+             [[rise, rise + (8000 if at % 5 == 1 else 2000)] for at, rise in enumerate(steps)]),
+            ("wide there, and at other places", "B", tools.recording(),
+             [[rise, rise + (8000 if at % 5 in (1, 3) else 2000)] for at, rise in enumerate(steps)]),
+            ("code of format E in step", "B", tools.recording(12), [[2400000 + each[0] * 10, 2400000 + each[1] * 10]
+                                                                  for each in tools.recording()[:28]]),
+            ("code of format A in step", "G", of_g, [[23900 + each[0] // 10, 23900 + each[1] // 10] for each in tools.recording()[:60]])):
+        interval = timecode.INTERVAL[kind]
+        holed = [*whole[:230], *other, *whole[other[-1][1] // interval + 2:]]
+        found = analysis.examine(listing_of(holed, expression=4 if kind == "B" else 2, kind=kind))
+        said = ["is other code" in remark.seen for part in found.parts for remark in part.remarks]
+        yield same(name + " is left", (said, [part.faults.wanted for part in found.parts]), ([True], [{}]))
 
 
 # polarity
@@ -772,7 +800,8 @@ def cases():
     return [case("mend: part: " + name, holds) for name, holds in (
         ("phases", of_phases), ("clock", of_clock), ("clock of samples", of_samples), ("clock that gains a sample", of_one_sample),
         ("clock of runs", of_runs), ("a clock that wanders", of_wander), ("polarity", of_polarity), ("slots", of_slots),
-        ("sure runs", of_parts), ("tenths", of_tenths), ("other code", of_other_code), ("ends of runs on a clock that wanders", of_ends),
+        ("sure runs", of_parts), ("tenths", of_tenths), ("other code", of_other_code),
+        ("every second pulse", of_every_second), ("ends of runs on a clock that wanders", of_ends),
         ("a long hole on a clock that wanders", of_vague),
         ("undamaged", of_undamaged), ("a rise that is off", of_strays), ("a clock that was set", of_set), ("places", of_places),
         ("votes", of_votes),

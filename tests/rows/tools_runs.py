@@ -5,13 +5,15 @@ import tempfile
 from unittest import mock
 
 from cases import case
-from irig_tools import dump_run, dump_source
+from irig_tools import dump_run, dump_source, search
+from reference import timecode
 from rows.in_process import run
 
 CODES = ("!", '"', "#", "$x", "1!", "0", "ab", "#1")
 STRANGE = ("$comment hello #5 1! $end", "strange", "#", "#12a", "b1", "r1.5 zz", "$dumpoff", "$end", "x!", "bx v",
            "$date x $end $timescale 1 us $end $var wire 1 ! q $end $enddefinitions $end #0")
 RECORDINGS = 500
+SEARCHES = 60
 
 
 def head(chance, codes):
@@ -93,5 +95,56 @@ def same_as_by_words():
     return results
 
 
+def one_wire(chance):
+    """A dump of one wire: time code, noise, or noise before time code; now and then a level that stays, an unknown one, or a word."""
+    step, time, text = timecode.INTERVAL["A"], chance.randrange(3), []
+    noise = chance.choice((0, 0, 40, 400)) if chance.random() < 0.8 else 2000
+    gaps = [chance.randrange(1, 900) for _ in range(2 * noise)]
+    for at in range(0 if noise == 2000 else 250):
+        width = step * (8 if at % 10 == 9 else chance.choice((2, 5))) // 10
+        gaps += [width, step - width]
+    for number, gap in enumerate(gaps):
+        text += ["#%d" % time, (chance.choice("01x") if chance.random() < 0.01 else str(1 - number % 2)) + "!"]
+        if chance.random() < 0.004:
+            text.append(chance.choice(STRANGE))
+        time += gap
+    return "$timescale 1 us $end $var wire 1 ! w $end $enddefinitions $end\n#0 %d!\n%s\n#%d\n" % (
+        chance.randrange(2), chance.choice(("\n", " ")).join(text).replace(" #", "\n#"), time)
+
+
+def looked_for(path, by_words):
+    """What a search finds, and whether parts were read at once."""
+    seen, read = [], dump_run.RunReader.read
+
+    def noted(self, part, now):
+        found = None if by_words else read(self, part, now)
+        seen.append(found is not None)
+        return found
+
+    with mock.patch.object(dump_run.RunReader, "read", noted), mock.patch.multiple(search, WINDOW=32, HOPELESS=4):
+        found = search.search(path, "", 1)
+    probes = [(probe.votes, probe.windows, probe.kept, probe.room.left) for probe in found.probes]
+    return (found.dumps, found.is_cut, found.hopeless, found.body.now, found.body.begun, found.body.counts, probes), any(seen)
+
+
+def same_search():
+    """What irig_what looks for is found in parts that are read at once, too."""
+    results, at_once = [], 0
+    with tempfile.TemporaryDirectory() as folder:
+        path = os.path.join(folder, "dump.vcd")
+        for seed in range(SEARCHES):
+            chance = random.Random("search %d" % seed)
+            with open(path, "w", encoding="ascii") as file:
+                file.write(one_wire(chance))
+            with mock.patch.object(dump_source, "DUMP_BLOCK", chance.choice((200, 900, 5000, 1 << 17))):
+                (fast, was), (slow, _) = looked_for(path, False), looked_for(path, True)
+            results.append(fast == slow)
+            at_once += was
+            results[-1] or print("FAILED search, parts at once: seed %d\n%s\n%s" % (seed, fast, slow))
+    results.append(at_once > SEARCHES // 2)
+    results[-1] or print("FAILED search: only %d dumps have parts that are read at once" % at_once)
+    return results
+
+
 def cases(top):
-    return [case("runs: same as by words", same_as_by_words)]
+    return [case("runs: same as by words", same_as_by_words), case("runs: same search", same_search)]

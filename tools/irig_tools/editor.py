@@ -166,6 +166,11 @@ class Editor:
             asked.found[how] = judge(listing, *how)
         return cast(Judgement, asked.found[how])
 
+    def knows_listing(self, listing: Listing, expression: int) -> None:
+        """The track has these pulses, as they were listed under another expression."""
+        listing.expression = expression
+        self._asked[()] = _Asked(listing)
+
     def knows(self, other: Editor, blocks: Sequence[Sequence[str]], info: Info) -> None:
         """The track is that of another editor after these lines, if that was asked for and all that `info` says is the same."""
         asked = other._asked.get(_edits_of(blocks))

@@ -1,7 +1,7 @@
 """Every signal of a dump that can carry time code, without a list of them."""
 from __future__ import annotations
 
-from typing import Any, Dict, List, Tuple
+from typing import Any, Dict, List, Optional, Tuple
 
 from .dump_choice import Signal, bit_of
 from .dump_header import Header, Wire
@@ -62,6 +62,11 @@ class Every(Dict[bytes, List[Tuple[int, int]]]):
     def signal(self, number: int) -> Signal:
         place = number // WIDEST_VECTOR % WIRES
         return dict(numbered(self.all[place], place))[number]
+
+    def only(self) -> Optional[int]:
+        """The number of the signal, if there is one alone, and it is a wire of one bit."""
+        places = list(self.wires.values()) if len(self.wires) == 1 and not self.others else []
+        return next((numbered(self.all[place], place)[0][0] for place in places if self.all[place].single), None)
 
     def count(self) -> int:
         """How many signals there are."""

@@ -149,6 +149,7 @@ LEAST_COPY = 10  # elements; fewer are alike by chance
 
 # other code in a hole (other_code)
 STEADY_CODE = 0.8  # the share of its distances that are one interval: others are damaged, or the marker of a frame
+OWN_POSITIONS = 3  # position identifiers in their places, and none elsewhere, show what is left of this code: no steady signal has these
 THINNED_CODE = 0.5  # the same if some pulses are lost, so that distances are two of its intervals and more
 
 # what is wrong (faults, edits, wholes, repairs)

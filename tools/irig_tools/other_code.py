@@ -66,10 +66,14 @@ def _kind(interval: int, widths: Sequence[int]) -> str:
     return ""
 
 
-def survives(places: Sequence[PlaceNumber], classes: str) -> bool:
-    """Whether most of these pulses are position identifiers in their places: the wide ones are seen where the signal is weak."""
-    own = sum(place % ELEMENTS in POSITIONS and name == "P" for place, name in zip(places, classes))
-    return own >= limits.STEADY_CODE * len(classes)
+def survives(places: Sequence[PlaceNumber], classes: str, own: int) -> bool:
+    """Whether pulses with other distances are what is left of this code: most are position identifiers in their places, as the wide ones
+    are seen where the signal is weak; or most are `own` pulses, and position identifiers are in their places and nowhere else."""
+    least = limits.STEADY_CODE * len(classes)
+    is_position = [place % ELEMENTS in POSITIONS for place in places]
+    positions = sum(known and name == "P" for known, name in zip(is_position, classes))
+    strange = any((name == "P") != known for known, name in zip(is_position, classes) if name != "b")
+    return positions >= least or positions >= limits.OWN_POSITIONS and own >= least and not strange
 
 
 def named(other: OtherCode, end: int) -> str:

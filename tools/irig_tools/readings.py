@@ -10,7 +10,6 @@ from typing import Dict, List, Optional, Sequence, Set
 
 from . import limits
 from .editor import CUT_OFF, Editor, Listing, Problem, find_editor, info_of
-from .interval import distances
 from .layout import WITH_BINARY, WITH_CONTROL, WITH_YEAR, Layout
 from .temporary import temporary_script
 from .units import ELEMENTS
@@ -67,6 +66,7 @@ class Readings:
     length: int = 0
     refused: str = ""
     best: Optional[Reading] = None
+    listing: Optional[Listing] = None  # its pulses, if they were looked at
     has_events: bool = False  # it has control functions, since only frames that are not fine show some
 
 
@@ -99,13 +99,16 @@ def _choose_careful(track: str, found: Readings) -> None:
     """The expression that fits best. If one with control functions fits as well, and a frame that is not fine has some, it is that
     one: with the other a repair would make zeros of them."""
     if not any(row.fine for row in found.rows):
-        _choose_led(Editor(["--format", found.rows[0].kind, track]).ask([]), found)
+        found.listing = Editor(["--format", found.rows[0].kind, track]).ask([])
+        _choose_led(found.listing, found)
         return
     found.best = best(found.rows)
     kind, fine, number = found.best.kind, found.best.fine, CONTROL_TOO.get(found.best.expression)
     careful = next((row for row in found.rows if row.expression == number and 0 < row.fine == fine < row.frames), None)
-    if careful and _has_control(Editor(["--format", kind, "--expression", str(number), track]).ask([])):
-        found.best, found.has_events = careful, True
+    if careful:
+        found.listing = Editor(["--format", kind, "--expression", str(number), track]).ask([])
+        if _has_control(found.listing):
+            found.best, found.has_events = careful, True
 
 
 def _choose_led(listing: Listing, found: Readings) -> None:
@@ -123,13 +126,19 @@ def _choose_led(listing: Listing, found: Readings) -> None:
 def _has_control(listing: Listing) -> bool:
     """Whether a one is at a control function, by its distance from the marker before it. The pulses next to it have to be in step
     with it: noise is not."""
-    layout, rises = Layout(listing.kind, listing.expression), listing.rises
-    markers = [rises[pair.start() + 1] for pair in re.finditer("P(?=P)", listing.classes)]
-    interval, control = statistics.median(distances(rises)), set(layout.control)
-    in_step = [abs(after - before - 2 * interval) < 2 * NEXT_IN_STEP * interval and abs(rise - before - interval) < NEXT_IN_STEP * interval
-               for before, rise, after in zip(rises, rises[1:], rises[2:])]
-    ones = [rise for rise, name, good in zip(rises[1:], listing.classes[1:], in_step) if name == "1" and good]
-    return any(round((rise - markers[max(0, bisect_right(markers, rise) - 1)]) / interval) % ELEMENTS in control for rise in ones)
+    layout, rises, classes = Layout(listing.kind, listing.expression), listing.rises, listing.classes
+    markers = [rises[pair.start() + 1] for pair in re.finditer("P(?=P)", classes)]
+    interval, control = statistics.median(listing.apart), set(layout.control)
+
+    def in_step(at: int) -> bool:
+        before, rise, after = rises[at - 1:at + 2]
+        return abs(after - before - 2 * interval) < 2 * NEXT_IN_STEP * interval and abs(rise - before - interval) < NEXT_IN_STEP * interval
+
+    def in_control(rise: int) -> bool:
+        return round((rise - markers[max(0, bisect_right(markers, rise) - 1)]) / interval) % ELEMENTS in control
+
+    ones = (one.start() for one in re.finditer("1", classes[1:-1]))
+    return any(in_control(rises[at + 1]) and in_step(at + 1) for at in ones)
 
 
 def is_read(track: str, wire: Optional[str], pulses: int) -> bool:

@@ -12,6 +12,7 @@ from .dump_body import Body, Wanted
 from .dump_choice import Signal
 from .dump_header import Header
 from .dump_parts import each_dump
+from .dump_run import WireRun
 from .dump_source import Source
 from .dump_units import MICROSECOND, unit_of
 from .editor import Problem
@@ -86,6 +87,25 @@ class Probe:
             self.edges.append(time)
             if len(self.edges) == WINDOW:
                 self.judge()
+        return self.is_hopeless()
+
+    def take(self, times: Sequence[int], high: bool) -> bool:
+        """The same for changes of which each is to the other level, and the first to this one."""
+        begin = int(high == self.high)
+        high = high ^ bool(begin)
+        while begin < len(times) and not self.is_hopeless():
+            if not self.edges:
+                self.rise_first = high
+            part = times[begin:begin + WINDOW - len(self.edges)]
+            self.edges += part
+            begin += len(part)
+            high ^= bool(len(part) % 2)
+            self.high = not high
+            if len(self.edges) == WINDOW:
+                self.judge()
+        return self.is_hopeless()
+
+    def is_hopeless(self) -> bool:
         return self.windows >= HOPELESS and not self.in_units
 
     def _keep(self) -> None:
@@ -168,9 +188,25 @@ def steps_of(named: str) -> Dict[str, float]:
 
 def _look(source: Source, every: Every, units: Dict[str, Dict[str, float]], found: Found) -> Body:
     """Reads one dump; only a wire that is high at some time has a probe, in the order of the wires."""
-    wanted, room = Wanted(every), Room(MOST_KEPT_EDGES)
+    room, only = Room(MOST_KEPT_EDGES), every.only()
+    wanted = Wanted(every) if only is None else Wanted({every.signal(only).code: [(only, 0)]})
     probes: Dict[int, Probe] = {}
-    body = Body(source, wanted)
+
+    def drop(number: int) -> None:
+        wanted.drop(number, probes[number].signal.code)
+        probes[number].forget()
+        found.hopeless += 1
+
+    def take_run(run: WireRun) -> bool:
+        """The changes of the only signal, unless it was dropped."""
+        assert only is not None
+        if wanted.signals and run.marks and (only in probes or run.is_high or len(run.marks) > 1):
+            probe = probes.setdefault(only, Probe(every.signal(only), units, room))
+            if probe.take(run.times(), run.is_high):
+                drop(only)
+        return True
+
+    body = Body(source, wanted, take_run)
     for time, number, letter in body.changes():
         probe = probes.get(number)
         if probe is None:
@@ -178,8 +214,6 @@ def _look(source: Source, every: Every, units: Dict[str, Dict[str, float]], foun
                 continue
             probe = probes[number] = Probe(every.signal(number), units, room)
         if probe.change(time, letter == "1"):
-            wanted.drop(number, probe.signal.code)
-            probe.forget()
-            found.hopeless += 1
+            drop(number)
     found.probes = [probes[number] for number in sorted(probes)]
     return body

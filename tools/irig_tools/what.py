@@ -154,8 +154,11 @@ class What:
     def _read(probe: Probe, track: str, extract: Extract) -> CodeWire:
         kind, inverted = probe.kind
         carrier = CodeWire(probe.signal, inverted, kind, read(track, kind), extract.report.doubtful)
+        listing, carrier.readings.listing = carrier.readings.listing, None
         if carrier.fine or carrier.led:
             editor = Editor(["--format", kind, "--expression", str(carrier.expression), track])
+            if listing:
+                editor.knows_listing(listing, carrier.expression)
             seen: List[Findings] = []
             carrier.script = propose(editor, lambda text: None, seen=seen)
             carrier.lasting = _lasting(editor, seen[0], carrier.readings.length)

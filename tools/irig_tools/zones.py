@@ -56,8 +56,8 @@ class Zone:
         found = self._other_code(plus(left.last, 1), plus(right.first, -1))
         if not found:
             return None
-        own = through(found.first, found.last)
-        return None if survives(list(map(self.place_of, own)), self.clock.classes[found.first:found.last + 1]) else found
+        pulses, classes = through(found.first, found.last), self.clock.classes[found.first:found.last + 1]
+        return None if survives(list(map(self.place_of, pulses)), classes, sum(map(self._is_own, pulses))) else found
 
     def _other_code(self, first: PulseIndex, last: PulseIndex) -> Optional[OtherCode]:
         return other_code(self.rises, self.clock.listing.falls, through(first, last), self._is_own, self.interval)
