@@ -14,7 +14,7 @@ from .changes import changes_of, find_differ
 from .command import kept, of_any_length, run, unchanged
 from .applied import How, applied_to
 from .apply import Code, Refused, Summary, Target, as_object, code_of, find_guard
-from .cut_end import cut_notes, is_cut, note_if_cut
+from .cut_end import is_of_rest, note_if_cut, notes_of_rest
 from .damage import Seen, look
 from .damage_program import say_notes
 from .editor import Editor, Problem, Progress, progress_to
@@ -39,7 +39,6 @@ from .temporary import named_if_no_room, temporary_folder
 from .texts import counted
 from .window_work import Task, left_by
 from .windows import named_size
-from .wire import ENDS_WITHIN
 
 PAGE_OF_REPAIRS = Option("--page", "FILE", "also writes a page (HTML) to look at: the whole recording, each place before and "
                          "after its repair, and the script; with --apply what was changed, as irig_diff prints it")
@@ -181,7 +180,7 @@ def mend_windows(given: Given, path: str, original: Optional[str], outputs: Exit
             with recording.level(folder) as level, named_if_no_room():
                 say_put_back(given, target.put_back(level, recording.track, outputs.enter_context(output(target.out))))
     summed = recording.counts().summary()
-    return end_of(Done(summed, recording.code(name), recording.reasons(), summed.is_whole and not is_cut(recording.track)))
+    return end_of(Done(summed, recording.code(name), recording.reasons(), summed.is_whole and not notes_of_rest(recording.track)))
 
 
 def check_windows(given: Given) -> None:
@@ -294,7 +293,7 @@ def apply(given: Given, track: Opened, editor: Editor, script: List[Repair], pro
             target.outputs.enter_context(output(given.text(PAGE_OF_REPAIRS))).write(drawn.encode("utf-8"))
         say_put_back(given, target.write(repaired, track))
     code = code_of(given.names[0], track, ran.before.listing)
-    is_whole = done.is_whole and not is_cut(track) and not differs(script)
+    is_whole = done.is_whole and not notes_of_rest(track) and not differs(script)
     return Done(done, code, reasons_of(track, script, ran.refused), is_whole)
 
 
@@ -304,9 +303,9 @@ def say_put_back(given: Given, notes: Sequence[str]) -> None:
 
 
 def reasons_of(track: Opened, script: List[Repair], refused: Refused) -> List[str]:
-    """Why something is left: repairs that are not kept, steps that stay, what nothing decides, and a file that is cut."""
+    """Why something is left: repairs that are not kept, steps that stay, what nothing decides, and a file of which not all was read."""
     left = [comment for repair in script if not refused.drops(repair) for comment in left_by(repair)]
-    return [reason.text for reason in refused.reasons] + left + cut_notes(track)
+    return [reason.text for reason in refused.reasons] + left + notes_of_rest(track)
 
 
 def drawing(given: Given, track: Opened, script: List[Repair], seen: Tuple[Seen, Seen, Summary], repaired: str) -> str:
@@ -329,7 +328,7 @@ def report(given: Given, done: Done) -> None:
     if given.has(JSON):
         stream.write(json_lines([as_object(done.summary, done.code, done.reasons)]))
         return
-    reasons = (reason for reason in done.reasons if reason not in ENDS_WITHIN.values())
+    reasons = (reason for reason in done.reasons if not is_of_rest(reason))
     for line in (done.summary.text(), *done.summary.notes, *reasons):
         stream.write("%s: %s\n" % (given.names[0].translate(ESCAPED), line))
 
