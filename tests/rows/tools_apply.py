@@ -7,6 +7,12 @@ from unittest import mock
 
 from cases import case
 from irig_tools import damage_program, mend_program
+from irig_tools.apply import Refused
+from irig_tools.damage import Damage
+from irig_tools.guard_words import Reason
+from irig_tools.kinds import DamageKind
+from irig_tools.left import left_lines, without_line, without_word
+from irig_tools.script import Repair
 from random_input import damages
 from reference import timecode
 from rows import in_process, tools
@@ -353,6 +359,24 @@ def guarded():
     return in_folder(lambda: list(holds()), rec=damages.dump(recorded(glitch), END))
 
 
+def seen_at(time, kind=DamageKind.WIDTH):
+    return Damage(time, time + 10000, "frame X, element 1", "it is spoilt", kind=kind)
+
+
+def named():
+    """What is still damaged has a line of its own if neither a comment nor the frame of a repair that is not kept names it. What neither
+    is a step nor is said to be undecided is left."""
+    script = [Repair(1000000, ["undecided: here"], undecided=["undecided: here"]), Repair(5000000, ["stays: here"], kind=DamageKind.STEP)]
+    not_kept = Refused(1, [Reason("not kept: frame 3 12:00:03 at 3000000 would change", 3000000)])
+    times = (1000000, 2989999, 2990000, 3999999, 4000000)
+    there = [*map(seen_at, times), seen_at(5000000, DamageKind.STEP), seen_at(6000000, DamageKind.STEP)]
+    lines = without_line(there, script, not_kept, 10000)
+    yield same("without a line", [each.at for each in lines], [2989999, 4000000, 6000000])
+    yield same("the lines", left_lines(lines[:1]), ["left: at 2989999: frame X, element 1: it is spoilt"])
+    yield same("left", [each.at for each in without_word(there, script)], [2989999, 2990000, 3999999, 4000000])
+    yield same("nothing is said of it", [each.at for each in without_line(there, [], Refused(0), 10000)], [each.at for each in there])
+
+
 def lost_function(pulses):
     pulses.pop(64)  # a control function of the first frame: two frames are before none of it
 
@@ -532,4 +556,4 @@ def cases(top):
     return [*(case("apply: " + row[0], applied, *row) for row in APPLIED),
             *(case("apply: " + part.__name__, part)
               for part in (into, options_of_a_script, late_times, saved, page_alone, one_line, cut, growing, upside_down, steady,
-                           guarded, guesses, filled, refused, objects, ends, kinds))]
+                           guarded, named, guesses, filled, refused, objects, ends, kinds))]
