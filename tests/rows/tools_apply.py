@@ -359,6 +359,22 @@ def guarded():
     return in_folder(lambda: list(holds()), rec=damages.dump(recorded(glitch), END))
 
 
+def outside():
+    """Pulses that belong to no frame are left: a line has their place, and so has the page, though there is no script."""
+    def holds():
+        status, printed, _ = run("irig_mend", ["--expression=4", "--apply", "new.vcd", "--page", "page.html", "rec.vcd"])
+        lines = printed.decode().splitlines()
+        yield same("the sums", (status, "0 repaired, 0 undecided, 1 left" in lines[0]), (1, True))
+        yield same("the line", lines[1:], ["rec.vcd: left: at 8101000: pulses 801 to 803: pulses that belong to no frame"])
+        with open("page.html", encoding="utf-8") as file:
+            page = json.loads(file.read().split('id="data">')[1].split("</script>")[0])
+        yield same("the page", [(each["at"], "after" in each) for each in page["places"]], [(8101000, False)])
+        yield same("there is no script", page["script"], [])
+
+    pulses = recorded() + [[END + after, END + after + 2000] for after in (101000, 125000, 160000)]
+    return in_folder(lambda: list(holds()), rec=damages.dump(pulses, END + 200000))
+
+
 def seen_at(time, kind=DamageKind.WIDTH):
     return Damage(time, time + 10000, "frame X, element 1", "it is spoilt", kind=kind)
 
@@ -395,7 +411,8 @@ def guesses():
         with mock.patch.dict(os.environ, IRIG_ED=os.path.abspath("irig_ed")):
             lines = run("irig_mend", ["--expression=4", "--apply", "new.vcd", "rec.vcd"])[1].decode().splitlines()
         text = "rec.vcd: 1 place found, 0 repaired, 0 undecided, 1 left, 0 steps that stay, 1 line refused; 7 frames"
-        yield same("a guess that is dropped", (lines[0].startswith(text), lines[1:]), (True, ["rec.vcd: not kept: not a repair"]))
+        place = "rec.vcd: left: at 640000: frame 2024-061T12:00:00, element 64: no pulse"  # the guard names none
+        yield same("a guess that is dropped", (lines[0].startswith(text), lines[1:]), (True, ["rec.vcd: not kept: not a repair", place]))
 
     return in_folder(lambda: list(holds()), rec=damages.dump(recorded(lost_function), END))
 
@@ -556,4 +573,4 @@ def cases(top):
     return [*(case("apply: " + row[0], applied, *row) for row in APPLIED),
             *(case("apply: " + part.__name__, part)
               for part in (into, options_of_a_script, late_times, saved, page_alone, one_line, cut, growing, upside_down, steady,
-                           guarded, named, guesses, filled, refused, objects, ends, kinds))]
+                           guarded, outside, named, guesses, filled, refused, objects, ends, kinds))]

@@ -12,7 +12,7 @@ from .kinds import STEPS, DamageKind
 from .script import Repair
 from .units import ELEMENTS
 
-LEFT = "left: at %d: %s"
+LEFT_PLACE = "left: at %d: %s"
 
 
 def left_by(repair: Repair) -> List[str]:
@@ -58,5 +58,5 @@ def _stretches_of(script: Sequence[Repair]) -> Stretches:
 
 
 def left_lines(damages: Sequence[Damage]) -> List[str]:
-    """What is seen at each, with its place."""
-    return [LEFT % (each.at, each.line().partition(" ")[2]) for each in damages]
+    """What is seen at each, with its place, but not what would have to be there."""
+    return [LEFT_PLACE % (each.at, each.line().partition(" ")[2].partition(";")[0]) for each in damages]

@@ -4,7 +4,7 @@ from __future__ import annotations
 import re
 from typing import List, Optional, Sequence, Tuple
 
-LEVEL = re.compile(r"[01](\.0*)?")
+IS_LEVEL = re.compile(r"[01](\.0*)?")
 EVEN = 0.5  # of the distance of two rows: it is off by at most that
 MOST_EVEN = 0.99  # of the first distances are even
 STILL = 0.1  # of the first rows: a table of changes has fewer in which no level changes
@@ -31,7 +31,7 @@ class RowKind:
 
     def see(self, fields: Sequence[str]) -> None:
         """A row is still if no column that has levels changes."""
-        changed = any(one != other and place != self.time and LEVEL.fullmatch(one) and LEVEL.fullmatch(other)
+        changed = any(one != other and place != self.time and IS_LEVEL.fullmatch(one) and IS_LEVEL.fullmatch(other)
                       for place, (one, other) in enumerate(zip(self.last, fields)))
         self.still += not changed and self.rows > 0
         self.rows += 1

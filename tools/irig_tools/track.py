@@ -41,8 +41,6 @@ class Track:
             told[place - self.first] = ord(self._judge(place))
         if self.falls[-1] == self.listing.length and self.pulses_at(self.last)[-1:] == [len(self.falls) - 1]:
             told[-1] = ord("~")  # cut by the end of the recording
-        if self.rises[0] == 0 and self.pulses_at(self.first)[:1] == [0] and told[:1] != b"P":
-            told[0] = ord("~")  # high at the beginning: nobody knows when it rose, and a position identifier alone is as wide still
         for zone in self.zones:
             for place in self._of_other(zone, zone.other) if zone.other else zone.inner() if zone.vague else ():
                 told[place - self.first] = ord("~")
