@@ -7,6 +7,12 @@ from unittest import mock
 
 from cases import case
 from irig_tools import damage_program, mend_program
+from irig_tools.apply import Refused
+from irig_tools.damage import Damage
+from irig_tools.guard_words import Reason
+from irig_tools.kinds import DamageKind
+from irig_tools.left import left_lines, without_line, without_word
+from irig_tools.script import Repair
 from random_input import damages
 from reference import timecode
 from rows import in_process, tools
@@ -353,6 +359,40 @@ def guarded():
     return in_folder(lambda: list(holds()), rec=damages.dump(recorded(glitch), END))
 
 
+def outside():
+    """Pulses that belong to no frame are left: a line has their place, and so has the page, though there is no script."""
+    def holds():
+        status, printed, _ = run("irig_mend", ["--expression=4", "--apply", "new.vcd", "--page", "page.html", "rec.vcd"])
+        lines = printed.decode().splitlines()
+        yield same("the sums", (status, "0 repaired, 0 undecided, 1 left" in lines[0]), (1, True))
+        yield same("the line", lines[1:], ["rec.vcd: left: at 8101000: pulses 801 to 803: pulses that belong to no frame"])
+        with open("page.html", encoding="utf-8") as file:
+            page = json.loads(file.read().split('id="data">')[1].split("</script>")[0])
+        yield same("the page", [(each["at"], "after" in each) for each in page["places"]], [(8101000, False)])
+        yield same("there is no script", page["script"], [])
+
+    pulses = recorded() + [[END + after, END + after + 2000] for after in (101000, 125000, 160000)]
+    return in_folder(lambda: list(holds()), rec=damages.dump(pulses, END + 200000))
+
+
+def seen_at(time, kind=DamageKind.WIDTH):
+    return Damage(time, time + 10000, "frame X, element 1", "it is spoilt", kind=kind)
+
+
+def named():
+    """What is still damaged has a line of its own if neither a comment nor the frame of a repair that is not kept names it. What neither
+    is a step nor is said to be undecided is left."""
+    script = [Repair(1000000, ["undecided: here"], undecided=["undecided: here"]), Repair(5000000, ["stays: here"], kind=DamageKind.STEP)]
+    not_kept = Refused(1, [Reason("not kept: frame 3 12:00:03 at 3000000 would change", 3000000)])
+    times = (1000000, 2989999, 2990000, 3999999, 4000000)
+    there = [*map(seen_at, times), seen_at(5000000, DamageKind.STEP), seen_at(6000000, DamageKind.STEP)]
+    lines = without_line(there, script, not_kept, 10000)
+    yield same("without a line", [each.at for each in lines], [2989999, 4000000, 6000000])
+    yield same("the lines", left_lines(lines[:1]), ["left: at 2989999: frame X, element 1: it is spoilt"])
+    yield same("left", [each.at for each in without_word(there, script)], [2989999, 2990000, 3999999, 4000000])
+    yield same("nothing is said of it", [each.at for each in without_line(there, [], Refused(0), 10000)], [each.at for each in there])
+
+
 def lost_function(pulses):
     pulses.pop(64)  # a control function of the first frame: two frames are before none of it
 
@@ -371,7 +411,8 @@ def guesses():
         with mock.patch.dict(os.environ, IRIG_ED=os.path.abspath("irig_ed")):
             lines = run("irig_mend", ["--expression=4", "--apply", "new.vcd", "rec.vcd"])[1].decode().splitlines()
         text = "rec.vcd: 1 place found, 0 repaired, 0 undecided, 1 left, 0 steps that stay, 1 line refused; 7 frames"
-        yield same("a guess that is dropped", (lines[0].startswith(text), lines[1:]), (True, ["rec.vcd: not kept: not a repair"]))
+        place = "rec.vcd: left: at 640000: frame 2024-061T12:00:00, element 64: no pulse"  # the guard names none
+        yield same("a guess that is dropped", (lines[0].startswith(text), lines[1:]), (True, ["rec.vcd: not kept: not a repair", place]))
 
     return in_folder(lambda: list(holds()), rec=damages.dump(recorded(lost_function), END))
 
@@ -532,4 +573,4 @@ def cases(top):
     return [*(case("apply: " + row[0], applied, *row) for row in APPLIED),
             *(case("apply: " + part.__name__, part)
               for part in (into, options_of_a_script, late_times, saved, page_alone, one_line, cut, growing, upside_down, steady,
-                           guarded, guesses, filled, refused, objects, ends, kinds))]
+                           guarded, outside, named, guesses, filled, refused, objects, ends, kinds))]

@@ -89,6 +89,25 @@ def table():
     return in_folder(lambda: list(holds()))
 
 
+def not_all_read():
+    """A last time that goes back is said, and what is written can be read without it; a second recording under the header is said, and
+    stays as it is."""
+    def holds():
+        sound = damages.dump(recorded(), END)
+        write_all({"in/back.vcd": sound + "#7000000\n", "in/twice.vcd": sound + "#7000000\n1!\n#7100000\n"})
+        status, lines, _ = mended()
+        yield same("the status, and the sums", (status, lines[-1].partition(";")[0]),
+                   (1, "2 recordings: 0 whole, 2 with damage left, 0 not repaired"))
+        yield same("a last time that goes back",
+                   "back.vcd: the last time of the file is before the one before it, so it does not count" in lines, True)
+        yield same("a second recording", "twice.vcd: the file has 2 dumps, one after the other; this is number 1 (--dump N reads another)"
+                   in lines, True)
+        yield same("the results", [text_of("mended/back.vcd"), text_of("mended/twice.vcd")], [sound, text_of("in/twice.vcd")])
+        yield same("one is read by irig_ed", run("irig_damage", ["--quiet", "--expression=4", "mended/back.vcd"]), (0, b"", ""))
+
+    return in_folder(lambda: list(holds()))
+
+
 def goes_on():
     """What was done is not done again, unless a file or an option has changed or the line of the record is cut."""
     def holds():
@@ -228,4 +247,4 @@ def alone():
 
 def cases(top):
     """Each part by its name."""
-    return [case("folder: " + part.__name__, part) for part in (ended, table, goes_on, packed, never_over, alone)]
+    return [case("folder: " + part.__name__, part) for part in (ended, table, not_all_read, goes_on, packed, never_over, alone)]

@@ -243,7 +243,15 @@ ROWS = (
     ("another original", (NANO + OWN).replace("$var", CUT % "3 us" + "$var", 1), ["--wire=irig"], "#5 1! #9", "2999 ns",
      "the track was cut out at 2999 ns, and this dump has no such time"),
     ("a file that ends within a time", NANO + "#0 0! #5000 1! #9000 #1", ["--wire=irig"], "#5 1! #7 0! #9", "",
-     "#0 0! #5000 1! #7000 0! #9000 #1"),
+     "#0 0! #5000 1! #7000 0! #9000"),
+    ("a file that ends within a value", NANO + "#0 0! #5000 1! #9000 1", ["--wire=irig"], "#5 1! #7 0! #9", "",
+     "#0 0! #5000 1! #7000 0! #9000"),
+    ("a file that ends within a vector", NANO + "#0 0! #5000 1! #9000 b01 x", ["--wire=irig"], "#5 1! #7 0! #9", "",
+     "#0 0! #5000 1! #7000 0! #9000"),
+    ("a last time that goes back", NANO + "#0 0! #5000 1! #9000 #8000\n", ["--wire=irig"], "#5 1! #7 0! #9", "",
+     "#0 0! #5000 1! #7000 0! #9000"),
+    ("a recording after it under one header", NANO + "#0 0! #5000 1! #9000 #8000 0!", ["--wire=irig"], "#5 1! #7 0! #9", "",
+     "#0 0! #5000 1! #7000 0! #9000 #8000 0!"),
     ("several wires", NANO + OWN, [], "#5 1! #20", "", "the dump has several wires of one bit"),
     ("a port", NANO.replace("wire", "port") + "#0 pD 6 0 ! #9000", ["--wire=irig"], "#5 1! #9", "", "is a port of an extended dump"),
     ("no wire to choose", NANO + OWN, None, "#5 1! #9", "", "--wire is only for --into"),
@@ -267,20 +275,21 @@ def row_holds(original, words, track, comment, wanted):
 
 
 def others_are_left(top):
-    """Dumps of simulators with several wires: bytes that are not of the wire stay, packed or not; status 1 if the dump is cut."""
+    """Dumps of simulators with several wires: bytes that are not of the wire stay, packed or not. Of a dump that is cut, or whose last
+    time goes back, that word is not written, since no program would read the file with it; the status is 1."""
     with open(os.path.join(top, "examples", "dumps", "irig_b.vcd"), "rb") as file:
         text = file.read()
     results = []
     lines = text.replace(b"\n", b"\r\n")
-    for data, wanted in ((text, text), (gzip.compress(text), text), (b"\xef\xbb\xbf" + text, text), (lines, lines),
-                         (text + b"#1", text + b"#1")):
+    for data, wanted, ended in ((text, text, 0), (gzip.compress(text), text, 0), (b"\xef\xbb\xbf" + text, text, 0), (lines, lines, 0),
+                                (text + b"#1", text, 1), (text + b"1", text, 1), (text + b"#1\n", text, 1)):
         with tempfile.TemporaryDirectory() as folder:
             path = os.path.join(folder, "original.vcd")
             with open(path, "wb") as file:
                 file.write(data)
             track = run("irig_wire", [path, "irig"])[1]
             status, merged, said = run("irig_wire", ["--into", path, "--wire=irig", "-"], track)
-        results.append((status, merged) == (int(wanted.endswith(b"#1")), wanted))
+        results.append((status, merged, "that word is not written again" in said) == (ended, wanted, bool(ended)))
         results[-1] or print("FAILED irig_wire --into, bytes: %d %s" % (status, said))
     return results
 

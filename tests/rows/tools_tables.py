@@ -7,6 +7,7 @@ import shutil
 import subprocess
 import tempfile
 import zipfile
+from bisect import bisect_right
 from functools import lru_cache
 
 from cases import case
@@ -160,13 +161,83 @@ def uneven_clock():
     return good
 
 
+def drifting(count=2000, begin=12345.6):
+    """Pulses as (rise, fall) in microseconds: rises 10,003.7 apart, so they are at all places between samples."""
+    rng = random.Random("drifting")
+    rises = [begin + 10003.7 * number for number in range(count)]
+    return [(rise, rise + rng.choice((2000, 5000, 8000))) for rise in rises]
+
+
+def level_at(time, pulses):
+    """The level of a step that takes no time."""
+    place = bisect_right(pulses, (time, math.inf))
+    return int(place > 0 and time < pulses[place - 1][1])
+
+
+def sampled_rows(form, apart=400):
+    """A row each 400 microseconds: its time in seconds, its level, and its number."""
+    pulses = drifting()
+    many = int(pulses[-1][1] + 20000) // apart
+    return "".join(form(number * apart / 1e6, level_at(number * apart, pulses), number) for number in range(many))
+
+
+def changed_rows(form):
+    """A row for each change, with its time."""
+    edges = [(time, up) for pulse in drifting() for time, up in zip(pulse, (1, 0))]
+    return form(0, 0, 0) + "".join(form(time / 1e6, up, number) for number, (time, up) in enumerate(edges, 1))
+
+
+def clocked():
+    """Changes of a code and of a clock that turns over every 500 microseconds, in one table: all its rows are even, and a change of the
+    code is exactly at one. Pulses are 10,000 apart."""
+    high = {(20 * pulse + place) for pulse in range(1, 2000) for place in range(4)}
+    return "".join("%.6f,%d,%d\n" % (number / 2000, number in high, number % 2) for number in range(40020))
+
+
+HEAD_OF_TWO = "Time [s],code,other\n"
+# name, options, rows, where rises are, how far each can be off, and the mean
+PLACES = (
+    ("samples of levels", [], lambda: "Time [s],code\n" + sampled_rows("{:.4f},{}\n".format), None, 201, 5),
+    ("samples of levels, with --level", ["--level"], lambda: "Time [s],code\n" + sampled_rows("{:.4f},{}\n".format), None, 201, 5),
+    ("samples of levels at a rate", ["--rate=2500", "--column=1"], lambda: sampled_rows("{1},{0:.4f}\n".format), None, 201, 5),
+    ("samples of sigrok", [], lambda: "; Samplerate: 2500\nD0\n" + sampled_rows("{1}\n".format), None, 201, 5),
+    ("samples of levels and of volts", ["--column=code"], lambda: HEAD_OF_TWO + sampled_rows("{:.4f},{},0.{:06d}\n".format), None, 201, 5),
+    ("samples of volts", ["--level"], lambda: "Time [s],code\n" + sampled_rows("{:.4f},{}.2\n".format), None, 201, 5),
+    ("changes", [], lambda: "Time [s],code\n" + changed_rows("{:.7f},{}\n".format), None, 1, 1),
+    ("changes, with volts", ["--column=code"], lambda: HEAD_OF_TWO + changed_rows("{:.7f},{},0.{:06d}\n".format), None, 1, 1),
+    ("changes of a code and a clock", ["--column=code"], lambda: HEAD_OF_TWO + clocked(),
+     [10000 * pulse for pulse in range(1, 2000)], 0, 0),
+)
+
+
+def places(name, words, make, wanted, most, mean):
+    """Rises are where they were: those of changes at their own times, those of samples in the middle, so the mean is not off."""
+    status, dump, said = run("irig_demodulate", ["--table", *words, "-"], make().encode())
+    found, wanted = rises_of(dump), wanted or [rise for rise, _ in drifting()]
+    off = [one - other for one, other in zip(found, wanted)]
+    good = status == 0 and len(found) == len(wanted) and max(map(abs, off)) <= most and abs(sum(off)) <= mean * len(off)
+    good or print("FAILED irig_demodulate --table, places of %s: %d %d rises, the mean is %.1f off: %s" % (
+        name, status, len(found), sum(off) / max(1, len(off)), said))
+    return good
+
+
+def lost_rows_of_levels():
+    """Lost rows are named, also those of levels; a rise there is in the middle."""
+    rows = ["%.4f,%d\n" % (number / 2500, number % 25 >= 20) for number in range(25000)]
+    status, dump, said = run("irig_demodulate", ["--table", "-"], "".join(["t,D0\n", *rows[:5018], *rows[5023:]]).encode())
+    good = status == 0 and "no rows from 2.006800 to 2.009200 seconds" in said and said.count("no rows") == 1
+    good = good and rises_of(dump)[199:202] == [1997800, 2008000, 2017800]
+    good or print("FAILED irig_demodulate --table, lost rows of levels: %d %s" % (status, said))
+    return good
+
+
 def rate_is_given():
     """Times that are not read, as there is a rate, are named; a column that counts rows has none."""
     results, rows = [], "".join("%.3f,%d\n" % (3.5 + number / RATE, number // 20 % 2) for number in range(100))
     for head, are_times in (("Time [s],D0\n", True), ("number,D0\n", False), ("X,D0\nSequence,Volt\n", False)):
         status, dump, said = run("irig_demodulate", ["--table", "--rate=20000", "--column=2", "-"], (head + rows).encode())
         good = status == 0 and ("the times of the table are not read" in said and "its first row is at 0" in said) == are_times
-        results.append(good and rises_of(dump) == [1000, 3000])
+        results.append(good and rises_of(dump) == [975, 2975])
         results[-1] or print("FAILED irig_demodulate --table --rate of %r: %d %s" % (head, status, said))
     return results
 
@@ -340,6 +411,8 @@ def by_sigrok(top):
 
 def cases(top):
     return [*(case("table: " + row[0], table, *row) for row in TABLES), case("table: when it begins", begun),
+            *(case("table: where rises are: " + row[0], places, *row) for row in PLACES),
+            case("table: lost rows of levels", lost_rows_of_levels),
             case("table: times of rows", times_of_rows), case("table: a rate instead of times", rate_is_given),
             case("table: coarse times", coarse), case("table: zeros first", zeros_first), case("table: an uneven clock", uneven_clock),
             case("table: a carrier", carrier), case("table: cut", cut),

@@ -9,6 +9,7 @@ from .apply import Counts, FrameCount, Refused, counts, find_guard, frames_of, r
 from .damage import Damage, Seen, look
 from .editor import Editor, Progress
 from .kinds import DamageKind
+from .left import without_line, without_word
 from .opening import Opened
 from .script import Repair
 from .second_try import once_more
@@ -42,8 +43,21 @@ class Applied:
 
     def counts(self, script: Sequence[Repair]) -> Counts:
         """What the script did, of what counts."""
-        before, after = ([each for each in seen.damages if self.owns(each.at) or is_of_all(each)] for seen in (self.before, self.after))
-        return counts(before, after, script, (self.frames[0].sound, self.frames[1].sound), self.refused)
+        before = [each for each in self.before.damages if self._counts(each)]
+        after = [each for each in self.after.damages if self._counts(each)]
+        return replace(counts(before, after, script, (self.frames[0].sound, self.frames[1].sound), self.refused),
+                       alone=len(without_word(self.there(), script)))
+
+    def there(self) -> List[Damage]:
+        """The places of damage that are still there."""
+        return [each for each in self.after.damages if not each.is_remark and self._counts(each)]
+
+    def without_line(self, script: Sequence[Repair]) -> List[Damage]:
+        """Those of them that nothing else names."""
+        return without_line(self.there(), script, self.refused, self.after.findings.layout.interval)
+
+    def _counts(self, seen: Damage) -> bool:
+        return self.owns(seen.at) or is_of_all(seen)
 
 
 def is_of_all(seen: Union[Damage, Repair]) -> bool:

@@ -103,6 +103,7 @@ class Counts:
     steps: int  # of these steps
     undecided: int
     guesses: int  # places that are repaired by one
+    alone: int  # places after it that are neither steps nor said to be undecided
     filled: Optional[int]
     refused: int
     sound_before: int
@@ -116,7 +117,7 @@ class Counts:
 
     def summary(self) -> Summary:
         repaired = max(0, self.found - self.there)
-        left = max(0, self.there - self.steps - self.undecided)
+        left = max(self.alone, self.there - self.steps - self.undecided)
         return Summary(self.found, repaired, self.undecided, left, self.steps, min(repaired, self.guesses), self.filled, self.refused,
                        self.sound_before, self.sound_after)
 
@@ -129,7 +130,7 @@ def counts(before: Sequence[Damage], after: Sequence[Damage], script: Sequence[R
     undecided = sum(len(each.undecided) for each in script if not each.edits and each.kind != DamageKind.DIFFERS)
     guesses = [each for each in script if each.edits and each.undecided and not refused.drops(each)]
     guessed = _places_of(guesses, [each for each in before if not each.is_remark])
-    return Counts(found, there, steps, undecided, guessed, refused.filled, refused.lines, *sound)
+    return Counts(found, there, steps, undecided, guessed, 0, refused.filled, refused.lines, *sound)
 
 
 def _places_of(repairs: Sequence[Repair], damages: Sequence[Damage]) -> int:

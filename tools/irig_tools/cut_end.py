@@ -1,7 +1,9 @@
-"""Whether a dump that the editor reads as it is ends within a value: a code that no wire has is a part of one."""
+"""What is said of a file of which not all was read: it is cut, or it has another dump. A dump that the editor reads as it is can end
+within a value: a code that no wire has is a part of one."""
 from __future__ import annotations
 
 import os
+import re
 from typing import List, Optional
 
 from .dump_body import PAIRS, SCALAR
@@ -9,8 +11,9 @@ from .dump_header import Reader
 from .dump_source import Source
 from .editor import Problem
 from .opening import Opened
-from .wire import ENDS_WITHIN
+from .wire import ENDS_WITHIN, SEVERAL_DUMPS
 
+OF_DUMPS = re.compile(SEVERAL_DUMPS.replace("%d", "[0-9]+"))
 TAIL = 4096  # bytes at the end of a file
 
 
@@ -27,6 +30,15 @@ def is_cut(track: Opened) -> bool:
 
 def cut_notes(track: Opened) -> List[str]:
     return [note for note in track.notes if note in ENDS_WITHIN.values()]
+
+
+def notes_of_rest(track: Opened) -> List[str]:
+    """What is noted of the rest of the file, which was not looked at: it is lost, or another dump."""
+    return [note for note in track.notes if is_of_rest(note)]
+
+
+def is_of_rest(note: str) -> bool:
+    return note in ENDS_WITHIN.values() or bool(OF_DUMPS.match(note))
 
 
 def _ends_within_value(path: str) -> bool:

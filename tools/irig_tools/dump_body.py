@@ -63,8 +63,10 @@ class Body:
         self.runs, self.take_run = RunReader(alone) if alone else None, take_run
         self.now = 0  # the last time
         self.begun = 0  # the first time that is not 0
-        self.more = ""  # "header" or "backward" if something follows, "cut" if the file ends within a time or a value
+        self.more = ""  # "header" or "backward" if something follows, "cut" if the file ends within a time or a value, "back" after
+        # a time below the last
         self.last_code: Optional[bytes] = None  # of the last change, if the file ends with it, without white space
+        self.end_words = 1  # words of a time or a value that the file ends within, or of a last time that goes back
         self.counts: Counter[str] = Counter()
         self.strange: Optional[str] = None  # the first word that means no change, and the last time before it
         self.strange_at = 0
@@ -106,7 +108,10 @@ class Body:
         return is_taken
 
     def ends_within(self, header: Header) -> str:
-        """What the file ends within: `time`, `value`, or nothing. A code that no wire has is a part of one."""
+        """What the file ends within: `time`, `value`, or nothing; `back` if its last time goes back. A code that no wire has is a part
+        of one."""
+        if self.more == "back":
+            return self.more
         if self.more == "cut":
             return "time" if self.last_code is None else "value"
         codes = {wire.code for wire in header.wires} if self.last_code is not None else set()
@@ -117,7 +122,7 @@ class Body:
         if first in PAIRS:
             code = next(self.source, b"")
             if self.source.ends_within_word:
-                self.last_code, self.more = code, "" if code else "cut"
+                self.last_code, self.more, self.end_words = code, "" if code else "cut", 1 + bool(code)
             if first in b"bB" and code in self.wanted.signals:
                 yield from self._vector(word.decode("latin-1"), self.wanted.signals[code])
         elif first == 112:
@@ -137,12 +142,22 @@ class Body:
             return
         time = int(digits)
         if time < self.now:
-            self.more = "cut" if self.source.ends_within_word else "backward"
-            if self.more == "backward":
-                self.source.give_back(word)
+            self._goes_back(word)
             return
         self.now = time
         self.begun = self.begun or time
+
+    def _goes_back(self, word: bytes) -> None:
+        """A time is before the last one: a part of a time, the last word of a recorder that was stopped badly, or another dump."""
+        if self.source.ends_within_word:
+            self.more = "cut"
+            return
+        self.source.at_once = None  # what follows is not of this dump
+        following = next(self.source, None)
+        self.more = "back" if following is None else "backward"
+        if following is not None:
+            self.source.give_back(following)
+            self.source.give_back(word)
 
     def _vector(self, word: str, signals: List[Tuple[int, int]]) -> Iterator[Change]:
         for signal, place in signals:

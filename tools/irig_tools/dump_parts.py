@@ -18,7 +18,7 @@ def each_dump(source: Source, number: int, use: Callable[[Header], Body]) -> int
     while True:
         dumps += 1
         body = use(header) if dumps == number else _passed_over(source)
-        if body.more in ("", "cut"):
+        if body.more in ("", "cut", "back"):
             break
         if body.more == "header":
             header = Reader(source).read()

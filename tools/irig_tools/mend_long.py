@@ -10,7 +10,7 @@ from functools import reduce
 from typing import IO, Callable, Iterator, List, Optional, Tuple
 
 from .apply import Code, Counts
-from .cut_end import cut_notes
+from .cut_end import notes_of_rest
 from .editor import Problem, Progress
 from .merger import Level
 from .named import wire_or_none
@@ -68,7 +68,7 @@ class LongRecording:
         for window, part in zip(self.windows, self.parts):
             texts.append(part.texts(window.pulse, before // 2))
             before += part.edges
-        return [text for found in reversed(texts) for text in found] + cut_notes(self.track)
+        return [text for found in reversed(texts) for text in found] + notes_of_rest(self.track)
 
     def code(self, name: str) -> Code:
         return Code(name, wire_or_none(self.track), self.parts[0].kind, self.parts[0].expression)

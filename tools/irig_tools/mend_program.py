@@ -12,10 +12,10 @@ from .again import Names, again, is_kept
 from .analysis import START, examine
 from .changes import changes_of, find_differ
 from .command import kept, of_any_length, run, unchanged
-from .applied import How, applied_to
-from .apply import Code, Refused, Summary, Target, as_object, code_of, find_guard
-from .cut_end import cut_notes, is_cut, note_if_cut
-from .damage import Seen, look
+from .applied import Applied, How, applied_to
+from .apply import Code, Summary, Target, as_object, code_of, find_guard
+from .cut_end import is_of_rest, note_if_cut, notes_of_rest
+from .damage import look
 from .damage_program import say_notes
 from .editor import Editor, Problem, Progress, progress_to
 from .ending import ALL_RIGHT, ESCAPED, FOUND, Usage, complain, name_of
@@ -23,6 +23,7 @@ from .explain import explained
 from .folder_program import APPLY_TO, JOBS, REPORT, mend_folder
 from .facts import json_lines, repairs_as_json
 from .kinds import DamageKind
+from .left import left_by, left_lines
 from .mend import called_for, propose, script_text
 from .mend_long import LongRecording, looked_at
 from .named import wire_or_none
@@ -37,9 +38,8 @@ from .script import Repair
 from .sampled import can_be_long
 from .temporary import named_if_no_room, temporary_folder
 from .texts import counted
-from .window_work import Task, left_by
+from .window_work import Task
 from .windows import named_size
-from .wire import ENDS_WITHIN
 
 PAGE_OF_REPAIRS = Option("--page", "FILE", "also writes a page (HTML) to look at: the whole recording, each place before and "
                          "after its repair, and the script; with --apply what was changed, as irig_diff prints it")
@@ -181,7 +181,7 @@ def mend_windows(given: Given, path: str, original: Optional[str], outputs: Exit
             with recording.level(folder) as level, named_if_no_room():
                 say_put_back(given, target.put_back(level, recording.track, outputs.enter_context(output(target.out))))
     summed = recording.counts().summary()
-    return end_of(Done(summed, recording.code(name), recording.reasons(), summed.is_whole and not is_cut(recording.track)))
+    return end_of(Done(summed, recording.code(name), recording.reasons(), summed.is_whole and not notes_of_rest(recording.track)))
 
 
 def check_windows(given: Given) -> None:
@@ -290,12 +290,12 @@ def apply(given: Given, track: Opened, editor: Editor, script: List[Repair], pro
         ran = applied_to(track, editor, script, how, repaired)
         done = ran.counts(script).summary()
         if given.has(PAGE_OF_REPAIRS):
-            drawn = drawing(given, track, script, (ran.before, ran.after, done), repaired)
+            drawn = drawing(given, track, script, (ran, done), repaired)
             target.outputs.enter_context(output(given.text(PAGE_OF_REPAIRS))).write(drawn.encode("utf-8"))
         say_put_back(given, target.write(repaired, track))
     code = code_of(given.names[0], track, ran.before.listing)
-    is_whole = done.is_whole and not is_cut(track) and not differs(script)
-    return Done(done, code, reasons_of(track, script, ran.refused), is_whole)
+    is_whole = done.is_whole and not notes_of_rest(track) and not differs(script)
+    return Done(done, code, reasons_of(track, script, ran), is_whole)
 
 
 def say_put_back(given: Given, notes: Sequence[str]) -> None:
@@ -303,21 +303,23 @@ def say_put_back(given: Given, notes: Sequence[str]) -> None:
         complain("%s: %s" % (name_of(given.text(INTO) or ""), note), COMMAND.name)
 
 
-def reasons_of(track: Opened, script: List[Repair], refused: Refused) -> List[str]:
-    """Why something is left: repairs that are not kept, steps that stay, what nothing decides, and a file that is cut."""
-    left = [comment for repair in script if not refused.drops(repair) for comment in left_by(repair)]
-    return [reason.text for reason in refused.reasons] + left + cut_notes(track)
+def reasons_of(track: Opened, script: List[Repair], ran: Applied) -> List[str]:
+    """Why something is left: repairs that are not kept, steps that stay, what nothing decides, and a file of which not all was read."""
+    left = [comment for repair in script if not ran.refused.drops(repair) for comment in left_by(repair)]
+    reasons = [reason.text for reason in ran.refused.reasons]
+    return reasons + left + left_lines(ran.without_line(script)) + notes_of_rest(track)
 
 
-def drawing(given: Given, track: Opened, script: List[Repair], seen: Tuple[Seen, Seen, Summary], repaired: str) -> str:
-    """The page of what was repaired; what was seen before and after it, and the sums."""
-    before, after, done = seen
+def drawing(given: Given, track: Opened, script: List[Repair], result: Tuple[Applied, Summary], repaired: str) -> str:
+    """The page of what was repaired, and the sums."""
+    ran, done = result
+    before = ran.before
     rules = [option.name for option in (STEADY, MOVE) if given.has(option)]
     rules += ["%s=%s" % (WITH.name, name if is_kept(name) else WITH.value) for name in given.texts(WITH)]
     names = Names(given.names[0], given.text(APPLY) or "", given.text(INTO), given.number(DUMP), rules)
     changes = changes_of(track, before.listing, repaired)
     changes.command = again(names, track, before.listing)
-    sheet = sheet_of(os.path.basename(given.names[0]), wire_or_none(track), before, script, after.listing, changes)
+    sheet = sheet_of(os.path.basename(given.names[0]), wire_or_none(track), before, script, ran.after.listing, changes, ran.there())
     noted = replace(sheet, notes=(*sheet.notes, *done.notes))
     return page(of_program(noted, COMMAND.name, "%s: %s" % (name_of(given.names[0]), done.text())))
 
@@ -329,7 +331,7 @@ def report(given: Given, done: Done) -> None:
     if given.has(JSON):
         stream.write(json_lines([as_object(done.summary, done.code, done.reasons)]))
         return
-    reasons = (reason for reason in done.reasons if reason not in ENDS_WITHIN.values())
+    reasons = (reason for reason in done.reasons if not is_of_rest(reason))
     for line in (done.summary.text(), *done.summary.notes, *reasons):
         stream.write("%s: %s\n" % (given.names[0].translate(ESCAPED), line))
 

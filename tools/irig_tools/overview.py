@@ -10,6 +10,7 @@ from .analysis import Findings, Part
 from .damage import THE_WHOLE, Damage, Seen
 from .editor import Listing
 from .ending import ESCAPED
+from .left import Stretches
 from .moments import DAY
 from .script import Repair
 from .sheet import DAMAGED, LOST, SOUND, STATES, Changes, Place, Sheet, Stretch, Wave, cut, merged
@@ -24,8 +25,9 @@ HUNDREDTH = 10000  # microseconds
 
 
 def sheet_of(name: str, wire: str, seen: Seen, script: Sequence[Repair] = (), after: Optional[Listing] = None,
-             changes: Optional[Changes] = None) -> Sheet:
-    """The data of a wire of a recording; `after` is the listing after the script, or after what was made of it, with its changes."""
+             changes: Optional[Changes] = None, there: Sequence[Damage] = ()) -> Sheet:
+    """The data of a wire of a recording; `after` is the listing after the script, or after what was made of it, with its changes and
+    what is still damaged then."""
     layout = seen.findings.layout
     notes = [each for each in seen.damages if each.is_remark or each.name == THE_WHOLE]
     places = [_place_of_damage(seen, each, script, after) for each in seen.damages if each not in notes]
@@ -34,6 +36,7 @@ def sheet_of(name: str, wire: str, seen: Seen, script: Sequence[Repair] = (), af
     said = tuple(each.seen for each in notes)
     if changes:
         places = [_made(place) for place in places]
+        places = sorted(places + _still_there(seen, there, places), key=lambda place: place.at)
     length = seen.listing.length
     return Sheet(name, length, layout.interval, kind, _stretches(seen.findings, length), tuple(places), lines, said, changes, wire=wire,
                  span=_span_of_times(seen), clock=tuple(_clock_of(seen)))
@@ -84,6 +87,13 @@ def _of_day(part: Part, span: Span, place: PlaceNumber) -> int:
 def _made(place: Place) -> Place:
     """A place without a repair that was proposed for it and not made."""
     return place if place.after != place.before else replace(place, after=None)
+
+
+def _still_there(seen: Seen, there: Sequence[Damage], places: Sequence[Place]) -> List[Place]:
+    """The places that are left, and that none of these places shows as one that is."""
+    shown = Stretches((place.at, place.end) for place in places if place.after is None)
+    hidden = [each for each in there if each.name != THE_WHOLE and not shown.meets(each.at, max(each.at, each.until))]
+    return [replace(_place_of_damage(seen, each, (), None), reason="after the repair: " + each.seen) for each in hidden]
 
 
 def _place_of_damage(seen: Seen, damage: Damage, script: Sequence[Repair], after: Optional[Listing]) -> Place:

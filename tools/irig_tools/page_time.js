@@ -61,7 +61,8 @@ const places = held.places.map((place) => ({
 }));
 
 // The places that the list shows: all, or those that are left to the user.
-const isLeft = (place) => held.script.length > 0 && !place.after;
+const isMended = held.script.length > 0 || Boolean(held.changes);
+const isLeft = (place) => isMended && !place.after;
 const listed = () => document.getElementById("open-only").checked ? places.filter(isLeft) : places;
 
 // A time in seconds, to the last digit.

@@ -17,7 +17,7 @@ from .dump_parts import each_dump
 from .dump_units import MICROSECOND
 from .editor import Problem
 from .merger import OTHER_LENGTH, Level, Merger, Origin
-from .wire import ENDS_WITHIN, Report, Wish, first_of, unit_in
+from .wire import ENDS_WITHIN, SEVERAL_DUMPS, Report, Wish, first_of, unit_in
 from .wire_edges import WireEdges
 from .wire_words import words_of
 
@@ -85,7 +85,7 @@ class PutBack:
         self.source.copy(len(self.source.taken))
         self.report.done += self.source.notes
         if dumps > 1 and not self.wish.dump:
-            text = "the file has %d dumps, one after the other; the track was put back into number 1 (--dump N names another)"
+            text = SEVERAL_DUMPS + "; the track was put back into number 1 (--dump N names another)"
             self.report.doubtful.append(text % dumps)
         return self.report
 
@@ -103,12 +103,14 @@ class PutBack:
         self.source.free = False
         for time, _, letter in body.changes():
             self.merger.change(2 if body.value else 1, time, letter, words.bits(body.value))
+        within = body.ends_within(header)
+        if within:  # no program reads a part of a word
+            del self.source.taken[-body.end_words:]
+            self.report.doubtful.append(ENDS_WITHIN[within] + "; that word is not written again")
         self.merger.flush(len(self.source.taken), True)
         self.source.free = True
         self._check_end(body)
         self.report.done.append("the wire is %s" % signal.text())
-        within = body.ends_within(header)
-        self.report.doubtful += [ENDS_WITHIN[within]] if within else []
         self._say()
         return body
 

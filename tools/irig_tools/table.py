@@ -13,14 +13,13 @@ from .cycles import Edge
 from .digits import NUMBER, WHOLE
 from .editor import Problem
 from .heads import Heads, fields_of, is_row, rate_of
+from .row_kind import RowKind, even_distances
 from .samples import LARGEST, MICROSECONDS, Samples, stream_of
 from .wire import LONGEST_TIME
 
 LONGEST_LINE = 10000  # bytes of a line
 MOST_HEADS = 1000  # lines before the first row
 LOOKED_AT = 10000  # rows that show the rate, and whether the values are levels
-EVEN = 0.5  # of the distance of two samples: it is off by at most that
-MOST_EVEN = 0.99  # of the first distances are even
 ROUND = 1e-4  # a rate that is as near to one of three digits is that one
 NEAR_ROW = 0.25  # of that distance: a row is where the rate has it
 NEXT_ROW = 1.75  # distances of two samples: if rows are farther apart, others between them are lost
@@ -78,13 +77,15 @@ class Table(Samples):
         if aside:
             self.aside, self.others = aside, named.others(self.form)
             aside.begin(path, [each for _, each in self.others])
-        rows = self._rows(first)
+        self.seen, rows = RowKind(self.form.time), self._rows(first)
         looked = list(islice(rows, LOOKED_AT))
         self.rows = chain(looked, rows)
         values = {level for _, level in looked}
         self.is_levels = values <= {0.0, 1.0} and not (volts and values == {0.0})
+        times = [time for time, _ in looked]
+        self.spacing = 1 / self.rate if self.form.time is None else self.seen.spacing(times)  # of levels in samples; of changes 0
         if self.form.time is not None:
-            self.rate = MICROSECONDS if self.is_levels else self._rate(looked)
+            self.rate = MICROSECONDS if self.is_levels else self._rate(times)
 
     def _lines(self, stream: IO[bytes]) -> Iterator[str]:
         for line in utf8_lines(stream):
@@ -112,6 +113,8 @@ class Table(Samples):
         numbered = enumerate(line for line in chain([first], self.lines) if line and not line.startswith(";"))
         for number, line in numbered:
             fields = fields_of(line, form.parted)
+            if number < LOOKED_AT:
+                self.seen.see(fields)
             if number and self.is_open and not self._is_whole(fields):
                 self.notes.append("the table ends within a row, so it is cut; that row is left out")
                 return
@@ -147,17 +150,14 @@ class Table(Samples):
             raise Problem("%s: line %d has no number in column %d" % (self.path, self.number, place + 1))
         return value
 
-    def _rate(self, looked: Sequence[Row]) -> int:
+    def _rate(self, times: Sequence[float]) -> int:
         """The samples in a second, by the first times. Some rows can be lost or be there twice."""
-        apart = [other[0] - one[0] for one, other in zip(looked, looked[1:])]
-        if not any(apart):
+        if times[0] == times[-1]:
             raise Problem("%s: its times are all the same, so they show no rate; give --rate, in samples a second" % self.path)
-        usual = sorted(apart)[len(apart) // 2]
-        even = [each for each in apart if abs(each - usual) <= EVEN * usual]
-        if not usual or len(even) < MOST_EVEN * len(apart):
-            row = next(row for row, each in enumerate(apart, 2) if abs(each - usual) > EVEN * usual)
+        _, even, uneven = even_distances(times)
+        if uneven:
             text = "%s: its samples do not come at even times, first in row %d; with --rate they are taken as even, from 0 on"
-            raise Problem((text + OR_CHANGES) % (self.path, row))
+            raise Problem((text + OR_CHANGES) % (self.path, uneven))
         wide = sum(even) / len(even)
         rate = float("%.3g" % (1 / wide))
         return max(1, round(rate if abs(rate * wide - 1) < ROUND else 1 / wide))
@@ -173,8 +173,7 @@ class Table(Samples):
             if self.form.time is not None:
                 self._know(times)
             yield values
-        if self.lost > MOST_NAMED:
-            self.notes.append("and %d such stretches more" % (self.lost - MOST_NAMED))
+        self.note_more_lost()
 
     def _know(self, times: Sequence[float]) -> None:
         """Keeps the times of the first and the last row of a stretch, and of each that is not near where the rate has it after
@@ -186,15 +185,20 @@ class Table(Samples):
                 kept |= {place - 1, place}
                 last, since = place, other
                 if (other - one) * self.rate > NEXT_ROW:
-                    self._lose(one, other)
+                    self.lose(one, other)
         for place in sorted(kept):
             self.places.append(begun + place)
             self.times.append(times[place])
 
-    def _lose(self, one: float, other: float) -> None:
+    def lose(self, one: float, other: float) -> None:
+        """Notes that rows between two times are lost."""
         self.lost += 1
         if self.lost <= MOST_NAMED:
             self.notes.append("no rows from %.6f to %.6f seconds" % (self._seconds(one), self._seconds(other)))
+
+    def note_more_lost(self) -> None:
+        if self.lost > MOST_NAMED:
+            self.notes.append("and %d such stretches more" % (self.lost - MOST_NAMED))
 
     def _seconds(self, since: float) -> float:
         return since + self.begun / MICROSECONDS
@@ -211,7 +215,8 @@ class Table(Samples):
 
 
 class Steps:
-    """The edges of a table of zeros and ones: of samples, or of changes."""
+    """The edges of a table of zeros and ones. A change has its own time. Between two samples that differ the edge is in the middle:
+    nothing says more, and at the second one all would be late, by half the distance in the mean."""
 
     def __init__(self, table: Table, swapped: bool) -> None:
         self.samples, self.swapped = table, swapped
@@ -219,16 +224,20 @@ class Steps:
         self.gaps: List[Tuple[int, int]] = []
 
     def edges(self) -> Iterator[Edge]:
-        level, changed, same = 0, -1.0, 0
-        for time, value in self.samples.rows:
+        level, changed, same, last, table = 0, -1.0, 0, 0.0, self.samples
+        for time, value in table.rows:
             if value not in (0.0, 1.0):
                 text = "%s: line %d has no level of 0 or 1, as the first %d rows have; for volts that begin with 0 give --level, or " \
                        "--format of a carrier, and --column for another column"
-                raise Problem(text % (self.samples.path, self.samples.number, LOOKED_AT))
-            self.length = time * self.samples.rate
+                raise Problem(text % (table.path, table.number, LOOKED_AT))
+            self.length = time * table.rate
+            if table.spacing and time - last > NEXT_ROW * table.spacing:
+                table.lose(last, time)
             if int(value) ^ self.swapped != level:
                 level, same, changed = 1 - level, same + (time == changed), time
-                yield self.length, level
+                yield (last + time) / 2 * table.rate if table.spacing else self.length, level
+            last = time
         if same:
-            self.samples.notes.append(COARSE_TIMES % ("1 change has" if same == 1 else "%d changes have" % same))
-        self.length += self.samples.form.time is None  # the last sample, too, has its time
+            table.notes.append(COARSE_TIMES % ("1 change has" if same == 1 else "%d changes have" % same))
+        table.note_more_lost()
+        self.length += table.form.time is None  # the last sample, too, has its time

@@ -13,10 +13,11 @@ from dataclasses import dataclass, replace
 from typing import List, Sequence, Tuple
 
 from .applied import Applied, How, applied_to, is_of_all
-from .apply import Counts, Refused
+from .apply import Counts
 from .editor import Editor
 from .ending import ALL_RIGHT, ended, heed_signals
-from .kinds import STEPS, DamageKind
+from .kinds import DamageKind
+from .left import left_by, left_lines
 from .mend import propose
 from .opening import Opened
 from .script import Repair
@@ -90,7 +91,7 @@ def work(task: Task) -> int:
     ahead = bisect_left(editor.ask([each.lines() for each in script]).rises, task.window.begin)
     script = _own(task.window, script)
     ran = applied_to(track, editor, script, how, repaired)
-    counted, reasons = ran.counts(script), _own_reasons(task.window, script, ran.refused)
+    counted, reasons = ran.counts(script), _own_reasons(task.window, script, ran)
     if not _has_sound(ran, script):
         repaired, reasons = track.path, [(NONE_SOUND % (task.window.begin, task.window.end), True)]
         counted = _left_as_it_was(counted)
@@ -122,17 +123,13 @@ def _left_as_it_was(counted: Counts) -> Counts:
                    sound_after=counted.sound_before)
 
 
-def _own_reasons(window: TimeWindow, script: Sequence[Repair], refused: Refused) -> List[Tuple[str, bool]]:
+def _own_reasons(window: TimeWindow, script: Sequence[Repair], ran: Applied) -> List[Tuple[str, bool]]:
     """Why something is left. What is no repair is what the last look saw, at the repaired recording."""
+    refused = ran.refused
     left = [(comment if window.owns(repair.at) else NOT_REPAIRED % (window.begin, window.end, comment), not repair.edits)
             for repair in script if not refused.drops(repair) and (window.owns(repair.at) or is_of_all(repair))
             for comment in left_by(repair)]
-    return [*((reason.text, True) for reason in refused.reasons), *left]
-
-
-def left_by(repair: Repair) -> List[str]:
-    """The comments on a step that stays, or on what nothing decides."""
-    return repair.comments if not repair.edits and repair.kind in STEPS else repair.undecided
+    return [*((text, True) for text in [*(reason.text for reason in refused.reasons), *left_lines(ran.without_line(script))]), *left]
 
 
 def _numbered(text: str, more: int) -> str:

@@ -19,7 +19,9 @@ LONGEST_TIME = 1 << 40  # microseconds that the editor reads
 MOST_BYTES = 1 << 28
 MOST_EDGES = 1 << 23
 LINES = 1 << 14  # that are written at once
-ENDS_WITHIN = {"time": "the file ends within a time, so it is cut", "value": "the file ends within a value, so it is cut"}
+ENDS_WITHIN = {"time": "the file ends within a time, so it is cut", "value": "the file ends within a value, so it is cut",
+               "back": "the last time of the file is before the one before it, so it does not count"}
+SEVERAL_DUMPS = "the file has %d dumps, one after the other"
 SWAPPED = {"0": "1", "1": "0", "x": "x", "z": "z"}
 
 
@@ -182,7 +184,7 @@ class Extract:
         number = self.wish.dump or 1
         dumps = each_dump(self.source, number, lambda header: _written(self.source, header, [self]))
         if dumps > 1:
-            text = "the file has %d dumps, one after the other; this is number %d (--dump N reads another)"
+            text = SEVERAL_DUMPS + "; this is number %d (--dump N reads another)"
             named = self.report.done if self.wish.dump else self.report.doubtful
             named.append(text % (dumps, number))
         return self.report
