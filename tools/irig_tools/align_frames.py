@@ -17,7 +17,7 @@ MARGIN = 9  # frames that are read before and after a part: the time of a line d
 CUT_BEFORE = 10  # elements before the first of these
 NO_END = 1 << 62  # microseconds
 INTERVALS = {"A": 1000, "B": 10000, "E": 100000, "G": 100}  # microseconds
-TABLE_ROW = re.compile(rb"([0-9]+)\t(?:([0-9]{4})-)?([0-9]{3})T[^\t]*\t(yes|no)(\tunsupported)?\n")
+TABLE_ROW = re.compile(rb"([0-9]+)\t(?:([0-9]{4})-)?([0-9]{3})T[^\t]*\t(?:yes|no|(unsupported))\n")
 END_READ = 1 << 16  # bytes at an end of the file that say how long it is
 UNIT = re.compile(rb"\$timescale\s+(1|10|100)\s*([munpf]?)s\s+\$end")
 A_SECOND = {b"": 1, b"m": 10 ** 3, b"u": 10 ** 6, b"n": 10 ** 9, b"p": 10 ** 12, b"f": 10 ** 15}
@@ -91,11 +91,12 @@ class LongTrack:
                     tables[span] = table
                     self.fit.append(self._around(span))
             todo = halves
-        self.spans, are_more = sorted(tables), sum(map(len, tables.values())) > 1
-        for span, table in sorted(tables.items()):
-            is_alone = len(table) == 1 and are_more and "--alone" not in self.code
-            self.frames += [frame._replace(is_believed=frame.is_believed and not is_alone)
-                            for frame in table if span[0] <= frame.rise < span[1]]
+        self.spans = sorted(tables)
+        own = [[frame for frame in tables[span] if span[0] <= frame.rise < span[1]] for span in self.spans]
+        is_only, is_alone = sum(map(len, own)) == 1, "--alone" in self.code
+        for span, frames in zip(self.spans, own):  # one that is the only one in a window has others in the recording
+            can_be = is_only or len(tables[span]) > 1
+            self.frames += [frame._replace(is_believed=is_alone or can_be and frame.is_believed) for frame in frames]
         self.rises = [frame.rise for frame in self.frames]
 
     def _around(self, span: TimeSpan) -> TimeSpan:
@@ -150,7 +151,7 @@ class LongTrack:
 def _frames_in(table: bytes, start: int) -> List[TimedFrame]:
     """The rows of a table, which count from the start of a window."""
     found = [TimedFrame(start + int(rise), int(year) if year else None, int(day), not doubted)
-             for rise, year, day, _, doubted in TABLE_ROW.findall(table)]
+             for rise, year, day, doubted in TABLE_ROW.findall(table)]
     if len(found) != table.count(b"\n"):
         raise Problem("irig_time has printed another table than this tool reads")
     return found

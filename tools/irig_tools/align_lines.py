@@ -18,8 +18,6 @@ BLANKS = b" \t\r"
 
 def pattern_of(comma: Optional[str], column: int) -> "re.Pattern[bytes]":
     """What finds the number in a column of a line, from 1; it is not found if the column has none."""
-    if column > LONGEST_LINE_READ:
-        return re.compile(rb"(?!)")
     if comma is None:
         blank, other = b"[ \t\r]", b"[^ \t\r]"
         skipped = b"%s*(?:%s+%s+){%d}" % (blank, other, blank, column - 1)

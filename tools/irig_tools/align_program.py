@@ -17,6 +17,7 @@ from .command import run, unchanged
 from .editor import Problem, find_beside, progress_to
 from .ending import ALL_RIGHT, FOUND, complain
 from .options import Command, Given, Option, whole
+from .processes import end_all
 from .temporary import temporary_folder
 from .windows import named_size
 
@@ -68,11 +69,12 @@ def aligner_words(given: Given, *options: Option) -> List[str]:
 
 def work(given: Given) -> int:
     program, path = find_beside("irig_time", "irig_align runs it"), given.names[0]
-    if named_size() is None:
+    is_file = os.path.isfile(path)
+    if named_size() is None or not is_file:
         status = aligned_whole([program, *aligner_words(given, *OF_FRAMES, *OF_LINES, *OF_HEADER, OFFSET, YEAR), "--", path])
         if status is not None:
             return status
-    if not os.path.isfile(path):
+    if not is_file:
         raise Problem("%s: has more pulses than a track holds, and can be read only once" % path)
     progress = progress_to(sys.stderr)
     with unchanged(path), temporary_folder() as folder:
@@ -88,10 +90,13 @@ def aligned_whole(command: List[str]) -> Optional[int]:
     """The status of a run on the whole track, which reads the lines and prints; none if the track is too long, and no line was read."""
     sys.stdout.flush()
     try:
-        with subprocess.Popen(command, stderr=subprocess.PIPE) as process:
-            said = process.communicate()[1].decode("utf-8", "replace")
+        process = subprocess.Popen(command, stderr=subprocess.PIPE)
     except OSError as error:
         raise Problem("%s cannot be run: %s" % (command[0], error.strerror)) from error
+    try:
+        said = process.communicate()[1].decode("utf-8", "replace")
+    finally:
+        end_all([process])
     if AlignerRun(process.returncode, said, "").is_too_long():
         return None
     sys.stderr.write(said)
@@ -129,7 +134,7 @@ class LongAlignment:
     def run(self, stream: IO[bytes], out: IO[bytes]) -> int:
         given, lines = self.given, each_line(stream)
         header = list(islice(lines, given.number(HEADER) or 0))
-        self.number = len(header)
+        self.number = sum(is_good for _, is_good in header)
         words = aligner_words(given, *OF_FRAMES, *OF_LINES, *OF_HEADER, OFFSET, YEAR)
         asked = Call([*words, "--from=0", "--to=0"], b"".join(line for line, is_good in header if is_good))
         out.write(self.aligner.run([asked], "looking at the track")[0].checked().printed())
@@ -169,8 +174,10 @@ class LongAlignment:
         asked = [number for number, lines in enumerate(batch.lines) if lines]
         runs = dict(zip(asked, self.aligner.run([self._call(number, batch.lines[number], offset) for number in asked], "aligning")))
         places = dict.fromkeys(asked, 0)
+        for each in runs.values():
+            each.checked()
         for number, many in batch.order:
-            with open(runs[number].checked().path, "rb") as file:
+            with open(runs[number].path, "rb") as file:
                 file.seek(places[number])
                 found = list(islice(file, many))
                 places[number] = file.tell()
