@@ -161,7 +161,8 @@ def that_end_early():
             file.write("kept")
         with open("packed.gz", "wb") as file:
             file.write(gzip.compress(text_of("cut.vcd").encode())[:-80000])
-        status, printed, said = in_windows(12000, "irig_mend", *CODE, "--apply", "new.vcd", "packed.gz")
+        with mock.patch.object(sampled, "SAMPLE", 100000):
+            status, printed, said = in_windows(12000, "irig_mend", *CODE, "--apply", "new.vcd", "packed.gz")
         yield same("a read that fails", (status, printed, "packed.gz: cannot be unpacked: " in said), (2, b"", True))
         yield same("what was there", (text_of("new.vcd"), len(os.listdir("."))), ("kept", 4))
 
@@ -180,7 +181,7 @@ def that_fail():
             started.append(window.number)
             start(jobs, window, edges)
 
-        with mock.patch.object(window_jobs.WindowJobs, "start", counted):
+        with mock.patch.object(window_jobs.WindowJobs, "start", counted), mock.patch.object(sampled, "SAMPLE", 100000):
             status, printed, said = in_windows(12000, "irig_mend", *CODE, "--apply", "new.vcd", "packed.gz")
         yield same("a read that fails", (started, status, printed, "packed.gz: cannot be unpacked: " in said), ([1, 2], 2, b"", True))
         for name, text in (("irig_ed", 'exec "%s" "$@"' % os.environ["IRIG_ED"]), ("irig_guard", FAILS_IN_THE_THIRD % GUARD)):
@@ -190,7 +191,8 @@ def that_fail():
         with mock.patch.dict(os.environ, {"IRIG_ED": os.path.abspath("bin/irig_ed")}):
             for words in ([], ["--into", "track.vcd"]):
                 status, printed, said = in_windows(12000, "irig_mend", *CODE, "--apply", "new.vcd", *words, "track.vcd")
-                yield same("a program that fails", (status, printed, re.sub("[0-9]{2,}", "N", said)),
+                said = re.sub(r" \(it writes .*\)", "", re.sub("[0-9]{2,}", "N", said))
+                yield same("a program that fails", (status, printed, said),
                            (2, b"", "irig_mend: window 3, from N to N: irig_guard: input failed\n"))
         yield same("what was there", (text_of("new.vcd"), sorted(os.listdir("."))), ("kept", ["bin", "new.vcd", "packed.gz", "track.vcd"]))
 
@@ -198,7 +200,7 @@ def that_fail():
         os.mkdir("bin")
         text = text_of("track.vcd").encode()
         with open("packed.gz", "wb") as file:
-            file.write(cut_packed(text, text.index(b"\n#300000000 ")))
+            file.write(cut_packed(text, text.index(b"\n#560000000 ")))  # the third window needs more
         return list(holds())
 
     return in_folder(prepared, track=dump(damaged(1000, 20)))
