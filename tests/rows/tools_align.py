@@ -72,12 +72,17 @@ def plain(many):
     return "".join("%d\t%d\n" % pair for pair in enumerate(moments(chance, many))).encode()
 
 
-def with_wrong_frames(pulses):
-    """Frames that are fine and wrong, a clock that is set for a while, and a stretch in which no frame is sound."""
-    for first in (12000, 12100, 30500, 77000):
-        pulses[first + 1][1] = pulses[first + 1][0] + STEP // 2  # a second that has another one
-    for pulse, (rise, fall) in zip(pulses[40000:42000], code(1950)[193000:]):
+def with_other_time(pulses, first, frames):
+    """From a pulse on that many frames show the time that is a thousand frames later."""
+    later = code(first // 100 + 1000 + frames)[-100 * frames:]
+    for pulse, (rise, fall) in zip(pulses[first:], later):
         pulse[1] = pulse[0] + fall - rise
+
+
+def with_wrong_frames(pulses):
+    """Frames that are fine and wrong, also at ends of windows, a clock that is set for a while, and a stretch without sound frames."""
+    for first, frames in ((12000, 2), (14900, 1), (30000, 1), (40000, 20), (44800, 1), (50000, 1), (77000, 1)):
+        with_other_time(pulses, first, frames)
     for at in range(52000, 86000, 30):
         pulses[at][1] = pulses[at][0] + 3500
     damages.tidy(pulses, pulses[-1][1])
@@ -101,8 +106,12 @@ def in_any_size():
             wanted = whole(words, given)
             for size in SIZES:
                 yield same("%s in windows of %d" % (words, size), aligned(size, words, given), wanted)
+        for size in SIZES:
+            words = [*CODE, column, "wrong.vcd"]
+            yield same("wrong frames in windows of %d" % size, aligned(size, words, lines), whole(words, lines))
 
-    return in_folder(lambda: list(holds()), track=dump(with_wrong_frames(damaged(1000, 20, True))))
+    texts = {"track": dump(with_wrong_frames(damaged(1000, 20, True))), "wrong": dump(with_wrong_frames(code(1000)))}
+    return in_folder(lambda: list(holds()), **texts)
 
 
 def of_one_frame():
@@ -134,18 +143,25 @@ def by_halves():
 def around_noise():
     """More pulses than are held without a frame: up to nine frames on each side have no time, and all else has that of the whole."""
     def holds():
-        words = [*CODE, "--column=2", "track.vcd"]
-        found, wanted = (each[1].splitlines() for each in (aligned_by_few(30000, LENGTH, words, plain(9000)), whole(words, plain(9000))))
-        differ = [(one, other) for one, other in zip(found, wanted) if one != other]
-        yield same("lines", len(found), len(wanted))
-        yield same("a time that is lost", {one[:1] for one, _ in differ}, {b"-"})
-        times = sorted(int(other.split(b"\t")[2]) for _, other in differ)
-        yield same("near the noise", [time // 10 ** 6 for time in times if not (291 <= time / 1e6 < 301 or 699 <= time / 1e6 < 710)], [])
+        for name in ("track.vcd", "set.vcd"):
+            words = [*CODE, "--column=2", name]
+            found = aligned_by_few(30000, LENGTH, words, plain(9000))[1].splitlines()
+            wanted = whole(words, plain(9000))[1].splitlines()
+            differ = [(one, other) for one, other in zip(found, wanted) if one != other]
+            yield same("lines", len(found), len(wanted))
+            yield same("a time that is lost", {one[:1] for one, _ in differ}, {b"-"})
+            times = sorted(int(other.split(b"\t")[2]) // 10 ** 6 for _, other in differ)
+            yield same("near the noise", [time for time in times if not (291 <= time <= 300 or 699 <= time < 710)], [])
 
-    pulses = code(1000)
-    for pulse in pulses[30000:70000]:
-        pulse[1] = pulse[0] + 3500
-    return in_folder(lambda: list(holds()), track=dump(pulses))
+    def noisy():
+        pulses = code(1000)
+        for pulse in pulses[30000:70000]:
+            pulse[1] = pulse[0] + 3500
+        return pulses
+
+    after = noisy()
+    with_other_time(after, 70000, 300)
+    return in_folder(lambda: list(holds()), track=dump(noisy()), set=dump(after))
 
 
 def dated(*stretches):

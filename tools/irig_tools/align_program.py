@@ -169,8 +169,6 @@ class LongAlignment:
 
     def _write(self, batch: Batch, offset: int, out: IO[bytes]) -> None:
         """Aligns the lines of a batch, and writes them in their order."""
-        if batch.lines and batch.order and not batch.lines[batch.order[-1][0]].endswith(b"\n"):
-            batch.lines[batch.order[-1][0]] += b"\n"  # as irig_time does with the last line
         asked = [number for number, lines in enumerate(batch.lines) if lines]
         runs = dict(zip(asked, self.aligner.run([self._call(number, batch.lines[number], offset) for number in asked], "aligning")))
         places = dict.fromkeys(asked, 0)
