@@ -3,10 +3,13 @@ import gzip
 import os
 import random
 import re
+import stat
+import zlib
 from unittest import mock
 
+from built import GUARD
 from cases import case
-from irig_tools import mend_long, sampled, seams
+from irig_tools import mend_long, sampled, seams, window_jobs
 from irig_tools.command import of_any_length
 from irig_tools.editor import Problem
 from random_input import damages
@@ -20,6 +23,8 @@ KINDS = (damages.glitch_in, damages.glitch_between, damages.merged, damages.miss
          damages.wrong_width, damages.marker)
 SIZES = (100000, 59000, 34000, 12000)  # pulses of a window: so there are 1, 2, 3 and 7
 CODE = ("--format=B", "--expression=4")
+FAILS_IN_THE_THIRD = """case "$*" in */3.vcd*) echo irig_guard: input failed >&2; exit 4 ;; esac
+exec "%s" "$@\""""
 
 
 def code(frames):
@@ -156,12 +161,55 @@ def that_end_early():
             file.write("kept")
         with open("packed.gz", "wb") as file:
             file.write(gzip.compress(text_of("cut.vcd").encode())[:-80000])
-        status, printed, said = in_windows(12000, "irig_mend", *CODE, "--apply", "new.vcd", "packed.gz")
+        with mock.patch.object(sampled, "SAMPLE", 100000):
+            status, printed, said = in_windows(12000, "irig_mend", *CODE, "--apply", "new.vcd", "packed.gz")
         yield same("a read that fails", (status, printed, "packed.gz: cannot be unpacked: " in said), (2, b"", True))
         yield same("what was there", (text_of("new.vcd"), len(os.listdir("."))), ("kept", 4))
 
     text = dump(damaged(1000, 20))
     return in_folder(lambda: list(holds()), cut=text[:re.search("#870[0-9]{6} ", text).start() + 8])
+
+
+def that_fail():
+    """A read that fails while the third window is read, and a program that fails in the third window: nothing is written over."""
+    def holds():
+        with open("new.vcd", "w", encoding="ascii") as file:
+            file.write("kept")
+        started, start = [], window_jobs.WindowJobs.start
+
+        def counted(jobs, window, edges):
+            started.append(window.number)
+            start(jobs, window, edges)
+
+        with mock.patch.object(window_jobs.WindowJobs, "start", counted), mock.patch.object(sampled, "SAMPLE", 100000):
+            status, printed, said = in_windows(12000, "irig_mend", *CODE, "--apply", "new.vcd", "packed.gz")
+        yield same("a read that fails", (started, status, printed, "packed.gz: cannot be unpacked: " in said), ([1, 2], 2, b"", True))
+        for name, text in (("irig_ed", 'exec "%s" "$@"' % os.environ["IRIG_ED"]), ("irig_guard", FAILS_IN_THE_THIRD % GUARD)):
+            with open("bin/" + name, "w", encoding="ascii") as file:
+                file.write("#!/bin/sh\n%s\n" % text)
+            os.chmod("bin/" + name, stat.S_IRWXU)
+        with mock.patch.dict(os.environ, {"IRIG_ED": os.path.abspath("bin/irig_ed")}):
+            for words in ([], ["--into", "track.vcd"]):
+                status, printed, said = in_windows(12000, "irig_mend", *CODE, "--apply", "new.vcd", *words, "track.vcd")
+                said = re.sub(r" \(it writes .*\)", "", re.sub("[0-9]{2,}", "N", said))
+                yield same("a program that fails", (status, printed, said),
+                           (2, b"", "irig_mend: window 3, from N to N: irig_guard: input failed\n"))
+        yield same("what was there", (text_of("new.vcd"), sorted(os.listdir("."))), ("kept", ["bin", "new.vcd", "packed.gz", "track.vcd"]))
+
+    def prepared():
+        os.mkdir("bin")
+        text = text_of("track.vcd").encode()
+        with open("packed.gz", "wb") as file:
+            file.write(cut_packed(text, text.index(b"\n#560000000 ")))  # the third window needs more
+        return list(holds())
+
+    return in_folder(prepared, track=dump(damaged(1000, 20)))
+
+
+def cut_packed(text, size):
+    """The first bytes of a text, packed, as a file that is cut after them."""
+    packer = zlib.compressobj(wbits=31)
+    return packer.compress(text[:size]) + packer.flush(zlib.Z_FULL_FLUSH)
 
 
 def refused():
@@ -214,4 +262,4 @@ def proposed():
 def cases(top):
     """Each part by its name."""
     return [case("long: " + part.__name__, part) for part in (chosen_seams, printed_windows, in_any_size, of_no_sound_frame, that_end_early,
-                                                              refused, looked_at_later, proposed)]
+                                                              that_fail, refused, looked_at_later, proposed)]
