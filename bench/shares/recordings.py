@@ -94,7 +94,7 @@ class Draft:
             time = 60 * DAY + random.randrange(DAY)
         if end:
             time = (time // end + 1) * end - random.randrange(span)
-        return time // self.format.frame * self.format.frame
+        return max(0, time // self.format.frame * self.format.frame)
 
     def send(self) -> None:
         """What is sent, as the recorder's clock has it, each rise a little early or late."""
@@ -305,7 +305,7 @@ def flipped(draft: Draft) -> None:
     draft.expressions = "".join(each for each in draft.expressions if not has_binary_seconds(draft.format, int(each)))
     first = math.ceil(draft.first / frame) + random.randrange(draft.frames - 4)
     same = random.random() < 0.5
-    element = None
+    element = -1
     for number in range(first, first + random.randint(1, 3)):
         choice = flips_that_read(draft, draft.time + number * frame)
         element = element if same and element in choice else random.choice(choice)
