@@ -206,6 +206,7 @@ def hole(draft: Draft) -> None:
 
 
 def slip(draft: Draft) -> None:
+    """The recorder loses 0.2 to 40 intervals, in half of the cases next to other damage."""
     place = draft.any_place()
     draft.event("lose", place, whole_or_any(draft, 0.2, 40))
     if draft.random.random() < 0.5:
@@ -213,7 +214,9 @@ def slip(draft: Draft) -> None:
 
 
 def twice(draft: Draft) -> None:
-    draft.event("twice", draft.any_place(), whole_or_any(draft, 0.2, 300))
+    """A stretch of up to 300 intervals is there twice."""
+    place = draft.any_place()
+    draft.event("twice", place, min(whole_or_any(draft, 0.2, 300), place - draft.clock.place(draft.first)))
     draft.some_damage(0, 1)
 
 
@@ -253,7 +256,8 @@ def off(draft: Draft) -> None:
 def sweep(draft: Draft) -> None:
     """From 5 % slow to 5 % fast, or the other way."""
     begin = draft.random.choice((-0.05, 0.05))
-    draft.clock = Clock(begin - -2 * begin / draft.length * draft.first, -2 * begin / draft.length)
+    slope = -2 * begin / draft.length
+    draft.clock = Clock(begin - slope * draft.first, slope)
 
 
 def waves(draft: Draft, count: int, least: float, most: float, shortest: float, longest: float) -> None:
@@ -291,8 +295,7 @@ def changed(draft: Draft) -> None:
     by = random.choice((1, -1)) * random.choice((frame, random.randint(1, 9) * frame, SECOND, MINUTE, HOUR, random.randrange(10 * MINUTE)))
     if random.random() < 0.5:
         by = round(by / frame) * frame or frame
-    time = draft.time + math.floor(moment) + by  # at the whole microsecond of the moment
-    time = max(0, time)
+    time = max(0, draft.time + math.floor(moment) + by)  # at the whole microsecond of the moment
     origin = math.floor(moment) - time % frame
     draft.runs = [Run(0, moment, 0, draft.time), Run(moment, draft.sent, origin, time - time % frame)]
     draft.places.append(draft.clock.place(moment))
@@ -300,7 +303,7 @@ def changed(draft: Draft) -> None:
 
 
 def flipped(draft: Draft) -> None:
-    """One to three neighbouring frames have one element each that is sent as the other class, and read well: the same one, or others."""
+    """One to three neighbouring frames have one element each of the other class, and read well. It is the same one, or others."""
     random, frame = draft.random, draft.format.frame
     draft.expressions = "".join(each for each in draft.expressions if not has_binary_seconds(draft.format, int(each)))
     first = math.ceil(draft.first / frame) + random.randrange(draft.frames - 4)
