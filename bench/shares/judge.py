@@ -9,7 +9,7 @@ from typing import Dict, List, NamedTuple, Optional, Sequence, Tuple
 
 from recordings import Recording, samples
 
-NEAR = 0.1  # of an interval: a right time is off by less
+RIGHT = 0.1  # of an interval: a right time is off by less
 EXACT = 2.0  # microseconds: a right time is exact if it is off by no more than that and the jitter
 TREE = os.path.realpath(os.path.join(os.path.dirname(__file__), "../.."))
 PROGRAMS = ("irig_ed", "irig_guard", "irig_diff", "irig_time")
@@ -126,7 +126,7 @@ def seen_as(recording: Recording, moment: float, shown: str) -> Seen:
         return Seen(moment, shown, "guess", 0.0)
     if abs(off) <= EXACT + recording.jitter:
         return Seen(moment, shown, "exact", off)
-    return Seen(moment, shown, "near" if abs(off) <= EXACT + NEAR * recording.interval else "wrong", off)
+    return Seen(moment, shown, "near" if abs(off) <= EXACT + RIGHT * recording.interval else "wrong", off)
 
 
 def right(seen: Seen) -> bool:

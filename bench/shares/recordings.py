@@ -21,6 +21,8 @@ MOST_JITTER = 0.0005  # of an interval: 5 microseconds in format B
 LEAST_JITTER = 0.00001
 MOST_OFF = 0.0002  # of the recorder's clock, if the kind says nothing else
 PARITY = 75  # the element
+EVEN = 400  # samples of a recording, evenly over it
+NEAR = 100  # more samples near its damage
 SHOWN = re.compile(r"(?:\d{4}-)?(\d{3})T(\d\d):(\d\d):(\d\d)\.(\d{6})")
 
 
@@ -382,14 +384,14 @@ def make(kind: str, seed: int) -> Recording:
 
 
 def samples(recording: Recording) -> List[float]:
-    """400 moments evenly over a recording, and 100 near its damage, in order."""
+    """Moments evenly over a recording, and then others near its damage."""
     random = Random("samples of %s %d" % (recording.kind, recording.seed))
-    found = [(number + random.random()) / 400 * recording.length for number in range(400)]
-    for number in range(100):
+    found = [(number + random.random()) / EVEN * recording.length for number in range(EVEN)]
+    for number in range(NEAR):
         near = random.choice(recording.places) if recording.places else random.random() * recording.length
         far = 15 if number % 2 else 150
         found.append(min(max(0.0, near + random.uniform(-far, far) * recording.interval), recording.length - 1))
-    return sorted(round(each, 3) for each in found)
+    return [round(each, 3) for each in found]
 
 
 def kept(recording: Recording) -> Tuple[str, str]:
