@@ -74,7 +74,7 @@ class Draft:
         self.jitter = math.exp(self.random.uniform(math.log(LEAST_JITTER), math.log(MOST_JITTER))) * self.format.interval
         self.length = (self.frames + self.random.random()) * self.format.frame
         self.first = self.random.random() * self.format.frame  # the moment at which the recording begins
-        self.sent = self.first + 1.1 * self.length + max(20 * self.format.frame, 2 * SECOND)  # up to that moment something is sent
+        self.sent = self.first + 1.06 * self.length + 8 * self.format.frame  # up to that moment something is sent
         self.year = self.random.choice((1987, 1987, 1988, self.random.randint(1970, 2069)))
         self.inserted: Optional[int] = None
         self.time = self._first_time()
@@ -105,10 +105,11 @@ class Draft:
         self.sender = Sender(self.format, self.expression, calendar, self._controls())
         self.sender.runs = self.runs or [Run(0, self.sent, 0, self.time)]
         self.sender.flips = self.flips
-        sent = []
-        for rise, fall in self.sender.pulses():
-            late = self.random.uniform(-self.jitter, self.jitter)
-            sent.append((self.clock.place(rise) + late, self.clock.place(fall) + late))
+        pulses = list(self.sender.pulses())
+        rises, falls = (self.clock.places([pulse[end] for pulse in pulses]) for end in (0, 1))
+        source = Random(self.random.random())
+        late = [self.jitter * (2 * source.random() - 1) for _ in pulses]
+        sent = [(rise + by, fall + by) for rise, fall, by in zip(rises, falls, late)]
         self.wire = damage.Wire(sent, self.format.interval, self.random)
 
     def _controls(self) -> Callable[[int], Set[int]]:
@@ -220,6 +221,11 @@ def twice(draft: Draft) -> None:
     place = draft.any_place()
     draft.event("twice", place, min(whole_or_any(draft, 0.2, 300), place - draft.clock.place(draft.first)))
     draft.some_damage(0, 1)
+
+
+def longer(draft: Draft) -> None:
+    """Enough is sent for what a buffer loses."""
+    draft.sent += 1.2 * SECOND
 
 
 def buffer(draft: Draft) -> None:
@@ -363,7 +369,7 @@ KINDS: Dict[str, Kind] = {
     "drift": Kind(drift, few),
     "wrong": Kind(flipped, lambda draft: draft.some_damage(0, 2)),
     "twice": Kind(nothing, twice),
-    "buffer": Kind(nothing, buffer),
+    "buffer": Kind(longer, buffer),
     "frameslip": Kind(nothing, frameslip),
     "leap": Kind(leap, at_leap, "ABG"),
     "noise": Kind(nothing, bursts),

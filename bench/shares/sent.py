@@ -167,13 +167,14 @@ class Sender:
                 yield from self._frame(run, number * self.format.frame)
                 number += 1
 
-    def _frame(self, run: Run, passed: int) -> Iterator[Pulse]:
-        for element, kind in enumerate(self.classes(run.time + passed)):
-            rise = run.origin + passed + element * self.format.interval
-            fall = min(run.end, rise + WIDTHS[kind] * self.format.interval)
-            rise = max(run.begin, rise)
-            if rise < fall:
-                yield rise, fall
+    def _frame(self, run: Run, passed: int) -> List[Pulse]:
+        begin, interval = run.origin + passed, self.format.interval
+        kinds = enumerate(self.classes(run.time + passed))
+        pulses = [(begin + element * interval, begin + (element + WIDTHS[kind]) * interval) for element, kind in kinds]
+        if run.begin <= begin and begin + self.format.frame <= run.end:
+            return pulses
+        cut = [(max(run.begin, rise), min(run.end, fall)) for rise, fall in pulses]
+        return [pulse for pulse in cut if pulse[0] < pulse[1]]
 
 
 def reads_well(format: Format, expression: int, classes: List[int]) -> bool:

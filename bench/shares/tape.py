@@ -34,6 +34,12 @@ class Clock:
             place += wave.share / turn * (math.sin(turn * moment + wave.phase) - math.sin(wave.phase))
         return place
 
+    def places(self, moments: Sequence[float]) -> List[float]:
+        """The places at many moments."""
+        if self.slope or self.waves:
+            return list(map(self.place, moments))
+        return [moment * (1 + self.fast) for moment in moments]
+
     def speed(self, moment: float) -> float:
         speed = 1 + self.fast + self.slope * moment
         for wave in self.waves:
@@ -115,9 +121,12 @@ class Tape:
             if part.place is None:
                 continue
             last = part.place + part.end - part.begin
-            for pulse in pulses[bisect_right(falls, part.place):bisect_left(rises, last)]:
-                rise, fall = max(pulse[0], part.place), min(pulse[1], last)
-                played.append((rise - part.place + part.begin, fall - part.place + part.begin))
+            heard = list(pulses[bisect_right(falls, part.place):bisect_left(rises, last)])
+            if heard:
+                heard[0] = (max(heard[0][0], part.place), heard[0][1])
+                heard[-1] = (heard[-1][0], min(heard[-1][1], last))
+            later = part.begin - part.place
+            played += [(rise + later, fall + later) for rise, fall in heard]
         return joined(played)
 
 
