@@ -151,7 +151,7 @@ stands_guarded terms m first now script e s safe =
       left = s.left;
       runs = subst (λ (l : List (List ℕ)). Runs first l (map silence l) [] s.left) (sym lines) (runs_of first s.left s.lines s.obeyed);
       same = s.same;
-      safe = subst (λ (b : Bool). IsSafeAfter b first.state now.state) e safe;
+      safe = subst (λ (b : TermsView). IsSafeAfter b first.state now.state) e safe;
     }
 
 -- a comment is obeyed, and does nothing

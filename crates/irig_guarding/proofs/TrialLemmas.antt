@@ -238,5 +238,5 @@ tried_all terms first xs at out status now past h =
 pub tried_whole : (terms m : TermsView) (first : Machine) (xs ys : List Line) (script out : List ℕ) (status : Status) (now : Machine) → m ≡ terms → ys ≡ xs
     → texts xs ≡ lines_of script → IsTriedBefore m first (texts ys) [] out status now → IsTried terms first script out status now
 tried_whole terms m first xs ys script out status now same e is h =
-    subst (λ (b : Bool). IsTried b first script out status now) same
+    subst (λ (b : TermsView). IsTried b first script out status now) same
     (subst (λ (l : List (List ℕ)). IsTriedBefore m first l [] out status now) (ap texts e ∙ is) h)
