@@ -13,7 +13,7 @@ use Rattle.irig_guard.specs.declared.chosen.Settings.{Settings}
 use Rattle.irig_guard.specs.declared.command_line.UsageFault.TheVariants.{Words, Value as of_value}
 use Rattle.irig_guard.specs.declared.ending.Ending.TheVariants.{Usage, Value, Unread, Over, Unknown}
 use Rattle.irig_guard.specs.declared.ending.Ending.TheVariants.{OverOther, Ran, Unheard}
-use Rattle.irig_guard.specs.Given.{Ends, Files, place_of, product_of}
+use Rattle.irig_guard.specs.Given.{Ends, Files, IsRead, place_of, product_of}
 use Rattle.irig_guard.specs.Others.{IsOther, IsUnheard, ShowsAll}
 use Rattle.irig_safety.specs.declared.shown.Shown.{Shown}
 use Rattle.irig_guard.specs.{Settings.paths, Statuses.HasStatus, Settings.Reads, declared.ending.Ending.Ending}
@@ -62,13 +62,13 @@ Obeys given old new chosen (Usage error) = ⊥
 Obeys given old new chosen (Value fault) = ⊥
 
 -- The settings are those of the words, and they were obeyed. However that ended, a crash at any
--- moment leaves at the place of the dump what was there.
+-- moment leaves at the places of the dump and of the other recordings what was there.
 pub record Follows (words : List Text) (given : Files) (old new : Ends) (ending : Ending)
     : Type 0 where
   pub chosen : Settings
   pub reads : Reads words (Ok chosen)
   pub obeyed : Obeys given old new chosen ending
-  pub dump_stays : given.spared chosen.track.now
+  pub stays : (path : List ℕ) → IsRead chosen path → given.spared path
 
 -- they were obeyed, or the words have no settings
 abbrev pub EndsBy : List Text → Files → Ends → Ends → Ending → Type 0

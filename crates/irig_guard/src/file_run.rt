@@ -4,9 +4,10 @@ ghost use Rattle.std.specs.Prelude.{◌≡◌, ℕ, [], IfOk, IfSome, IsTrue, Li
 ghost use Rattle.std.specs.Prelude.{option_map, string_bytes, true};
 ghost use Rattle.irig_vcd.specs.{Answer.Gives, Answer.name_of, Parts.dump_parts};
 ghost use Rattle.irig_guard.specs.Ending.{EndsBy, Obeys, RunsBy};
-ghost use Rattle.irig_guard.specs.Given.{IsApart, ends, files, place_of, product_of};
+ghost use Rattle.irig_guard.specs.Given.{AreOthersApart, AreSpared, IsApart, ends, files};
+ghost use Rattle.irig_guard.specs.Given.{place_of, product_of};
 ghost use Rattle.irig_guard.specs.{Others.ShowsAll, Settings.paths};
-ghost use Rattle.irig_files.specs.Apart.{LeadToOneFile, Spares};
+ghost use Rattle.irig_files.specs.Apart.{LeadToOneFile};
 ghost use Rattle.irig_files.specs.Reads.{HasFewBytes, parts_of};
 ghost use Rattle.irig_files.specs.Puts.{writes_on};
 
@@ -56,7 +57,7 @@ fn run_on_track<'a, D: Disk, R: Read, W: Write>(
         (ends (W.contents out.old) (writes_on D.is_told (D.disk disk.old)) (R.remaining script.old))
         (ends (W.contents out.new) (writes_on D.is_told (D.disk disk.new)) (R.remaining script.new))
         chosen.now result }
-    ensures spared { Spares D.is_told (D.disk disk.old) (D.disk disk.new) chosen.now.track.now }
+    ensures spared { AreSpared D.is_told (D.disk disk.old) (D.disk disk.new) chosen.now }
 {
     let Ok(mut room) = Room::new(alloc) else {
         return Ending::Unread(chosen.track, DumpFileFault::OutOfMemory);
@@ -77,7 +78,7 @@ fn run_with_room<'a, D: Disk, R: Read, W: Write>(
         (ends (W.contents out.old) (writes_on D.is_told (D.disk disk.old)) (R.remaining script.old))
         (ends (W.contents out.new) (writes_on D.is_told (D.disk disk.new)) (R.remaining script.new))
         chosen.now result }
-    ensures spared { Spares D.is_told (D.disk disk.old) (D.disk disk.new) chosen.now.track.now }
+    ensures spared { AreSpared D.is_told (D.disk disk.old) (D.disk disk.new) chosen.now }
 {
     match disk.read(alloc, chosen.track, wire_of(chosen)) {
         Ok(read) => run_apart(alloc, chosen, read, room, disk, script, out),
@@ -104,7 +105,7 @@ fn run_apart<'a, D: Disk, R: Read, W: Write>(
         (ends (W.contents out.old) (writes_on D.is_told (D.disk disk.old)) (R.remaining script.old))
         (ends (W.contents out.new) (writes_on D.is_told (D.disk disk.new)) (R.remaining script.new))
         chosen.now result }
-    ensures spared { Spares D.is_told (D.disk disk.old) (D.disk disk.new) chosen.now.track.now }
+    ensures spared { AreSpared D.is_told (D.disk disk.old) (D.disk disk.new) chosen.now }
 {
     match is_over(chosen, disk) {
         Ok(false) => run_beside(alloc, chosen, read, room, disk, script, out),
@@ -133,7 +134,7 @@ fn run_beside<'a, D: Disk, R: Read, W: Write>(
         (ends (W.contents out.old) (writes_on D.is_told (D.disk disk.old)) (R.remaining script.old))
         (ends (W.contents out.new) (writes_on D.is_told (D.disk disk.new)) (R.remaining script.new))
         chosen.now result }
-    ensures spared { Spares D.is_told (D.disk disk.old) (D.disk disk.new) chosen.now.track.now }
+    ensures spared { AreSpared D.is_told (D.disk disk.old) (D.disk disk.new) chosen.now }
 {
     match over_other(chosen, disk) {
         Ok(None) => {}
@@ -177,6 +178,7 @@ fn run_on_read<D: Disk, R: Read, W: Write>(
 ) -> Result<Kept, GuardFault>
     requires few { HasFewBytes read }
     requires apart { IsTrue D.is_told → IsApart chosen.now (D.disk disk.old) }
+    requires others { IsTrue D.is_told → AreOthersApart chosen.now (D.disk disk.old) }
     requires shown { ShowsAll (D.held disk.old) chosen.now.format (paths chosen.now.others.items)
         [] others.items }
     ensures ran { (source : List ℕ)
@@ -185,7 +187,7 @@ fn run_on_read<D: Disk, R: Read, W: Write>(
         chosen.now source
         (ends (W.contents out.old) (writes_on D.is_told (D.disk disk.old)) (R.remaining script.old))
         (ends (W.contents out.new) (writes_on D.is_told (D.disk disk.new)) (R.remaining script.new)) result }
-    ensures spared { Spares D.is_told (D.disk disk.old) (D.disk disk.new) chosen.now.track.now }
+    ensures spared { AreSpared D.is_told (D.disk disk.old) (D.disk disk.new) chosen.now }
 {
     let (recording, journal) = match read {
         Ok(parts) => parts,

@@ -4,7 +4,7 @@ ghost use Rattle.std.specs.Prelude.{◌≡◌, ◌<◌, ◌^◌, ℕ, List, None
 ghost use Rattle.std.specs.Prelude.{is_some, true};
 ghost use Rattle.irig_files.specs.Apart.{LeadToOneFile};
 ghost use Rattle.irig_files.specs.Reads.{HasFewBytes, parts_of};
-ghost use Rattle.irig_guard.specs.Given.{place_of};
+ghost use Rattle.irig_guard.specs.Given.{AreOthersApart, place_of};
 ghost use Rattle.irig_guard.specs.Others.{IsOther, IsUnheard, IsUnheardOf, Shows, ShowsAll};
 ghost use Rattle.irig_guard.specs.Settings.{paths};
 ghost use Rattle.irig_guarding.specs.Others.{Adds};
@@ -25,9 +25,12 @@ pub fn over_other<'a, D: Disk>(
     chosen: &Settings<'a>,
     disk: &D,
 ) -> Result<Option<&'a str>, ShelfFault>
-    ensures { IsTrue D.is_told → IfOk result (λ found. IfSome found (λ path.
-        IsOther chosen.now path.now × (is_some chosen.now.out ≡ true)
-        × LeadToOneFile (D.disk disk.now) path.now (place_of chosen.now))) }
+    ensures other { IfOk result (λ found. IfSome found (λ path. IsOther chosen.now path.now
+        × (is_some chosen.now.out ≡ true))) }
+    ensures over { IsTrue D.is_told → IfOk result (λ found. IfSome found (λ path.
+        LeadToOneFile (D.disk disk.now) path.now (place_of chosen.now))) }
+    ensures apart { IsTrue D.is_told → IfOk result (λ found. found ≡ None
+        → AreOthersApart chosen.now (D.disk disk.now)) }
 {
     let Some(out) = chosen.out else {
         return Ok(None);
