@@ -162,7 +162,8 @@ def beside(others: Sequence[str]) -> List[str]:
     return [word for path in others for word in ("--with", path)]
 
 
-def run_script(track: Opened, script: Sequence[Repair], save: bool, out: str, moved: bool, kind: str, others: Sequence[str] = ()) -> Refused:
+def run_script(track: Opened, script: Sequence[Repair], save: bool, out: str, moved: bool, kind: str,
+               others: Sequence[str] = ()) -> Refused:
     """Runs a script on the track, of this format, through irig_guard and writes a file, with its history if `save`; what was
     refused. Frames that are fine may move if `moved`. A wire that is upside down is first turned over by the editor, since
     irig_guard goes by the frames that are fine. It gets the dumps of other recordings."""

@@ -139,7 +139,8 @@ def mend_opened(given: Given, track: Opened, original: Optional[str], outputs: E
     editor = Editor(track.words)
     with ExitStack() as files:
         others = read_others(given.texts(WITH), editor, progress, COMMAND.name, files)
-        return mend_with(given, track, editor, others, target_of(given, track, original, outputs), progress)
+        end = mend_with(given, track, editor, others, target_of(given, track, original, outputs), progress)
+    return end
 
 
 def mend_with(given: Given, track: Opened, editor: Editor, others: Others, target: Target, progress: Progress) -> End:

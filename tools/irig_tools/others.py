@@ -37,8 +37,8 @@ class Other:
     """Another recording: its frames that are fine and supported, and a dump of its wire alone."""
 
     name: str
-    path: str = ""
     frames: List[Tuple[Timed, Witness]] = field(default_factory=list)
+    path: str = ""
 
 
 @dataclass
