@@ -181,11 +181,22 @@ def wild(rng, recording, pulses):
     ))]
 
 
-def case(number):
-    """Kind, expression, pulses, length and script."""
+def begun(number):
+    """A recording as it should be, and what decides the rest."""
     rng = random.Random("irig_guard, %d" % number)
     recording = Recording(rng)
     with_second_60(rng, recording)
+    return rng, recording
+
+
+def sent(number):
+    """The pulses that another recorder has of the same code."""
+    return begun(number)[1].pulses
+
+
+def case(number):
+    """Kind, expression, pulses, length and script."""
+    rng, recording = begun(number)
     pulses = [list(pulse) for pulse in recording.pulses]
     rng.choice(RECORDERS)(rng, pulses, recording)
     damages.tidy(pulses, recording.length)

@@ -43,12 +43,12 @@ def fine(state: machine.State) -> List[Fine]:
 class Safety:
     """What is safe for a recording."""
 
-    def __init__(self, opened: machine.State, moved: bool) -> None:
+    def __init__(self, opened: machine.State, moved: bool, others: Sequence[machine.State]) -> None:
         self.bearing = Bearing(opened.kind)
         self.fines = fine(opened)
         self.old = [frame.shown for frame in self.fines]
         self.moved = moved
-        self.controls = Controls(opened)
+        self.controls = Controls(opened, [frame for other in others for frame in backed(self.bearing, other)])
         self.anchors = Anchors(opened, self.bearing)
 
     def fault(self, last: Sequence[Shown], new: Sequence[Fine]) -> Optional[str]:
@@ -158,19 +158,28 @@ def located(old: Sequence[Shown], now: Sequence[Shown]) -> List[Shown]:
     return found
 
 
-class Controls:
-    """Which control functions a recording supports."""
+def backed(bearing: Bearing, other: machine.State) -> List[Shown]:
+    """The frames of another recording with which a frame next to them agrees."""
+    frames = [frame.shown for frame in fine(other)]
+    pairs = [bearing.agrees(one, two) for one, two in zip(frames, frames[1:])]
+    return [frame for frame, before, after in zip(frames, [False, *pairs], [*pairs, False]) if before or after]
 
-    def __init__(self, opened: machine.State) -> None:
+
+class Controls:
+    """Which control functions a recording supports, or others of the same code."""
+
+    def __init__(self, opened: machine.State, others: Sequence[Shown]) -> None:
+        self.others = others
         self.interval, self.pulses = opened.interval(), opened.pulses()
         self.rises = [rise for rise, _ in self.pulses]
         fields = timecode.layout(opened.kind, opened.expression)
         self.elements = [element for element, _ in fields["control"][0]] if "control" in fields else []
 
     def are_supported(self, near: Near, frame: Fine) -> bool:
-        """Whether each is recorded, or as in the nearest frames on both sides, or what was recorded of it was lost."""
+        """Whether each is recorded, or as in the nearest frames on both sides, or what was recorded of it was lost, or as most others
+        of that time have it."""
         return all(
-            self._is_recorded(pulse) or self._is_shared(near, frame.shown, bit) or self._is_lost(pulse)
+            self._is_recorded(pulse) or self._is_shared(near, frame.shown, bit) or self._is_lost(pulse) or self._is_told(frame.shown, bit)
             for bit, pulse in enumerate(frame.pulses[element] for element in self.elements)
         )
 
@@ -193,6 +202,12 @@ class Controls:
 
     def _class(self, pulse: Tuple[int, int]) -> str:
         return timecode.class_of(self.interval, pulse[1] - pulse[0])
+
+    def _is_told(self, frame: Shown, bit: int) -> bool:
+        """Whether most frames of other recordings with its time have a control function as it has it."""
+        own = {**frame.values, "control": 0}
+        votes = [(one.values["control"] ^ frame.values["control"]) >> bit & 1 for one in self.others if {**one.values, "control": 0} == own]
+        return 2 * sum(votes) < len(votes)
 
     def _is_shared(self, near: Near, frame: Shown, bit: int) -> bool:
         """Whether the two nearest frames have a control function as it has it."""
@@ -286,9 +301,9 @@ class Anchors:
 class Guard:
     """A run over a proposed script. `printed` has its lines, `refused` is whether some were not kept."""
 
-    def __init__(self, opened: machine.Machine, moved: bool = False) -> None:
+    def __init__(self, opened: machine.Machine, moved: bool = False, others: Sequence[machine.State] = ()) -> None:
         self.machine = opened
-        self.safety = Safety(opened.present, moved)
+        self.safety = Safety(opened.present, moved, others)
         self.last = self.safety.old
         self.printed: List[bytes] = []
         self.refused = False

@@ -24,6 +24,7 @@ class Row(NamedTuple):
     wanted: Sequence[str]
     moved: bool = False  # with --moved
     filled: int = 0  # frames with a control function that is not in the recording
+    others: Sequence[Pulses] = ()  # with --with
 
 
 def values_of(form: str, when: datetime.datetime, control: int = 0, second: int = -1) -> Dict[str, int]:
@@ -109,6 +110,9 @@ AGO = NOON - datetime.timedelta(hours=1)
 WITHOUT_ZERO = without(SOUND, 243)  # element 42 of frame 2
 SET_FUNCTION = steady(control=4)  # element 62 is a one
 ONE_FUNCTION = joined(joined(SOUND, SET_FUNCTION, 3), SOUND, 4)  # that of frame 3
+OF_OTHER = [[at * 1001 // 1000 + 123456 for at in pulse] for pulse in ONE_FUNCTION]  # another recorder's clock
+OF_SOUND = [[at * 1001 // 1000 + 123456 for at in pulse] for pulse in SOUND]
+AS_ZERO = without(SOUND, 343)  # and the control function of frame 3 was recorded as a zero
 SET_FUNCTION_OF_3 = ["begin", "insert 3420000 3422000", "363 force one", "end"]
 LATE_FUNCTION = ["begin", "363 delete", "insert 3620000 3625000", "end"]
 LATER = ["begin", "insert 3420000 3422000", "350,390 shift 600"]  # elements 49 to 89 of frame 3
@@ -360,6 +364,43 @@ ROWS = (
         ["begin", "insert 3420000 3422000", "363 force one", "regen 5000000 1 " + FOURTH, "end"],
         unsafe("138 12:34:54", 5000000, UNSUPPORTED, "begin", "insert 3420000 3422000", "363 force one",
                "regen 5000000 1 " + FOURTH, "end")),
+    # control functions that another recording has
+    Row("one that was recorded as a zero, and another recording has", "B4", AS_ZERO, SET_FUNCTION_OF_3, SET_FUNCTION_OF_3, filled=1,
+        others=[OF_OTHER]),
+    Row("that recording has the frame before it and after it alone", "B4", AS_ZERO, SET_FUNCTION_OF_3,
+        unsafe("138 12:34:53", 3000000, UNRECORDED, *SET_FUNCTION_OF_3), others=[hole(OF_OTHER, 3)]),
+    Row("that recording has the frame alone", "B4", AS_ZERO, SET_FUNCTION_OF_3,
+        unsafe("138 12:34:53", 3000000, UNRECORDED, *SET_FUNCTION_OF_3), others=[OF_OTHER[290:410]]),
+    Row("that recording has the frame and the next one", "B4", AS_ZERO, SET_FUNCTION_OF_3, SET_FUNCTION_OF_3, filled=1,
+        others=[OF_OTHER[290:510]]),
+    Row("that recording is of an hour before", "B4", AS_ZERO, SET_FUNCTION_OF_3,
+        unsafe("138 12:34:53", 3000000, UNRECORDED, *SET_FUNCTION_OF_3), others=[steady(begin=AGO, control=4)]),
+    Row("that recording is of the day before", "B4", AS_ZERO, SET_FUNCTION_OF_3,
+        unsafe("138 12:34:53", 3000000, UNRECORDED, *SET_FUNCTION_OF_3),
+        others=[steady(begin=NOON - datetime.timedelta(days=1), control=4)]),
+    Row("that recording is of the year before", "B4", AS_ZERO, SET_FUNCTION_OF_3,
+        unsafe("138 12:34:53", 3000000, UNRECORDED, *SET_FUNCTION_OF_3), others=[steady(begin=NOON.replace(year=2023, day=18), control=4)]),
+    Row("that recording is of the second after", "B4", AS_ZERO, SET_FUNCTION_OF_3,
+        unsafe("138 12:34:53", 3000000, UNRECORDED, *SET_FUNCTION_OF_3),
+        others=[joined(SOUND, steady(control=4), 4)]),
+    Row("that recording has another one, too, that is not so here", "B4", AS_ZERO,
+        ["begin", "insert 3420000 3422000", "363 force one", "379 force one", "end"],
+        unsafe("138 12:34:53", 3000000, UNRECORDED, "begin", "insert 3420000 3422000", "363 force one", "379 force one", "end"),
+        others=[OF_OTHER]),
+    Row("one of two recordings has it", "B4", AS_ZERO, SET_FUNCTION_OF_3,
+        unsafe("138 12:34:53", 3000000, UNRECORDED, *SET_FUNCTION_OF_3), others=[OF_OTHER, OF_SOUND]),
+    Row("two of three recordings have it", "B4", AS_ZERO, SET_FUNCTION_OF_3, SET_FUNCTION_OF_3, filled=1,
+        others=[OF_OTHER, OF_SOUND, ONE_FUNCTION]),
+    Row("one of three recordings has it", "B4", AS_ZERO, SET_FUNCTION_OF_3,
+        unsafe("138 12:34:53", 3000000, UNRECORDED, *SET_FUNCTION_OF_3), others=[OF_SOUND, OF_OTHER, SOUND]),
+    Row("a frame that was fine, and another recording has it otherwise", "B4", SOUND, ["363 force one"],
+        unsafe("138 12:34:53", 3000000, CHANGED, "363 force one"), others=[OF_OTHER]),
+    Row("a time that the frames next to it contradict, and another recording has", "B4", hole(SOUND, 3),
+        ["regen 3000000 1 " + FOURTH], unsafe("138 12:34:54", 3000000, UNSUPPORTED, "regen 3000000 1 " + FOURTH), others=[OF_SOUND]),
+    Row("another recording without a frame", "B4", AS_ZERO, SET_FUNCTION_OF_3,
+        unsafe("138 12:34:53", 3000000, UNRECORDED, *SET_FUNCTION_OF_3), others=[[[0, 2000]]]),
+    Row("one that another recording has, of a frame that moves", "B4", AS_ZERO, [*SET_FUNCTION_OF_3, "301,$ shift 600"],
+        [*SET_FUNCTION_OF_3, "301,$ shift 600"], True, others=[OF_OTHER]),
     # frames that move
     Row("a rest that is early", "B4", EARLY, ["350,$ shift 7300"],
         unsafe("138 12:34:54", 3992700, LOST, "350,$ shift 7300")),

@@ -5,7 +5,7 @@ from dataclasses import dataclass, replace
 from typing import Callable, List, Sequence, Tuple, Union
 
 from .analysis import START
-from .apply import Counts, FrameCount, Refused, counts, find_guard, frames_of, run_script
+from .apply import Counts, FrameCount, Refused, beside, counts, find_guard, frames_of, run_script
 from .damage import Damage, Seen, look
 from .editor import Editor, Progress
 from .kinds import DamageKind
@@ -24,11 +24,12 @@ class How:
     steady: bool = False
     move: bool = False
     save: bool = False
+    others: Sequence[str] = ()  # dumps of other recordings
     owns: Callable[[int], bool] = lambda time: True  # what counts is at such times
 
     def command(self, track: Opened) -> Sequence[str]:
         """irig_guard, for what it has written of this track."""
-        return [find_guard(), *["--moved"] * self.move, *track.code, *["--save"] * self.save]
+        return [find_guard(), *["--moved"] * self.move, *beside(self.others), *track.code, *["--save"] * self.save]
 
 
 @dataclass
@@ -69,10 +70,10 @@ def applied_to(track: Opened, editor: Editor, script: List[Repair], how: How, re
     """Runs a script, and writes what it gives; the script gets the repairs that were tried in the end."""
     before = look(editor, how.progress, how.steady)
     kind = before.listing.kind
-    refused = run_script(track, script, how.save, repaired, how.move, kind)
+    refused = run_script(track, script, how.save, repaired, how.move, kind, how.others)
     if refused.drops_moves(script):  # what comes after them in the script counts on them
         script[:] = how.propose(editor, False)
-        again = run_script(track, script, how.save, repaired, False, kind)
+        again = run_script(track, script, how.save, repaired, False, kind, how.others)
         refused = replace(again, reasons=[*refused.reasons, *again.reasons])
     result = [*track.code, repaired]
     refused = once_more(script, refused, lambda: how.propose(Editor(result), how.move), list(how.command(track)), repaired, kind)

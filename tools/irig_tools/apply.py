@@ -158,12 +158,18 @@ def find_guard() -> str:
     return find_beside("irig_guard", "--apply tries each repair in it")
 
 
-def run_script(track: Opened, script: Sequence[Repair], save: bool, out: str, moved: bool, kind: str) -> Refused:
+def beside(others: Sequence[str]) -> List[str]:
+    """The options that name other recordings for irig_guard."""
+    return [word for path in others for word in ("--with", path)]
+
+
+def run_script(track: Opened, script: Sequence[Repair], save: bool, out: str, moved: bool, kind: str,
+               others: Sequence[str] = ()) -> Refused:
     """Runs a script on the track, of this format, through irig_guard and writes a file, with its history if `save`; what was
     refused. Frames that are fine may move if `moved`. A wire that is upside down is first turned over by the editor, since
-    irig_guard goes by the frames that are fine."""
+    irig_guard goes by the frames that are fine. It gets the dumps of other recordings."""
     ending = "save" if save else "write"
-    guard, many = [find_guard()] + ["--moved"] * moved, _turning(script)
+    guard, many = [find_guard(), *["--moved"] * moved, *beside(others)], _turning(script)
     if not many:
         guard, path = [*guard, *track.options], track.path
     else:

@@ -137,14 +137,21 @@ def mend_opened(given: Given, track: Opened, original: Optional[str], outputs: E
     note_if_cut(track)
     say_notes(track, given.names[0], COMMAND.name)
     editor = Editor(track.words)
-    others = read_others(given.texts(WITH), editor, progress, COMMAND.name)
+    with ExitStack() as files:
+        others = read_others(given.texts(WITH), editor, progress, COMMAND.name, files)
+        end = mend_with(given, track, editor, others, target_of(given, track, original, outputs), progress)
+    return end
+
+
+def mend_with(given: Given, track: Opened, editor: Editor, others: Others, target: Target, progress: Progress) -> End:
+    """By what other recordings say."""
     if given.has(EXPLAIN):
         return End(explain(editor, given, others))
     script = proposed(editor, given, progress, others, given.has(MOVE))
     if not given.has(APPLY):
-        draw_proposal(given, track, script, progress, outputs)
+        draw_proposal(given, track, script, progress, target.outputs)
         return End(FOUND if script else ALL_RIGHT, text_to_write(given, script, track))
-    done = apply(given, track, editor, script, progress, target_of(given, track, original, outputs), others)
+    done = apply(given, track, editor, script, progress, target, others)
     return end_of(done, text_to_write(given, script, track) if given.has(OUTPUT) else None)
 
 
@@ -284,7 +291,7 @@ def apply(given: Given, track: Opened, editor: Editor, script: List[Repair], pro
           others: Others) -> Done:
     """Runs the script, writes what it gives, and counts what it did."""
     how = How(lambda asked, move: proposed(asked, given, progress, others, move), progress, given.has(STEADY), given.has(MOVE),
-              given.has(SAVE))
+              given.has(SAVE), others.paths)
     with temporary_folder() as folder:
         repaired = os.path.join(folder, "repaired.vcd")
         ran = applied_to(track, editor, script, how, repaired)

@@ -2,17 +2,21 @@
 from __future__ import annotations
 
 import os
+import subprocess
+from contextlib import ExitStack
+from dataclasses import replace
 from typing import List, Sequence, Tuple
 
 from .command import kept, unchanged
 from .cut_end import note_if_cut
 from .damage_program import say_notes
-from .editor import Editor, Problem, Progress
+from .editor import CUT_OFF, Editor, Problem, Progress, find_editor
 from .ending import Usage, name_of
-from .opening import opened
+from .opening import Opened, opened
 from .options import EXPRESSION, FORMAT, Given
 from .others import Other, Others, not_used, other_of, others_of, seen_in
 from .script import Repair
+from .temporary import temporary_folder, temporary_script
 from .witnesses import NO_WITNESSES
 
 
@@ -29,35 +33,49 @@ def _is_one_file(one: str, other: str) -> bool:
     return os.path.exists(one) and os.path.exists(other) and os.path.samefile(one, other)
 
 
-def read_others(names: Sequence[str], editor: Editor, progress: Progress, program: str) -> Others:
-    """What these recordings say of the editor's track."""
+def read_others(names: Sequence[str], editor: Editor, progress: Progress, program: str, files: ExitStack) -> Others:
+    """What these recordings say of the editor's track. Their dumps are there until the files are closed."""
     listing = editor.ask([])
     code = Given(values={FORMAT.name: listing.kind, EXPRESSION.name: str(listing.expression)})
     found: List[Other] = []
     remarks: List[Repair] = []
     for name in names:
-        other, why = _read_other(name, code, progress, program)
+        other, why = _read_other(name, code, progress, program, files)
         found += [] if why else [other]
         remarks += [not_used(other.name, why)] if why else []
     others = others_of(seen_in(editor, progress), found) if found else Others(NO_WITNESSES)
-    return Others(others.witnesses, remarks + others.remarks, others.lines)
+    return replace(others, remarks=remarks + others.remarks)
 
 
-def _read_other(name: str, code: Given, progress: Progress, program: str) -> Tuple[Other, str]:
+def _read_other(name: str, code: Given, progress: Progress, program: str, files: ExitStack) -> Tuple[Other, str]:
     """A recording, and why nothing of it can be used if it has another format or expression."""
     other, problem = Other(name_of(name)), None
-    with kept(name) as path, unchanged(path):
-        try:
-            with opened(path, name, code, None) as track:
-                note_if_cut(track)
-                say_notes(track, name, program)
-                other = other_of(name_of(name), seen_in(Editor(track.words), progress))
-        except Problem as error:  # also if no frame can be read
-            problem = error
-        own = [] if other.frames else _own_code(path, name)
+    path = files.enter_context(kept(name))
+    files.enter_context(unchanged(path))
+    try:
+        track = files.enter_context(opened(path, name, code, None))
+        note_if_cut(track)
+        say_notes(track, name, program)
+        other = other_of(name_of(name), seen_in(Editor(track.words), progress))
+        other.path = _dump_of(track, files)
+    except Problem as error:  # also if no frame can be read
+        problem = error
+    own = [] if other.frames else _own_code(path, name)
     if problem and not own:
         raise problem
     return other, "it has %s, and the track %s" % (_in_words(own), _in_words(_words(code))) if own not in ([], _words(code)) else ""
+
+
+def _dump_of(track: Opened, files: ExitStack) -> str:
+    """A dump of the wire alone, which irig_guard can read."""
+    if not track.named:
+        return track.path
+    path = os.path.join(files.enter_context(temporary_folder()), "wire.vcd")
+    with temporary_script("write\n") as script:
+        done = subprocess.run([find_editor(), *track.options, "--out", path, track.path], stdin=script, capture_output=True, check=False)
+    if done.returncode:
+        raise Problem(CUT_OFF)
+    return path
 
 
 def _words(code: Given) -> List[str]:

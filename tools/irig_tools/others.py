@@ -34,10 +34,11 @@ class Timed(NamedTuple):
 
 @dataclass
 class Other:
-    """Another recording: its frames that are fine and supported."""
+    """Another recording: its frames that are fine and supported, and a dump of its wire alone."""
 
     name: str
     frames: List[Tuple[Timed, Witness]] = field(default_factory=list)
+    path: str = ""
 
 
 @dataclass
@@ -47,6 +48,7 @@ class Others:
     witnesses: Witnesses
     remarks: List[Repair] = field(default_factory=list)
     lines: List[str] = field(default_factory=list)
+    paths: List[str] = field(default_factory=list)  # dumps of those that are used
 
 
 def seen_in(editor: Editor, progress: Progress) -> Findings:
@@ -209,16 +211,17 @@ def _later(by: int) -> str:
 
 def others_of(findings: Findings, found: Sequence[Other]) -> Others:
     """What other recordings say of one in which this is found."""
-    comparison, remarks, lines = Comparison(findings), [], []
+    comparison, remarks, lines, paths = Comparison(findings), [], [], []
     witnesses: Dict[TimeOfFrame, List[Witness]] = defaultdict(list)
     for other in found:
         why = comparison.why_not(other)
         lines.append(comparison.line(other, why))
         remarks += [not_used(other.name, why)] if why else []
+        paths += [] if why else [other.path]
         for time, frames in () if why else _by_time(other):
             if len({each.text for each in frames}) == 1:  # else it has this time twice
                 witnesses[time].append(frames[0])
-    return Others(Witnesses(dict(witnesses)), remarks, lines)
+    return Others(Witnesses(dict(witnesses)), remarks, lines, paths)
 
 
 def _by_time(other: Other) -> ItemsView[TimeOfFrame, List[Witness]]:

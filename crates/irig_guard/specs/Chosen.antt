@@ -39,6 +39,7 @@ pub record IsChosen (a : Asked) (s : Settings) : Type 0 where
   pub track : s.track ≡ a.track
   pub wire : s.wire ≡ a.wire
   pub out : s.out ≡ a.out
+  pub others : s.others ≡ a.others
   pub save : s.save ≡ a.save
   pub moved : s.moved ≡ a.moved
   pub format : IsFormat a s.format

@@ -1,6 +1,6 @@
 -- What the program does for the words of its command line: from the files and the script to what is
 -- printed and written. This project's own.
-use Rattle.std.specs.Prelude.{◌≡◌, ◌<◌, ◌^◌, ℕ, List, Result, Ok, Err, IfSome, is_some}
+use Rattle.std.specs.Prelude.{◌≡◌, ◌<◌, ◌^◌, ℕ, List, [], Result, Ok, Err, IfSome, is_some}
 use Rattle.std.specs.Prelude.{length, option_map, true}
 use Rattle.clap.specs.Words.{Text}
 use Rattle.irig_script.specs.Obey.Desk.{desk}
@@ -12,17 +12,22 @@ use Rattle.irig_files.specs.Puts.{texts_at}
 use Rattle.irig_guard.specs.declared.chosen.Settings.{Settings}
 use Rattle.irig_guard.specs.declared.command_line.UsageFault.TheVariants.{Words, Value as of_value}
 use Rattle.irig_guard.specs.declared.ending.Ending.TheVariants.{Usage, Value, Unread, Over, Unknown}
-use Rattle.irig_guard.specs.declared.ending.Ending.TheVariants.{Ran}
-use Rattle.irig_guard.specs.Given.{Ends, Files, place_of, product_of}
-use Rattle.irig_guard.specs.{Statuses.HasStatus, Settings.Reads, declared.ending.Ending.Ending}
+use Rattle.irig_guard.specs.declared.ending.Ending.TheVariants.{OverOther, Ran, Unheard}
+use Rattle.irig_guard.specs.Given.{Ends, Files, IsRead, place_of, product_of}
+use Rattle.irig_guard.specs.Others.{IsOther, IsUnheard, ShowsAll}
+use Rattle.irig_safety.specs.declared.shown.Shown.{Shown}
+use Rattle.irig_guard.specs.{Settings.paths, Statuses.HasStatus, Settings.Reads, declared.ending.Ending.Ending}
 
--- The script ran under guard on the bytes, by the wire and the format of the settings; what was
--- written was written where their path to write leads, and is kept through a crash at any moment.
+-- The script ran under guard on the bytes, by the wire and the format of the settings and by the frames
+-- of the other recordings; what was written was written where their path to write leads, and is kept through a crash at any moment.
 pub record RunsBy (given : Files) (chosen : Settings) (source : List ℕ) (old new : Ends)
     (result : Result Kept GuardFault) : Type 0 where
+  pub others : List Shown
+  pub shown : ShowsAll given.held chosen.format (paths chosen.others.items) [] others
   pub label : List ℕ
   pub failures : ℕ
-  pub ran : GuardsOnDump (option_map (λ w. w.now) chosen.wire) chosen.format chosen.moved source
+  pub ran : GuardsOnDump (option_map (λ w. w.now) chosen.wire) chosen.format
+      (record { moved = chosen.moved; others = others }) source
       (product_of chosen) old.script new.script
       (desk old.out (shelved (texts_at (given.paths (place_of chosen)) old.writes) 0 label))
       (desk new.out (shelved (texts_at (given.paths (place_of chosen)) new.writes) failures label))
@@ -34,7 +39,8 @@ abbrev pub IsUntouched : Files → Ends → Ends → Type 0
 IsUntouched given old new = (new ≡ old) × ((to : List ℕ) → given.kept to)
 
 -- The script ran on the dump of the settings. Or that was not read, or the path to write leads to
--- it, or that was not found out; and nothing else was done.
+-- it or to another recording, or that was not found out, or another recording cannot be used; and
+-- nothing else was done.
 abbrev pub Obeys : Files → Ends → Ends → Settings → Ending → Type 0
 Obeys given old new chosen (Ran path result) =
     (path ≡ chosen.track) × ((source : List ℕ)
@@ -47,17 +53,22 @@ Obeys given old new chosen Over =
     IsUntouched given old new × (is_some chosen.out ≡ true)
     × given.same chosen.track.now (place_of chosen)
 Obeys given old new chosen Unknown = IsUntouched given old new
+Obeys given old new chosen (OverOther path) =
+    IsUntouched given old new × (is_some chosen.out ≡ true) × IsOther chosen path.now
+    × given.same path.now (place_of chosen)
+Obeys given old new chosen (Unheard path why) =
+    IsUntouched given old new × IsOther chosen path.now × IsUnheard (given.held path.now) why
 Obeys given old new chosen (Usage error) = ⊥
 Obeys given old new chosen (Value fault) = ⊥
 
 -- The settings are those of the words, and they were obeyed. However that ended, a crash at any
--- moment leaves at the place of the dump what was there.
+-- moment leaves at the places of the dump and of the other recordings what was there.
 pub record Follows (words : List Text) (given : Files) (old new : Ends) (ending : Ending)
     : Type 0 where
   pub chosen : Settings
   pub reads : Reads words (Ok chosen)
   pub obeyed : Obeys given old new chosen ending
-  pub dump_stays : given.spared chosen.track.now
+  pub stays : (path : List ℕ) → IsRead chosen path → given.spared path
 
 -- they were obeyed, or the words have no settings
 abbrev pub EndsBy : List Text → Files → Ends → Ends → Ending → Type 0

@@ -1,12 +1,12 @@
 -- What the program is given, and what it leaves. This project's own.
-use Rattle.std.specs.Prelude.{◌≡◌, ℕ, Bool, List, Option, IsTrue, if◌then◌else◌, is_some, not}
+use Rattle.std.specs.Prelude.{◌≡◌, ◌⊎◌, ℕ, Bool, List, Option, IsTrue, if◌then◌else◌, is_some, not}
 use Rattle.std.specs.Prelude.{option_map, true, unwrap_or}
 use Rattle.irig_disk.specs.Disk.{Disk}
 use Rattle.irig_files.specs.Apart.{AreApart, LeadToOneFile, Spares}
 use Rattle.irig_files.specs.Writes.{GoesTo, Write}
 use Rattle.irig_guarding.specs.declared.product.Product.{Product}
 use Rattle.irig_guarding.specs.declared.product.Product.TheVariants as product
-use Rattle.irig_guard.specs.declared.chosen.Settings.{Settings}
+use Rattle.irig_guard.specs.{Others.IsOther, declared.chosen.Settings.Settings}
 
 -- what is known of the ends of the program: what was printed, what was written, and what is left of
 -- the script
@@ -48,6 +48,23 @@ product_of chosen =
     if not (is_some chosen.out) then product.Nothing
     else (if chosen.save then product.Session else product.Track)
 
--- what is written is not written to the file of the dump
+-- what is written is not written to the file at a path
+abbrev pub IsApartFrom : List ℕ → Settings → Disk → Type 0
+IsApartFrom path chosen disk = is_some chosen.out ≡ true → AreApart disk path (place_of chosen)
+
+-- so of the file of the dump
 abbrev pub IsApart : Settings → Disk → Type 0
-IsApart chosen disk = is_some chosen.out ≡ true → AreApart disk chosen.track.now (place_of chosen)
+IsApart chosen disk = IsApartFrom chosen.track.now chosen disk
+
+-- so of the files of the other recordings
+abbrev pub AreOthersApart : Settings → Disk → Type 0
+AreOthersApart chosen disk = (path : List ℕ) → IsOther chosen path → IsApartFrom path chosen disk
+
+-- a path whose file is read: that of the dump, or of another recording
+abbrev pub IsRead : Settings → List ℕ → Type 0
+IsRead chosen path = (path ≡ chosen.track.now) ⊎ IsOther chosen path
+
+-- a crash at any moment leaves at the place of each what was there
+abbrev pub AreSpared : Bool → Disk → Disk → Settings → Type 0
+AreSpared told old new chosen =
+    (path : List ℕ) → IsRead chosen path → Spares told old new path

@@ -2,5 +2,6 @@ pub mod Chosen
 pub mod Ending
 pub mod Given
 pub mod Options
+pub mod Others
 pub mod Settings
 pub mod Statuses

@@ -1,7 +1,7 @@
--- The command line: four options, two flags and the track. This project's own.
+-- The command line: five options, two flags and the track. This project's own.
 use Rattle.std.specs.Prelude.{◌≡◌, List, codes, None, Some}
 use Rattle.clap.specs.Words.{App, Rule, Text, new_app, new_rule, with_rule, HasMatchesOf}
-use Rattle.clap.specs.declared.builder.ArgAction.TheVariants.{SetTrue}
+use Rattle.clap.specs.declared.builder.ArgAction.TheVariants.{Append, SetTrue}
 use Rattle.clap.specs.declared.parser.matches.ArgMatches.{ArgMatches}
 use Rattle.irig_words.specs.Arguments.{needed, option}
 
@@ -13,17 +13,26 @@ flag = record (new_rule (codes "save")) { long = Some (codes "save"); action = S
 abbrev pub moving : Rule
 moving = record (new_rule (codes "moved")) { long = Some (codes "moved"); action = Some SetTrue }
 
+-- the option that names another recording, as often as it is given
+abbrev pub beside : Rule
+beside = record (new_rule (codes "with")) {
+  long = Some (codes "with");
+  action = Some Append;
+  value_names = 1;
+}
+
 -- how the track is read
 abbrev pub reading : App
 reading =
     with_rule (with_rule (with_rule (new_app (codes "irig_guard")) (option (codes "wire") None))
     (option (codes "format") None)) (option (codes "expression") None)
 
--- the command: how the track is read, whether frames may move, what is written, and the track
+-- the command: how the track is read, whether frames may move, other recordings, what is written, and
+-- the track
 abbrev pub the_command : App
 the_command =
-    with_rule (with_rule (with_rule (with_rule reading moving) (option (codes "out") None)) flag)
-    (needed (codes "TRACK"))
+    with_rule (with_rule (with_rule (with_rule (with_rule reading moving) beside)
+    (option (codes "out") None)) flag) (needed (codes "TRACK"))
 
 -- it says how the track is read
 abbrev pub IsReading : App → Type 0

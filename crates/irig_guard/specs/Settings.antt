@@ -1,7 +1,8 @@
 -- What the words of a command line ask for. This project's own.
-use Rattle.std.specs.Prelude.{◌≡◌, List, true, false, codes, None, Some, Result, Ok, Err}
-use Rattle.std.specs.Prelude.{option_map}
-use Rattle.clap.specs.Words.{Text, first_value, found_of, one_text}
+use denote.Ref.{Bor}
+use Rattle.std.specs.Prelude.{◌≡◌, ℕ, List, [], true, false, codes, None, Some, Result, Ok, Err, map}
+use Rattle.std.specs.Prelude.{option_map, unwrap_or}
+use Rattle.clap.specs.Words.{Text, first_value, found_of, matched_of, one_text, raw_values}
 use Rattle.clap.specs.declared.parser.matches.Found.{Found}
 use Rattle.clap.specs.declared.parser.matches.ArgMatches.{ArgMatches}
 use Rattle.irig_guard.specs.Options.{IsParsed, the_command}
@@ -11,6 +12,14 @@ use Rattle.irig_guard.specs.declared.command_line.UsageFault.TheVariants.{Words,
 use Rattle.irig_guard.specs.{Chosen.HasFault, Chosen.IsChosen, declared.asked.Asked.Asked}
 use Rattle.irig_words.specs.Errors.{MayRefuse}
 
+-- the texts of paths
+abbrev pub paths : List (Bor (List ℕ)) → List (List ℕ)
+paths given = map (λ p. p.now) given
+
+-- the values of an option, of all its uses
+abbrev pub all_values : Found → Text → List (List ℕ)
+all_values f name = unwrap_or (option_map raw_values (matched_of f name)) []
+
 -- the values are those of the matches
 pub record AreValues (f : Found) (a : Asked) : Type 0 where
   pub track : first_value f (codes "TRACK") ≡ Some a.track.now
@@ -18,6 +27,7 @@ pub record AreValues (f : Found) (a : Asked) : Type 0 where
   pub format : first_value f (codes "format") ≡ option_map (λ w. w.now) a.format
   pub expression : first_value f (codes "expression") ≡ option_map (λ w. w.now) a.expression
   pub out : first_value f (codes "out") ≡ option_map (λ w. w.now) a.out
+  pub others : paths a.others.items ≡ all_values f (codes "with")
   pub saved : one_text f (codes "save") ≡ Some (codes "true") → a.save ≡ true
   pub not_saved : one_text f (codes "save") ≡ Some (codes "false") → a.save ≡ false
   pub not_asked : one_text f (codes "save") ≡ None → a.save ≡ false

@@ -6,7 +6,7 @@ use Rattle.irig_files.specs.declared.dump_file.DumpFileFault.TheVariants.{Cannot
 use Rattle.irig_files.specs.declared.dump_file.DumpFileFault.TheVariants.{OutOfMemory}
 use Rattle.irig_guard.specs.declared.ending.Ending.{Ending}
 use Rattle.irig_guard.specs.declared.ending.Ending.TheVariants.{Usage, Value, Unread, Over, Unknown}
-use Rattle.irig_guard.specs.declared.ending.Ending.TheVariants.{Ran}
+use Rattle.irig_guard.specs.declared.ending.Ending.TheVariants.{OverOther, Ran, Unheard}
 use Rattle.irig_script.specs.declared.obey.status.Status.{Status}
 use Rattle.irig_script.specs.declared.obey.status.Status.TheVariants.{AllAccepted, SomeRefused}
 use Rattle.irig_guarding.specs.{declared.product.GuardFault.GuardFault, declared.product.Kept.Kept}
@@ -39,4 +39,6 @@ HasStatus (Value fault) status = status ≡ 2
 HasStatus (Unread path fault) status = status ≡ 3
 HasStatus Over status = status ≡ 2
 HasStatus Unknown status = status ≡ 4
+HasStatus (OverOther path) status = status ≡ 2
+HasStatus (Unheard path why) status = status ≡ 3
 HasStatus (Ran path result) status = status ≡ status_number result

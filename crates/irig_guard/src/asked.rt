@@ -1,7 +1,7 @@
 //! The values of a command line.
 
 /// The values of a command line, as they are written.
-#[derive(Clone, Copy)]
+#[derive(Drop)]
 pub struct Asked<'a> {
     /// The path of the dump.
     pub track: &'a str,
@@ -10,6 +10,8 @@ pub struct Asked<'a> {
     pub format: Option<&'a str>,
     pub expression: Option<&'a str>,
     pub out: Option<&'a str>,
+    /// The values of `--with`.
+    pub others: Vec<&'a str>,
     /// Whether `--save` is given.
     pub save: bool,
     /// Whether `--moved` is given.

@@ -10,6 +10,8 @@ pub struct Settings<'a> {
     pub track: &'a str,
     /// The name of the wire in the dump, if one is given.
     pub wire: Option<&'a str>,
+    /// The paths of other recordings of the same code.
+    pub others: Vec<&'a str>,
     /// The path at which the track is written that the kept repairs leave, if one is given.
     pub out: Option<&'a str>,
     /// Whether the journal is written with it.

@@ -1,10 +1,10 @@
 //! The command line, read by `clap`.
 
-ghost use Rattle.std.specs.Prelude.{◌≡◌, IfErr, IfOk, None, false, map, string_bytes};
+ghost use Rattle.std.specs.Prelude.{◌≡◌, IfErr, IfOk, None, codes, false, map, string_bytes};
 ghost use Rattle.clap.specs.Words.{app_of, found_of, rule_of};
-ghost use Rattle.irig_guard.specs.Options.{IsCommand, IsParsed, IsReading, flag, moving};
-ghost use Rattle.irig_guard.specs.Options.{the_command};
-ghost use Rattle.irig_guard.specs.Settings.{AreValues, Reads, Values};
+ghost use Rattle.irig_guard.specs.Options.{IsCommand, IsParsed, IsReading, beside, flag};
+ghost use Rattle.irig_guard.specs.Options.{moving, the_command};
+ghost use Rattle.irig_guard.specs.Settings.{AreValues, Reads, Values, all_values, paths};
 ghost use Rattle.irig_words.specs.Arguments.{option};
 ghost use Rattle.irig_words.specs.Errors.{IsMistake, MayRefuse, WantsMemory};
 
@@ -32,7 +32,7 @@ pub fn settings<'a>(alloc: Global, words: &'a [String]) -> Result<Settings<'a>, 
         Ok(asked) => asked,
         Err(error) => return Err(UsageFault::Words(error)),
     };
-    match settings_of(&asked) {
+    match settings_of(asked) {
         Ok(chosen) => Ok(chosen),
         Err(fault) => Err(UsageFault::Value(fault)),
     }
@@ -44,7 +44,7 @@ fn asked<'a>(alloc: Global, words: &'a [String]) -> Result<Asked<'a>, Error>
     ensures refused { IfErr result (MayRefuse the_command (map string_bytes words.entry.now)) }
 {
     match parse_words(alloc, words) {
-        Ok(matches) => values_of(&matches),
+        Ok(matches) => values_of(alloc, &matches),
         Err(error) => Err(error),
     }
 }
@@ -57,22 +57,36 @@ pub fn not_text(alloc: Global) -> Error
 }
 
 /// The values of the matches.
-fn values_of<'a>(matches: &ArgMatches<'a>) -> Result<Asked<'a>, Error>
+fn values_of<'a>(alloc: Global, matches: &ArgMatches<'a>) -> Result<Asked<'a>, Error>
     ensures values { IfOk result (AreValues (found_of matches.now)) }
     ensures memory { IfErr result WantsMemory }
 {
     let Some(track) = matches.get_str("TRACK") else {
         return Err(AllocError.into());
     };
+    let others = others_of(alloc, matches)?;
     Ok(Asked {
         track,
         wire: matches.get_str("wire"),
         format: matches.get_str("format"),
         expression: matches.get_str("expression"),
         out: matches.get_str("out"),
+        others,
         save: matches.get_flag("save"),
         moved: matches.get_flag("moved"),
     })
+}
+
+/// The values of `--with`, in their order.
+fn others_of<'a>(alloc: Global, matches: &ArgMatches<'a>) -> Result<Vec<&'a str>, AllocError>
+    ensures { IfOk result (λ others. paths others.items
+        ≡ all_values (found_of matches.now) (codes "with")) }
+{
+    let mut others = Vec::new(alloc);
+    if let Some(given) = matches.get_strs("with") {
+        others.extend_from_slice(given)?;
+    }
+    Ok(others)
 }
 
 /// The matches of a command line that is accepted.
@@ -91,6 +105,7 @@ fn command<'a>(alloc: Global) -> Result<Command<'a>, AllocError>
     let track = needed_arg(alloc, "TRACK", "the dump; repairs come on standard input");
     reading(alloc)?
         .arg(moved_arg(alloc))?
+        .arg(with_arg(alloc))?
         .arg(out)?
         .arg(save_arg(alloc))?
         .arg(track)
@@ -118,6 +133,18 @@ fn moved_arg<'a>(alloc: Global) -> Arg<'a>
         .long("moved")
         .help("frames that are fine may move, in their order")
         .action(ArgAction::SetTrue)
+}
+
+/// Other recordings of the same code.
+fn with_arg<'a>(alloc: Global) -> Arg<'a>
+    ensures rule { rule_of result ≡ beside }
+    ensures local { result.global ≡ false }
+{
+    Arg::new(alloc, "with")
+        .long("with")
+        .value_name("OTHER")
+        .help("another recording of the same code")
+        .action(ArgAction::Append)
 }
 
 /// Whether the journal is written too.

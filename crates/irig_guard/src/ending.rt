@@ -1,6 +1,7 @@
 //! How the program ends.
 
 use crate::chosen::OptionFault;
+use crate::unheard::Unheard;
 use irig_files::DumpFileFault;
 use irig_guarding::{GuardFault, Kept};
 
@@ -17,6 +18,10 @@ pub enum Ending<'a> {
     Over,
     /// It cannot be found out whether it does.
     Unknown,
+    /// The path to write leads to the other recording at this path.
+    OverOther(&'a str),
+    /// The other recording at this path cannot be used.
+    Unheard(&'a str, Unheard),
     /// The script ran under guard on the dump at this path, and so the run ended.
     Ran(&'a str, Result<Kept, GuardFault>),
 }

@@ -1,19 +1,23 @@
 //! A script run under guard on the file of a dump, as the words of a command line ask.
 
-ghost use Rattle.std.specs.Prelude.{◌≡◌, ℕ, IfOk, IfSome, IsTrue, List, false, is_some, map};
+ghost use Rattle.std.specs.Prelude.{◌≡◌, ℕ, [], IfOk, IfSome, IsTrue, List, false, is_some, map};
 ghost use Rattle.std.specs.Prelude.{option_map, string_bytes, true};
 ghost use Rattle.irig_vcd.specs.{Answer.Gives, Answer.name_of, Parts.dump_parts};
 ghost use Rattle.irig_guard.specs.Ending.{EndsBy, Obeys, RunsBy};
-ghost use Rattle.irig_guard.specs.Given.{IsApart, ends, files, place_of, product_of};
-ghost use Rattle.irig_files.specs.Apart.{LeadToOneFile, Spares};
+ghost use Rattle.irig_guard.specs.Given.{AreOthersApart, AreSpared, IsApart, ends, files};
+ghost use Rattle.irig_guard.specs.Given.{place_of, product_of};
+ghost use Rattle.irig_guard.specs.{Others.ShowsAll, Settings.paths};
+ghost use Rattle.irig_files.specs.Apart.{LeadToOneFile};
 ghost use Rattle.irig_files.specs.Reads.{HasFewBytes, parts_of};
 ghost use Rattle.irig_files.specs.Puts.{writes_on};
 
 use crate::chosen::Settings;
 use crate::command_line::{UsageFault, settings};
 use crate::ending::Ending;
+use crate::others::{frames_of_others, over_other};
 use irig_files::{Disk, DumpFileFault, FileShelf, Parts, Room};
 use irig_guarding::{GuardFault, Kept, Product, guard_on_parts};
+use irig_safety::{Shown, Terms};
 use irig_text::ShelfFault;
 use irig_vcd::VcdFault;
 use std::alloc::Global;
@@ -53,7 +57,7 @@ fn run_on_track<'a, D: Disk, R: Read, W: Write>(
         (ends (W.contents out.old) (writes_on D.is_told (D.disk disk.old)) (R.remaining script.old))
         (ends (W.contents out.new) (writes_on D.is_told (D.disk disk.new)) (R.remaining script.new))
         chosen.now result }
-    ensures spared { Spares D.is_told (D.disk disk.old) (D.disk disk.new) chosen.now.track.now }
+    ensures spared { AreSpared D.is_told (D.disk disk.old) (D.disk disk.new) chosen.now }
 {
     let Ok(mut room) = Room::new(alloc) else {
         return Ending::Unread(chosen.track, DumpFileFault::OutOfMemory);
@@ -74,7 +78,7 @@ fn run_with_room<'a, D: Disk, R: Read, W: Write>(
         (ends (W.contents out.old) (writes_on D.is_told (D.disk disk.old)) (R.remaining script.old))
         (ends (W.contents out.new) (writes_on D.is_told (D.disk disk.new)) (R.remaining script.new))
         chosen.now result }
-    ensures spared { Spares D.is_told (D.disk disk.old) (D.disk disk.new) chosen.now.track.now }
+    ensures spared { AreSpared D.is_told (D.disk disk.old) (D.disk disk.new) chosen.now }
 {
     match disk.read(alloc, chosen.track, wire_of(chosen)) {
         Ok(read) => run_apart(alloc, chosen, read, room, disk, script, out),
@@ -101,15 +105,48 @@ fn run_apart<'a, D: Disk, R: Read, W: Write>(
         (ends (W.contents out.old) (writes_on D.is_told (D.disk disk.old)) (R.remaining script.old))
         (ends (W.contents out.new) (writes_on D.is_told (D.disk disk.new)) (R.remaining script.new))
         chosen.now result }
-    ensures spared { Spares D.is_told (D.disk disk.old) (D.disk disk.new) chosen.now.track.now }
+    ensures spared { AreSpared D.is_told (D.disk disk.old) (D.disk disk.new) chosen.now }
 {
     match is_over(chosen, disk) {
-        Ok(false) => {
-            let result = run_on_read(alloc, chosen, read, room, disk, script, out);
-            Ending::Ran(chosen.track, result)
-        }
+        Ok(false) => run_beside(alloc, chosen, read, room, disk, script, out),
         Ok(true) => Ending::Over,
         Err(_) => Ending::Unknown,
+    }
+}
+
+/// Runs a script under guard on what was read of a dump, by what other recordings say, if the path to
+/// write leads to none of these. Each write uses the room.
+fn run_beside<'a, D: Disk, R: Read, W: Write>(
+    alloc: Global,
+    chosen: &Settings<'a>,
+    read: Result<Parts, VcdFault>,
+    room: &mut Room,
+    disk: &mut D,
+    script: &mut R,
+    out: &mut W,
+) -> Ending<'a>
+    requires few { HasFewBytes read }
+    requires apart { IsTrue D.is_told → IsApart chosen.now (D.disk disk.old) }
+    ensures obeyed { (source : List ℕ)
+        → Gives parts_of read (dump_parts (option_map (λ w. w.now) chosen.now.wire) source)
+        → IfSome (D.held disk.old chosen.now.track.now) (λ all. source ≡ all)
+        → Obeys (files (D.held disk.old) D.is_told (D.disk disk.old) (D.disk disk.new))
+        (ends (W.contents out.old) (writes_on D.is_told (D.disk disk.old)) (R.remaining script.old))
+        (ends (W.contents out.new) (writes_on D.is_told (D.disk disk.new)) (R.remaining script.new))
+        chosen.now result }
+    ensures spared { AreSpared D.is_told (D.disk disk.old) (D.disk disk.new) chosen.now }
+{
+    match over_other(chosen, disk) {
+        Ok(None) => {}
+        Ok(Some(path)) => return Ending::OverOther(path),
+        Err(_) => return Ending::Unknown,
+    }
+    match frames_of_others(alloc, chosen, disk) {
+        Ok(others) => {
+            let result = run_on_read(alloc, chosen, read, others, room, disk, script, out);
+            Ending::Ran(chosen.track, result)
+        }
+        Err((path, why)) => Ending::Unheard(path, why),
     }
 }
 
@@ -133,6 +170,7 @@ fn run_on_read<D: Disk, R: Read, W: Write>(
     alloc: Global,
     chosen: &Settings<'_>,
     read: Result<Parts, VcdFault>,
+    others: Vec<Shown>,
     room: &mut Room,
     disk: &mut D,
     script: &mut R,
@@ -140,25 +178,29 @@ fn run_on_read<D: Disk, R: Read, W: Write>(
 ) -> Result<Kept, GuardFault>
     requires few { HasFewBytes read }
     requires apart { IsTrue D.is_told → IsApart chosen.now (D.disk disk.old) }
+    requires others { IsTrue D.is_told → AreOthersApart chosen.now (D.disk disk.old) }
+    requires shown { ShowsAll (D.held disk.old) chosen.now.format (paths chosen.now.others.items)
+        [] others.items }
     ensures ran { (source : List ℕ)
         → Gives parts_of read (dump_parts (option_map (λ w. w.now) chosen.now.wire) source)
         → RunsBy (files (D.held disk.old) D.is_told (D.disk disk.old) (D.disk disk.new))
         chosen.now source
         (ends (W.contents out.old) (writes_on D.is_told (D.disk disk.old)) (R.remaining script.old))
         (ends (W.contents out.new) (writes_on D.is_told (D.disk disk.new)) (R.remaining script.new)) result }
-    ensures spared { Spares D.is_told (D.disk disk.old) (D.disk disk.new) chosen.now.track.now }
+    ensures spared { AreSpared D.is_told (D.disk disk.old) (D.disk disk.new) chosen.now }
 {
     let (recording, journal) = match read {
         Ok(parts) => parts,
         Err(fault) => return Err(GuardFault::Dump(fault)),
     };
     let mut shelf = FileShelf::new(disk, place_of(chosen), room);
+    let moved = chosen.moved;
     guard_on_parts(
         alloc,
         recording,
         journal,
         chosen.format,
-        chosen.moved,
+        Terms { moved, others },
         product_of(chosen),
         script,
         out,

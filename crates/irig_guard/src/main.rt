@@ -7,7 +7,9 @@ mod command_line;
 mod ending;
 mod file_run;
 mod options;
+mod others;
 mod statuses;
+mod unheard;
 
 ghost use Rattle.std.specs.Prelude.{◌≡◌, map, string_bytes};
 ghost use Rattle.std.specs.Process.{exit_status};

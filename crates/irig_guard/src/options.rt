@@ -9,15 +9,15 @@ use crate::chosen::{OptionFault, Settings};
 use irig_codes::{Format, kind_named};
 
 /// What the values of a command line ask for.
-pub fn settings_of<'a>(asked: &Asked<'a>) -> Result<Settings<'a>, OptionFault>
-    ensures chosen { IfOk result (IsChosen asked.now) }
-    ensures fault { IfErr result (HasFault asked.now) }
+pub fn settings_of<'a>(asked: Asked<'a>) -> Result<Settings<'a>, OptionFault>
+    ensures chosen { IfOk result (IsChosen asked) }
+    ensures fault { IfErr result (HasFault asked) }
 {
-    let format = match format_of(asked) {
+    let format = match format_of(&asked) {
         Ok(format) => format,
         Err(fault) => return Err(fault),
     };
-    if is_over(asked) {
+    if is_over(&asked) {
         return Err(OptionFault::Out);
     }
     if asked.save && asked.out.is_none() {
@@ -27,6 +27,7 @@ pub fn settings_of<'a>(asked: &Asked<'a>) -> Result<Settings<'a>, OptionFault>
         track: asked.track,
         wire: asked.wire,
         out: asked.out,
+        others: asked.others,
         save: asked.save,
         moved: asked.moved,
         format,

@@ -7,9 +7,11 @@ ghost use Rattle.irig_words.specs.Errors.{IsHelp, IsMistake};
 
 use crate::chosen::OptionFault;
 use crate::ending::Ending;
+use crate::unheard::Unheard;
 use irig_files::DumpFileFault;
 use irig_guarding::{GuardFault, Kept};
 use irig_script::Status;
+use irig_vcd::VcdFault;
 use std::fmt::Display;
 use std::process::ExitCode;
 
@@ -23,6 +25,8 @@ pub fn report<R: Print + Eprint>(rt: &R, ending: &Ending<'_>) -> ExitCode
         Ending::Unread(path, fault) => tell_unread(rt, path, *fault),
         Ending::Over => tell(rt, 2, &OptionFault::Out),
         Ending::Unknown => tell(rt, 4, &"--out: cannot find out whether it is TRACK"),
+        Ending::OverOther(path) => tell_over(rt, path),
+        Ending::Unheard(path, why) => tell_unheard(rt, path, *why),
         Ending::Ran(path, outcome) => tell_ended(rt, path, *outcome),
     }
 }
@@ -56,6 +60,32 @@ fn tell_unread<R: Eprint>(rt: &R, name: &str, fault: DumpFileFault) -> ExitCode
     ExitCode::from(3)
 }
 
+/// Says that the path to write is another recording.
+fn tell_over<R: Eprint>(rt: &R, name: &str) -> ExitCode
+    ensures { exit_status result ≡ 2 }
+{
+    let _ = eprintln!(rt; "irig_guard: --out: is {name}, which is not written over");
+    ExitCode::from(2)
+}
+
+/// Says why another recording cannot be used.
+fn tell_unheard<R: Eprint>(rt: &R, name: &str, why: Unheard) -> ExitCode
+    ensures { exit_status result ≡ 3 }
+{
+    match why {
+        Unheard::File(fault) => tell_unread(rt, name, fault),
+        Unheard::Dump(fault) => tell_fault(rt, name, fault),
+    }
+}
+
+/// Says what fault a dump has.
+fn tell_fault<R: Eprint>(rt: &R, name: &str, fault: VcdFault) -> ExitCode
+    ensures { exit_status result ≡ 3 }
+{
+    let _ = eprintln!(rt; "irig_guard: {name}: {fault}");
+    ExitCode::from(3)
+}
+
 /// What the program says of a track that it did not read.
 fn unread_text<'a>(fault: DumpFileFault) -> &'a str
     ensures { result.now ≡ unread_text fault }
@@ -73,10 +103,7 @@ fn tell_ended<R: Eprint>(rt: &R, name: &str, outcome: Result<Kept, GuardFault>) 
 {
     match outcome {
         Ok(kept) => tell_kept(rt, name, kept),
-        Err(GuardFault::Dump(fault)) => {
-            let _ = eprintln!(rt; "irig_guard: {name}: {fault}");
-            ExitCode::from(3)
-        }
+        Err(GuardFault::Dump(fault)) => tell_fault(rt, name, fault),
         Err(fault) => tell(rt, 4, &fault),
     }
 }

@@ -19,6 +19,7 @@ use Rattle.irig_safety.specs.{Original.OriginalView, Original.near_by, Original.
 use Rattle.irig_safety.specs.{Faults.IsFault, Faults.IsSpoiledBy, Safety.IsSafe, Safety.NoneIsSpoiled}
 use Rattle.irig_safety.specs.declared.witnesses.Witnesses.{Witnesses}
 use Rattle.irig_safety.specs.declared.fault.Fault.TheVariants.{Lost, Unrecorded}
+use Rattle.irig_safety.specs.Terms.{TermsView}
 use Rattle.irig_safety.proofs.SafetyLemmas.{drop-item, drop_past, next_behind}
 use Rattle.irig_guarding.specs.Controls.{AreBorneBy, AreBorneFrom, ControlsAt, ControlsFrom, IsAs, IsBorne, IsUnborneBy, IsUnborneFrom, Judges}
 use Rattle.irig_guarding.specs.Pulses.{StandBy, StrayBy}
@@ -199,8 +200,8 @@ by_frames : (o : OriginalView) (s : State) (frames : List Shown) → AreBorneFro
 by_frames o s [] h = tt
 by_frames o s (x ∷ frames) h = h
 
-pub borne_self : (moved : Bool) (s : State) → AreBorneBy (fine_frames s) (original_of moved s) s
-borne_self moved s = by_frames (original_of moved s) s (fine_frames s) (themselves (original_of moved s) s s.pulses None None (frames_of s))
+pub borne_self : (terms : TermsView) (s : State) → AreBorneBy (fine_frames s) (original_of terms s) s
+borne_self terms s = by_frames (original_of terms s) s (fine_frames s) (themselves (original_of terms s) s s.pulses None None (frames_of s))
 
 -- if some frame of the recording reads well
 none_there : (n : ℕ) (r : Bool) → r ≡ (n == 0) → r ≡ true → n ≡ 0
@@ -316,31 +317,31 @@ pub stray_fault_of : (o : OriginalView) (last : List Shown) (s : State) (now : L
 stray_fault_of o last s now why e safe borne h = inr (subst (λ (l : List Shown). IsSafe s.format o.frames l) e safe, inr (borne, inl h))
 
 -- where the frames are, if they may move and if not
-rest_located : (o : OriginalView) (xs now : List Shown) → o.moved ≡ false → xs ≡ located o.moved xs now
+rest_located : (o : OriginalView) (xs now : List Shown) → o.terms.moved ≡ false → xs ≡ located o.terms.moved xs now
 rest_located o xs now e = sym (ap (λ (m : Bool). located m xs now) e)
 
-moved_located : (o : OriginalView) (xs now : List Shown) → o.moved ≡ true → moved_in xs now ≡ located o.moved xs now
+moved_located : (o : OriginalView) (xs now : List Shown) → o.terms.moved ≡ true → moved_in xs now ≡ located o.terms.moved xs now
 moved_located o xs now e = sym (ap (λ (m : Bool). located m xs now) e)
 
 -- what is found by these places
-pub found_stays : (o : OriginalView) (last at late : List Shown) (s : State) → at ≡ located o.moved o.frames (fine_frames s)
-    → late ≡ located o.moved last (fine_frames s) → StaysAt (with_frames at o) late s → MayStay o last s
+pub found_stays : (o : OriginalView) (last at late : List Shown) (s : State) → at ≡ located o.terms.moved o.frames (fine_frames s)
+    → late ≡ located o.terms.moved last (fine_frames s) → StaysAt (with_frames at o) late s → MayStay o last s
 found_stays o last at late s p q h = subst (λ (T : Type 0). T) (λ i. StaysAt (with_frames (p i) o) (q i) s) h
 
-pub found_sways : (o : OriginalView) (last at late : List Shown) (s : State) → at ≡ located o.moved o.frames (fine_frames s)
-    → late ≡ located o.moved last (fine_frames s) → (StaysAt (with_frames at o) late s → ⊥) → MayStay o last s → ⊥
+pub found_sways : (o : OriginalView) (last at late : List Shown) (s : State) → at ≡ located o.terms.moved o.frames (fine_frames s)
+    → late ≡ located o.terms.moved last (fine_frames s) → (StaysAt (with_frames at o) late s → ⊥) → MayStay o last s → ⊥
 found_sways o last at late s p q h k = h (subst (λ (T : Type 0). T) (λ i. StaysAt (with_frames (sym p i) o) (sym q i) s) k)
 
-pub found_fault : (o : OriginalView) (last at late : List Shown) (s : State) (why : Fault) → at ≡ located o.moved o.frames (fine_frames s)
-    → late ≡ located o.moved last (fine_frames s) → HasFaultAt (with_frames at o) late s why → HasFault o last s why
+pub found_fault : (o : OriginalView) (last at late : List Shown) (s : State) (why : Fault) → at ≡ located o.terms.moved o.frames (fine_frames s)
+    → late ≡ located o.terms.moved last (fine_frames s) → HasFaultAt (with_frames at o) late s why → HasFault o last s why
 found_fault o last at late s why p q h = subst (λ (T : Type 0). T) (λ i. HasFaultAt (with_frames (p i) o) (q i) s why) h
 
 -- of those that are where they were
-pub unmoved_at : (o : OriginalView) (at frames : List Shown) → o.moved ≡ false → at ≡ o.frames → at ≡ located o.moved o.frames frames
+pub unmoved_at : (o : OriginalView) (at frames : List Shown) → o.terms.moved ≡ false → at ≡ o.frames → at ≡ located o.terms.moved o.frames frames
 unmoved_at o at frames e is = is ∙ rest_located o o.frames frames e
 
-pub unmoved_last : (o : OriginalView) (last frames : List Shown) → o.moved ≡ false → last ≡ located o.moved last frames
+pub unmoved_last : (o : OriginalView) (last frames : List Shown) → o.terms.moved ≡ false → last ≡ located o.terms.moved last frames
 unmoved_last o last frames e = rest_located o last frames e
 
-pub moved_at : (o : OriginalView) (xs at now frames : List Shown) → o.moved ≡ true → at ≡ moved_in xs now → now ≡ frames → at ≡ located o.moved xs frames
+pub moved_at : (o : OriginalView) (xs at now frames : List Shown) → o.terms.moved ≡ true → at ≡ moved_in xs now → now ≡ frames → at ≡ located o.terms.moved xs frames
 moved_at o xs at now frames e is same = is ∙ (ap (moved_in xs) same ∙ moved_located o xs frames e)

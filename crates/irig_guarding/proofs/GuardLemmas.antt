@@ -19,6 +19,7 @@ use Rattle.irig_guarding.specs.Reasons.{head_lines, reason_line}
 use Rattle.irig_safety.specs.{Moved.located, Original.with_frames}
 use Rattle.irig_safety.proofs.MovedLemmas.{located_self}
 use Rattle.irig_safety.specs.{Original.OriginalView, Safety.IsSafe, Safety.IsSafeFrom, Safety.NoneIsSpoiled, declared.shown.Shown.Shown}
+use Rattle.irig_safety.specs.Terms.{TermsView}
 use Rattle.irig_guarding.proofs.{AgainLemmas.obeyed_again, ControlLemmas.borne_self, PulseLemmas.stand_self, ReasonLemmas.head_remarks, ReasonLemmas.reason_remark, RepairLemmas.obeyed_then}
 
 pub on_ok : {V E : Type 0} {P Q : Type 0} (r : Result V E) → OnOk r P → (P → Q) → OnOk r Q
@@ -121,10 +122,10 @@ safe_whole : (f : FormatView) (xs : List Shown) → IsSafe f xs xs
 safe_whole f [] = inl refl
 safe_whole f (x ∷ xs) = safe_self f None None (x ∷ xs)
 
-safe_by_self : (moved : Bool) (s : State) → IsSafeBy (original_of moved s) s
-safe_by_self moved s =
-    subst (λ (l : List Shown). IsSafeAt (with_frames l (original_of moved s)) s) (sym (located_self moved (fine_frames s)))
-    (safe_whole s.format (fine_frames s), borne_self moved s, stand_self moved s)
+safe_by_self : (terms : TermsView) (s : State) → IsSafeBy (original_of terms s) s
+safe_by_self terms s =
+    subst (λ (l : List Shown). IsSafeAt (with_frames l (original_of terms s)) s) (sym (located_self terms.moved (fine_frames s)))
+    (safe_whole s.format (fine_frames s), borne_self terms s, stand_self terms s)
 
 -- the run of the script that is printed
 not_quit : (c : Command) → IsPrinted c → c ≢ command.Quit
@@ -141,16 +142,16 @@ runs_of a b [] h = (refl, h)
 runs_of a b (line ∷ lines) h =
     (h.0, [], (inr (inr (h.1.1.0, (h.1.0, h.1.1.1, h.1.3, refl))), refl), ([], refl, runs_of h.0 b lines h.2))
 
-pub stands_guarded : (moved m : Bool) (first now : Machine) (script : List ℕ) → m ≡ moved → Stands first script now → IsSafeAfter m first.state now.state
-    → IsGuarded moved first script now
-stands_guarded moved m first now script e s safe =
+pub stands_guarded : (terms m : TermsView) (first now : Machine) (script : List ℕ) → m ≡ terms → Stands first script now → IsSafeAfter m first.state now.state
+    → IsGuarded terms first script now
+stands_guarded terms m first now script e s safe =
     let each = obeyed_goes first s.left s.lines s.plain s.obeyed in
     let lines : script_lines script ≡ s.lines = ap script_lines (s.cut ∙ sym (append-nil (unlines s.lines))) ∙ (lines_and s.lines [] each ∙ append-nil s.lines) in
     record {
       left = s.left;
       runs = subst (λ (l : List (List ℕ)). Runs first l (map silence l) [] s.left) (sym lines) (runs_of first s.left s.lines s.obeyed);
       same = s.same;
-      safe = subst (λ (b : Bool). IsSafeAfter b first.state now.state) e safe;
+      safe = subst (λ (b : TermsView). IsSafeAfter b first.state now.state) e safe;
     }
 
 -- a comment is obeyed, and does nothing
@@ -164,11 +165,11 @@ unspoiled_self (x ∷ xs) = inl (refl, unspoiled_self xs)
 pub unspoiled_there : (moved : Bool) (xs : List Shown) → NoneIsSpoiled (located moved xs xs) xs
 unspoiled_there moved xs = subst (λ (l : List Shown). NoneIsSpoiled l xs) (sym (located_self moved xs)) (unspoiled_self xs)
 
-pub safe_at_first : (s : State) (known : OriginalView) → known ≡ original_of known.moved s → IsSafeBy known s
-safe_at_first s known e = subst (λ (o : OriginalView). IsSafeBy o s) (sym e) (safe_by_self known.moved s)
+pub safe_at_first : (s : State) (known : OriginalView) → known ≡ original_of known.terms s → IsSafeBy known s
+safe_at_first s known e = subst (λ (o : OriginalView). IsSafeBy o s) (sym e) (safe_by_self known.terms s)
 
-pub safe_then : (first now : State) (known : OriginalView) → known ≡ original_of known.moved first → now.format ≡ first.format → IsSafeBy known now
-    → IsSafeAfter known.moved first now
+pub safe_then : (first now : State) (known : OriginalView) → known ≡ original_of known.terms first → now.format ≡ first.format → IsSafeBy known now
+    → IsSafeAfter known.terms first now
 safe_then first now known e same h = record { format = same; safe = subst (λ (o : OriginalView). IsSafeBy o now) e h }
 
 -- the head alone was printed

@@ -51,7 +51,7 @@ firsts P Q [] h = (tt, tt)
 firsts P Q (a ∷ answers) h = let rest = firsts P Q answers h.1 in ((h.0.0, rest.0), (h.0.1, rest.1))
 
 pub printed_is_obeyed : OneOutcome → PrintedIsObeyed
-printed_is_obeyed outcome moved opened script now g run start nothing =
+printed_is_obeyed outcome terms opened script now g run start nothing =
     let lines = script_lines script in
     let tests = firsts (λ a. wants_memory a.reply ≡ false) (λ a. tells_failed_put a.reply ≡ false) run.ran.answers nothing in
     let mine : RunOf script = record {

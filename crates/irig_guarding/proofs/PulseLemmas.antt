@@ -14,6 +14,7 @@ use Rattle.irig_edit.specs.State.State.{State, frames_of}
 use Rattle.irig_safety.specs.{Original.OriginalView, Original.near_by, Original.near_in, Safety.behind, declared.fault.Fault.Fault, declared.shown.Shown.Shown}
 use Rattle.irig_safety.specs.{Rises.KeepsRises, declared.witnesses.Witnesses.Witnesses}
 use Rattle.irig_safety.specs.declared.fault.Fault.TheVariants.{Lost, Misplaced, Moved}
+use Rattle.irig_safety.specs.Terms.{TermsView}
 use Rattle.irig_safety.proofs.SafetyLemmas.{drop-item, drop_past, next_behind}
 use Rattle.irig_guarding.specs.Pulses.{Comes, IsRooted, PulsesAt, PulsesFrom, StandBy, StandFrom, Stands, StandsAs, StrayBy, StrayFrom, UnrootedFrom}
 use Rattle.irig_guarding.specs.Reading.{fine_frames, original_of, seen_at, seen_by, seen_frames, shown_at, shown_by}
@@ -203,9 +204,9 @@ self_by : (o : OriginalView) (s : State) (frames : List Shown) → shown_all (se
 self_by o s [] e h = none_rooted o s (seen_frames s) e
 self_by o s (x ∷ frames) e h = h
 
-pub stand_self : (moved : Bool) (s : State) → StandBy (fine_frames s) (original_of moved s) s
-stand_self moved s =
-    self_by (original_of moved s) s (fine_frames s) (shown_seen s.pulses (frames_of s)) (themselves (original_of moved s) s s.pulses None None (frames_of s) refl)
+pub stand_self : (terms : TermsView) (s : State) → StandBy (fine_frames s) (original_of terms s) s
+stand_self terms s =
+    self_by (original_of terms s) s (fine_frames s) (shown_seen s.pulses (frames_of s)) (themselves (original_of terms s) s s.pulses None None (frames_of s) refl)
 
 -- if some frame of the recording reads well
 none_there : (n : ℕ) (r : Bool) → r ≡ (n == 0) → r ≡ true → n ≡ 0

@@ -85,12 +85,12 @@ from_first f [] new some h = absurd (some refl)
 from_first f (o ∷ old) new some h = h
 
 pub safe_states : SafeStatesMean
-safe_states moved old new track some safe =
-    let at = located moved (fine_frames old) (fine_frames new) in
-    let first = from_first new.format at (fine_frames new) (λ e. some (located_some moved (fine_frames old) (fine_frames new) e)) safe.safe.0 in
+safe_states terms old new track some safe =
+    let at = located terms.moved (fine_frames old) (fine_frames new) in
+    let first = from_first new.format at (fine_frames new) (λ e. some (located_some terms.moved (fine_frames old) (fine_frames new) e)) safe.safe.0 in
     let means = safe_means new.format at (fine_frames new) (rising_frames new track) first in
     subst (λ (f : FormatView). IsKeptAt f (fine_frames old) at (fine_frames new)) safe.format (record {
-      fields = located_fields moved (fine_frames old) (fine_frames new);
+      fields = located_fields terms.moved (fine_frames old) (fine_frames new);
       kept = means.0;
       told = means.1;
     })

@@ -13,6 +13,7 @@ use Rattle.irig_guarding.specs.Trials.{IsClosing, IsCut, IsCutBefore, IsTried, I
 use Rattle.irig_guarding.specs.{Reading.fine_frames, Reading.original_of, Reasons.head_lines, Repair.Asks, Repair.texts, declared.line.Line.Line, declared.reason.Reason.Reason}
 use Rattle.irig_lines.specs.declared.command.Command.TheVariants as command
 use Rattle.irig_safety.specs.Original.{OriginalView}
+use Rattle.irig_safety.specs.Terms.{TermsView}
 use Rattle.irig_guarding.proofs.GuardLemmas.{all_plain, unlines-append}
 
 proposed-append : (xs ys : List Trial) → proposed (xs ++ ys) ≡ proposed xs ++ proposed ys
@@ -51,8 +52,8 @@ status_then (x ∷ xs) t = ap (λ s. if is_none x.dropped then s else SomeRefuse
     ∙ both_ways (is_none x.dropped) (is_none t.dropped) (status_of xs) SomeRefused
 
 -- nothing was tried yet, and the head was printed
-pub tried_none : (opened : Machine) (known : OriginalView) (rest : List (List ℕ)) (script : List ℕ) → known ≡ original_of known.moved opened.state
-    → script ≡ unlines (head_lines known.frames) → IsTriedBefore known.moved opened [] rest script AllAccepted opened
+pub tried_none : (opened : Machine) (known : OriginalView) (rest : List (List ℕ)) (script : List ℕ) → known ≡ original_of known.terms opened.state
+    → script ≡ unlines (head_lines known.frames) → IsTriedBefore known.terms opened [] rest script AllAccepted opened
 tried_none opened known rest script are e = record {
   trials = [];
   whole = refl;
@@ -65,11 +66,11 @@ tried_none opened known rest script are e = record {
 }
 
 -- one more repair
-pub tried_more : (moved : Bool) (opened : Machine) (lines front rest : List (List ℕ)) (old new : List ℕ) (status : Status) (a b : Machine) (dropped : Option Reason)
-    → IsTriedBefore moved opened lines (front ++ rest) old status a → IsCutBefore front rest → Tries (original_of moved opened.state) a front dropped b
+pub tried_more : (terms : TermsView) (opened : Machine) (lines front rest : List (List ℕ)) (old new : List ℕ) (status : Status) (a b : Machine) (dropped : Option Reason)
+    → IsTriedBefore terms opened lines (front ++ rest) old status a → IsCutBefore front rest → Tries (original_of terms opened.state) a front dropped b
     → Shows front dropped old new
-    → IsTriedBefore moved opened (lines ++ front) rest new (if is_none dropped then status else SomeRefused) b
-tried_more moved opened lines front rest old new status a b dropped h cut tries shown =
+    → IsTriedBefore terms opened (lines ++ front) rest new (if is_none dropped then status else SomeRefused) b
+tried_more terms opened lines front rest old new status a b dropped h cut tries shown =
     let one : Trial = record { lines = front; dropped = dropped } in
     let alone : proposed (one ∷ []) ≡ front = append-nil front in
     let head = head_lines (fine_frames opened.state) in
@@ -77,7 +78,7 @@ tried_more moved opened lines front rest old new status a b dropped h cut tries 
       trials = h.trials ++ one ∷ [];
       whole = proposed-append h.trials (one ∷ []) ∙ (λ i. h.whole i ++ alone i);
       cut = cut_then h.trials (one ∷ []) rest (subst (λ (l : List (List ℕ)). IsCut h.trials (l ++ rest)) (sym alone) h.cut) (cut, tt);
-      tried = tries_then (original_of moved opened.state) opened a b h.trials (one ∷ []) h.tried (b, tries, refl);
+      tried = tries_then (original_of terms opened.state) opened a b h.trials (one ∷ []) h.tried (b, tries, refl);
       printed = h.printed ++ shown.0;
       shown = prints_then h.trials (one ∷ []) h.printed shown.0 h.shown (shown.0, [], sym (append-nil shown.0), shown.1, refl);
       text = shown.3 ∙ (ap (λ l. l ++ unlines shown.0) h.text ∙ (sym (unlines-append (head ++ h.printed) shown.0)
@@ -214,28 +215,28 @@ cut_open xs at place x within e is begins h =
 
 -- a repair more of the lines from a place on
 pub tried_step : (first : Machine) (known : OriginalView) (xs : List Line) (at end : ℕ) (old new : List ℕ) (status next : Status) (a b : Machine)
-    (dropped : Option Reason) → known ≡ original_of known.moved first.state → at < end → IsTriedBefore known.moved first (texts (take at xs)) (texts (drop at xs)) old status a
+    (dropped : Option Reason) → known ≡ original_of known.terms first.state → at < end → IsTriedBefore known.terms first (texts (take at xs)) (texts (drop at xs)) old status a
     → IsCutBefore (texts (take (end - at) (drop at xs))) (texts (drop end xs)) → Tries known a (texts (take (end - at) (drop at xs))) dropped b
     → Shows (texts (take (end - at) (drop at xs))) dropped old new → next ≡ (if is_none dropped then status else SomeRefused)
-    → IsTriedBefore known.moved first (texts (take end xs)) (texts (drop end xs)) new next b
+    → IsTriedBefore known.terms first (texts (take end xs)) (texts (drop end xs)) new next b
 tried_step first known xs at end old new status next a b dropped e less h cut tries shown is =
     let front = texts (take (end - at) (drop at xs)) in
     let rest = texts (drop end xs) in
-    let here : IsTriedBefore known.moved first (texts (take at xs)) (front ++ rest) old status a =
-    subst (λ (l : List (List ℕ)). IsTriedBefore known.moved first (texts (take at xs)) l old status a) (texts_from xs at end less) h in
-    let more = tried_more known.moved first (texts (take at xs)) front rest old new status a b dropped here cut (subst (λ (o : OriginalView). Tries o a front dropped b) e tries) shown in
-    subst (λ (s : Status). IsTriedBefore known.moved first (texts (take end xs)) rest new s b) (sym is)
-    (subst (λ (l : List (List ℕ)). IsTriedBefore known.moved first l rest new (if is_none dropped then status else SomeRefused) b) (texts_to xs at end less) more)
+    let here : IsTriedBefore known.terms first (texts (take at xs)) (front ++ rest) old status a =
+    subst (λ (l : List (List ℕ)). IsTriedBefore known.terms first (texts (take at xs)) l old status a) (texts_from xs at end less) h in
+    let more = tried_more known.terms first (texts (take at xs)) front rest old new status a b dropped here cut (subst (λ (o : OriginalView). Tries o a front dropped b) e tries) shown in
+    subst (λ (s : Status). IsTriedBefore known.terms first (texts (take end xs)) rest new s b) (sym is)
+    (subst (λ (l : List (List ℕ)). IsTriedBefore known.terms first l rest new (if is_none dropped then status else SomeRefused) b) (texts_to xs at end less) more)
 
 -- all of them
-pub tried_all : (moved : Bool) (first : Machine) (xs : List Line) (at : ℕ) (out : List ℕ) (status : Status) (now : Machine) → length xs ≤ at
-    → IsTriedBefore moved first (texts (take at xs)) (texts (drop at xs)) out status now → IsTriedBefore moved first (texts xs) [] out status now
-tried_all moved first xs at out status now past h =
-    subst (λ (l : List (List ℕ)). IsTriedBefore moved first (texts xs) l out status now) (ap texts (drop_all at xs past))
-    (subst (λ (l : List (List ℕ)). IsTriedBefore moved first l (texts (drop at xs)) out status now) (ap texts (take_all at xs past)) h)
+pub tried_all : (terms : TermsView) (first : Machine) (xs : List Line) (at : ℕ) (out : List ℕ) (status : Status) (now : Machine) → length xs ≤ at
+    → IsTriedBefore terms first (texts (take at xs)) (texts (drop at xs)) out status now → IsTriedBefore terms first (texts xs) [] out status now
+tried_all terms first xs at out status now past h =
+    subst (λ (l : List (List ℕ)). IsTriedBefore terms first (texts xs) l out status now) (ap texts (drop_all at xs past))
+    (subst (λ (l : List (List ℕ)). IsTriedBefore terms first l (texts (drop at xs)) out status now) (ap texts (take_all at xs past)) h)
 
-pub tried_whole : (moved m : Bool) (first : Machine) (xs ys : List Line) (script out : List ℕ) (status : Status) (now : Machine) → m ≡ moved → ys ≡ xs
-    → texts xs ≡ lines_of script → IsTriedBefore m first (texts ys) [] out status now → IsTried moved first script out status now
-tried_whole moved m first xs ys script out status now same e is h =
-    subst (λ (b : Bool). IsTried b first script out status now) same
+pub tried_whole : (terms m : TermsView) (first : Machine) (xs ys : List Line) (script out : List ℕ) (status : Status) (now : Machine) → m ≡ terms → ys ≡ xs
+    → texts xs ≡ lines_of script → IsTriedBefore m first (texts ys) [] out status now → IsTried terms first script out status now
+tried_whole terms m first xs ys script out status now same e is h =
+    subst (λ (b : TermsView). IsTried b first script out status now) same
     (subst (λ (l : List (List ℕ)). IsTriedBefore m first l [] out status now) (ap texts e ∙ is) h)

@@ -14,7 +14,7 @@ use Rattle.irig_guarding.specs.declared.seen.Seen.{Seen}
 
 -- the control functions of a frame are borne out, next to these frames of the recording
 abbrev pub IsBorne : OriginalView → State → Witnesses → Seen → Type 0
-IsBorne o s w y = AreFunctionsBorne s.format o.pulses s.pulses y.marker w y.shown
+IsBorne o s w y = AreFunctionsBorne s.format o s.pulses y.marker w y.shown
 
 -- a frame is the former one at its time, or they are borne out
 abbrev pub IsAs : OriginalView → State → Option Shown → Option Shown → Shown → List Shown → Seen
@@ -84,7 +84,7 @@ IsSafeAt o s = IsSafe s.format o.frames (fine_frames s) × AreBorneBy o.frames o
 
 -- the recording, its frames where they are in a state if they may move
 abbrev pub located_by : OriginalView → State → OriginalView
-located_by o s = with_frames (located o.moved o.frames (fine_frames s)) o
+located_by o s = with_frames (located o.terms.moved o.frames (fine_frames s)) o
 
 -- the frames of a state are safe by those of the recording
 abbrev pub IsSafeBy : OriginalView → State → Type 0

@@ -31,4 +31,4 @@ AreFilledBy true frames o s n = n ≡ 0
 
 -- so by the recording as it was opened
 abbrev pub Fills : OriginalView → State → ℕ → Type 0
-Fills o s n = AreFilledBy o.moved o.frames o s n
+Fills o s n = AreFilledBy o.terms.moved o.frames o s n

@@ -1,5 +1,5 @@
 -- What a guarded run prints and leaves. This project's own.
-use Rattle.std.specs.Prelude.{◌≡◌, ℕ, Bool, false, List, [], map}
+use Rattle.std.specs.Prelude.{◌≡◌, ℕ, false, List, [], map}
 use Rattle.std.specs.List.{AllByRecursion}
 use Rattle.irig_script.specs.Obey.OneRun.{RunOf, tells_failed_put, wants_memory}
 use Rattle.irig_script.specs.Obey.Run.{IsPlain, Runs, unlines}
@@ -8,6 +8,7 @@ use Rattle.irig_script.specs.{Obey.Machine.Machine, Print.Printed.Answer}
 use Rattle.irig_lines.specs.Lines.{script_lines}
 use Rattle.irig_lines.specs.declared.command.Command.TheVariants as command
 use Rattle.irig_edit.specs.{Session.Session.work_in, State.State.State}
+use Rattle.irig_safety.specs.Terms.{TermsView}
 use Rattle.irig_guarding.specs.{Controls.IsSafeBy, Reading.original_of}
 use Rattle.irig_guarding.specs.Repair.{Agrees, Asks, ObeyedAll}
 
@@ -17,18 +18,18 @@ silence line = record { reply = Silent; text = [] }
 
 -- the second state is safe by the first: the same format, and in it the frames that read well, with
 -- their control functions. They may have moved or not
-pub record IsSafeAfter (moved : Bool) (old new : State) : Type 0 where
+pub record IsSafeAfter (terms : TermsView) (old new : State) : Type 0 where
   pub format : new.format ≡ old.format
-  pub safe : IsSafeBy (original_of moved old) new
+  pub safe : IsSafeBy (original_of terms old) new
 
 -- a script was printed. From the session as it was opened each of its lines is accepted in silence,
 -- and what they lead to is what the session is now; and that is safe by what it was
-pub record IsGuarded (moved : Bool) (opened : Machine) (script : List ℕ) (now : Machine) : Type 0
+pub record IsGuarded (terms : TermsView) (opened : Machine) (script : List ℕ) (now : Machine) : Type 0
   where
     pub left : Machine
     pub runs : Runs opened (script_lines script) (map silence (script_lines script)) [] left
     pub same : Agrees left now
-    pub safe : IsSafeAfter moved opened.state now.state
+    pub safe : IsSafeAfter terms opened.state now.state
 
 -- a comment, or a blank line
 pub record IsRemark (line : List ℕ) : Type 0 where
@@ -52,8 +53,8 @@ MeetsNothing answers = AllByRecursion
 -- each run of the script that was printed, from the session as it was opened, accepts every line in
 -- silence and leads to the same state, cursor and past, unless memory runs out
 abbrev pub PrintedIsObeyed : Type 0
-PrintedIsObeyed = (moved : Bool) (opened : Machine) (script : List ℕ) (now : Machine)
-    → IsGuarded moved opened script now
+PrintedIsObeyed = (terms : TermsView) (opened : Machine) (script : List ℕ) (now : Machine)
+    → IsGuarded terms opened script now
     → (run : RunOf script) → work_in run.old ≡ work_in opened
     → MeetsNothing run.ran.answers
     → (run.ran.answers ≡ map silence (script_lines script))

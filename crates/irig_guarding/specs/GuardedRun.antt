@@ -1,5 +1,5 @@
 -- A run under guard, from the bytes of a dump and of a proposed script on. This project's own.
-use Rattle.std.specs.Prelude.{◌≡◌, ℕ, Bool, List, [], ◌∷◌, Option, Result, Ok, Err, IfSome}
+use Rattle.std.specs.Prelude.{◌≡◌, ℕ, List, [], ◌∷◌, Option, Result, Ok, Err, IfSome}
 use Rattle.std.specs.Io.KnownBytes.{Appends}
 use Rattle.irig_codes.specs.Format.{FormatView}
 use Rattle.irig_edit.specs.Opened.Openings.{IsOpened, IsUnopened}
@@ -8,6 +8,7 @@ use Rattle.irig_script.specs.{Obey.Desk.Desk, Obey.Machine.Machine, Obey.Replies
 use Rattle.irig_script.specs.declared.obey.status.Status.{Status}
 use Rattle.irig_print.specs.Front.{AppendsFront}
 use Rattle.irig_text.specs.Shelved.{Puts}
+use Rattle.irig_safety.specs.Terms.{TermsView}
 use Rattle.irig_guarding.specs.declared.product.GuardFault.{GuardFault}
 use Rattle.irig_guarding.specs.declared.product.GuardFault.TheVariants.{Dump, ReadFailed}
 use Rattle.irig_guarding.specs.declared.product.GuardFault.TheVariants.{OutOfMemory, PrintFailed}
@@ -25,42 +26,42 @@ product_texts product.Session m = saved_text (work_in m) ∷ []
 
 -- the proposed script was run under guard, repair by repair: what it printed, what it left, its status,
 -- and how many frames have a control function then that is not in the recording
-pub record Guards (moved : Bool) (first : Machine) (script : Option (List ℕ)) : Type 0 where
+pub record Guards (terms : TermsView) (first : Machine) (script : Option (List ℕ)) : Type 0 where
   pub proposal : List ℕ
   pub whole : IfSome script (λ all. proposal ≡ all)
   pub printed : List ℕ
   pub last : Machine
-  pub guarded : IsGuarded moved first printed last
+  pub guarded : IsGuarded terms first printed last
   pub status : Status
-  pub tried : IsTried moved first proposal printed status last
+  pub tried : IsTried terms first proposal printed status last
   pub filled : ℕ
-  pub fillings : Fills (original_of moved first.state) last.state filled
+  pub fillings : Fills (original_of terms first.state) last.state filled
 
 -- it was run, its result was printed, what is asked for was written, and the status says whether all
 -- of it was kept; or memory ran out, or a
 -- read failed, and nothing was printed or written; or the printing failed, and nothing was written;
 -- or the writing failed
-abbrev pub RunsUnderGuard : Bool → Product → Machine → Option (List ℕ) → Desk → Desk
+abbrev pub RunsUnderGuard : TermsView → Product → Machine → Option (List ℕ) → Desk → Desk
     → Result Kept GuardFault → Type 0
-RunsUnderGuard moved asked first script from to (Ok kept) =
-    (run : Guards moved first script) × (run.status ≡ kept.status) × (run.filled ≡ kept.filled)
+RunsUnderGuard terms asked first script from to (Ok kept) =
+    (run : Guards terms first script) × (run.status ≡ kept.status) × (run.filled ≡ kept.filled)
     × Appends from.out to.out run.printed
     × Puts from.shelf to.shelf (product_texts asked run.last) 0
-RunsUnderGuard moved asked first script from to (Err PrintFailed) =
-    (run : Guards moved first script) × AppendsFront from.out to.out run.printed
+RunsUnderGuard terms asked first script from to (Err PrintFailed) =
+    (run : Guards terms first script) × AppendsFront from.out to.out run.printed
     × (to.shelf ≡ from.shelf)
-RunsUnderGuard moved asked first script from to (Err WriteFailed) =
-    (run : Guards moved first script) × Appends from.out to.out run.printed
+RunsUnderGuard terms asked first script from to (Err WriteFailed) =
+    (run : Guards terms first script) × Appends from.out to.out run.printed
     × Puts from.shelf to.shelf [] 1
-RunsUnderGuard moved asked first script from to (Err ReadFailed) = to ≡ from
-RunsUnderGuard moved asked first script from to (Err OutOfMemory) = to ≡ from
-RunsUnderGuard moved asked first script from to (Err (Dump fault)) = ⊥
+RunsUnderGuard terms asked first script from to (Err ReadFailed) = to ≡ from
+RunsUnderGuard terms asked first script from to (Err OutOfMemory) = to ≡ from
+RunsUnderGuard terms asked first script from to (Err (Dump fault)) = ⊥
 
 -- the same on the session that is opened from a dump; or that was not opened, and nothing was done
-abbrev pub GuardsOnDump : Option (List ℕ) → FormatView → Bool → List ℕ → Product
+abbrev pub GuardsOnDump : Option (List ℕ) → FormatView → TermsView → List ℕ → Product
     → Option (List ℕ) → Option (List ℕ) → Desk → Desk → Result Kept GuardFault → Type 0
-GuardsOnDump wire chosen moved source asked script left from to (Err (Dump fault)) =
+GuardsOnDump wire chosen terms source asked script left from to (Err (Dump fault)) =
     IsUnopened wire source fault × (to ≡ from) × (left ≡ script)
-GuardsOnDump wire chosen moved source asked script left from to result =
+GuardsOnDump wire chosen terms source asked script left from to result =
     (first : Machine) × IsOpened wire source chosen first
-    × RunsUnderGuard moved asked first script from to result
+    × RunsUnderGuard terms asked first script from to result

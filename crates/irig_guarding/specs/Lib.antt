@@ -4,6 +4,7 @@ pub mod Guarded
 pub mod GuardedRun
 pub mod Known
 pub mod Meaning
+pub mod Others
 pub mod Pulses
 pub mod Reading
 pub mod Reasons

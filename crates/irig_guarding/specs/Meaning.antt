@@ -1,11 +1,11 @@
 -- What it means that a state is safe by another, frame by frame. This project's own.
-use Rattle.std.specs.Prelude.{◌≡◌, ◌≢◌, Bool, List, [], map}
+use Rattle.std.specs.Prelude.{◌≡◌, ◌≢◌, List, [], map}
 use Rattle.std.specs.List.{AllByRecursion}
 use Rattle.irig_codes.specs.Format.{FormatView}
 use Rattle.irig_track.specs.Track.{IsTrack}
 use Rattle.irig_edit.specs.State.State.{State}
 use Rattle.irig_safety.specs.Meaning.{IsKept, IsTold}
-use Rattle.irig_safety.specs.{Moved.located, declared.shown.Shown.Shown}
+use Rattle.irig_safety.specs.{Moved.located, Terms.TermsView, declared.shown.Shown.Shown}
 use Rattle.irig_guarding.specs.{Guarded.IsSafeAfter, Reading.fine_frames}
 
 -- frames at other places, or at theirs, have the same fields in the same order; each of them is one
@@ -18,7 +18,7 @@ pub record IsKeptAt (f : FormatView) (old at new : List Shown) : Type 0 where
 -- a state that is safe by another in which some frame reads well: the frames of the other that read
 -- well, where they were or if they may move where they are now, are kept in it
 abbrev pub SafeStatesMean : Type 0
-SafeStatesMean = (moved : Bool) (old new : State) → IsTrack new.micros new.pulses
-    → fine_frames old ≢ [] → IsSafeAfter moved old new
-    → IsKeptAt old.format (fine_frames old) (located moved (fine_frames old) (fine_frames new))
+SafeStatesMean = (terms : TermsView) (old new : State) → IsTrack new.micros new.pulses
+    → fine_frames old ≢ [] → IsSafeAfter terms old new
+    → IsKeptAt old.format (fine_frames old) (located terms.moved (fine_frames old) (fine_frames new))
     (fine_frames new)

@@ -1,5 +1,5 @@
 -- The frames that read well, and what is known of a recording by them. This project's own.
-use Rattle.std.specs.Prelude.{ℕ, Bool, List, [], ◌∷◌, get_or, map}
+use Rattle.std.specs.Prelude.{ℕ, List, [], ◌∷◌, get_or, map}
 use Rattle.std.specs.List.{flat_map}
 use Rattle.irig_codes.specs.declared.note.Note.TheVariants.{Fine}
 use Rattle.irig_recording.specs.declared.pulse.Pulse.{Pulse}
@@ -7,7 +7,8 @@ use Rattle.irig_track.specs.Edges.{pulse}
 use Rattle.irig_index.specs.declared.record.Verdict.TheVariants.{Read}
 use Rattle.irig_index.specs.{declared.record.Record.Record, declared.record.Verdict.Verdict}
 use Rattle.irig_edit.specs.State.State.{State, frames_of}
-use Rattle.irig_safety.specs.{Original.OriginalView, declared.shown.Shown.Shown}
+use Rattle.irig_safety.specs.{Original.OriginalView, Terms.TermsView}
+use Rattle.irig_safety.specs.declared.shown.Shown.{Shown}
 use Rattle.irig_guarding.specs.declared.seen.Seen.{Seen}
 
 -- what a frame shows that begins at a time: its fields, if nothing is wrong with it
@@ -37,11 +38,11 @@ seen_by pulses r = seen_at (get_or pulses r.marker (pulse 0 0)).rise r.marker r.
 abbrev pub seen_frames : State → List Seen
 seen_frames s = flat_map (seen_by s.pulses) (frames_of s)
 
--- what is known of a recording that was opened as a state, and whether its frames may move
-abbrev pub original_of : Bool → State → OriginalView
-original_of moved s = record {
+-- what is known of a recording that was opened as a state, and by what repairs are judged besides
+abbrev pub original_of : TermsView → State → OriginalView
+original_of terms s = record {
   frames = fine_frames s;
   markers = map (λ y. y.marker) (seen_frames s);
   pulses = s.pulses;
-  moved = moved;
+  terms = terms;
 }

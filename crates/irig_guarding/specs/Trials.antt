@@ -1,6 +1,6 @@
 -- What a run under guard makes of each repair of a proposed script: it is kept, or dropped for a
 -- reason. This project's own.
-use Rattle.std.specs.Prelude.{◌≡◌, ◌⊎◌, ◌++◌, ℕ, Bool, List, [], ◌∷◌, Option, Some, None, is_none, take}
+use Rattle.std.specs.Prelude.{◌≡◌, ◌⊎◌, ◌++◌, ℕ, List, [], ◌∷◌, Option, Some, None, is_none, take}
 use Rattle.std.specs.Prelude.{if◌then◌else◌}
 use Rattle.std.specs.List.{AllByRecursion, flat_map}
 use Rattle.irig_edit.specs.declared.session.refusal.Refusal.{Refusal}
@@ -22,7 +22,7 @@ use Rattle.irig_guarding.specs.Reasons.{head_lines, reason_line}
 use Rattle.irig_guarding.specs.declared.reason.Reason.{Reason}
 use Rattle.irig_safety.specs.{Faults.IsFault, Faults.IsSpoiledBy, declared.fault.Fault.Fault}
 use Rattle.irig_safety.specs.{Moved.located, Original.OriginalView, Safety.IsSafe}
-use Rattle.irig_safety.specs.Safety.{NoneIsSpoiled}
+use Rattle.irig_safety.specs.{Safety.NoneIsSpoiled, Terms.TermsView}
 use Rattle.irig_safety.specs.declared.shown.Shown.{Shown}
 
 -- the line asks for a command of this kind
@@ -79,7 +79,7 @@ StaysAt opened last s = IsSafeAt opened s × NoneIsSpoiled last (fine_frames s)
 -- so by the places where all these are, if they may move
 abbrev pub MayStay : OriginalView → List Shown → State → Type 0
 MayStay opened last s =
-    StaysAt (located_by opened s) (located opened.moved last (fine_frames s)) s
+    StaysAt (located_by opened s) (located opened.terms.moved last (fine_frames s)) s
 
 -- the first fault of frames whose times are not safe by those of the recording; or that are, but
 -- whose control functions are not; or both are, but their pulses are not; or all are, but of those
@@ -94,7 +94,7 @@ HasFaultAt opened last s why =
 -- so by the places where all these are, if they may move
 abbrev pub HasFault : OriginalView → List Shown → State → Fault → Type 0
 HasFault opened last s why =
-    HasFaultAt (located_by opened s) (located opened.moved last (fine_frames s)) s why
+    HasFaultAt (located_by opened s) (located opened.terms.moved last (fine_frames s)) s why
 
 -- the lines are obeyed, but for the end of a group, and what they lead to may not stay
 pub record IsUnsafe (opened : OriginalView) (last : List Shown) (old : Machine) (lines : List (List ℕ))
@@ -234,18 +234,18 @@ status_of (t ∷ trials) = if is_none t.dropped then status_of trials else SomeR
 
 -- lines of a script were cut into repairs before a rest of it, each was tried from the opened session
 -- on, and this was printed after the head
-pub record IsTriedBefore (moved : Bool) (opened : Machine) (lines rest : List (List ℕ)) (script : List ℕ)
+pub record IsTriedBefore (terms : TermsView) (opened : Machine) (lines rest : List (List ℕ)) (script : List ℕ)
     (reported : Status) (now : Machine) : Type 0 where
   pub trials : List Trial
   pub whole : proposed trials ≡ lines
   pub cut : IsCut trials rest
-  pub tried : TriesAll (original_of moved opened.state) opened trials now
+  pub tried : TriesAll (original_of terms opened.state) opened trials now
   pub printed : List (List ℕ)
   pub shown : PrintsAll trials printed
   pub text : script ≡ unlines (head_lines (fine_frames opened.state) ++ printed)
   pub status : reported ≡ status_of trials
 
 -- a proposed script was cut into repairs, each was tried, and this was printed
-abbrev pub IsTried : Bool → Machine → List ℕ → List ℕ → Status → Machine → Type 0
-IsTried moved opened proposal script status now =
-    IsTriedBefore moved opened (lines_of proposal) [] script status now
+abbrev pub IsTried : TermsView → Machine → List ℕ → List ℕ → Status → Machine → Type 0
+IsTried terms opened proposal script status now =
+    IsTriedBefore terms opened (lines_of proposal) [] script status now

@@ -128,13 +128,14 @@ fn is_function_borne(
     function: u32,
 ) -> bool
     requires { function < 64 }
-    ensures { IsTrue result ↔ IsFunctionBorne session.now.state.format opened.now.pulses near.now
+    ensures { IsTrue result ↔ IsFunctionBorne session.now.state.format opened.now near.now
         frame.now.shown function (slice_get session.now.state.pulses
         (frame.now.marker + function_element session.now.state.format function)) }
 {
     let element = function_element(session.current_format(), function);
     is_shared(near, &frame.shown, function)
         || may_be(session, opened, pulse_at(session, frame.marker, element))
+        || opened.is_told(&frame.shown, function)
 }
 
 /// Whether a pulse is there, and as recorded, or what was recorded of it was lost.

@@ -23,29 +23,29 @@ use crate::reason::Reason;
 use crate::reason_text::put_reason;
 use crate::seen::{seen_frames, shown_of};
 use irig_edit::Session;
-use irig_safety::Original;
+use irig_safety::{Original, Terms};
 use irig_script::Status;
 use std::alloc::{AllocError, Global};
 
 /// Runs a proposed script on a session repair by repair: an edit, or the lines from a `begin` to the
 /// next `end` or `abort`. A repair that is accepted and safe is kept and printed, as comments are;
-/// any other line is printed as a comment, after the reason. Frames of the recording may move or not.
+/// any other line is printed as a comment, after the reason.
 /// Returns what is printed, whether all was kept, and how many frames have a control function then
 /// that is not in the recording.
 pub fn guard(
     alloc: Global,
     session: &mut Session,
-    moved: bool,
+    terms: Terms,
     script: &[u8],
 ) -> Result<(Vec<u8>, Kept), AllocError>
     requires { session.old.floor ≡ None }
-    ensures guarded { IfOk result (λ done. IsGuarded moved session.old done.0.items session.new) }
-    ensures tried { IfOk result (λ done. IsTried moved session.old script.now done.0.items
+    ensures guarded { IfOk result (λ done. IsGuarded terms session.old done.0.items session.new) }
+    ensures tried { IfOk result (λ done. IsTried terms session.old script.now done.0.items
         done.1.status session.new) }
-    ensures filled { IfOk result (λ done. Fills (original_of moved session.old.state)
+    ensures filled { IfOk result (λ done. Fills (original_of terms session.old.state)
         session.new.state done.1.filled) }
 {
-    let opened = original_of(alloc, session, moved)?;
+    let opened = original_of(alloc, session, terms)?;
     let lines = lines_of(alloc, script)?;
     let mut out = Vec::new(alloc);
     put_head(&mut out, opened.frames())?;
@@ -73,12 +73,12 @@ fn guard_lines(
 ) -> Result<Status, AllocError>
     requires closed { session.old.floor ≡ None }
     requires known { AreKnown opened.now session.old.state.pulses known.old.items }
-    requires opened { opened.now ≡ original_of opened.now.moved session.old.state }
+    requires opened { opened.now ≡ original_of opened.now.terms session.old.state }
     requires head { out.old.items ≡ unlines (head_lines opened.now.frames) }
     ensures stands { OnOk result (Stands session.old out.new.items session.new) }
-    ensures safe { OnOk result (IsSafeAfter opened.now.moved session.old.state
+    ensures safe { OnOk result (IsSafeAfter opened.now.terms session.old.state
         session.new.state) }
-    ensures tried { IfOk result (λ status. IsTriedBefore opened.now.moved session.old
+    ensures tried { IfOk result (λ status. IsTriedBefore opened.now.terms session.old
         (texts lines.now) [] out.new.items status session.new) }
 {
     let mut at = 0;

@@ -68,7 +68,7 @@ fn check_unmoved(
 ) -> Result<(), Reason>
     requires now { now.now ≡ fine_frames session.now.state }
     requires seen { seen.now ≡ seen_frames session.now.state }
-    requires unmoved { opened.now.moved ≡ false }
+    requires unmoved { opened.now.terms.moved ≡ false }
     requires known { AreKnown opened.now session.now.state.pulses known.now }
     ensures stays { OnOk result (MayStay opened.now before.now session.now.state) }
     ensures sways { IfErr result (Sways opened.now before.now session.now.state) }
@@ -91,7 +91,7 @@ fn check_moved(
 ) -> Result<(), Reason>
     requires now { now.now ≡ fine_frames session.now.state }
     requires seen { seen.now ≡ seen_frames session.now.state }
-    requires moved { opened.now.moved ≡ true }
+    requires moved { opened.now.terms.moved ≡ true }
     requires known { AreKnown opened.now session.now.state.pulses known.now }
     ensures stays { OnOk result (MayStay opened.now before.now session.now.state) }
     ensures sways { IfErr result (Sways opened.now before.now session.now.state) }

@@ -14,6 +14,7 @@ mod line;
 mod lines;
 mod mending;
 mod opening;
+mod others;
 mod place;
 mod printing;
 mod product;
@@ -25,5 +26,6 @@ mod run;
 mod seen;
 
 pub use law::{printed_scripts_are_obeyed, safe_states_are_kept_or_borne_out};
+pub use others::add_frames;
 pub use product::{GuardFault, Kept, Product};
 pub use run::guard_on_parts;

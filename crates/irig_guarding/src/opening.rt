@@ -8,19 +8,19 @@ ghost use Rattle.irig_guarding.specs.Reading.{original_of};
 use crate::reading::fine_frames;
 use crate::seen::{Seen, seen_frames};
 use irig_edit::{Pulse, Session};
-use irig_safety::Original;
+use irig_safety::{Original, Terms};
 use std::alloc::{AllocError, Global};
 
-/// What is known of a recording by the session that was opened on it, and whether its frames may
-/// move.
-pub fn original_of(alloc: Global, session: &Session, moved: bool) -> Result<Original, AllocError>
-    ensures { IfOk result (λ opened. opened ≡ original_of moved session.now.state) }
+/// What is known of a recording by the session that was opened on it, and by what repairs are judged
+/// besides.
+pub fn original_of(alloc: Global, session: &Session, terms: Terms) -> Result<Original, AllocError>
+    ensures { IfOk result (λ opened. opened ≡ original_of terms session.now.state) }
 {
     let frames = fine_frames(alloc, session)?;
     let seen = seen_frames(alloc, session)?;
     let markers = markers_of(alloc, seen.as_slice())?;
     let pulses = pulses_of(alloc, session)?;
-    Ok(Original::new(frames, markers, pulses, moved))
+    Ok(Original::new(frames, markers, pulses, terms))
 }
 
 /// The markers of frames.

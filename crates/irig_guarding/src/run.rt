@@ -14,6 +14,7 @@ use irig_codes::Format;
 use irig_edit::Session;
 use irig_print::put_all;
 use irig_recording::Recording;
+use irig_safety::Terms;
 use irig_text::{Shelf, ShelfFault, Text};
 use irig_vcd::VcdFault;
 use std::alloc::Global;
@@ -26,7 +27,7 @@ pub fn guard_on_parts<R: Read, W: Write, S: Shelf>(
     recording: Recording,
     journal: Option<Vec<u8>>,
     format: Format,
-    moved: bool,
+    terms: Terms,
     product: Product,
     script: &mut R,
     out: &mut W,
@@ -35,7 +36,7 @@ pub fn guard_on_parts<R: Read, W: Write, S: Shelf>(
     requires { IfSome journal (λ text. length text.items ≤ 2 ^ 28) }
     ensures ends { (wire : Option (List ℕ)) (bytes : List ℕ)
         → dump_parts wire bytes ≡ Ok (recording, bytes_of journal)
-        → GuardsOnDump wire format moved bytes product (R.remaining script.old)
+        → GuardsOnDump wire format terms bytes product (R.remaining script.old)
         (R.remaining script.new) (desk (W.contents out.old) (S.known shelf.old))
         (desk (W.contents out.new) (S.known shelf.new)) result }
     ensures label { (S.known shelf.new).label ≡ (S.known shelf.old).label }
@@ -43,7 +44,7 @@ pub fn guard_on_parts<R: Read, W: Write, S: Shelf>(
     ensures nothing { product ≡ Product.Nothing → shelf.new ≡ shelf.old }
 {
     match open_closed(alloc, recording, journal, format) {
-        Ok(mut session) => guard_session(alloc, &mut session, moved, product, script, out, shelf),
+        Ok(mut session) => guard_session(alloc, &mut session, terms, product, script, out, shelf),
         Err(fault) => Err(GuardFault::Dump(fault)),
     }
 }
@@ -79,14 +80,14 @@ fn open_closed(
 pub fn guard_session<R: Read, W: Write, S: Shelf>(
     alloc: Global,
     session: &mut Session,
-    moved: bool,
+    terms: Terms,
     product: Product,
     script: &mut R,
     out: &mut W,
     shelf: &mut S,
 ) -> Result<Kept, GuardFault>
     requires { session.old.floor ≡ None }
-    ensures ends { RunsUnderGuard moved product session.old (R.remaining script.old)
+    ensures ends { RunsUnderGuard terms product session.old (R.remaining script.old)
         (desk (W.contents out.old) (S.known shelf.old))
         (desk (W.contents out.new) (S.known shelf.new)) result }
     ensures label { (S.known shelf.new).label ≡ (S.known shelf.old).label }
@@ -97,7 +98,7 @@ pub fn guard_session<R: Read, W: Write, S: Shelf>(
     let Ok(_) = script.read_to_end(&mut bytes) else {
         return Err(GuardFault::ReadFailed);
     };
-    let Ok((printed, kept)) = guard(alloc, session, moved, bytes.as_slice()) else {
+    let Ok((printed, kept)) = guard(alloc, session, terms, bytes.as_slice()) else {
         return Err(GuardFault::OutOfMemory);
     };
     let Ok(()) = put_all(out, printed.as_slice()) else {

@@ -3,6 +3,7 @@ pub mod FaultLemmas
 pub mod SafetyLemmas
 pub mod MeaningLemmas
 pub mod MovedLemmas
+pub mod OtherLemmas
 pub mod RecordedLemmas
 pub mod RiseLemmas
 pub mod WorkedValues

@@ -10,8 +10,10 @@ pub mod Meaning
 pub mod Mended
 pub mod Moved
 pub mod Original
+pub mod Others
 pub mod OwnClock
 pub mod Rises
 pub mod Safety
 pub mod Straight
+pub mod Terms
 pub mod Witnesses

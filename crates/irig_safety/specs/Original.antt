@@ -4,16 +4,17 @@ use Rattle.std.specs.Prelude.{slice_get}
 use Rattle.irig_codes.specs.Format.{FormatView, interval_of}
 use Rattle.irig_codes.specs.Width.{class_of}
 use Rattle.irig_recording.specs.declared.pulse.Pulse.{Pulse}
-use Rattle.irig_safety.specs.{Bearing.apart, Safety.behind, declared.shown.Shown.Shown}
+use Rattle.irig_safety.specs.{Bearing.apart, Safety.behind, Terms.TermsView}
+use Rattle.irig_safety.specs.declared.shown.Shown.{Shown}
 use Rattle.irig_safety.specs.declared.witnesses.Witnesses.{Witnesses}
 
--- the frames that read well, the places of their markers among the pulses, all pulses, and whether
--- frames may move
+-- the frames that read well, the places of their markers among the pulses, all pulses, and by what
+-- repairs are judged besides
 pub record OriginalView : Type 0 where
   pub frames : List Shown
   pub markers : List ℕ
   pub pulses : List Pulse
-  pub moved : Bool
+  pub terms : TermsView
 
 -- the same with its frames at other places
 abbrev pub with_frames : List Shown → OriginalView → OriginalView

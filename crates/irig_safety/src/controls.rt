@@ -39,7 +39,7 @@ pub fn function_element(format: Format, function: u32) -> usize
 }
 
 /// A control function of a frame: 1 or 0.
-fn function_of(frame: &Shown, function: u32) -> u64
+pub fn function_of(frame: &Shown, function: u32) -> u64
     requires { function < 64 }
     ensures { result ≡ function_of function frame.now }
 {

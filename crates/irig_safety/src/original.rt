@@ -1,30 +1,32 @@
 //! What is known of a recording as it was opened.
 
-ghost use Rattle.std.specs.Prelude.{◌≡◌, ◌↔◌, ◌-◌, ◌≤◌, IsTrue, get_or, length, slice_get, Some};
+ghost use Rattle.std.specs.Prelude.{◌≡◌, ◌↔◌, ◌-◌, ◌<◌, ◌≤◌, IsTrue, get_or, length, slice_get, Some};
 ghost use Rattle.std.specs.Prelude.{false, true};
 ghost use Rattle.std.specs.List.Sorted.{IsNonDecreasingBy};
 ghost use Rattle.irig_codes.specs.Width.{class_of};
 ghost use Rattle.irig_recording.specs.declared.pulse.Pulse.{Pulse as SomePulse};
 ghost use Rattle.irig_safety.specs.Anchors.{is_anchor, is_rise};
 ghost use Rattle.irig_safety.specs.Original.{IsAlike, IsNear, IsRecorded, near_in, reach_of};
-ghost use Rattle.irig_safety.specs.Rises.{rise_in, rise_or};
+ghost use Rattle.irig_safety.specs.{Controls.is_told, Rises.rise_in, Rises.rise_or};
 
+use crate::others::is_told;
 use crate::rises::{has_fall, has_rise};
 use crate::safety::{frame_at, frame_behind};
 use crate::shown::Shown;
+use crate::terms::Terms;
 use crate::witnesses::Witnesses;
 use irig_codes::{Element, Format, class};
 use irig_recording::Pulse;
 use std::marker::Model;
 
 /// What is known of a recording as it was opened: the frames that read well, the places of their
-/// markers, from 0, and all pulses, which rise; and whether its frames may move.
+/// markers, from 0, and all pulses, which rise; and by what repairs are judged besides.
 #[derive(Drop)]
 pub struct Original {
     frames: Vec<Shown>,
     markers: Vec<usize>,
     pulses: Vec<Pulse>,
-    moved: bool,
+    terms: Terms,
 }
 
 impl Model for Original {
@@ -37,7 +39,7 @@ impl Model for Original {
       frames = o.frames.items;
       markers = o.markers.items;
       pulses = o.pulses.items;
-      moved = o.moved;
+      terms = o.terms;
     } };
 
     ghost invariant = { λ o. IsNonDecreasingBy (λ p. p.rise) o.pulses.items
@@ -45,28 +47,42 @@ impl Model for Original {
 }
 
 impl Original {
-    /// All put together, and whether frames may move.
-    pub fn new(frames: Vec<Shown>, markers: Vec<usize>, pulses: Vec<Pulse>, moved: bool) -> Original
+    /// All put together, and by what repairs are judged besides.
+    pub fn new(
+        frames: Vec<Shown>,
+        markers: Vec<usize>,
+        pulses: Vec<Pulse>,
+        terms: Terms,
+    ) -> Original
         requires rising { IsNonDecreasingBy (λ (p : SomePulse). p.rise) pulses.items }
         requires falling { IsNonDecreasingBy (λ (p : SomePulse). p.fall) pulses.items }
         ensures frames { result.frames ≡ frames.items }
         ensures markers { result.markers ≡ markers.items }
         ensures pulses { result.pulses ≡ pulses.items }
-        ensures moved { result.moved ≡ moved }
+        ensures terms { result.terms ≡ terms }
     {
         Original {
             frames,
             markers,
             pulses,
-            moved,
+            terms,
         }
     }
 
     /// Whether frames may move.
     pub fn is_moved(&self) -> bool
-        ensures { result ≡ self.now.moved }
+        ensures { result ≡ self.now.terms.moved }
     {
-        self.moved
+        self.terms.moved
+    }
+
+    /// Whether most frames of other recordings that have the time of a frame have a control function
+    /// as it has it.
+    pub fn is_told(&self, frame: &Shown, function: u32) -> bool
+        requires { function < 64 }
+        ensures { result ≡ is_told function self.now.terms.others frame.now }
+    {
+        is_told(self.terms.others.as_slice(), frame, function)
     }
 
     /// The frames that read well.

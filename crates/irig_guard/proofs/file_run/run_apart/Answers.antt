@@ -11,10 +11,10 @@ returns-in-Ok-true-clause-obeyed g c = λ source is whole.
     ((refl, (λ to told. goes_nowhere _ _ (g.met.D.Disk.only_now _))), search rules, search rules)
 
 pub returns-in-Ok-true-clause-spared : goal.returns-in-Ok-true-clause-spared
-returns-in-Ok-true-clause-spared g c = λ told. stays_here (g.D.Disk.disk c.args.disk.now) c.args.chosen.now.track.now (g.met.D.Disk.only_now c.args.disk.now)
+returns-in-Ok-true-clause-spared g c = λ path read told. stays_here (g.D.Disk.disk c.args.disk.now) path (g.met.D.Disk.only_now c.args.disk.now)
 
 pub returns-in-Err-clause-obeyed : goal.returns-in-Err-clause-obeyed
 returns-in-Err-clause-obeyed g c = λ source is whole. (refl, (λ to told. goes_nowhere _ _ (g.met.D.Disk.only_now _)))
 
 pub returns-in-Err-clause-spared : goal.returns-in-Err-clause-spared
-returns-in-Err-clause-spared g c = λ told. stays_here (g.D.Disk.disk c.args.disk.now) c.args.chosen.now.track.now (g.met.D.Disk.only_now c.args.disk.now)
+returns-in-Err-clause-spared g c = λ path read told. stays_here (g.D.Disk.disk c.args.disk.now) path (g.met.D.Disk.only_now c.args.disk.now)

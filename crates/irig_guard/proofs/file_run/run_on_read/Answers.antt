@@ -1,18 +1,17 @@
 use Rattle.std.proofs.Common.{rules, ◌≡◌, ◌∷◌, ◌∙◌, ap, drop, List, ℕ}
 use Rattle.irig_files.proofs.Apart.{stays_here}
-use Rattle.irig_files.specs.Apart.{Spares}
 use Rattle.irig_files.proofs.PutsAt.{texts_where}
 use Rattle.irig_files.specs.{Going.goes_nowhere, Puts.texts_at, Puts.writes_on, Writes.GoesTo}
-use Rattle.irig_guard.specs.Given.{files, place_of, product_of}
-use Rattle.irig_guard.proofs.RunsBy.{dump_stays, fails_by, runs_by}
+use Rattle.irig_guard.specs.Given.{AreSpared, files, place_of, product_of}
+use Rattle.irig_guard.proofs.RunsBy.{apart_from, fails_by, path_stays, runs_by}
 use Rattle.irig_guarding.specs.declared.product.Product.TheVariants as product
 use Rattle.irig_guard.proofs.file_run.run_on_read.Goals as goal
 
 pub returns-in-Err-clause-ran : goal.returns-in-Err-clause-ran
-returns-in-Err-clause-ran g c = λ source is. fails_by _ c.args.chosen.now source _ c.in-Err.fault (λ told. goes_nowhere _ _ (g.met.D.Disk.only_now _)) (rw c.in-Err.is at is)
+returns-in-Err-clause-ran g c = λ source is. fails_by _ c.args.chosen.now source _ c.in-Err.fault (λ told. goes_nowhere _ _ (g.met.D.Disk.only_now _)) c.args.others.items c.requires.shown (rw c.in-Err.is at is)
 
 pub returns-in-Err-clause-spared : goal.returns-in-Err-clause-spared
-returns-in-Err-clause-spared g c = λ told. stays_here (g.D.Disk.disk c.args.disk.now) c.args.chosen.now.track.now (g.met.D.Disk.only_now c.args.disk.now)
+returns-in-Err-clause-spared g c = λ path read told. stays_here (g.D.Disk.disk c.args.disk.now) path (g.met.D.Disk.only_now c.args.disk.now)
 
 pub returns-clause-ran : goal.returns-clause-ran
 returns-clause-ran g c = λ source is.
@@ -36,7 +35,7 @@ returns-clause-ran g c = λ source is.
     c.guard_on_parts.result c.guard_on_parts.ensures.label
     (λ j. texts_at ((disk (c.new-shelf.ensures.disk j)).paths (path j)) (writes_on told (disk (c.new-shelf.ensures.disk j))))
     (texts_where told (disk c.args.disk.now) (disk new.disk.now) (place_of chosen) new.path.now same_path (λ is_told. (kept is_told).paths))
-    c.new-shelf.ensures.none_failed kept
+    c.new-shelf.ensures.none_failed kept c.args.others.items c.requires.shown
     (rw c.product_of.ensures at ends) in
     search (rules, done)
 
@@ -54,7 +53,8 @@ returns-clause-spared g c =
     λ asked. λ j. disk (c.guard_on_parts.ensures.nothing (c.product_of.ensures ∙ asked) j).disk.now in
     let nothing : product_of chosen ≡ product.Nothing → disk new.disk.now ≡ disk c.args.disk.now =
     λ asked. here asked ∙ ap disk c.new-shelf.ensures.disk in
-    let done : Spares told (disk c.args.disk.now) (disk new.disk.now) chosen.track.now =
-    λ is_told. dump_stays (disk c.args.disk.now) (disk new.disk.now) chosen (c.requires.apart is_told) (kept is_told) nothing
+    let done : AreSpared told (disk c.args.disk.now) (disk new.disk.now) chosen =
+    λ at read is_told. path_stays (disk c.args.disk.now) (disk new.disk.now) chosen at
+    (apart_from (disk c.args.disk.now) chosen (c.requires.apart is_told) (c.requires.others is_told) at read) (kept is_told) nothing
     (g.met.D.Disk.only_now c.args.disk.now) in
     search (rules, done)

@@ -7,4 +7,4 @@ pub returns-in_default-clause-obeyed : goal.returns-in_default-clause-obeyed
 returns-in_default-clause-obeyed g c = (refl, (refl, (λ to told. goes_nowhere _ _ (g.met.D.Disk.only_now _))), (λ is. absurd (cc is)))
 
 pub returns-in_default-clause-spared : goal.returns-in_default-clause-spared
-returns-in_default-clause-spared g c = λ told. stays_here (g.D.Disk.disk c.args.disk.now) c.args.chosen.now.track.now (g.met.D.Disk.only_now c.args.disk.now)
+returns-in_default-clause-spared g c = λ path read told. stays_here (g.D.Disk.disk c.args.disk.now) path (g.met.D.Disk.only_now c.args.disk.now)

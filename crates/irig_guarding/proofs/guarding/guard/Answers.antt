@@ -5,9 +5,9 @@ use Rattle.irig_guarding.proofs.guarding.guard.Goals as goal
 
 pub returns-clause-guarded : goal.returns-clause-guarded
 returns-clause-guarded c =
-    stands_guarded c.args.moved _ _ _ _ (ap (λ (o : OriginalView). o.moved) c.in_ok-opened.ensures) c.in_ok-status.ensures.stands c.in_ok-status.ensures.safe
+    stands_guarded c.args.terms _ _ _ _ (ap (λ (o : OriginalView). o.terms) c.in_ok-opened.ensures) c.in_ok-status.ensures.stands c.in_ok-status.ensures.safe
 
 pub returns-clause-tried : goal.returns-clause-tried
 returns-clause-tried c =
-    tried_whole c.args.moved _ c.args.session.now c.in_ok-lines.lines.items _ c.args.script.now _ _ _ (ap (λ (o : OriginalView). o.moved) c.in_ok-opened.ensures)
+    tried_whole c.args.terms _ c.args.session.now c.in_ok-lines.lines.items _ c.args.script.now _ _ _ (ap (λ (o : OriginalView). o.terms) c.in_ok-opened.ensures)
     c.as_slice.ensures.value c.in_ok-lines.ensures c.in_ok-status.ensures.tried

@@ -32,4 +32,4 @@ returns-clause-safe c =
     let s = c.loop-at.invariant in safe_then c.args.session.now.state _ c.args.opened.now c.requires.opened s.2 s.1
 
 pub returns-clause-tried : goal.returns-clause-tried
-returns-clause-tried c = tried_all c.args.opened.now.moved c.args.session.now c.args.lines.now _ _ _ _ c.loop-at-test.false c.loop-at.invariant.6
+returns-clause-tried c = tried_all c.args.opened.now.terms c.args.session.now c.args.lines.now _ _ _ _ c.loop-at-test.false c.loop-at.invariant.6

@@ -12,4 +12,4 @@ invariant-loop-at l = Stands l.fn.session l.out.items l.session
     × (l.session.floor ≡ None)
     × (l.at ≤ length l.lines)
     × AreKnown l.opened l.session.state.pulses l.known.items
-    × IsTriedBefore l.opened.moved l.fn.session (texts (take l.at l.lines)) (texts (drop l.at l.lines)) l.out.items l.status l.session
+    × IsTriedBefore l.opened.terms l.fn.session (texts (take l.at l.lines)) (texts (drop l.at l.lines)) l.out.items l.status l.session

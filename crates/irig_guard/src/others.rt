@@ -1,0 +1,110 @@
+//! The other recordings that the settings name.
+
+ghost use Rattle.std.specs.Prelude.{◌≡◌, ◌<◌, ◌^◌, ℕ, List, None, [], IfErr, IfOk, IfSome, IsTrue, OnOk, false};
+ghost use Rattle.std.specs.Prelude.{is_some, true};
+ghost use Rattle.irig_files.specs.Apart.{LeadToOneFile};
+ghost use Rattle.irig_files.specs.Reads.{HasFewBytes, parts_of};
+ghost use Rattle.irig_guard.specs.Given.{AreOthersApart, place_of};
+ghost use Rattle.irig_guard.specs.Others.{IsOther, IsUnheard, IsUnheardOf, Shows, ShowsAll};
+ghost use Rattle.irig_guard.specs.Settings.{paths};
+ghost use Rattle.irig_guarding.specs.Others.{Adds};
+ghost use Rattle.irig_vcd.specs.{Answer.Gives, Parts.dump_parts};
+
+use crate::chosen::Settings;
+use crate::unheard::Unheard;
+use irig_codes::Format;
+use irig_files::{Disk, DumpFileFault, Parts};
+use irig_guarding::{GuardFault, add_frames};
+use irig_safety::Shown;
+use irig_text::ShelfFault;
+use irig_vcd::VcdFault;
+use std::alloc::Global;
+
+/// The path of the first other recording to which the path to write leads, if it leads to one.
+pub fn over_other<'a, D: Disk>(
+    chosen: &Settings<'a>,
+    disk: &D,
+) -> Result<Option<&'a str>, ShelfFault>
+    ensures other { IfOk result (λ found. IfSome found (λ path. IsOther chosen.now path.now
+        × (is_some chosen.now.out ≡ true))) }
+    ensures over { IsTrue D.is_told → IfOk result (λ found. IfSome found (λ path.
+        LeadToOneFile (D.disk disk.now) path.now (place_of chosen.now))) }
+    ensures apart { IsTrue D.is_told → IfOk result (λ found. found ≡ None
+        → AreOthersApart chosen.now (D.disk disk.now)) }
+{
+    let Some(out) = chosen.out else {
+        return Ok(None);
+    };
+    for place in 0..chosen.others.len() {
+        let path = chosen.others[place];
+        if disk.is_same(path, out)? {
+            return Ok(Some(path));
+        }
+    }
+    Ok(None)
+}
+
+/// The frames of all other recordings of the settings that say something of the track; or the path of
+/// one that cannot be used, and why.
+pub fn frames_of_others<'a, D: Disk>(
+    alloc: Global,
+    chosen: &Settings<'a>,
+    disk: &D,
+) -> Result<Vec<Shown>, (&'a str, Unheard)>
+    ensures shown { IfOk result (λ shown. ShowsAll (D.held disk.now) chosen.now.format
+        (paths chosen.now.others.items) [] shown.items) }
+    ensures unheard { IfErr result (λ e. IsOther chosen.now e.0.now
+        × IsUnheard (D.held disk.now e.0.now) e.1) }
+{
+    let mut shown = Vec::new(alloc);
+    for place in 0..chosen.others.len() {
+        let path = chosen.others[place];
+        if let Err(why) = add_frames_of(alloc, path, chosen.format, disk, &mut shown) {
+            return Err((path, why));
+        }
+    }
+    Ok(shown)
+}
+
+/// Puts the frames of the recording at a path after others.
+fn add_frames_of<D: Disk>(
+    alloc: Global,
+    path: &str,
+    format: Format,
+    disk: &D,
+    shown: &mut Vec<Shown>,
+) -> Result<(), Unheard>
+    ensures added { OnOk result (Shows (D.held disk.now path.now) format shown.old.items
+        shown.new.items) }
+    ensures unheard { IfErr result (IsUnheard (D.held disk.now path.now)) }
+{
+    match disk.read(alloc, path, None) {
+        Ok(read) => add_read(alloc, read, format, shown),
+        Err(fault) => Err(Unheard::File(fault)),
+    }
+}
+
+/// Puts the frames of a recording after others, by what was read of its dump.
+fn add_read(
+    alloc: Global,
+    read: Result<Parts, VcdFault>,
+    format: Format,
+    shown: &mut Vec<Shown>,
+) -> Result<(), Unheard>
+    requires { HasFewBytes read }
+    ensures added { OnOk result ((source : List ℕ)
+        → Gives parts_of read (dump_parts None source)
+        → Adds None source format shown.old.items shown.new.items) }
+    ensures unheard { IfErr result (λ why. (source : List ℕ)
+        → Gives parts_of read (dump_parts None source) → IsUnheardOf source why) }
+{
+    let (recording, journal) = match read {
+        Ok(parts) => parts,
+        Err(fault) => return Err(Unheard::Dump(fault)),
+    };
+    match add_frames(alloc, recording, journal, format, shown) {
+        Ok(()) => Ok(()),
+        Err(GuardFault::Dump(fault)) => Err(Unheard::Dump(fault)),
+        Err(_) => Err(Unheard::File(DumpFileFault::OutOfMemory)),
+    }
+}

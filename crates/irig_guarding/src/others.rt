@@ -1,0 +1,58 @@
+//! The frames of another recording of the same code.
+
+ghost use Rattle.std.specs.Prelude.{◌≡◌, ◌≤◌, ◌^◌, ◌++◌, ℕ, List, Option, length, Ok, IfErr, IfSome};
+ghost use Rattle.std.specs.Prelude.{OnOk};
+ghost use Rattle.irig_guarding.specs.{Others.Adds, Others.IsUnadded, Reading.fine_frames};
+ghost use Rattle.irig_safety.specs.Others.{backed};
+ghost use Rattle.irig_vcd.specs.{Answer.bytes_of, Parts.dump_parts};
+
+use crate::product::GuardFault;
+use crate::reading::fine_frames;
+use irig_codes::Format;
+use irig_edit::Session;
+use irig_recording::Recording;
+use irig_safety::{Shown, backed};
+use std::alloc::{AllocError, Global};
+
+/// Puts the frames of another recording that say something of this one after those of others, by what
+/// was read of its dump.
+pub fn add_frames(
+    alloc: Global,
+    recording: Recording,
+    journal: Option<Vec<u8>>,
+    format: Format,
+    others: &mut Vec<Shown>,
+) -> Result<(), GuardFault>
+    requires { IfSome journal (λ text. length text.items ≤ 2 ^ 28) }
+    ensures added { OnOk result ((wire : Option (List ℕ)) (bytes : List ℕ)
+        → dump_parts wire bytes ≡ Ok (recording, bytes_of journal)
+        → Adds wire bytes format others.old.items others.new.items) }
+    ensures fault { IfErr result (λ e. (wire : Option (List ℕ)) (bytes : List ℕ)
+        → dump_parts wire bytes ≡ Ok (recording, bytes_of journal)
+        → IsUnadded wire bytes e) }
+{
+    let session = match Session::open_parts(alloc, recording, journal, format) {
+        Ok(session) => session,
+        Err(fault) => return Err(GuardFault::Dump(fault)),
+    };
+    match add_shown(alloc, &session, format, others) {
+        Ok(()) => Ok(()),
+        Err(_) => Err(GuardFault::OutOfMemory),
+    }
+}
+
+/// Puts the frames of a session that say something of another recording after others.
+fn add_shown(
+    alloc: Global,
+    session: &Session,
+    format: Format,
+    others: &mut Vec<Shown>,
+) -> Result<(), AllocError>
+    ensures { OnOk result (others.new.items
+        ≡ others.old.items ++ backed format (fine_frames session.now.state)) }
+{
+    let fine = fine_frames(alloc, session)?;
+    let shown = backed(alloc, format, fine.as_slice())?;
+    others.extend_from_slice(shown.as_slice())?;
+    Ok(())
+}

@@ -1,0 +1,107 @@
+//! What other recordings of the same code say of a frame.
+
+ghost use Rattle.std.specs.Prelude.{◌≡◌, ◌<◌, IfOk};
+ghost use Rattle.irig_safety.specs.Controls.{is_told, is_vote, votes};
+ghost use Rattle.irig_safety.specs.Others.{backed, is_backed, is_backed_from, is_backed_to};
+ghost use Rattle.irig_safety.specs.Others.{is_of_time};
+
+use crate::bearing::agrees;
+use crate::controls::function_of;
+use crate::safety::{frame_at, frame_behind};
+use crate::shown::Shown;
+use irig_codes::{Fields, Format};
+use std::alloc::{AllocError, Global};
+
+/// Whether most frames of other recordings that have the time of a frame have a control function as it
+/// has it.
+pub fn is_told(others: &[Shown], frame: &Shown, function: u32) -> bool
+    requires { function < 64 }
+    ensures { result ≡ is_told function others.now frame.now }
+{
+    votes(others, frame, function, false) < votes(others, frame, function, true)
+}
+
+/// How many frames have the time of a frame, and a control function as it has it, or otherwise.
+fn votes(others: &[Shown], frame: &Shown, function: u32, so: bool) -> usize
+    requires { function < 64 }
+    ensures { result ≡ votes so function others.now frame.now }
+{
+    let mut many = 0;
+    for other in others {
+        if is_vote(other, frame, function, so) {
+            many += 1;
+        }
+    }
+    many
+}
+
+/// Whether another frame has the time of a frame, and a control function as it has it, or otherwise.
+fn is_vote(other: &Shown, frame: &Shown, function: u32, so: bool) -> bool
+    requires { function < 64 }
+    ensures { result ≡ is_vote so function other.now frame.now }
+{
+    if !is_of_time(&other.fields, &frame.fields) {
+        return false;
+    }
+    let same = function_of(other, function) == function_of(frame, function);
+    if so { same } else { !same }
+}
+
+/// Whether two frames have the same time of day, day and year.
+fn is_of_time(one: &Fields, other: &Fields) -> bool
+    ensures { result ≡ is_of_time one.now other.now }
+{
+    one.days == other.days
+        && one.hours == other.hours
+        && one.minutes == other.minutes
+        && one.seconds == other.seconds
+        && one.hundredths.unwrap_or(0) == other.hundredths.unwrap_or(0)
+        && one.year.unwrap_or(100) == other.year.unwrap_or(100)
+}
+
+/// The frames of a recording that say something of another one: those with which a frame next to them
+/// agrees.
+pub fn backed(alloc: Global, format: Format, frames: &[Shown]) -> Result<Vec<Shown>, AllocError>
+    ensures { IfOk result (λ kept. kept.items ≡ backed format frames.now) }
+{
+    let mut kept = Vec::new(alloc);
+    for place in 0..frames.len() {
+        let frame = frames[place];
+        if is_backed(
+            format,
+            frame_behind(frames, place),
+            &frame,
+            frame_at(frames, place + 1),
+        ) {
+            kept.push(frame)?;
+        }
+    }
+    Ok(kept)
+}
+
+/// Whether a frame next to a frame agrees with it.
+fn is_backed(format: Format, before: Option<Shown>, frame: &Shown, after: Option<Shown>) -> bool
+    ensures { result ≡ is_backed format before frame.now after }
+{
+    is_backed_from(format, before, frame) || is_backed_to(format, frame, after)
+}
+
+/// Whether a frame before a frame is there, and agrees with it.
+fn is_backed_from(format: Format, before: Option<Shown>, frame: &Shown) -> bool
+    ensures { result ≡ is_backed_from format before frame.now }
+{
+    match before {
+        Some(before) => agrees(format, &before, frame),
+        None => false,
+    }
+}
+
+/// Whether a frame after a frame is there, and agrees with it.
+fn is_backed_to(format: Format, frame: &Shown, after: Option<Shown>) -> bool
+    ensures { result ≡ is_backed_to format frame.now after }
+{
+    match after {
+        Some(after) => agrees(format, frame, &after),
+        None => false,
+    }
+}
