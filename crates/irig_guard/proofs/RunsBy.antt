@@ -33,18 +33,20 @@ pub runs_by : (given : Files) (chosen : Settings) (source : List ℕ) (out out_n
     → GuardsOnDump (wire_in chosen) chosen.format (terms_in chosen others) source (product_of chosen) script left (desk out (shelved texts failures label))
     (desk out_new (shelved texts_new failures_new label_new)) result
     → RunsBy given chosen source (ends out writes script) (ends out_new new left) result
-runs_by given chosen source out out_new script left texts texts_new label label_new writes new failures failures_new result e p q z kept others shown h = record {
-  others = others;
-  shown = shown;
-  label = label;
-  failures = failures_new;
-  ran = subst (λ (d : Desk). GuardsOnDump (wire_in chosen) chosen.format (terms_in chosen others) source (product_of chosen) script left d
-      (desk out_new (shelved (texts_at (given.paths (place_of chosen)) new) failures_new label)) result)
-      (λ j. desk out (shelved (p j) (z j) label))
-      (subst (λ (d : Desk). GuardsOnDump (wire_in chosen) chosen.format (terms_in chosen others) source (product_of chosen) script left (desk out (shelved texts failures label)) d result)
-      (λ j. desk out_new (shelved (q j) failures_new (e j))) h);
-  kept = kept;
-}
+runs_by given chosen source out out_new script left texts texts_new label label_new writes new failures failures_new result e p q z kept others shown
+    h = record {
+      others = others;
+      shown = shown;
+      label = label;
+      failures = failures_new;
+      ran = subst (λ (d : Desk). GuardsOnDump (wire_in chosen) chosen.format (terms_in chosen others) source (product_of chosen) script left d
+          (desk out_new (shelved (texts_at (given.paths (place_of chosen)) new) failures_new label)) result)
+          (λ j. desk out (shelved (p j) (z j) label))
+          (subst (λ (d : Desk). GuardsOnDump (wire_in chosen) chosen.format (terms_in chosen others) source (product_of chosen) script left
+          (desk out (shelved texts failures label)) d result)
+          (λ j. desk out_new (shelved (q j) failures_new (e j))) h);
+      kept = kept;
+    }
 
 -- of a dump with a fault nothing was run
 pub fails_by : (given : Files) (chosen : Settings) (source : List ℕ) (at : Ends) (fault : VcdFault) → given.kept (place_of chosen)

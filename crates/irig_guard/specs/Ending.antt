@@ -16,10 +16,12 @@ use Rattle.irig_guard.specs.declared.ending.Ending.TheVariants.{OverOther, Ran, 
 use Rattle.irig_guard.specs.Given.{Ends, Files, IsRead, place_of, product_of}
 use Rattle.irig_guard.specs.Others.{IsOther, IsUnheard, ShowsAll}
 use Rattle.irig_safety.specs.declared.shown.Shown.{Shown}
-use Rattle.irig_guard.specs.{Settings.paths, Statuses.HasStatus, Settings.Reads, declared.ending.Ending.Ending}
+use Rattle.irig_guard.specs.{Settings.Reads, Settings.paths, Statuses.HasStatus}
+use Rattle.irig_guard.specs.declared.ending.Ending.{Ending}
 
--- The script ran under guard on the bytes, by the wire and the format of the settings and by the frames
--- of the other recordings; what was written was written where their path to write leads, and is kept through a crash at any moment.
+-- The script ran under guard on the bytes, by the wire and the format of the settings and by the
+-- frames of the other recordings; what was written was written where their path to write leads, and is
+-- kept through a crash at any moment.
 pub record RunsBy (given : Files) (chosen : Settings) (source : List ℕ) (old new : Ends)
     (result : Result Kept GuardFault) : Type 0 where
   pub others : List Shown

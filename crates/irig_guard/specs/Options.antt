@@ -27,8 +27,8 @@ reading =
     with_rule (with_rule (with_rule (new_app (codes "irig_guard")) (option (codes "wire") None))
     (option (codes "format") None)) (option (codes "expression") None)
 
--- the command: how the track is read, whether frames may move, other recordings, what is written, and
--- the track
+-- the command: how the track is read, whether frames may move, other recordings, what is written,
+-- and the track
 abbrev pub the_command : App
 the_command =
     with_rule (with_rule (with_rule (with_rule (with_rule reading moving) beside)

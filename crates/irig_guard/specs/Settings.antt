@@ -1,7 +1,7 @@
 -- What the words of a command line ask for. This project's own.
 use denote.Ref.{Bor}
-use Rattle.std.specs.Prelude.{◌≡◌, ℕ, List, [], true, false, codes, None, Some, Result, Ok, Err, map}
-use Rattle.std.specs.Prelude.{option_map, unwrap_or}
+use Rattle.std.specs.Prelude.{◌≡◌, ℕ, List, [], true, false, codes, None, Some, Result, Ok, Err}
+use Rattle.std.specs.Prelude.{map, option_map, unwrap_or}
 use Rattle.clap.specs.Words.{Text, first_value, found_of, matched_of, one_text, raw_values}
 use Rattle.clap.specs.declared.parser.matches.Found.{Found}
 use Rattle.clap.specs.declared.parser.matches.ArgMatches.{ArgMatches}

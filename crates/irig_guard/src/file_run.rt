@@ -114,8 +114,8 @@ fn run_apart<'a, D: Disk, R: Read, W: Write>(
     }
 }
 
-/// Runs a script under guard on what was read of a dump, by what other recordings say, if the path to
-/// write leads to none of these. Each write uses the room.
+/// Runs a script under guard on what was read of a dump, by what other recordings say, if the path
+/// to write leads to none of these. Each write uses the room.
 fn run_beside<'a, D: Disk, R: Read, W: Write>(
     alloc: Global,
     chosen: &Settings<'a>,

@@ -1,7 +1,7 @@
 //! The other recordings that the settings name.
 
-ghost use Rattle.std.specs.Prelude.{◌≡◌, ◌<◌, ◌^◌, ℕ, List, None, [], IfErr, IfOk, IfSome, IsTrue, OnOk, false};
-ghost use Rattle.std.specs.Prelude.{is_some, true};
+ghost use Rattle.std.specs.Prelude.{◌≡◌, ◌<◌, ◌^◌, ℕ, List, None, [], IfErr, IfOk, IfSome, IsTrue, OnOk};
+ghost use Rattle.std.specs.Prelude.{false, is_some, true};
 ghost use Rattle.irig_files.specs.Apart.{LeadToOneFile};
 ghost use Rattle.irig_files.specs.Reads.{HasFewBytes, parts_of};
 ghost use Rattle.irig_guard.specs.Given.{AreOthersApart, place_of};
@@ -44,8 +44,8 @@ pub fn over_other<'a, D: Disk>(
     Ok(None)
 }
 
-/// The frames of all other recordings of the settings that say something of the track; or the path of
-/// one that cannot be used, and why.
+/// The frames of all other recordings of the settings that say something of the track; or the path
+/// of one that cannot be used, and why.
 pub fn frames_of_others<'a, D: Disk>(
     alloc: Global,
     chosen: &Settings<'a>,

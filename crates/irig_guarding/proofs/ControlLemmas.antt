@@ -343,5 +343,6 @@ unmoved_at o at frames e is = is ∙ rest_located o o.frames frames e
 pub unmoved_last : (o : OriginalView) (last frames : List Shown) → o.terms.moved ≡ false → last ≡ located o.terms.moved last frames
 unmoved_last o last frames e = rest_located o last frames e
 
-pub moved_at : (o : OriginalView) (xs at now frames : List Shown) → o.terms.moved ≡ true → at ≡ moved_in xs now → now ≡ frames → at ≡ located o.terms.moved xs frames
+pub moved_at : (o : OriginalView) (xs at now frames : List Shown) → o.terms.moved ≡ true → at ≡ moved_in xs now → now ≡ frames
+    → at ≡ located o.terms.moved xs frames
 moved_at o xs at now frames e is same = is ∙ (ap (moved_in xs) same ∙ moved_located o xs frames e)

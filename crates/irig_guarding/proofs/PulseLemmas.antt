@@ -206,7 +206,8 @@ self_by o s (x ∷ frames) e h = h
 
 pub stand_self : (terms : TermsView) (s : State) → StandBy (fine_frames s) (original_of terms s) s
 stand_self terms s =
-    self_by (original_of terms s) s (fine_frames s) (shown_seen s.pulses (frames_of s)) (themselves (original_of terms s) s s.pulses None None (frames_of s) refl)
+    self_by (original_of terms s) s (fine_frames s) (shown_seen s.pulses (frames_of s))
+    (themselves (original_of terms s) s s.pulses None None (frames_of s) refl)
 
 -- if some frame of the recording reads well
 none_there : (n : ℕ) (r : Bool) → r ≡ (n == 0) → r ≡ true → n ≡ 0

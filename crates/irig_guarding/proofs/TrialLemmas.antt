@@ -66,8 +66,8 @@ tried_none opened known rest script are e = record {
 }
 
 -- one more repair
-pub tried_more : (terms : TermsView) (opened : Machine) (lines front rest : List (List ℕ)) (old new : List ℕ) (status : Status) (a b : Machine) (dropped : Option Reason)
-    → IsTriedBefore terms opened lines (front ++ rest) old status a → IsCutBefore front rest → Tries (original_of terms opened.state) a front dropped b
+pub tried_more : (terms : TermsView) (opened : Machine) (lines front rest : List (List ℕ)) (old new : List ℕ) (status : Status) (a b : Machine)
+    (dropped : Option Reason) → IsTriedBefore terms opened lines (front ++ rest) old status a → IsCutBefore front rest → Tries (original_of terms opened.state) a front dropped b
     → Shows front dropped old new
     → IsTriedBefore terms opened (lines ++ front) rest new (if is_none dropped then status else SomeRefused) b
 tried_more terms opened lines front rest old new status a b dropped h cut tries shown =
@@ -215,7 +215,8 @@ cut_open xs at place x within e is begins h =
 
 -- a repair more of the lines from a place on
 pub tried_step : (first : Machine) (known : OriginalView) (xs : List Line) (at end : ℕ) (old new : List ℕ) (status next : Status) (a b : Machine)
-    (dropped : Option Reason) → known ≡ original_of known.terms first.state → at < end → IsTriedBefore known.terms first (texts (take at xs)) (texts (drop at xs)) old status a
+    (dropped : Option Reason) → known ≡ original_of known.terms first.state → at < end
+    → IsTriedBefore known.terms first (texts (take at xs)) (texts (drop at xs)) old status a
     → IsCutBefore (texts (take (end - at) (drop at xs))) (texts (drop end xs)) → Tries known a (texts (take (end - at) (drop at xs))) dropped b
     → Shows (texts (take (end - at) (drop at xs))) dropped old new → next ≡ (if is_none dropped then status else SomeRefused)
     → IsTriedBefore known.terms first (texts (take end xs)) (texts (drop end xs)) new next b
@@ -224,9 +225,11 @@ tried_step first known xs at end old new status next a b dropped e less h cut tr
     let rest = texts (drop end xs) in
     let here : IsTriedBefore known.terms first (texts (take at xs)) (front ++ rest) old status a =
     subst (λ (l : List (List ℕ)). IsTriedBefore known.terms first (texts (take at xs)) l old status a) (texts_from xs at end less) h in
-    let more = tried_more known.terms first (texts (take at xs)) front rest old new status a b dropped here cut (subst (λ (o : OriginalView). Tries o a front dropped b) e tries) shown in
+    let more = tried_more known.terms first (texts (take at xs)) front rest old new status a b dropped here cut
+    (subst (λ (o : OriginalView). Tries o a front dropped b) e tries) shown in
     subst (λ (s : Status). IsTriedBefore known.terms first (texts (take end xs)) rest new s b) (sym is)
-    (subst (λ (l : List (List ℕ)). IsTriedBefore known.terms first l rest new (if is_none dropped then status else SomeRefused) b) (texts_to xs at end less) more)
+    (subst (λ (l : List (List ℕ)). IsTriedBefore known.terms first l rest new (if is_none dropped then status else SomeRefused) b)
+    (texts_to xs at end less) more)
 
 -- all of them
 pub tried_all : (terms : TermsView) (first : Machine) (xs : List Line) (at : ℕ) (out : List ℕ) (status : Status) (now : Machine) → length xs ≤ at

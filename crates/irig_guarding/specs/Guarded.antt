@@ -24,7 +24,8 @@ pub record IsSafeAfter (terms : TermsView) (old new : State) : Type 0 where
 
 -- a script was printed. From the session as it was opened each of its lines is accepted in silence,
 -- and what they lead to is what the session is now; and that is safe by what it was
-pub record IsGuarded (terms : TermsView) (opened : Machine) (script : List ℕ) (now : Machine) : Type 0
+pub record IsGuarded (terms : TermsView) (opened : Machine) (script : List ℕ) (now : Machine)
+    : Type 0
   where
     pub left : Machine
     pub runs : Runs opened (script_lines script) (map silence (script_lines script)) [] left

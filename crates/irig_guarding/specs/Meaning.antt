@@ -20,5 +20,5 @@ pub record IsKeptAt (f : FormatView) (old at new : List Shown) : Type 0 where
 abbrev pub SafeStatesMean : Type 0
 SafeStatesMean = (terms : TermsView) (old new : State) → IsTrack new.micros new.pulses
     → fine_frames old ≢ [] → IsSafeAfter terms old new
-    → IsKeptAt old.format (fine_frames old) (located terms.moved (fine_frames old) (fine_frames new))
-    (fine_frames new)
+    → IsKeptAt old.format (fine_frames old)
+    (located terms.moved (fine_frames old) (fine_frames new)) (fine_frames new)

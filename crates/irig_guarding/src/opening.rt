@@ -11,8 +11,8 @@ use irig_edit::{Pulse, Session};
 use irig_safety::{Original, Terms};
 use std::alloc::{AllocError, Global};
 
-/// What is known of a recording by the session that was opened on it, and by what repairs are judged
-/// besides.
+/// What is known of a recording by the session that was opened on it, and by what repairs are
+/// judged besides.
 pub fn original_of(alloc: Global, session: &Session, terms: Terms) -> Result<Original, AllocError>
     ensures { IfOk result (λ opened. opened ≡ original_of terms session.now.state) }
 {

@@ -1,7 +1,7 @@
 //! The frames of another recording of the same code.
 
-ghost use Rattle.std.specs.Prelude.{◌≡◌, ◌≤◌, ◌^◌, ◌++◌, ℕ, List, Option, length, Ok, IfErr, IfSome};
-ghost use Rattle.std.specs.Prelude.{OnOk};
+ghost use Rattle.std.specs.Prelude.{◌≡◌, ◌≤◌, ◌^◌, ◌++◌, ℕ, List, Option, length, Ok, IfErr};
+ghost use Rattle.std.specs.Prelude.{IfSome, OnOk};
 ghost use Rattle.irig_guarding.specs.{Others.Adds, Others.IsUnadded, Reading.fine_frames};
 ghost use Rattle.irig_safety.specs.Others.{backed};
 ghost use Rattle.irig_vcd.specs.{Answer.bytes_of, Parts.dump_parts};
@@ -14,8 +14,8 @@ use irig_recording::Recording;
 use irig_safety::{Shown, backed};
 use std::alloc::{AllocError, Global};
 
-/// Puts the frames of another recording that say something of this one after those of others, by what
-/// was read of its dump.
+/// Puts the frames of another recording that say something of this one after those of others, by
+/// what was read of its dump.
 pub fn add_frames(
     alloc: Global,
     recording: Recording,

@@ -1,8 +1,8 @@
 -- When the control functions of a frame are borne out, which its time does not decide. This
 -- project's own.
 use Rattle.std.specs.Prelude.{◌≡◌, ◌<◌, ◌⊎◌, ◌+◌, ◌/◌, ◌%◌, ◌^◌, ◌==◌, ◌&&◌, ℕ, Bool, true, false}
-use Rattle.std.specs.Prelude.{List, [], ◌∷◌, Option, Some, None, MatchOption, if◌then◌else◌, slice_get}
-use Rattle.std.specs.Prelude.{nat_lt, not, unwrap_or}
+use Rattle.std.specs.Prelude.{List, [], ◌∷◌, Option, Some, None, MatchOption, if◌then◌else◌}
+use Rattle.std.specs.Prelude.{nat_lt, not, slice_get, unwrap_or}
 use Rattle.irig_codes.specs.Format.{FormatView, control_count_of, has_year}
 use Rattle.irig_codes.specs.declared.format.Kind.TheVariants.{A, B, E, G}
 use Rattle.irig_codes.specs.{declared.format.Kind.Kind}
@@ -57,15 +57,17 @@ votes so k (x ∷ others) y = (if is_vote so k x y then 1 else 0) + votes so k o
 abbrev pub is_told : ℕ → List Shown → Shown → Bool
 is_told k others y = nat_lt (votes false k others y) (votes true k others y)
 
--- a control function is as the two nearest frames have it; or as it was recorded, or what was recorded
--- of it was lost; or most others of its time have it so
-abbrev pub IsFunctionBorne : FormatView → OriginalView → Witnesses → Shown → ℕ → Option Pulse → Type 0
+-- a control function is as the two nearest frames have it; or as it was recorded, or what was
+-- recorded of it was lost; or most others of its time have it so
+abbrev pub IsFunctionBorne : FormatView → OriginalView → Witnesses → Shown → ℕ → Option Pulse
+    → Type 0
 IsFunctionBorne f o w y k p =
     (is_shared k w y ≡ true)
     ⊎ (MatchOption p ⊥ (λ q. IsRecorded f o.pulses q ⊎ IsLost f o.pulses q)
     ⊎ (is_told k o.terms.others y ≡ true))
 
 -- all control functions are, of a frame whose marker is at a place of the pulses
-abbrev pub AreFunctionsBorne : FormatView → OriginalView → List Pulse → ℕ → Witnesses → Shown → Type 0
+abbrev pub AreFunctionsBorne : FormatView → OriginalView → List Pulse → ℕ → Witnesses → Shown
+    → Type 0
 AreFunctionsBorne f o pulses marker w y = (k : ℕ) → k < control_count_of f
     → IsFunctionBorne f o w y k (slice_get pulses (marker + function_element f k))

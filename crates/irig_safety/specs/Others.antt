@@ -1,6 +1,6 @@
 -- What other recordings of the same code say of a frame. This project's own.
-use Rattle.std.specs.Prelude.{◌==◌, ◌&&◌, ◌||◌, ◌++◌, Bool, false, List, [], ◌∷◌, Option, Some, None}
-use Rattle.std.specs.Prelude.{if◌then◌else◌, slice_get, unwrap_or}
+use Rattle.std.specs.Prelude.{◌==◌, ◌&&◌, ◌||◌, ◌++◌, Bool, false, List, [], ◌∷◌, Option, Some}
+use Rattle.std.specs.Prelude.{None, if◌then◌else◌, slice_get, unwrap_or}
 use Rattle.irig_codes.specs.Format.{FormatView}
 use Rattle.irig_codes.specs.declared.fields.Fields.{Fields}
 use Rattle.irig_safety.specs.{Bearing.agrees, declared.shown.Shown.Shown}
@@ -25,8 +25,8 @@ is_backed_to f y (Some b) = agrees f y b
 abbrev pub is_backed : FormatView → Option Shown → Shown → Option Shown → Bool
 is_backed f a y b = is_backed_from f a y || is_backed_to f y b
 
--- the frames of a recording that say something of another recording: those with which a frame next to
--- them agrees
+-- the frames of a recording that say something of another recording: those with which a frame next
+-- to them agrees
 abbrev pub backed_from : FormatView → Option Shown → List Shown → List Shown
 backed_from f a [] = []
 backed_from f a (y ∷ ys) =

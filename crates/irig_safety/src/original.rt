@@ -1,7 +1,7 @@
 //! What is known of a recording as it was opened.
 
-ghost use Rattle.std.specs.Prelude.{◌≡◌, ◌↔◌, ◌-◌, ◌<◌, ◌≤◌, IsTrue, get_or, length, slice_get, Some};
-ghost use Rattle.std.specs.Prelude.{false, true};
+ghost use Rattle.std.specs.Prelude.{◌≡◌, ◌↔◌, ◌-◌, ◌<◌, ◌≤◌, IsTrue, get_or, length, slice_get};
+ghost use Rattle.std.specs.Prelude.{Some, false, true};
 ghost use Rattle.std.specs.List.Sorted.{IsNonDecreasingBy};
 ghost use Rattle.irig_codes.specs.Width.{class_of};
 ghost use Rattle.irig_recording.specs.declared.pulse.Pulse.{Pulse as SomePulse};
@@ -76,8 +76,8 @@ impl Original {
         self.terms.moved
     }
 
-    /// Whether most frames of other recordings that have the time of a frame have a control function
-    /// as it has it.
+    /// Whether most frames of other recordings that have the time of a frame have a control
+    /// function as it has it.
     pub fn is_told(&self, frame: &Shown, function: u32) -> bool
         requires { function < 64 }
         ensures { result ≡ is_told function self.now.terms.others frame.now }

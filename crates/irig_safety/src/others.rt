@@ -12,8 +12,8 @@ use crate::shown::Shown;
 use irig_codes::{Fields, Format};
 use std::alloc::{AllocError, Global};
 
-/// Whether most frames of other recordings that have the time of a frame have a control function as it
-/// has it.
+/// Whether most frames of other recordings that have the time of a frame have a control function as
+/// it has it.
 pub fn is_told(others: &[Shown], frame: &Shown, function: u32) -> bool
     requires { function < 64 }
     ensures { result ≡ is_told function others.now frame.now }
@@ -35,7 +35,7 @@ fn votes(others: &[Shown], frame: &Shown, function: u32, so: bool) -> usize
     many
 }
 
-/// Whether another frame has the time of a frame, and a control function as it has it, or otherwise.
+/// Whether another frame has the time of a frame, and a control function as it has it, or not so.
 fn is_vote(other: &Shown, frame: &Shown, function: u32, so: bool) -> bool
     requires { function < 64 }
     ensures { result ≡ is_vote so function other.now frame.now }
@@ -59,8 +59,8 @@ fn is_of_time(one: &Fields, other: &Fields) -> bool
         && one.year.unwrap_or(100) == other.year.unwrap_or(100)
 }
 
-/// The frames of a recording that say something of another one: those with which a frame next to them
-/// agrees.
+/// The frames of a recording that say something of another one: those with which a frame next to
+/// them agrees.
 pub fn backed(alloc: Global, format: Format, frames: &[Shown]) -> Result<Vec<Shown>, AllocError>
     ensures { IfOk result (λ kept. kept.items ≡ backed format frames.now) }
 {

@@ -8,7 +8,8 @@ use Rattle.irig_guarding.specs.declared.product.Product.TheVariants as product
 use Rattle.irig_guard.proofs.file_run.run_on_read.Goals as goal
 
 pub returns-in-Err-clause-ran : goal.returns-in-Err-clause-ran
-returns-in-Err-clause-ran g c = λ source is. fails_by _ c.args.chosen.now source _ c.in-Err.fault (λ told. goes_nowhere _ _ (g.met.D.Disk.only_now _)) c.args.others.items c.requires.shown (rw c.in-Err.is at is)
+returns-in-Err-clause-ran g c = λ source is. fails_by _ c.args.chosen.now source _ c.in-Err.fault (λ told. goes_nowhere _ _ (g.met.D.Disk.only_now _))
+    c.args.others.items c.requires.shown (rw c.in-Err.is at is)
 
 pub returns-in-Err-clause-spared : goal.returns-in-Err-clause-spared
 returns-in-Err-clause-spared g c = λ path read told. stays_here (g.D.Disk.disk c.args.disk.now) path (g.met.D.Disk.only_now c.args.disk.now)

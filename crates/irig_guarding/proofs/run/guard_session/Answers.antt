@@ -12,7 +12,8 @@ returns-in_default-put_all-clause-ends g c = (
     last = c.guard.new.session;
     guarded = c.in-Ok-guard.ensures.guarded;
     status = c.in-Ok-guard.kept.status;
-    tried = subst (λ (l : List ℕ). IsTried c.args.terms c.args.session.now l c.in-Ok-guard.printed.items c.in-Ok-guard.kept.status c.guard.new.session) c.as_slice.ensures.value c.in-Ok-guard.ensures.tried;
+    tried = subst (λ (l : List ℕ). IsTried c.args.terms c.args.session.now l c.in-Ok-guard.printed.items c.in-Ok-guard.kept.status c.guard.new.session)
+        c.as_slice.ensures.value c.in-Ok-guard.ensures.tried;
     filled = c.in-Ok-guard.kept.filled;
     fillings = c.in-Ok-guard.ensures.filled;
   },
@@ -29,7 +30,8 @@ returns-in-Ok-write_product-clause-ends g c = (
     last = c.guard.new.session;
     guarded = c.in-Ok-guard.ensures.guarded;
     status = c.in-Ok-guard.kept.status;
-    tried = subst (λ (l : List ℕ). IsTried c.args.terms c.args.session.now l c.in-Ok-guard.printed.items c.in-Ok-guard.kept.status c.guard.new.session) c.as_slice.ensures.value c.in-Ok-guard.ensures.tried;
+    tried = subst (λ (l : List ℕ). IsTried c.args.terms c.args.session.now l c.in-Ok-guard.printed.items c.in-Ok-guard.kept.status c.guard.new.session)
+        c.as_slice.ensures.value c.in-Ok-guard.ensures.tried;
     filled = c.in-Ok-guard.kept.filled;
     fillings = c.in-Ok-guard.ensures.filled;
   },
@@ -48,7 +50,8 @@ returns-clause-ends g c = (
     last = c.guard.new.session;
     guarded = c.in-Ok-guard.ensures.guarded;
     status = c.in-Ok-guard.kept.status;
-    tried = subst (λ (l : List ℕ). IsTried c.args.terms c.args.session.now l c.in-Ok-guard.printed.items c.in-Ok-guard.kept.status c.guard.new.session) c.as_slice.ensures.value c.in-Ok-guard.ensures.tried;
+    tried = subst (λ (l : List ℕ). IsTried c.args.terms c.args.session.now l c.in-Ok-guard.printed.items c.in-Ok-guard.kept.status c.guard.new.session)
+        c.as_slice.ensures.value c.in-Ok-guard.ensures.tried;
     filled = c.in-Ok-guard.kept.filled;
     fillings = c.in-Ok-guard.ensures.filled;
   },
