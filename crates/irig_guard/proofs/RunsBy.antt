@@ -10,7 +10,7 @@ use Rattle.irig_text.specs.Shelved.{shelved}
 use Rattle.irig_guard.specs.Given.{AreOthersApart, Ends, Files, IsApart, IsApartFrom, IsRead, ends, place_of, product_of}
 use Rattle.irig_guard.specs.{Others.IsOther, Others.ShowsAll, Settings.paths}
 use Rattle.irig_safety.specs.{Terms.TermsView, declared.shown.Shown.Shown}
-use Rattle.irig_guard.specs.{Ending.RunsBy, declared.chosen.Settings.Settings}
+use Rattle.irig_guard.specs.{RunsBy.RunsBy, declared.chosen.Settings.Settings}
 use Rattle.irig_guarding.specs.declared.product.Product.TheVariants as product
 use Rattle.irig_disk.specs.{Disk.Disk, Disk.MayLeave, Held.Held}
 use Rattle.irig_files.specs.{Apart.StaysAt, Puts.texts_at, Writes.Goes, Writes.Write}

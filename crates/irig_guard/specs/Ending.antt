@@ -1,40 +1,17 @@
 -- What the program does for the words of its command line: from the files and the script to what is
 -- printed and written. This project's own.
-use Rattle.std.specs.Prelude.{◌≡◌, ◌<◌, ◌^◌, ℕ, List, [], Result, Ok, Err, IfSome, is_some}
-use Rattle.std.specs.Prelude.{length, option_map, true}
+use Rattle.std.specs.Prelude.{◌≡◌, ◌<◌, ◌^◌, ℕ, List, Result, Ok, Err, IfSome, is_some}
+use Rattle.std.specs.Prelude.{length, true}
 use Rattle.clap.specs.Words.{Text}
-use Rattle.irig_script.specs.Obey.Desk.{desk}
-use Rattle.irig_guarding.specs.{declared.product.GuardFault.GuardFault, declared.product.Kept.Kept}
-use Rattle.irig_guarding.specs.GuardedRun.{GuardsOnDump}
-use Rattle.irig_text.specs.Shelved.{shelved}
 use Rattle.irig_files.specs.declared.dump_file.DumpFileFault.TheVariants.{TooLong}
-use Rattle.irig_files.specs.Puts.{texts_at}
 use Rattle.irig_guard.specs.declared.chosen.Settings.{Settings}
 use Rattle.irig_guard.specs.declared.command_line.UsageFault.TheVariants.{Words, Value as of_value}
 use Rattle.irig_guard.specs.declared.ending.Ending.TheVariants.{Usage, Value, Unread, Over, Unknown}
 use Rattle.irig_guard.specs.declared.ending.Ending.TheVariants.{OverOther, Ran, Unheard}
-use Rattle.irig_guard.specs.Given.{Ends, Files, IsRead, place_of, product_of}
-use Rattle.irig_guard.specs.Others.{IsOther, IsUnheard, ShowsAll}
-use Rattle.irig_safety.specs.declared.shown.Shown.{Shown}
-use Rattle.irig_guard.specs.{Settings.Reads, Settings.paths, Statuses.HasStatus}
+use Rattle.irig_guard.specs.Given.{Ends, Files, IsRead, place_of}
+use Rattle.irig_guard.specs.{Others.IsOther, Others.IsUnheard, RunsBy.RunsBy}
+use Rattle.irig_guard.specs.{Settings.Reads, Statuses.HasStatus}
 use Rattle.irig_guard.specs.declared.ending.Ending.{Ending}
-
--- The script ran under guard on the bytes, by the wire and the format of the settings and by the
--- frames of the other recordings; what was written was written where their path to write leads, and is
--- kept through a crash at any moment.
-pub record RunsBy (given : Files) (chosen : Settings) (source : List ℕ) (old new : Ends)
-    (result : Result Kept GuardFault) : Type 0 where
-  pub others : List Shown
-  pub shown : ShowsAll given.held chosen.format (paths chosen.others.items) [] others
-  pub label : List ℕ
-  pub failures : ℕ
-  pub ran : GuardsOnDump (option_map (λ w. w.now) chosen.wire) chosen.format
-      (record { moved = chosen.moved; others = others }) source
-      (product_of chosen) old.script new.script
-      (desk old.out (shelved (texts_at (given.paths (place_of chosen)) old.writes) 0 label))
-      (desk new.out (shelved (texts_at (given.paths (place_of chosen)) new.writes) failures label))
-      result
-  pub kept : given.kept (place_of chosen)
 
 -- nothing was read of the script, printed or written
 abbrev pub IsUntouched : Files → Ends → Ends → Type 0

@@ -3,7 +3,7 @@
 ghost use Rattle.std.specs.Prelude.{◌≡◌, ℕ, [], IfOk, IfSome, IsTrue, List, false, is_some, map};
 ghost use Rattle.std.specs.Prelude.{option_map, string_bytes, true};
 ghost use Rattle.irig_vcd.specs.{Answer.Gives, Answer.name_of, Parts.dump_parts};
-ghost use Rattle.irig_guard.specs.Ending.{EndsBy, Obeys, RunsBy};
+ghost use Rattle.irig_guard.specs.{Ending.EndsBy, Ending.Obeys, RunsBy.RunsBy};
 ghost use Rattle.irig_guard.specs.Given.{AreOthersApart, AreSpared, IsApart, ends, files};
 ghost use Rattle.irig_guard.specs.Given.{place_of, product_of};
 ghost use Rattle.irig_guard.specs.{Others.ShowsAll, Settings.paths};

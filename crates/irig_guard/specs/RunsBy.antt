@@ -1,0 +1,28 @@
+-- A run on the bytes of a dump, as the settings ask. This project's own.
+use Rattle.std.specs.Prelude.{ℕ, List, [], Result, option_map}
+use Rattle.irig_script.specs.Obey.Desk.{desk}
+use Rattle.irig_guarding.specs.{declared.product.GuardFault.GuardFault, declared.product.Kept.Kept}
+use Rattle.irig_guarding.specs.GuardedRun.{GuardsOnDump}
+use Rattle.irig_text.specs.Shelved.{shelved}
+use Rattle.irig_files.specs.Puts.{texts_at}
+use Rattle.irig_guard.specs.declared.chosen.Settings.{Settings}
+use Rattle.irig_guard.specs.Given.{Ends, Files, place_of, product_of}
+use Rattle.irig_guard.specs.{Others.ShowsAll, Settings.paths}
+use Rattle.irig_safety.specs.declared.shown.Shown.{Shown}
+
+-- The script ran under guard on the bytes, by the wire and the format of the settings and by the
+-- frames of the other recordings; what was written was written where their path to write leads, and
+-- is kept through a crash at any moment.
+pub record RunsBy (given : Files) (chosen : Settings) (source : List ℕ) (old new : Ends)
+    (result : Result Kept GuardFault) : Type 0 where
+  pub others : List Shown
+  pub shown : ShowsAll given.held chosen.format (paths chosen.others.items) [] others
+  pub label : List ℕ
+  pub failures : ℕ
+  pub ran : GuardsOnDump (option_map (λ w. w.now) chosen.wire) chosen.format
+      (record { moved = chosen.moved; others = others }) source
+      (product_of chosen) old.script new.script
+      (desk old.out (shelved (texts_at (given.paths (place_of chosen)) old.writes) 0 label))
+      (desk new.out (shelved (texts_at (given.paths (place_of chosen)) new.writes) failures label))
+      result
+  pub kept : given.kept (place_of chosen)
