@@ -5,7 +5,7 @@ use Rattle.std.specs.Prelude.{option_map, unwrap_or}
 use Rattle.std.proofs.lemmas.Bool.Decides.{nat_tests}
 use Rattle.irig_disk.specs.Disk.{Disk}
 use Rattle.irig_files.specs.Apart.{AreApart}
-use Rattle.std.proofs.lemmas.{List.drop_all, Option.get_or_from_slice_get, Option.slice_get_within}
+use Rattle.std.proofs.lemmas.{List.drop_all, List.length-map, Option.get_or_from_slice_get, Option.slice_get_within}
 use denote.Ref.{Bor}
 use Rattle.irig_codes.specs.Format.{FormatView}
 use Rattle.irig_guard.specs.Others.{Shows, ShowsAll}

@@ -1,5 +1,5 @@
 -- An edit on the shelf of a file, as one by the settings.
-use Rattle.std.proofs.Common.{◌≡◌, [], ℕ, List, Option, Some, None, Result, Err, ap, inl, refl, subst, sym}
+use Rattle.std.proofs.Common.{◌≡◌, [], ℕ, List, Option, Some, None, Result, Err, ap, inl, inr, refl, subst, sym}
 use Rattle.std.specs.Prelude.{is_some, not, option_map, if◌then◌else◌}
 use denote.Ref.{Bor}
 use Rattle.irig_vcd.specs.{Parts.dump_parts, declared.fault.VcdFault.VcdFault}

@@ -27,16 +27,23 @@ reading =
     with_rule (with_rule (with_rule (new_app (codes "irig_guard")) (option (codes "wire") None))
     (option (codes "format") None)) (option (codes "expression") None)
 
--- the command: how the track is read, whether frames may move, other recordings, what is written,
--- and the track
+-- and by what repairs are judged besides: whether frames may move, and other recordings
+abbrev pub judging : App
+judging = with_rule (with_rule reading moving) beside
+
+-- the command: how the track is read, by what repairs are judged, what is written, and the track
 abbrev pub the_command : App
 the_command =
-    with_rule (with_rule (with_rule (with_rule (with_rule reading moving) beside)
-    (option (codes "out") None)) flag) (needed (codes "TRACK"))
+    with_rule (with_rule (with_rule judging (option (codes "out") None)) flag)
+    (needed (codes "TRACK"))
 
 -- it says how the track is read
 abbrev pub IsReading : App → Type 0
 IsReading app = app ≡ reading
+
+-- and by what repairs are judged besides
+abbrev pub IsJudging : App → Type 0
+IsJudging app = app ≡ judging
 
 -- it is the command line of the program
 abbrev pub IsCommand : App → Type 0

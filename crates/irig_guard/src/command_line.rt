@@ -2,8 +2,8 @@
 
 ghost use Rattle.std.specs.Prelude.{◌≡◌, IfErr, IfOk, None, codes, false, map, string_bytes};
 ghost use Rattle.clap.specs.Words.{app_of, found_of, rule_of};
-ghost use Rattle.irig_guard.specs.Options.{IsCommand, IsParsed, IsReading, beside, flag};
-ghost use Rattle.irig_guard.specs.Options.{moving, the_command};
+ghost use Rattle.irig_guard.specs.Options.{IsCommand, IsJudging, IsParsed, IsReading};
+ghost use Rattle.irig_guard.specs.Options.{beside, flag, moving, the_command};
 ghost use Rattle.irig_guard.specs.Settings.{AreValues, Reads, Values, all_values, paths};
 ghost use Rattle.irig_words.specs.Arguments.{option};
 ghost use Rattle.irig_words.specs.Errors.{IsMistake, MayRefuse, WantsMemory};
@@ -103,12 +103,14 @@ fn command<'a>(alloc: Global) -> Result<Command<'a>, AllocError>
 {
     let out = option_arg(alloc, "out", "PATH", "where the mended track is written");
     let track = needed_arg(alloc, "TRACK", "the dump; repairs come on standard input");
-    reading(alloc)?
-        .arg(moved_arg(alloc))?
-        .arg(with_arg(alloc))?
-        .arg(out)?
-        .arg(save_arg(alloc))?
-        .arg(track)
+    judging(alloc)?.arg(out)?.arg(save_arg(alloc))?.arg(track)
+}
+
+/// Its options that say how the track is read, and by what repairs are judged besides.
+fn judging<'a>(alloc: Global) -> Result<Command<'a>, AllocError>
+    ensures { IfOk result (λ c. IsJudging (app_of c)) }
+{
+    reading(alloc)?.arg(moved_arg(alloc))?.arg(with_arg(alloc))
 }
 
 /// Its options that say how the track is read.

@@ -10,8 +10,8 @@ use irig_codes::{Format, kind_named};
 
 /// What the values of a command line ask for.
 pub fn settings_of<'a>(asked: Asked<'a>) -> Result<Settings<'a>, OptionFault>
-    ensures chosen { IfOk result (IsChosen asked) }
-    ensures fault { IfErr result (HasFault asked) }
+    ensures chosen { IfOk result (IsChosen asked.entry) }
+    ensures fault { IfErr result (HasFault asked.entry) }
 {
     let format = match format_of(&asked) {
         Ok(format) => format,

@@ -37,8 +37,10 @@ pub fn over_other<'a, D: Disk>(
     };
     for place in 0..chosen.others.len() {
         let path = chosen.others[place];
-        if disk.is_same(path, out)? {
-            return Ok(Some(path));
+        match disk.is_same(path, out) {
+            Ok(true) => return Ok(Some(path)),
+            Ok(false) => {}
+            Err(fault) => return Err(fault),
         }
     }
     Ok(None)
@@ -59,8 +61,9 @@ pub fn frames_of_others<'a, D: Disk>(
     let mut shown = Vec::new(alloc);
     for place in 0..chosen.others.len() {
         let path = chosen.others[place];
-        if let Err(why) = add_frames_of(alloc, path, chosen.format, disk, &mut shown) {
-            return Err((path, why));
+        match add_frames_of(alloc, path, chosen.format, disk, &mut shown) {
+            Ok(()) => {}
+            Err(why) => return Err((path, why)),
         }
     }
     Ok(shown)

@@ -26,4 +26,4 @@ pub returns-in-Err-Words : goal.returns-in-Err-Words
 returns-in-Err-Words g c = (search rules, (refl, (λ to told. goes_nowhere _ _ (g.met.D.Disk.only_now _))))
 
 pub returns-in-Err-Value : goal.returns-in-Err-Value
-returns-in-Err-Value g c = (search rules, (refl, (λ to told. goes_nowhere _ _ (g.met.D.Disk.only_now _))))
+returns-in-Err-Value g c = (c.in-Err-Value.ensures, (refl, (λ to told. goes_nowhere _ _ (g.met.D.Disk.only_now _))))

@@ -4,7 +4,7 @@ use Rattle.irig_files.proofs.Apart.{stays_here}
 use Rattle.irig_guard.proofs.file_run.run_apart.Goals as goal
 
 pub returns-in-Ok-false-clause-obeyed : goal.returns-in-Ok-false-clause-obeyed
-returns-in-Ok-false-clause-obeyed g c = λ source is whole. (refl, (source, whole, c.run_on_read-result.ensures.ran source is))
+returns-in-Ok-false-clause-obeyed g c = λ source is whole. c.run_beside.ensures.obeyed source is whole
 
 pub returns-in-Ok-true-clause-obeyed : goal.returns-in-Ok-true-clause-obeyed
 returns-in-Ok-true-clause-obeyed g c = λ source is whole.
