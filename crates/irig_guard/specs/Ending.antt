@@ -5,6 +5,7 @@ use Rattle.std.specs.Prelude.{length, true}
 use Rattle.clap.specs.Words.{Text}
 use Rattle.irig_files.specs.declared.dump_file.DumpFileFault.TheVariants.{TooLong}
 use Rattle.irig_guard.specs.declared.chosen.Settings.{Settings}
+use Rattle.irig_guard.specs.declared.command_line.UsageFault.{UsageFault}
 use Rattle.irig_guard.specs.declared.command_line.UsageFault.TheVariants.{Words, Value as of_value}
 use Rattle.irig_guard.specs.declared.ending.Ending.TheVariants.{Usage, Value, Unread, Over, Unknown}
 use Rattle.irig_guard.specs.declared.ending.Ending.TheVariants.{OverOther, Ran, Unheard}
@@ -48,6 +49,11 @@ pub record Follows (words : List Text) (given : Files) (old new : Ends) (ending 
   pub reads : Reads words (Ok chosen)
   pub obeyed : Obeys given old new chosen ending
   pub stays : (path : List ℕ) → IsRead chosen path → given.spared path
+
+-- the end of words that have no settings
+abbrev pub IsEndOf : UsageFault → Ending → Type 0
+IsEndOf (Words error) ending = ending ≡ Usage error
+IsEndOf (of_value fault) ending = ending ≡ Value fault
 
 -- they were obeyed, or the words have no settings
 abbrev pub EndsBy : List Text → Files → Ends → Ends → Ending → Type 0

@@ -3,7 +3,8 @@
 ghost use Rattle.std.specs.Prelude.{◌≡◌, ℕ, [], IfOk, IfSome, IsTrue, List, false, is_some, map};
 ghost use Rattle.std.specs.Prelude.{option_map, string_bytes, true};
 ghost use Rattle.irig_vcd.specs.{Answer.Gives, Answer.name_of, Parts.dump_parts};
-ghost use Rattle.irig_guard.specs.{Ending.EndsBy, Ending.Obeys, RunsBy.RunsBy};
+ghost use Rattle.irig_guard.specs.Ending.{EndsBy, IsEndOf, Obeys};
+ghost use Rattle.irig_guard.specs.RunsBy.{RunsBy};
 ghost use Rattle.irig_guard.specs.Given.{AreOthersApart, AreSpared, IsApart, ends, files};
 ghost use Rattle.irig_guard.specs.Given.{place_of, product_of};
 ghost use Rattle.irig_guard.specs.{Others.ShowsAll, Settings.paths};
@@ -39,8 +40,17 @@ pub fn obey_words<'a, D: Disk, R: Read, W: Write>(
 {
     match settings(alloc, words) {
         Ok(chosen) => run_on_track(alloc, &chosen, disk, script, out),
-        Err(UsageFault::Words(error)) => Ending::Usage(error),
-        Err(UsageFault::Value(fault)) => Ending::Value(fault),
+        Err(fault) => end_of(fault),
+    }
+}
+
+/// The end of a command line that asks for nothing.
+fn end_of<'a>(fault: UsageFault) -> Ending<'a>
+    ensures { IsEndOf fault.entry result }
+{
+    match fault {
+        UsageFault::Words(error) => Ending::Usage(error),
+        UsageFault::Value(fault) => Ending::Value(fault),
     }
 }
 

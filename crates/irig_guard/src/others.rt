@@ -35,8 +35,9 @@ pub fn over_other<'a, D: Disk>(
     let Some(out) = chosen.out else {
         return Ok(None);
     };
-    for place in 0..chosen.others.len() {
-        let path = chosen.others[place];
+    let others = chosen.others.as_slice();
+    for place in 0..others.len() {
+        let path = others[place];
         match disk.is_same(path, out) {
             Ok(true) => return Ok(Some(path)),
             Ok(false) => {}
@@ -59,8 +60,9 @@ pub fn frames_of_others<'a, D: Disk>(
         × IsUnheard (D.held disk.now e.0.now) e.1) }
 {
     let mut shown = Vec::new(alloc);
-    for place in 0..chosen.others.len() {
-        let path = chosen.others[place];
+    let others = chosen.others.as_slice();
+    for place in 0..others.len() {
+        let path = others[place];
         match add_frames_of(alloc, path, chosen.format, disk, &mut shown) {
             Ok(()) => {}
             Err(why) => return Err((path, why)),

@@ -1,5 +1,6 @@
-use Rattle.std.proofs.Common.{◌≡◌, arith, rules}
-use Rattle.std.proofs.lemmas.Option.{slice_get_read}
+use Rattle.std.proofs.Common.{◌≡◌, ◌∙◌, ℕ, List, ap, arith, length, rules, slice_get, sym}
+use Rattle.std.proofs.lemmas.Option.{slice_get-get_or}
+use denote.Ref.{Bor}
 use Rattle.irig_guard.proofs.OtherLemmas.{path_at, shows_all, shows_more, shows_none}
 use Rattle.irig_guard.proofs.others.frames_of_others.Goals as goal
 
@@ -10,23 +11,24 @@ loop-place-init g c =
 pub loop-place-preserved : goal.loop-place-preserved
 loop-place-preserved g c =
     shows_more (g.D.Disk.held c.args.disk.now) c.args.chosen.now.format c.args.chosen.now.others.items c.loop-place.shown.items
-    c.add_frames_of.new.shown.items c.loop-place.place c.index-path.result.now
-    (slice_get_read c.args.chosen.now.others.items _ c.loop-place.place c.index-path.result.now c.len-place-end.ensures c.loop-place-test.true
-    c.index-path.ensures)
+    c.add_frames_of.new.shown.items c.loop-place.place _
+    (ap (λ (l : List (Bor (List ℕ))). slice_get l c.loop-place.place) (sym c.as_slice-others.ensures.value)
+    ∙ slice_get-get_or c.as_slice-others.result.now c.loop-place.place _ c.loop-place-test.true)
     c.in-Ok.ensures.added c.loop-place.invariant
 
 pub returns-in-Err-clause-unheard : goal.returns-in-Err-clause-unheard
 returns-in-Err-clause-unheard g c = (
   (
     c.loop-place.place,
-    path_at c.args.chosen.now.others.items c.loop-place.place c.index-path.result.now
-        (slice_get_read c.args.chosen.now.others.items _ c.loop-place.place c.index-path.result.now c.len-place-end.ensures c.loop-place-test.true
-        c.index-path.ensures),
+    path_at c.args.chosen.now.others.items c.loop-place.place _
+        (ap (λ (l : List (Bor (List ℕ))). slice_get l c.loop-place.place) (sym c.as_slice-others.ensures.value)
+        ∙ slice_get-get_or c.as_slice-others.result.now c.loop-place.place _ c.loop-place-test.true),
   ),
   c.in-Err.ensures.unheard,
 )
 
 pub returns-clause-shown : goal.returns-clause-shown
 returns-clause-shown g c =
+    let long : length c.as_slice-others.result.now ≡ length c.args.chosen.now.others.items = ap length c.as_slice-others.ensures.value in
     shows_all (g.D.Disk.held c.args.disk.now) c.args.chosen.now.format c.args.chosen.now.others.items c.loop-place.shown.items c.loop-place.place
-    (omega (arith, c.loop-place-test.false, c.len-place-end.ensures)) c.loop-place.invariant
+    (omega (arith, c.loop-place-test.false, long)) c.loop-place.invariant
