@@ -1,11 +1,12 @@
 -- Writes one after another.
-use Rattle.std.proofs.Common.{◌≡◌, ◌≢◌, ◌⊎◌, inl, inr, ⊎_elim, refl, sym, ◌∙◌, ap, subst, arith, ℕ}
+use Rattle.std.proofs.Common.{Bool, ◌≡◌, ◌≢◌, ◌⊎◌, inl, inr, ⊎_elim, refl, sym, ◌∙◌, ap, subst, arith, ℕ}
 use Rattle.std.proofs.Common.{List, [], ◌∷◌, ◌++◌, append_assoc, Option, Some, None, ◌≤◌}
 use Rattle.std.proofs.lemmas.List.{append-nil}
 use Rattle.irig_disk.specs.Trail.{Step, Moved, NotMoved, Synced}
 use Rattle.irig_disk.specs.{Disk.Disk, Disk.MayLeave, Held.Held}
 use Rattle.irig_files.specs.Writes.{AreAt, EachIsKept, Goes, IsKeptIfDone, IsLeftBy, IsMeant, Write}
-use Rattle.irig_files.specs.Writes.{kept_by, write, writes_in}
+use Rattle.irig_files.specs.Writes.{LeavesTo, kept_by, write, writes_in}
+use Rattle.irig_files.specs.Taken.{HasFile, StaysBarred}
 
 kept_by_more : (xs ys : List Step) → kept_by ys ≡ None → kept_by (xs ++ ys) ≡ kept_by xs
 kept_by_more [] ys none = none
@@ -116,3 +117,18 @@ pub goes_by_both : (a b c : Disk) (path path' : List ℕ) → path' ≡ path →
 goes_by_both a b c path path' same ab bc =
     let target : b.paths path' ≡ a.paths path = ap b.paths same ∙ ap (λ ps. ps path) ab.paths in
     goes_on a b c (a.paths path) ab (subst (Goes b c) target bc)
+
+-- nothing was done, and what must not be written is still there
+pub leaves_nowhere : (told : Bool) (barred : ℕ → Type 0) (at : Disk) (path : List ℕ)
+    → ((n : List ℕ) (c : Option Held) → at.left_since at.moment n c → MayLeave at n c)
+    → LeavesTo told barred barred at at path
+leaves_nowhere told barred at path now =
+    ((λ is_told. goes_nowhere at (at.paths path) now), (λ is_told has. (refl, has)))
+
+-- what must not be written stays each time
+pub barred_by_both : (p q r : ℕ → Type 0) (a b c : Disk) (path path' : List ℕ) → path' ≡ path
+    → StaysBarred p q a b path → StaysBarred q r b c path' → StaysBarred p r a c path
+barred_by_both p q r a b c path path' same ab bc has =
+    let mid = ab has in
+    let end = bc (subst (λ to. HasFile q b (b.paths to)) (sym same) mid.1) in
+    (end.0 ∙ mid.0, subst (λ to. HasFile r c (c.paths to)) same end.1)

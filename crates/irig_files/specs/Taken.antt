@@ -43,6 +43,11 @@ abbrev pub HasFile : (ℕ → Type 0) → Disk → Option (List ℕ) → Type 0
 HasFile is_such disk None = ⊥
 HasFile is_such disk (Some place) = (file : ℕ) × (disk.leads place ≡ Some file) × is_such file
 
+-- if such a file is where a path leads, no write is tried, and such a file is still there
+abbrev pub StaysBarred : (ℕ → Type 0) → (ℕ → Type 0) → Disk → Disk → List ℕ → Type 0
+StaysBarred barred barred_new old new path = HasFile barred old (old.paths path)
+    → (new.log ≡ old.log) × HasFile barred_new new (new.paths path)
+
 -- it must not be written
 abbrev pub IsLocked : (ℕ → Type 0) → ℕ → Type 0
 IsLocked may_write file = may_write file → ⊥

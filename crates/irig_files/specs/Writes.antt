@@ -3,6 +3,7 @@ use Rattle.std.specs.Prelude.{◌≡◌, ◌≢◌, ◌⊎◌, ◌≤◌, ◌++�
 use Rattle.std.specs.Prelude.{Some, None}
 use Rattle.irig_disk.specs.Trail.{Step, Moved, NotMoved, Synced}
 use Rattle.irig_disk.specs.{Disk.Disk, Disk.MayLeave, Held.Held}
+use Rattle.irig_files.specs.Taken.{StaysBarred}
 
 -- a write that was tried: its place, what it was to leave there, and the moment at which it had
 -- succeeded, if it did
@@ -91,3 +92,8 @@ pub record Goes (old new : Disk) (target : Option (List ℕ)) : Type 0 where
 -- so it was from one state to another, to where the path leads, if the contracts give it
 abbrev pub GoesTo : Bool → Disk → Disk → List ℕ → Type 0
 GoesTo told old new path = IsTrue told → Goes old new (old.paths path)
+
+-- and a file at its place that must not be written stays
+abbrev pub LeavesTo : Bool → (ℕ → Type 0) → (ℕ → Type 0) → Disk → Disk → List ℕ → Type 0
+LeavesTo told barred barred_new old new path =
+    GoesTo told old new path × (IsTrue told → StaysBarred barred barred_new old new path)

@@ -5,7 +5,7 @@ ghost use Rattle.std.specs.Prelude.{IsErr, IsErrOf, IsTrue, false, length, true}
 ghost use Rattle.irig_vcd.specs.Answer.{name_of};
 ghost use Rattle.irig_disk.specs.{Disk.Disk, Disk.MayLeave, Held.Held, Writing.IsUnchanged};
 ghost use Rattle.irig_files.specs.{Once.PutsText, Puts.count_of, Reads.IsReadIn, Reads.IsReadOf};
-ghost use Rattle.irig_files.specs.{Apart.AreApart, Apart.LeadToOneFile, Taken.HasFile};
+ghost use Rattle.irig_files.specs.{Apart.AreApart, Apart.LeadToOneFile, Taken.HasFile, Taken.StaysBarred};
 
 use crate::dump_file::DumpFileFault;
 use crate::intake::Parts;
@@ -75,7 +75,9 @@ pub trait Disk {
             ((disk self.old).paths path.now) (T.rest text.old) result }
         ensures barred { IsTrue is_told → HasFile (is_barred self.old) (disk self.old)
             ((disk self.old).paths path.now)
-            → IsErr result × IsUnchanged (disk self.old) (disk self.new) };
+            → IsErr result × IsUnchanged (disk self.old) (disk self.new) }
+        ensures still { IsTrue is_told → StaysBarred (is_barred self.old) (is_barred self.new)
+            (disk self.old) (disk self.new) path.now };
 
     /// Whether two paths lead to one regular file.
     fn is_same(&self, one: &str, other: &str) -> Result<bool, ShelfFault>

@@ -3,8 +3,8 @@
 ghost use Rattle.std.specs.Prelude.{◌≡◌, ◌∷◌, IsTrue, refl};
 ghost use Rattle.std.proofs.Common.{◌∙◌};
 ghost use Rattle.irig_text.specs.Shelved.{shelved};
-ghost use Rattle.irig_files.specs.Going.{goes_by_both, goes_nowhere};
-ghost use Rattle.irig_files.specs.{Puts.texts_at, Puts.writes_on, Writes.Goes};
+ghost use Rattle.irig_files.specs.Going.{barred_by_both, goes_by_both, goes_nowhere};
+ghost use Rattle.irig_files.specs.{Puts.texts_at, Puts.writes_on, Taken.StaysBarred, Writes.Goes};
 
 use crate::disk::Disk;
 use crate::room::Room;
@@ -41,23 +41,31 @@ impl<'d, 'p, D: Disk> Shelf for FileShelf<'d, 'p, D> {
     ghost known = { λ s. shelved (texts_at ((D.disk s.disk.now).paths s.path.now)
         (writes_on D.is_told (D.disk s.disk.now))) s.failures (s.disk.ghost_name ∷ s.path.now) };
 
-    /// Whole texts were written, one after another.
-    ghost since = { λ old new. (new.path.now ≡ old.path.now) × (IsTrue D.is_told
+    /// Whole texts were written, one after another; none if the file there must not be written.
+    ghost since = { λ old new. ((new.path.now ≡ old.path.now) × (IsTrue D.is_told
+        → StaysBarred (D.is_barred old.disk.now) (D.is_barred new.disk.now)
+        (D.disk old.disk.now) (D.disk new.disk.now) old.path.now)) × (IsTrue D.is_told
         → Goes (D.disk old.disk.now) (D.disk new.disk.now)
         ((D.disk old.disk.now).paths old.path.now)) };
 
     ghost since_now = { λ s. (
-      refl,
+      (refl, λ told has. (refl, has)),
       λ told. goes_nowhere (D.disk s.disk.now)
           ((D.disk s.disk.now).paths s.path.now)
           (D.only_now s.disk.now),
     ) };
 
     ghost since_then = { λ old mid new first then. (
-      then.0 ∙ first.0,
+      (
+        then.0.0 ∙ first.0.0,
+        λ told. barred_by_both
+            (D.is_barred old.disk.now) (D.is_barred mid.disk.now) (D.is_barred new.disk.now)
+            (D.disk old.disk.now) (D.disk mid.disk.now) (D.disk new.disk.now) old.path.now
+            mid.path.now first.0.0 (first.0.1 told) (then.0.1 told),
+      ),
       λ told. goes_by_both
           (D.disk old.disk.now) (D.disk mid.disk.now) (D.disk new.disk.now) old.path.now
-          mid.path.now first.0 (first.1 told) (then.1 told),
+          mid.path.now first.0.0 (first.1 told) (then.1 told),
     ) };
 
     fn put<T: Text>(&mut self, text: &mut T) -> Result<u64, ShelfFault> {

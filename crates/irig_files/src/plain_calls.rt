@@ -16,14 +16,18 @@ pub trait PlainCalls: Folder {
     /// What is no regular file, open to be written.
     type Other: Write + Drop;
 
+    /// What the program's answers go to, open to be written.
+    type Output: Write + Drop;
+
     /// The number of a file that is open to be described.
     ghost seen_number: { Self.Seen → ℕ };
 
     /// A file may be written.
     ghost may_write: { Self → ℕ → Type 0 };
 
-    /// Writes to where the program's answers go.
-    fn write_output(&self, bytes: &[u8]) -> Result<(), Self::Fault>;
+    /// Opens what the program's answers go to, for a path that leads there.
+    fn open_output(&self, path: &str) -> Self::Output
+        requires { IsTrue Self.is_told → (Self.disk self.now).paths path.now ≡ None };
 
     /// Opens what is no regular file, to write to it.
     fn open_other(&self, path: &str) -> Result<Self::Other, Self::Fault>

@@ -6,7 +6,7 @@ ghost use Rattle.std.specs.Path.{path_buf_bytes};
 ghost use Rattle.irig_disk.specs.Writing.{IsUnchanged};
 ghost use Rattle.irig_files.specs.Paths.{LeadsTo, folder_of};
 ghost use Rattle.irig_files.specs.{Once.PutsText, Puts.count_of, Taken.HasFile, Taken.IsLocked};
-ghost use Rattle.irig_files.specs.Taken.{Takes};
+ghost use Rattle.irig_files.specs.Taken.{StaysBarred, Takes};
 
 use crate::file_system::FileSystem;
 use crate::in_place::write_in_place;
@@ -16,8 +16,7 @@ use crate::whole::write_whole;
 use crate::written::Written;
 use irig_disk::{Kept, is_name};
 use irig_text::{ShelfFault, Text};
-use std::io;
-use std::io::{ErrorKind, Write};
+use std::io::Write;
 use std::path::Path;
 
 /// Writes a text to a file: a regular one, or none yet, is replaced; any other is written.
@@ -35,31 +34,14 @@ pub fn put_file<C: FileSystem, T: Text>(
     ensures locked { IsTrue C.is_told → HasFile (IsLocked (C.may_write system.old))
         (C.disk system.old) ((C.disk system.old).paths path.now)
         → IsErr result × IsUnchanged (C.disk system.old) (C.disk system.new) }
+    ensures still { IsTrue C.is_told → StaysBarred (IsLocked (C.may_write system.old))
+        (IsLocked (C.may_write system.new)) (C.disk system.old) (C.disk system.new) path.now }
 {
     match way_to(system, path, &mut room.target) {
         Ok(Way::Replaced(mode)) => replace(system, dir, mode, text, room),
-        Ok(Way::Output) => in_place(&mut Answers { system }, text, &mut room.block),
+        Ok(Way::Output) => in_place(&mut system.open_output(path), text, &mut room.block),
         Ok(Way::Other) => put_other(system, path, text, &mut room.block),
         Err(fault) => Err(fault),
-    }
-}
-
-/// Where the program's answers go.
-#[derive(Drop)]
-struct Answers<'s, C: FileSystem> {
-    system: &'s C,
-}
-
-impl<C: FileSystem> Write for Answers<'_, C> {
-    fn write(&mut self, bytes: &[u8]) -> io::Result<usize> {
-        match self.system.write_output(bytes) {
-            Ok(()) => Ok(bytes.len()),
-            Err(_) => Err(io::Error::from(ErrorKind::Other)),
-        }
-    }
-
-    fn flush(&mut self) -> io::Result<()> {
-        Ok(())
     }
 }
 

@@ -1,6 +1,7 @@
 //! The files of the system: each method is one call. Nothing is known of them.
 
-ghost use Rattle.std.specs.Prelude.{None, ⊤};
+ghost use Rattle.std.specs.Prelude.{◌≡◌, ◌↔◌, IfErr, IfOk, IsOk, IsTrue, None, Ok, OnErr, Some, ⊤};
+ghost use Rattle.std.specs.{Fs.IsFile, Fs.file_type, IoError.error_kind};
 ghost use Rattle.std.proofs.Common.{ap};
 
 use crate::described::Described;
@@ -12,7 +13,7 @@ use irig_disk::{SystemDir, SystemFault, SystemFolder};
 use irig_vcd::{VcdFault, Window};
 use std::alloc::Global;
 use std::fs::{Metadata, OpenFile, OpenOptions};
-use std::io::{ErrorKind, Write};
+use std::io::{ErrorKind, Printer};
 use std::os::unix::fs::{MetadataExt, PermissionsExt};
 use std::path::PathBuf;
 use std::rt::Files;
@@ -22,20 +23,19 @@ use std::{fs, io};
 #[derive(Drop)]
 pub struct SystemSeen<F: Drop>(F);
 
-impl<R: Files + Print + AllocGlobal> PlainCalls for SystemFolder<'_, R> {
+impl<'a, R: Files + Print + AllocGlobal> PlainCalls for SystemFolder<'a, R> {
     type Seen = SystemSeen<R::File>;
 
     type Other = R::File;
+
+    type Output = Printer<'a, R>;
 
     ghost seen_number = { λ _. 0 };
 
     ghost may_write = { λ _ _. ⊤ };
 
-    fn write_output(&self, bytes: &[u8]) -> Result<(), SystemFault> {
-        match io::writer(self.runtime()).write_all(bytes) {
-            Ok(()) => Ok(()),
-            Err(error) => Err(SystemFault(error)),
-        }
+    fn open_output(&self, _: &str) -> Printer<'a, R> {
+        io::writer(self.runtime())
     }
 
     fn open_other(&self, path: &str) -> Result<R::File, SystemFault> {
@@ -97,11 +97,7 @@ impl<R: Files + Print + AllocGlobal> FileSystem for SystemFolder<'_, R> {
     }
 
     fn describe(&self, path: &str) -> Result<Option<Described>, SystemFault> {
-        match fs::metadata(self.runtime(), path) {
-            Ok(found) => Ok(Some(described(&found))),
-            Err(error) if error.kind() == ErrorKind::NotFound => Ok(None),
-            Err(error) => Err(SystemFault(error)),
-        }
+        found(fs::metadata(self.runtime(), path))
     }
 
     fn output(&self) -> Result<Option<(u64, u64)>, SystemFault> {
@@ -127,8 +123,26 @@ impl<R: Files + Print + AllocGlobal> FileSystem for SystemFolder<'_, R> {
     }
 }
 
+/// What a path leads to, by what the system says of it; none only if it says that nothing is there.
+/// It is a function for its clauses: of this system those of `FileSystem` say nothing.
+fn found(said: io::Result<Metadata>) -> Result<Option<Described>, SystemFault>
+    ensures some { IfOk said (λ found. (d : Described) × (result ≡ Ok (Some d))
+        × (IsTrue d.is_file ↔ IsFile (file_type found))) }
+    ensures none { IfErr said (λ error. IsOk result
+        ↔ (error_kind error ≡ ErrorKind.NotFound)) }
+    ensures nothing { OnErr said (IfOk result (λ there. there ≡ None)) }
+{
+    match said {
+        Ok(found) => Ok(Some(described(&found))),
+        Err(fault) if fault.kind() == ErrorKind::NotFound => Ok(None),
+        Err(fault) => Err(SystemFault(fault)),
+    }
+}
+
 /// What the system says of a file.
-fn described(found: &Metadata) -> Described {
+fn described(found: &Metadata) -> Described
+    ensures { IsTrue result.is_file ↔ IsFile (file_type found.now) }
+{
     Described {
         is_file: found.is_file(),
         mode: found.permissions().mode(),

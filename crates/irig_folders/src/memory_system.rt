@@ -38,12 +38,14 @@ impl PlainCalls for Memory {
 
     type Other = Nothing;
 
+    type Output = Nothing;
+
     ghost seen_number = { λ file. file.number };
 
     ghost may_write = { λ _ _. ⊤ };
 
-    fn write_output(&self, _: &[u8]) -> Result<(), MemoryFault> {
-        Err(MemoryFault::NoSuchName)
+    fn open_output(&self, _: &str) -> Nothing {
+        Nothing
     }
 
     fn open_other(&self, _: &str) -> Result<Nothing, MemoryFault> {

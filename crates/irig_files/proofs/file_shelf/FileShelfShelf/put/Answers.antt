@@ -18,14 +18,14 @@ returns-in-Err-clause-err g c = record {
 
 pub returns-in-Ok-clause-since : goal.returns-in-Ok-clause-since
 returns-in-Ok-clause-since g c = (
-  refl,
+  (refl, c.put.ensures.still),
   λ told.
       goes_once _ _ _ c.args.self.now.path.now _ c.put.result (g.met.D.Disk.counts_now _) (g.met.D.Disk.only_now _) (g.met.D.Disk.only_now _) refl (c.put.ensures.put told),
 )
 
 pub returns-in-Err-clause-since : goal.returns-in-Err-clause-since
 returns-in-Err-clause-since g c = (
-  refl,
+  (refl, c.put.ensures.still),
   λ told.
       goes_once _ _ _ c.args.self.now.path.now _ c.put.result (g.met.D.Disk.counts_now _) (g.met.D.Disk.only_now _) (g.met.D.Disk.only_now _) refl (c.put.ensures.put told),
 )
