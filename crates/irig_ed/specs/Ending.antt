@@ -11,7 +11,7 @@ use Rattle.irig_settings.specs.{Settings.Reads, declared.chosen.Settings.Setting
 use Rattle.irig_files.specs.declared.dump_file.DumpFileFault.TheVariants.{CannotBeRead, TooLong}
 use Rattle.irig_files.specs.{Puts.texts_at, Writes.Write}
 use Rattle.irig_ed.specs.declared.ending.Ending.TheVariants.{Usage, Unread, Ran}
-use Rattle.irig_ed.specs.{Shortage.IsShortOnly, Statuses.HasStatus, declared.ending.Ending.Ending}
+use Rattle.irig_ed.specs.{Shortage.IsShortOnly, Statuses.Reports, declared.ending.Ending.Ending}
 
 -- what is known of the ends of the program: what was printed and what a witness saw, what was
 -- written, and what is left of the script
@@ -71,9 +71,10 @@ EndsBy words given old new (Usage fault) =
 EndsBy words given old new ending =
     (chosen : Settings) × Reads words (Ok chosen) × Obeys given old new chosen ending
 
--- the words were obeyed, and the status of the process is the one of how that ended
+-- the words were obeyed; of how that ended is the status of the process, and what came to the
+-- output of help
 pub record Serves (words : List Text) (given : Files) (old new : Ends)
-    (status : ℕ) : Type 0 where
+    (help helped : Option (List ℕ)) (status : ℕ) : Type 0 where
   pub ending : Ending
   pub obeyed : EndsBy words given old new ending
-  pub told : HasStatus ending status
+  pub told : Reports ending help helped status

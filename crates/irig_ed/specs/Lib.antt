@@ -1,3 +1,4 @@
 pub mod Ending
+pub mod Help
 pub mod Statuses
 pub mod Shortage

@@ -4,7 +4,7 @@ ghost use Rattle.std.specs.Prelude.{◌≡◌, ℕ, List, map, option_map, strin
 ghost use Rattle.irig_vcd.specs.{Answer.Gives, Answer.name_of, Parts.dump_parts};
 ghost use Rattle.irig_ed.specs.Ending.{RunsBy, EndsBy, Obeys, ends, files};
 ghost use Rattle.irig_files.specs.Reads.{HasFewBytes, parts_of};
-ghost use Rattle.irig_files.specs.{Puts.writes_on, Writes.GoesTo};
+ghost use Rattle.irig_files.specs.{Puts.writes_on, Writes.LeavesTo};
 
 use crate::ending::Ending;
 use irig_files::{Disk, DumpFileFault, FileShelf, Parts, Room};
@@ -25,7 +25,8 @@ pub fn obey_words<'a, D: Disk, R: Read, W: Write, N: Witness>(
 ) -> Ending<'a>
     ensures { EndsBy (map string_bytes words.entry.now)
         (files (D.held disk.old) (D.unread disk.old) (D.disk disk.old).paths
-        (GoesTo D.is_told (D.disk disk.old) (D.disk disk.new)))
+        (LeavesTo D.is_told (D.is_barred disk.old) (D.is_barred disk.new)
+        (D.disk disk.old) (D.disk disk.new)))
         (ends screen.old (writes_on D.is_told (D.disk disk.old)) (R.remaining script.old))
         (ends screen.new (writes_on D.is_told (D.disk disk.new)) (R.remaining script.new)) result }
 {
@@ -45,7 +46,8 @@ fn run_on_track<'a, D: Disk, R: Read, W: Write, N: Witness>(
     screen: &mut Screen<W, N>,
 ) -> Ending<'a>
     ensures { Obeys (files (D.held disk.old) (D.unread disk.old) (D.disk disk.old).paths
-        (GoesTo D.is_told (D.disk disk.old) (D.disk disk.new)))
+        (LeavesTo D.is_told (D.is_barred disk.old) (D.is_barred disk.new)
+        (D.disk disk.old) (D.disk disk.new)))
         (ends screen.old (writes_on D.is_told (D.disk disk.old)) (R.remaining script.old))
         (ends screen.new (writes_on D.is_told (D.disk disk.new)) (R.remaining script.new))
         chosen.now result }
@@ -66,7 +68,8 @@ fn run_with_room<'a, D: Disk, R: Read, W: Write, N: Witness>(
     screen: &mut Screen<W, N>,
 ) -> Ending<'a>
     ensures { Obeys (files (D.held disk.old) (D.unread disk.old) (D.disk disk.old).paths
-        (GoesTo D.is_told (D.disk disk.old) (D.disk disk.new)))
+        (LeavesTo D.is_told (D.is_barred disk.old) (D.is_barred disk.new)
+        (D.disk disk.old) (D.disk disk.new)))
         (ends screen.old (writes_on D.is_told (D.disk disk.old)) (R.remaining script.old))
         (ends screen.new (writes_on D.is_told (D.disk disk.new)) (R.remaining script.new))
         chosen.now result }
@@ -95,7 +98,8 @@ fn run_on_read<D: Disk, R: Read, W: Write, N: Witness>(
     ensures { (source : List ℕ)
         → Gives parts_of read (dump_parts (option_map (λ w. w.now) chosen.now.wire) source)
         → RunsBy (files (D.held disk.old) (D.unread disk.old) (D.disk disk.old).paths
-        (GoesTo D.is_told (D.disk disk.old) (D.disk disk.new)))
+        (LeavesTo D.is_told (D.is_barred disk.old) (D.is_barred disk.new)
+        (D.disk disk.old) (D.disk disk.new)))
         chosen.now source
         (ends screen.old (writes_on D.is_told (D.disk disk.old)) (R.remaining script.old))
         (ends screen.new (writes_on D.is_told (D.disk disk.new)) (R.remaining script.new)) result }

@@ -3,18 +3,19 @@
 
 mod ending;
 mod file_run;
+mod help;
 mod statuses;
 
 ghost use Rattle.std.specs.Prelude.{◌≡◌, IfOk, OnErr, map, string_bytes};
 ghost use Rattle.std.specs.Process.{exit_status};
-ghost use Rattle.irig_ed.specs.Ending.{Serves, ends, files};
-ghost use Rattle.irig_files.specs.{Puts.writes_on, Writes.GoesTo};
+ghost use Rattle.irig_ed.specs.{Ending.Serves, Ending.ends, Ending.files, Statuses.EndsWith};
+ghost use Rattle.irig_files.specs.{Puts.writes_on, Taken.IsLocked, Writes.LeavesTo};
 
 use file_run::obey_words;
 use irig_files::{FileSystem, Files, system_files};
 use irig_script::{NoWitness, Screen, Witness};
 use irig_settings::not_text;
-use statuses::{explain, report, tell};
+use statuses::{report, tell, tell_mistake};
 use std::io::{Read, Write};
 use std::process::ExitCode;
 use std::rt::Runtime;
@@ -30,15 +31,16 @@ fn main(rt: HostRuntime) -> ExitCode {
         &mut files,
         &mut rt.reader(),
         &mut Screen::new(io::writer(&rt), NoWitness),
+        &mut io::writer(&rt),
     )
 }
 
 /// Says why there are no words.
-fn tell_no_words<R: Print + Eprint + AllocGlobal>(rt: &R, error: &io::Error) -> ExitCode
+fn tell_no_words<R: Eprint + AllocGlobal>(rt: &R, error: &io::Error) -> ExitCode
     ensures { exit_status result ≡ 2 }
 {
     if error.kind() == io::ErrorKind::InvalidData {
-        explain(rt, &not_text(rt.alloc()))
+        tell_mistake(rt, &not_text(rt.alloc()))
     } else {
         tell(rt, error)
     }
@@ -51,52 +53,60 @@ fn arguments<R: Runtime + AllocGlobal>(rt: &R) -> io::Result<Vec<String>> {
 }
 
 /// Edits the track that the words name, if there are words. `main` ends with its status.
-fn serve<P: Print + Eprint + AllocGlobal, C: FileSystem, R: Read, W: Write, N: Witness>(
+fn serve<P: Eprint + AllocGlobal, C: FileSystem, R: Read, W: Write, N: Witness, H: Write>(
     rt: &P,
     words: io::Result<Vec<String>>,
     disk: &mut Files<C>,
     script: &mut R,
     screen: &mut Screen<W, N>,
+    help: &mut H,
 ) -> ExitCode
     ensures served { IfOk words (λ given. Serves (map string_bytes given.items)
         (files (C.held disk.old.system) (C.unread disk.old.system)
         (C.disk disk.old.system).paths
-        (GoesTo C.is_told (C.disk disk.old.system) (C.disk disk.new.system)))
+        (LeavesTo C.is_told (IsLocked (C.may_write disk.old.system))
+        (IsLocked (C.may_write disk.new.system))
+        (C.disk disk.old.system) (C.disk disk.new.system)))
         (ends screen.old (writes_on C.is_told (C.disk disk.old.system))
         (R.remaining script.old))
         (ends screen.new (writes_on C.is_told (C.disk disk.new.system))
         (R.remaining script.new))
+        (H.contents help.old) (H.contents help.new) (exit_status result)) }
+    ensures wordless { OnErr words (EndsWith 2 (H.contents help.old) (H.contents help.new)
         (exit_status result)) }
-    ensures wordless { OnErr words (exit_status result ≡ 2) }
 {
     match words {
-        Ok(words) => start(rt, words.as_slice(), disk, script, screen),
+        Ok(words) => start(rt, words.as_slice(), disk, script, screen, help),
         Err(error) => tell_no_words(rt, &error),
     }
 }
 
 /// Edits the track that the words name, by the files of this system, this script and this screen,
 /// and reports how that ended.
-fn start<P: Print + Eprint + AllocGlobal, C: FileSystem, R: Read, W: Write, N: Witness>(
+fn start<P: Eprint + AllocGlobal, C: FileSystem, R: Read, W: Write, N: Witness, H: Write>(
     rt: &P,
     words: &[String],
     disk: &mut Files<C>,
     script: &mut R,
     screen: &mut Screen<W, N>,
+    help: &mut H,
 ) -> ExitCode
     // The words were obeyed. What was written is kept through a crash at any moment, for each
     // system whose single calls do what their contracts say. Each number was printed after its text
-    // was written, as each witness of the screen saw.
+    // was written, as each witness of the screen saw. The output of help has the help that was
+    // asked for, and nothing else: there is no other way to print.
     ensures { Serves (map string_bytes words.now)
         (files (C.held disk.old.system) (C.unread disk.old.system)
         (C.disk disk.old.system).paths
-        (GoesTo C.is_told (C.disk disk.old.system) (C.disk disk.new.system)))
+        (LeavesTo C.is_told (IsLocked (C.may_write disk.old.system))
+        (IsLocked (C.may_write disk.new.system))
+        (C.disk disk.old.system) (C.disk disk.new.system)))
         (ends screen.old (writes_on C.is_told (C.disk disk.old.system))
         (R.remaining script.old))
         (ends screen.new (writes_on C.is_told (C.disk disk.new.system))
         (R.remaining script.new))
-        (exit_status result) }
+        (H.contents help.old) (H.contents help.new) (exit_status result) }
 {
     let ending = obey_words(rt.alloc(), words, disk, script, screen);
-    report(rt, &ending)
+    report(rt, &ending, help)
 }

@@ -1,24 +1,26 @@
 //! The statuses of the program as a process, and what it says of faults.
 
-ghost use Rattle.std.specs.Prelude.{◌≡◌, ◌⊎◌, MatchResult};
+ghost use Rattle.std.specs.Prelude.{◌≡◌};
 ghost use Rattle.std.specs.Process.{exit_status};
-ghost use Rattle.irig_ed.specs.Statuses.{HasStatus, status_number, unread_text};
+ghost use Rattle.irig_ed.specs.Statuses.{EndsWith, Helps, Reports, status_number, unread_text};
 ghost use Rattle.irig_words.specs.Errors.{IsHelp, IsMistake};
 
 use crate::ending::Ending;
+use crate::help::put_help;
 use irig_files::DumpFileFault;
-use irig_script::{DumpRunFault, RunFault, Status};
+use irig_script::{DumpRunFault, Status};
 use irig_settings::UsageFault;
 use std::fmt::Display;
-use std::io;
+use std::io::Write;
 use std::process::ExitCode;
 
-/// The status of the process for how the program ended, which is reported if it is a fault.
-pub fn report<R: Print + Eprint>(rt: &R, ending: &Ending<'_>) -> ExitCode
-    ensures { HasStatus ending.now (exit_status result) }
+/// The status of the process for how the program ended, which is reported if it is a fault. Help
+/// that was asked for is printed on its output.
+pub fn report<R: Eprint, H: Write>(rt: &R, ending: &Ending<'_>, help: &mut H) -> ExitCode
+    ensures { Reports ending.now (H.contents help.old) (H.contents help.new) (exit_status result) }
 {
     match ending {
-        Ending::Usage(UsageFault::Words(error)) => explain(rt, error),
+        Ending::Usage(UsageFault::Words(error)) => explain(rt, error, help),
         Ending::Usage(UsageFault::BadExpression) => tell(rt, &"E6 BadExpression"),
         Ending::Unread(path, fault) => tell_unread(rt, path, *fault),
         Ending::Ran(path, outcome) => tell_ended(rt, path, *outcome),
@@ -33,25 +35,34 @@ pub fn tell<R: Eprint, T: Display>(rt: &R, why: &T) -> ExitCode
     ExitCode::from(2)
 }
 
-/// Prints what `clap` says: help on the standard output, a mistake on the standard error.
-pub fn explain<R: Print + Eprint>(rt: &R, error: &clap::Error) -> ExitCode
-    ensures mistake { IsMistake error.now → exit_status result ≡ 2 }
-    ensures help { IsHelp error.now → (exit_status result ≡ 0) ⊎ (exit_status result ≡ 4) }
+/// Says which mistake the words have.
+pub fn tell_mistake<R: Eprint>(rt: &R, error: &clap::Error) -> ExitCode
+    ensures { exit_status result ≡ 2 }
 {
-    let printed = error.print(rt);
-    if error.use_stderr() {
-        return ExitCode::from(2);
-    }
-    tell_help(rt, printed)
+    let _ = eprint!(rt; "{error}");
+    ExitCode::from(2)
 }
 
-/// The exit status of a call for help, by whether it was printed.
-fn tell_help<R: Eprint>(rt: &R, printed: io::Result<()>) -> ExitCode
-    ensures { MatchResult printed (λ _. exit_status result ≡ 0) (λ _. exit_status result ≡ 4) }
+/// Prints the help on its output if the words ask for it; else says which mistake they have.
+fn explain<R: Eprint, H: Write>(rt: &R, error: &clap::Error, help: &mut H) -> ExitCode
+    ensures mistake { IsMistake error.now → EndsWith 2 (H.contents help.old)
+        (H.contents help.new) (exit_status result) }
+    ensures help { IsHelp error.now → Helps (H.contents help.old) (H.contents help.new)
+        (exit_status result) }
 {
-    match printed {
+    if error.use_stderr() {
+        return tell_mistake(rt, error);
+    }
+    tell_help(rt, help)
+}
+
+/// Prints the help. The exit status says whether all of it was printed.
+fn tell_help<R: Eprint, H: Write>(rt: &R, help: &mut H) -> ExitCode
+    ensures { Helps (H.contents help.old) (H.contents help.new) (exit_status result) }
+{
+    match put_help(help) {
         Ok(()) => ExitCode::SUCCESS,
-        Err(_) => tell_ended(rt, "", Err(DumpRunFault::Run(RunFault::PrintFailed))),
+        Err(fault) => tell_ended(rt, "", Err(DumpRunFault::Run(fault))),
     }
 }
 
