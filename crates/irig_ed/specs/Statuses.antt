@@ -8,7 +8,7 @@ use Rattle.irig_files.specs.declared.dump_file.DumpFileFault.TheVariants.{Cannot
 use Rattle.irig_files.specs.declared.dump_file.DumpFileFault.TheVariants.{OutOfMemory}
 use Rattle.irig_ed.specs.{Help.help_text, declared.ending.Ending.Ending}
 use Rattle.irig_ed.specs.declared.ending.Ending.TheVariants.{Usage, Unread, Ran}
-use Rattle.irig_script.specs.Print.Front.{AppendsFront}
+use Rattle.irig_print.specs.Front.{AppendsFront}
 use Rattle.irig_script.specs.declared.obey.status.Status.{Status}
 use Rattle.irig_script.specs.declared.obey.status.Status.TheVariants.{AllAccepted, SomeRefused}
 use Rattle.irig_script.specs.declared.obey.dump_run.DumpRunFault.{DumpRunFault}

@@ -2,13 +2,13 @@
 
 ghost use Rattle.std.specs.Prelude.{◌≡◌};
 ghost use Rattle.irig_ed.specs.Help.{help_text};
-ghost use Rattle.irig_script.specs.Print.Front.{Prints};
+ghost use Rattle.irig_print.specs.Front.{Prints};
 
-use irig_script::RunFault;
+use irig_print::{PrintFault, put_all};
 use std::io::Write;
 
 /// Prints the help.
-pub fn put_help<H: Write>(out: &mut H) -> Result<(), RunFault>
+pub fn put_help<H: Write>(out: &mut H) -> Result<(), PrintFault>
     ensures { Prints (H.contents out.old) (H.contents out.new) help_text result }
 {
     put_all(out, help_text().as_bytes())
@@ -27,19 +27,4 @@ fn help_text<'a>() -> &'a str
      --expression <NUMBER>  2, if not given [possible values: 0, 1, 2, 3, 4, 5, 6, 7]\n      \
      --out <PATH>           what `write` and `save` write, if not TRACK\n  \
      -h, --help                 Print help\n"
-}
-
-/// Writes all of the bytes. A write that fails or takes none ends it.
-fn put_all<H: Write>(out: &mut H, bytes: &[u8]) -> Result<(), RunFault>
-    ensures { Prints (H.contents out.old) (H.contents out.new) bytes.now result }
-{
-    let mut done = 0;
-    while done < bytes.len() {
-        match out.write(&bytes[done..]) {
-            Ok(0) => return Err(RunFault::PrintFailed),
-            Ok(count) => done += count,
-            Err(_) => return Err(RunFault::PrintFailed),
-        }
-    }
-    Ok(())
 }

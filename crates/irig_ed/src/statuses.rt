@@ -8,7 +8,7 @@ ghost use Rattle.irig_words.specs.Errors.{IsHelp, IsMistake};
 use crate::ending::Ending;
 use crate::help::put_help;
 use irig_files::DumpFileFault;
-use irig_script::{DumpRunFault, Status};
+use irig_script::{DumpRunFault, RunFault, Status};
 use irig_settings::UsageFault;
 use std::fmt::Display;
 use std::io::Write;
@@ -62,7 +62,7 @@ fn tell_help<R: Eprint, H: Write>(rt: &R, help: &mut H) -> ExitCode
 {
     match put_help(help) {
         Ok(()) => ExitCode::SUCCESS,
-        Err(fault) => tell_ended(rt, "", Err(DumpRunFault::Run(fault))),
+        Err(_) => tell_ended(rt, "", Err(DumpRunFault::Run(RunFault::PrintFailed))),
     }
 }
 
