@@ -346,8 +346,8 @@ def of_every_second():
              [[rise, rise + (8000 if at % 5 == 1 else 2000)] for at, rise in enumerate(steps)]),
             ("wide there, and at other places", "B", tools.recording(),
              [[rise, rise + (8000 if at % 5 in (1, 3) else 2000)] for at, rise in enumerate(steps)]),
-            ("code of format E in step", "B", tools.recording(12), [[2400000 + each[0] * 10, 2400000 + each[1] * 10]
-                                                                  for each in tools.recording()[:28]]),
+            ("code of format E in step", "B", tools.recording(12),
+             [[2400000 + rise * 10, 2400000 + fall * 10] for rise, fall in tools.recording()[:28]]),
             ("code of format A in step", "G", of_g, [[23900 + each[0] // 10, 23900 + each[1] // 10] for each in tools.recording()[:60]])):
         interval = timecode.INTERVAL[kind]
         holed = [*whole[:230], *other, *whole[other[-1][1] // interval + 2:]]
