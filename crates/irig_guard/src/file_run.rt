@@ -46,7 +46,7 @@ pub fn obey_words<'a, D: Disk, R: Read, W: Write>(
 
 /// The end of a command line that asks for nothing.
 fn end_of<'a>(fault: UsageFault) -> Ending<'a>
-    ensures { IsEndOf fault.entry result }
+    ensures { IsEndOf fault result }
 {
     match fault {
         UsageFault::Words(error) => Ending::Usage(error),
