@@ -15,7 +15,7 @@ loop-place-preserved g c = λ told.
     apart_more (g.D.Disk.disk c.args.disk.now) c.args.chosen.now.others.items c.in-Some.out.now c.loop-place.place _
     (ap (λ (l : List (Bor (List ℕ))). slice_get l c.loop-place.place) (sym c.as_slice-others.ensures.value)
     ∙ slice_get-get_or c.as_slice-others.result.now c.loop-place.place _ c.loop-place-test.true)
-    (c.in-Ok-false.ensures.apart told c.in-Ok-false.field-0-is) (c.loop-place.invariant told)
+    (c.in-Ok-false.ensures.apart told c.in-Ok-false.field-0-test) (c.loop-place.invariant told)
 
 pub returns-in-Ok-true-clause-other : goal.returns-in-Ok-true-clause-other
 returns-in-Ok-true-clause-other g c = (
