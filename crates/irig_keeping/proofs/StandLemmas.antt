@@ -10,7 +10,8 @@ use Rattle.irig_index.specs.declared.record.Verdict.TheVariants.{Broken, Read}
 use Rattle.irig_index.specs.{declared.record.Record.Record, declared.record.Verdict.Verdict}
 use Rattle.irig_edit.specs.State.State.{State, frames_of}
 use Rattle.irig_safety.specs.{Meaning.AreRising, Original.OriginalView, Rises.KeepsRises, declared.shown.Shown.Shown}
-use Rattle.irig_guarding.specs.{Guarded.IsSafeAfter, Pulses.StandBy, Pulses.StandFrom}
+use Rattle.irig_guarding.specs.{Pulses.StandBy, Pulses.StandFrom}
+use Rattle.irig_keeping.specs.Kept.{IsSafeUnmoved}
 use Rattle.irig_guarding.specs.Reading.{fine_frames, original_of, seen_at, seen_by, seen_frames, shown_at, shown_by}
 use Rattle.irig_guarding.specs.declared.seen.Seen.{Seen}
 use Rattle.irig_guarding.proofs.{PulseLemmas.shown_all, PulseLemmas.shown_seen, RisingFrames.rising_frames}
@@ -93,14 +94,14 @@ some_stand o s [] [] e h (suc k) x here = absurd (cc)
 some_stand o s [] (y ∷ seen) e h k x here = absurd (cc)
 some_stand o s (x ∷ frames) seen e h k y here = h
 
-pub keep_rises : (old new : State) → IsTrack old.micros old.pulses → IsTrack new.micros new.pulses → IsSafeAfter false old new
+pub keep_rises : (old new : State) → IsTrack old.micros old.pulses → IsTrack new.micros new.pulses → IsSafeUnmoved old new
     → (k l : ℕ) (x y : Seen) → slice_get (seen_frames old) k ≡ Some x → slice_get (seen_frames new) l ≡ Some y → x.shown.rise ≡ y.shown.rise
     → KeepsRises old.pulses x.marker new.pulses y.marker
 keep_rises old new is_old is_new safe k l x y here there same =
-    let o = original_of false old in
+    let o = original_of (record { moved = false; others = safe.0 }) old in
     let are : shown_all (seen_frames old) ≡ fine_frames old = shown_seen old.pulses (frames_of old) in
     let come : shown_all (seen_frames new) ≡ fine_frames new = shown_seen new.pulses (frames_of new) in
-    let stand = some_stand o new (fine_frames old) (seen_frames old) are safe.safe.2 k x here in
+    let stand = some_stand o new (fine_frames old) (seen_frames old) are safe.1.safe.2 k x here in
     stand_as o new None None (seen_frames old) (seen_frames new)
     (subst (λ (f : List Shown). StandFrom o new o.markers None None f (seen_frames new)) (sym are) stand)
     (subst AreRising (sym are) (rising_frames old is_old)) (subst AreRising (sym come) (rising_frames new is_new)) k l x y here there same

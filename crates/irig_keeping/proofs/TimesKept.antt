@@ -14,8 +14,8 @@ use Rattle.irig_times.specs.{declared.time.Time.Time, Times.time_in, Times.timed
 use Rattle.irig_times.specs.Support.{believed}
 use Rattle.irig_times.proofs.{KeptTimes.keeps_times, Records.frame-reads, Records.marker-stands, SoundFrames.element-stands, SoundFrames.timed-read}
 use Rattle.irig_safety.specs.Rises.{KeepsRises, rise_in, rise_or}
-use Rattle.irig_guarding.specs.{Guarded.IsSafeAfter, Reading.seen_frames}
-use Rattle.irig_keeping.specs.Kept.{CountedTimesStay, IsFollowedStill, IsStill, TimesStay, ToldTimesStay}
+use Rattle.irig_guarding.specs.Reading.{seen_frames}
+use Rattle.irig_keeping.specs.Kept.{CountedTimesStay, IsFollowedStill, IsSafeUnmoved, IsStill, TimesStay, ToldTimesStay}
 use Rattle.irig_keeping.proofs.StandLemmas.{is_seen, keep_rises}
 
 -- the rise of a pulse that is there
@@ -46,7 +46,7 @@ ordered micros ps track i j p q here there le = elim (cases_lt q.rise p.rise) [
 ]
 
 -- a marker that is seen: where it is, and when it rises
-module _ (old new : State) (is_old : IsTrack old.micros old.pulses) (is_new : IsTrack new.micros new.pulses) (safe : IsSafeAfter false old new)
+module _ (old new : State) (is_old : IsTrack old.micros old.pulses) (is_new : IsTrack new.micros new.pulses) (safe : IsSafeUnmoved old new)
     (f : FormatView) (same : old.format ≡ f) (also : new.format ≡ f) where
   begins_seen : (s : State) → s.format ≡ f → (marker : ℕ) (g : Fields) (is : IsElement f (frames f s.pulses) marker 0 g)
       → (k : ℕ) × (y : _) × (slice_get (seen_frames s) k ≡ Some y) × (y.marker ≡ marker) × (y.shown.rise ≡ rise_in s.pulses marker 0)

@@ -10,7 +10,7 @@ use Rattle.irig_times.specs.{Counted.IsTimed, PartLaws.HeldGoesOn, PartLaws.IsSt
 use Rattle.irig_times.specs.Support.{believed}
 use Rattle.irig_times.specs.declared.time.Time.{Time}
 use Rattle.irig_edit.specs.State.State.{State}
-use Rattle.irig_safety.specs.Rises.{rise_in}
+use Rattle.irig_safety.specs.{Rises.rise_in, declared.shown.Shown.Shown}
 use Rattle.irig_guarding.specs.Guarded.{IsSafeAfter}
 
 -- the frame with these fields, whose marker is the pulse with this number, is there in other pulses
@@ -28,12 +28,17 @@ pub record IsFollowedStill (f : FormatView) (century : ℕ) (old new : List Puls
   pub after : IsFollowed f century (frames f new) (marker + 99) g
   pub rise : rise_in new marker 100 ≡ rise_in old number 1
 
+-- a state is safe by another, and no frame may move
+abbrev pub IsSafeUnmoved : State → State → Type 0
+IsSafeUnmoved old new =
+    (others : List Shown) × IsSafeAfter (record { moved = false; others = others }) old new
+
 -- a moment of a recording has a time by the frame around it. The recording is repaired, the result is
 -- safe, no frame may move, and the frame is still there. Then it has the same time after the repair;
 -- in the last element of the frame, if the frame that follows it is still there too
 abbrev pub ToldTimesStay : Type 0
 ToldTimesStay = (old new : State) → IsTrack old.micros old.pulses → IsTrack new.micros new.pulses
-    → IsSafeAfter false old new
+    → IsSafeUnmoved old new
     → (century d n : ℕ) (x : Time) → 0 < d
     → (has : TellsTime old.format century old.pulses d n x)
     → (still : IsStill old.format old.pulses new.pulses has.is_element.one.marker has.fields)
@@ -46,7 +51,7 @@ ToldTimesStay = (old new : State) → IsTrack old.micros old.pulses → IsTrack 
 -- time after the repair, if the frame is one of those that `after` says are believed then
 abbrev pub TimesStay : Type 0
 TimesStay = (old new : State) → IsTrack old.micros old.pulses → IsTrack new.micros new.pulses
-    → IsSafeAfter false old new
+    → IsSafeUnmoved old new
     → (before after : List Bool) (century d n : ℕ) (x : Time) → 0 < d
     → (has : HasTime old.format century old.pulses before d n x)
     → (still : IsStill old.format old.pulses new.pulses has.told.is_element.one.marker has.told.fields)
@@ -61,7 +66,7 @@ TimesStay = (old new : State) → IsTrack old.micros old.pulses → IsTrack new.
 -- one that follows it if the moment is in its last element
 abbrev pub CountedTimesStay : Type 0
 CountedTimesStay = (old new : State) → IsTrack old.micros old.pulses → IsTrack new.micros new.pulses
-    → IsSafeAfter false old new
+    → IsSafeUnmoved old new
     → (alone : Bool) (century d n : ℕ) (x : Time) → 0 < d
     → (has : HasTime old.format century old.pulses (believed old.format alone old.pulses) d n x)
     → (still : IsStill old.format old.pulses new.pulses has.told.is_element.one.marker has.told.fields)
