@@ -142,7 +142,7 @@ told_times_stay old new is_old is_new safe century d n x some has still which =
       place = omega arith;
       few = omega arith;
     } in
-    let each = kept old new is_old is_new safe f refl safe.format m still.marker has.fields has.fields begin still.begins still.rise in
+    let each = kept old new is_old is_new safe f refl safe.1.format m still.marker has.fields has.fields begin still.begins still.rise in
     let e = has.element in
     let few : e ≤ 99 = has.is_element.few in
     let p = stands f new.pulses still.marker has.fields still.begins e few in
