@@ -269,7 +269,7 @@ def sweep(draft: Draft) -> None:
 
 
 def waves(draft: Draft, count: int, least: float, most: float, shortest: float, longest: float) -> None:
-    """Waves of the clock: so great a share, with periods of that many intervals."""
+    """Waves of the clock: the least and the greatest share, and the shortest and the longest period in intervals."""
     found = []
     for _ in range(count):
         period = math.exp(draft.random.uniform(math.log(shortest), math.log(longest))) * draft.format.interval

@@ -58,7 +58,7 @@ class Clock:
 
 
 class Event(NamedTuple):
-    """At a place that many microseconds are lost, or there twice (`twice`), or nothing is heard for that long (`wait`)."""
+    """At a place some microseconds are lost, or there twice (`twice`), or nothing is heard for that long (`wait`)."""
 
     kind: str
     place: float
