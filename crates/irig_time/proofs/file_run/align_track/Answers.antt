@@ -5,7 +5,7 @@ use Rattle.irig_stamps.specs.Aligned.{Aligns, outcome, standing}
 use Rattle.irig_time.proofs.file_run.align_track.Goals as goal
 
 -- the outcome of a run that came to its end
-outcome_or : Outcome → Result Outcome RunFault → Outcome
+abbrev outcome_or : Outcome → Result Outcome RunFault → Outcome
 outcome_or o (Ok it) = it
 outcome_or o (Err fault) = o
 
