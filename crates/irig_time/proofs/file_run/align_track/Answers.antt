@@ -13,11 +13,11 @@ one_outcome : (one other : Outcome) (result : Result Outcome RunFault) → resul
 one_outcome one other result is also = ap (outcome_or one) (sym is ∙ also)
 
 -- no frame is believed, and none is doubted
-timeless : (one two o : Outcome) → one ≡ o → two ≡ o → one.standing.doubted ≡ 0 → two.standing.timed ≡ false
+timeless : (one o : Outcome) → one ≡ o → one.standing.doubted ≡ 0 → one.standing.timed ≡ false
     → o ≡ outcome o.numbered (standing false 0)
-timeless one two o same also none not =
+timeless one o same none not =
     let doubted : o.standing.doubted ≡ 0 = ap (λ (p : Outcome). p.standing.doubted) (sym same) ∙ none in
-    let timed : o.standing.timed ≡ false = ap (λ (p : Outcome). p.standing.timed) (sym also) ∙ not in
+    let timed : o.standing.timed ≡ false = ap (λ (p : Outcome). p.standing.timed) (sym same) ∙ not in
     λ i. outcome o.numbered (standing (timed i) (doubted i))
 
 pub returns-in-Ok : goal.returns-in-Ok
@@ -30,7 +30,7 @@ returns-in-Ok-3 g c = (
   c.in-Ok-3.field-0.numbered,
   subst (λ (o : Outcome). Aligns c.args.chosen.now.format c.args.recording.edges c.args.chosen.now.settings (g.R.Read.remaining c.args.lines.now)
       (g.R.Read.remaining c.align.new.lines) (g.W.Write.contents c.args.out.now) (g.W.Write.contents c.align.new.out) (Ok o))
-      (timeless c.in-Ok.outcome c.in-Ok-2.outcome c.in-Ok-3.field-0 (one_outcome _ _ c.align.result c.in-Ok.is c.in-Ok-3.is)
-      (one_outcome _ _ c.align.result c.in-Ok-2.is c.in-Ok-3.is) (omega (arith, c.if-outcome-gt0.false)) c.if-outcome.false)
+      (timeless c.in-Ok.outcome c.in-Ok-3.field-0 (one_outcome _ _ c.align.result c.in-Ok.is c.in-Ok-3.is)
+      (omega (arith, c.if-outcome-gt0.false)) c.if-outcome.false)
       c.in-Ok-3.ensures,
 )
