@@ -57,7 +57,7 @@ def _read_other(name: str, code: Given, progress: Progress, program: str, files:
         note_if_cut(track)
         say_notes(track, name, program)
         other = other_of(name_of(name), seen_in(Editor(track.words), progress))
-        other.path = _dump_of(track, files)
+        other.path = _dump_of_wire(track, files)
     except Problem as error:  # also if no frame can be read
         problem = error
     own = [] if other.frames else _own_code(path, name)
@@ -66,7 +66,7 @@ def _read_other(name: str, code: Given, progress: Progress, program: str, files:
     return other, "it has %s, and the track %s" % (_in_words(own), _in_words(_words(code))) if own not in ([], _words(code)) else ""
 
 
-def _dump_of(track: Opened, files: ExitStack) -> str:
+def _dump_of_wire(track: Opened, files: ExitStack) -> str:
     """A dump of the wire alone, which irig_guard can read."""
     if not track.named:
         return track.path
