@@ -58,6 +58,11 @@ def outputs():
     return sorted(set(found) - {"irig_mend.done"})
 
 
+def whole():
+    """Those that are whole: what a killed run was just writing begins with a point."""
+    return [name for name in outputs() if not os.path.basename(name).startswith(".")]
+
+
 def mended(*words):
     """The status, the lines that are printed, and what is said."""
     status, printed, said = run("irig_mend", [*TO, *words, "in"])
@@ -210,8 +215,8 @@ def ended():
         for number, wanted in ((signal.SIGTERM, 143), (signal.SIGINT, 130), (signal.SIGKILL, -9)):
             process = subprocess.Popen(command, env=slow, stdout=subprocess.DEVNULL, stderr=subprocess.PIPE, text=True,
                                        preexec_fn=takes_interrupts)
-            done = len(outputs())
-            while len(outputs()) == done and process.poll() is None:
+            done = len(whole())
+            while len(whole()) == done and process.poll() is None:
                 time.sleep(0.05)
             time.sleep(0.3)
             process.send_signal(number)
@@ -220,9 +225,9 @@ def ended():
             if number != signal.SIGKILL:
                 yield same("what is said", "of 4 recordings are looked at; the same command does the others" in said, True)
                 yield same("what is left", (os.listdir("tmp"), [name for name in os.listdir("mended") if name[0] == "."]), ([], []))
-        kept = {name: os.stat("mended/" + name).st_mtime_ns for name in outputs()[:2]}
+        kept = {name: os.stat("mended/" + name).st_mtime_ns for name in whole()[:2]}
         status, lines, _ = mended()
-        yield same("the rest is done", (status, outputs()), (0, ["%d.vcd" % number for number in range(4)]))
+        yield same("the rest is done", (status, whole()), (0, ["%d.vcd" % number for number in range(4)]))
         yield same("and no more", {name: os.stat("mended/" + name).st_mtime_ns for name in kept}, kept)
         yield same("what is said then", RUN_BEFORE in lines[-1], True)
 
