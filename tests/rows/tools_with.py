@@ -320,6 +320,21 @@ def of_apply():
     return in_folder(lambda: list(holds()), rec=dump(pulses), other=dump(other, 100), down=dump(down))
 
 
+def of_guarded():
+    """irig_guard gets the other recording: a control function that damage made another one is as that has it."""
+    noisy = [list(pulse) for pulse in without(code(), LOST - 2, LOST - 1, LOST + 1)]
+    noisy[LOST - 2][1] = noisy[LOST - 2][0] + (4600 if class_at(code(), LOST) == "0" else 2400)
+
+    def holds():
+        status, printed, _ = mend("--with", "other.vcd", "--apply", "new.vcd")
+        yield same("--apply", (status, len(printed), " 0 undecided, 0 left" in printed[0]), (0, 1, True))
+        yield same("what is written", edges(text_of("new.vcd")) == edges(dump(code())), True)
+        printed = mend("--apply", "alone.vcd")[1]
+        yield same("without it", edges(text_of("alone.vcd")) == edges(dump(code())), False)
+
+    return in_folder(lambda: list(holds()), rec=dump(noisy), other=dump(slow(code()), 100))
+
+
 def of_refused():
     """What is no such recording: why, the status, and that nothing changes."""
     pulses = without(code(), LOST)
@@ -362,5 +377,5 @@ def of_refused():
 
 
 def cases(_top):
-    parts = of_lost, of_recorded, of_votes, of_trusted, of_other_code, of_contrary, of_rules, of_apply, of_refused
+    parts = of_lost, of_recorded, of_votes, of_trusted, of_other_code, of_contrary, of_rules, of_apply, of_guarded, of_refused
     return [case("mend: with: " + part.__name__[3:].replace("_", " "), lambda part=part: list(part())) for part in parts]
