@@ -322,8 +322,10 @@ def of_apply():
 
 def of_guarded():
     """irig_guard gets the other recording: a control function that damage made another one is as that has it."""
-    noisy = [list(pulse) for pulse in without(code(), LOST - 2, LOST - 1, LOST + 1)]
-    noisy[LOST - 2][1] = noisy[LOST - 2][0] + (4600 if class_at(code(), LOST) == "0" else 2400)
+    at = next(1000 + each for each in range(62, 78) if class_at(code(), 900 + each) == class_at(code(), 1100 + each)
+              != class_at(code(), 1000 + each))  # the frames next to it have the other one
+    noisy = [list(pulse) for pulse in without(code(), at - 2, at - 1, at + 1)]
+    noisy[at - 2][1] = noisy[at - 2][0] + (4600 if class_at(code(), at) == "0" else 2400)
 
     def holds():
         status, printed, _ = mend("--with", "other.vcd", "--apply", "new.vcd")
