@@ -30,7 +30,8 @@ counting_room b a n left h = (
 )
 
 -- before the first one
-pub counting_none : (b a : FramedView) (n : Counts) (left : List Sides) → n.fine_before ≡ fine_frames b → n.fine_after ≡ fine_frames a → n.made ≡ 0 → n.lost ≡ 0 → n.changed ≡ 0
+pub counting_none : (b a : FramedView) (n : Counts) (left : List Sides) → n.fine_before ≡ fine_frames b → n.fine_after ≡ fine_frames a → n.made ≡ 0
+    → n.lost ≡ 0 → n.changed ≡ 0
     → left ≡ changes b a → length left < 2 ^ 32 → IsCounting b a n left
 counting_none b a n left x y made lost changed all few = record {
   fine_before = x;

@@ -10,7 +10,8 @@ use Rattle.irig_comments.specs.{Counts.fine_frames, Counts.is_fine, Framed.Frame
 abbrev pub fine_record : Record → Bool
 fine_record r = is_fine r.verdict
 
-fine-shown_from : (number : ℕ) (ps : List Pulse) (rs : List Record) → count_by (λ (s : Shown). is_fine s.verdict) (shown_from number ps rs) ≡ count_by fine_record rs
+fine-shown_from : (number : ℕ) (ps : List Pulse) (rs : List Record)
+    → count_by (λ (s : Shown). is_fine s.verdict) (shown_from number ps rs) ≡ count_by fine_record rs
 fine-shown_from number ps [] = refl
 fine-shown_from number ps (r ∷ rs) =
     sum_by-cons (λ (s : Shown). cond (is_fine s.verdict) 1 0) (shown_as number ps r) (shown_from (suc number) ps rs)

@@ -46,7 +46,8 @@ few_records x h =
     omega (arith, h.track.few, ap length h.are, length-records_in x.format x.pulses 0 (length x.pulses - 1))
 
 -- the frame at a place of the list
-get-shown_from : (number : ℕ) (ps : List Pulse) (rs : List Record) (k : ℕ) → slice_get (shown_from number ps rs) k ≡ option_map (shown_as (number + k) ps) (slice_get rs k)
+get-shown_from : (number : ℕ) (ps : List Pulse) (rs : List Record) (k : ℕ)
+    → slice_get (shown_from number ps rs) k ≡ option_map (shown_as (number + k) ps) (slice_get rs k)
 get-shown_from number ps [] k = refl
 get-shown_from number ps (r ∷ rs) zero = ap (λ n. Some (shown_as n ps r)) (omega arith)
 get-shown_from number ps (r ∷ rs) (suc k) =
@@ -88,7 +89,8 @@ rise-shown_from : (number low : ℕ) (ps : List Pulse) (rs : List Record) → Ri
 rise-shown_from number low ps [] h m s first = tt
 rise-shown_from number low ps (r ∷ rs) h m s first = (
   first r refl,
-  rise-shown_from (suc number) (rise_of r.marker ps + 1) ps rs h (λ i j a b here there lt. m (suc i) (suc j) a b here there (omega (arith, lt))) (λ k a here. s (suc k) a here)
+  rise-shown_from (suc number) (rise_of r.marker ps + 1) ps rs h (λ i j a b here there lt. m (suc i) (suc j) a b here there (omega (arith, lt)))
+      (λ k a here. s (suc k) a here)
       (λ a here.
       let stands = s 1 a here in
       omega (arith, rises_on 0 r.marker a.marker stands.0 ps h (m 0 1 r a refl here (omega arith)) stands.1)),

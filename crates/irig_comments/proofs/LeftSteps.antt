@@ -68,7 +68,8 @@ last_text-counts b a = elim (is_other b.recording a.recording) as (λ v. last_le
 
 -- the text is what is left at its beginning
 pub text_is : (b a : FramedView)
-    → text_left false b.recording.micros a.recording.micros (lines_text (changes b a) (stretches_between b.recording a.recording) (last_counts b a)) ≡ commented_text b a
+    → text_left false b.recording.micros a.recording.micros (lines_text (changes b a) (stretches_between b.recording a.recording) (last_counts b a))
+    ≡ commented_text b a
 text_is b a =
     let all = parts_of (changes b a) (stretches_between b.recording a.recording) in
     ap (λ (l : List ℕ). length_note b.recording.micros a.recording.micros ++ l)

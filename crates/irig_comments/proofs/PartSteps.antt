@@ -9,7 +9,8 @@ use Rattle.irig_comments.specs.Parts.{Part, begun_by, comments, joined, line_par
 
 pub joined-append : (xs ys : List Part) → joined (xs ++ ys) ≡ joined xs ++ joined ys
 joined-append [] ys = refl
-joined-append (x ∷ xs) ys = ap (λ (l : List ℕ). (x.comment ++ x.line) ++ l) (joined-append xs ys) ∙ sym (append_assoc (x.comment ++ x.line) (joined xs) (joined ys))
+joined-append (x ∷ xs) ys = ap (λ (l : List ℕ). (x.comment ++ x.line) ++ l) (joined-append xs ys)
+    ∙ sym (append_assoc (x.comment ++ x.line) (joined xs) (joined ys))
 
 pub lines-append : (xs ys : List Part) → lines (xs ++ ys) ≡ lines xs ++ lines ys
 lines-append [] ys = refl
@@ -23,14 +24,16 @@ comments-append (x ∷ xs) ys = ap (λ (l : List ℕ). x.comment ++ l) (comments
 pub note_first : (s : Sides) (ss : List Sides) (p : Pulse) (ps : List Pulse) → nat_le (place s) p.fall ≡ true
     → joined (parts_of (s ∷ ss) (p ∷ ps)) ≡ comment_text s ++ joined (parts_of ss (p ∷ ps))
 note_first s ss p ps h =
-    (λ j. joined (notes (if h j then s ∷ begun_by p.fall ss else []) ++ line_part (stretch_line p) ∷ parts_of (if h j then not_begun_by p.fall ss else s ∷ ss) ps))
+    (λ j. joined (notes (if h j then s ∷ begun_by p.fall ss else [])
+    ++ line_part (stretch_line p) ∷ parts_of (if h j then not_begun_by p.fall ss else s ∷ ss) ps))
     ∙ ap (λ (l : List ℕ). l ++ joined (parts_of ss (p ∷ ps))) (append-nil (comment_text s))
 
 -- it has not
 pub line_first : (s : Sides) (ss : List Sides) (p : Pulse) (ps : List Pulse) → nat_le (place s) p.fall ≡ false
     → joined (parts_of (s ∷ ss) (p ∷ ps)) ≡ stretch_line p ++ joined (parts_of (s ∷ ss) ps)
 line_first s ss p ps h =
-    (λ j. joined (notes (if h j then s ∷ begun_by p.fall ss else []) ++ line_part (stretch_line p) ∷ parts_of (if h j then not_begun_by p.fall ss else s ∷ ss) ps))
+    (λ j. joined (notes (if h j then s ∷ begun_by p.fall ss else [])
+    ++ line_part (stretch_line p) ∷ parts_of (if h j then not_begun_by p.fall ss else s ∷ ss) ps))
 
 -- there are no more changes
 pub line_only : (p : Pulse) (ps : List Pulse) → joined (parts_of [] (p ∷ ps)) ≡ stretch_line p ++ joined (parts_of [] ps)

@@ -44,7 +44,8 @@ parts_are ss (p ∷ ps) rest k h =
     let later = parts_of (not_begun_by p.fall ss) ps in
     let line = line_part (stretch_line p) in
     subst AreComments (sym (append_assoc (notes (begun_by p.fall ss)) (line ∷ later) rest))
-    (notes_are (begun_by p.fall ss) (line ∷ (later ++ rest)) (short-begun_by p.fall ss k) (inl refl, parts_are (not_begun_by p.fall ss) ps rest (short-not_begun_by p.fall ss k) h))
+    (notes_are (begun_by p.fall ss) (line ∷ (later ++ rest)) (short-begun_by p.fall ss k)
+    (inl refl, parts_are (not_begun_by p.fall ss) ps rest (short-not_begun_by p.fall ss k) h))
 
 last_is : (b a : FramedView) → IsComment (last_text b a)
 last_is b a = elim (is_other b.recording a.recording) as (λ v. IsComment (if v then counts_text (counts_between b a) else [])) [
@@ -54,8 +55,11 @@ last_is b a = elim (is_other b.recording a.recording) as (λ v. IsComment (if v 
 
 -- what is before the lines are comments
 pub comments_are : (b a : FramedView) → IsFramed b → IsFramed a → AreComments (commented_parts b a)
-comments_are b a x y =
-    (inl refl, parts_are (changes b a) (stretches_between b.recording a.recording) (comment_part (last_text b a) ∷ []) (short-changes b a x y) (last_is b a, tt))
+comments_are b a x y = (
+  inl refl,
+  parts_are (changes b a) (stretches_between b.recording a.recording) (comment_part (last_text b a) ∷ []) (short-changes b a x y)
+      (last_is b a, tt),
+)
 
 -- two texts that have no byte together
 none_first : (xs ys : List ℕ) → xs ++ ys ≡ [] → xs ≡ []

@@ -23,10 +23,11 @@ first_or (Some s) later = Some s
 
 find-append : (t : ℕ) (xs ys : List Sides) → find (is_at t) (xs ++ ys) ≡ first_or (find (is_at t) xs) (find (is_at t) ys)
 find-append t [] ys = refl
-find-append t (x ∷ xs) ys = elim (is_at t x) as (λ v. cond v (Some x) (find (is_at t) (xs ++ ys)) ≡ first_or (cond v (Some x) (find (is_at t) xs)) (find (is_at t) ys)) [
-  | true ↦ refl
-  | false ↦ find-append t xs ys
-]
+find-append t (x ∷ xs) ys = elim (is_at t x) as (λ v. cond v (Some x) (find (is_at t) (xs ++ ys))
+    ≡ first_or (cond v (Some x) (find (is_at t) xs)) (find (is_at t) ys)) [
+      | true ↦ refl
+      | false ↦ find-append t xs ys
+    ]
 
 find-made : (t : ℕ) (ys : List Shown) → find (is_at t) (map made ys) ≡ some_of None (at_place t ys)
 find-made t [] = refl
@@ -130,7 +131,8 @@ rise-begun_after : (t low : ℕ) (ys : List Shown) → FramesRise low ys → Fra
 rise-begun_after t low [] h = tt
 rise-begun_after t low (y ∷ ys) h = elim (cases_lt t y.rise) [
   | inl less ↦ subst (FramesRise (t + 1)) (sym (all_after t y.rise (y ∷ ys) (omega arith, h.1) less)) (omega (arith, less), h.1)
-  | inr more ↦ subst (λ v. FramesRise (t + 1) (cond v (y ∷ begun_after t ys) (begun_after t ys))) (sym (is_from t y.rise more)) (rise-begun_after t (y.rise + 1) ys h.1)
+  | inr more ↦ subst (λ v. FramesRise (t + 1) (cond v (y ∷ begun_after t ys) (begun_after t ys))) (sym (is_from t y.rise more))
+      (rise-begun_after t (y.rise + 1) ys h.1)
 ]
 
 places-sides_of : (low : ℕ) (xs ys : List Shown) → FramesRise low xs → FramesRise low ys → PlacesRise low (sides_of xs ys)
@@ -149,7 +151,8 @@ places-filter low (s ∷ ss) h = elim (differs s) as (λ v. PlacesRise low (cond
 none-place : (t low : ℕ) (ss : List Sides) → PlacesRise low ss → t < low → find (is_at t) ss ≡ None
 none-place t low [] h lt = refl
 none-place t low (s ∷ ss) h lt =
-    ap (λ v. cond v (Some s) (find (is_at t) ss)) (is_other (place s) t (λ e. omega (arith, e, h.0, lt))) ∙ none-place t (place s + 1) ss h.1 (omega (arith, h.0, lt))
+    ap (λ v. cond v (Some s) (find (is_at t) ss)) (is_other (place s) t (λ e. omega (arith, e, h.0, lt)))
+    ∙ none-place t (place s + 1) ss h.1 (omega (arith, h.0, lt))
 
 -- one of the sides, if they differ
 abbrev if_differs : Option Sides → Option Sides

@@ -106,7 +106,8 @@ plain_verdict (verdict.Broken element why) =
     let space = codes " " in
     both (word ++ digits ++ space) (cause_word why) (both (word ++ digits) space (both word digits refl (plain_digits 10 element)) refl) (plain_cause why)
 plain_verdict (verdict.Read fields said) =
-    both (time_text fields ++ parts_text fields) (note_text said) (both (time_text fields) (parts_text fields) (plain_time fields) (plain_parts fields)) (plain_note said)
+    both (time_text fields ++ parts_text fields) (note_text said) (both (time_text fields) (parts_text fields) (plain_time fields) (plain_parts fields))
+    (plain_note said)
 
 plain_whole : (s : Shown) → IsPlain (whole_text s)
 plain_whole s =
@@ -164,7 +165,8 @@ counts_are n =
       four ++ decimal n.changed ++ codes " changed",
       counted four (codes " changed") n.changed
           (counted three (codes " lost, ") n.lost
-          (counted two (codes " made, ") n.made (counted one (codes " fine after, ") n.fine_after (counted (codes " frames: ") (codes " fine before, ") n.fine_before refl refl) refl) refl)
+          (counted two (codes " made, ") n.made (counted one (codes " fine after, ") n.fine_after
+          (counted (codes " frames: ") (codes " fine before, ") n.fine_before refl refl) refl) refl)
           refl)
           refl,
       omega (arith, short_counted four (codes " changed") n.changed 306 8 short_four (omega arith)),

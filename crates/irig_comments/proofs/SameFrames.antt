@@ -150,5 +150,6 @@ none_change xs h = none 0 xs h
     none low [] h = refl
     none low (x ∷ xs) h =
         ap (filter differs) (step_both x x xs xs refl (omega arith, h.1))
-        ∙ ap (λ v. cond (not v) (record { before = Some x; after = Some x } ∷ filter differs (sides_of xs xs)) (filter differs (sides_of xs xs))) (verdict-self x.verdict)
+        ∙ ap (λ v. cond (not v) (record { before = Some x; after = Some x } ∷ filter differs (sides_of xs xs)) (filter differs (sides_of xs xs)))
+        (verdict-self x.verdict)
         ∙ none (x.rise + 1) xs h.1

@@ -82,4 +82,5 @@ narrow-shown_frames x h =
 
 -- what differs is short
 pub short-changes : (b a : FramedView) → IsFramed b → IsFramed a → AreShort (changes b a)
-short-changes b a x y = short-filter (sides_of (shown_frames b) (shown_frames a)) (short-sides_of (shown_frames b) (shown_frames a) (narrow-shown_frames b x) (narrow-shown_frames a y))
+short-changes b a x y = short-filter (sides_of (shown_frames b) (shown_frames a))
+    (short-sides_of (shown_frames b) (shown_frames a) (narrow-shown_frames b x) (narrow-shown_frames a y))

@@ -23,7 +23,8 @@ digits_more : (k base n : ℕ) (acc : List ℕ) → length (digits_onto k base f
 digits_more zero base n acc = omega arith
 digits_more (suc k) base n acc =
     let more = digit_glyph false (n % base) ∷ acc in
-    one_of (n / base == 0) more (digits_onto k base false (n / base) more) (suc k + length acc) (omega arith) (omega (arith, digits_more k base (n / base) more))
+    one_of (n / base == 0) more (digits_onto k base false (n / base) more) (suc k + length acc) (omega arith)
+    (omega (arith, digits_more k base (n / base) more))
 
 -- any number has at most 64 digits
 short_digits : (base n : ℕ) → length (digits base false n) ≤ 64
@@ -85,8 +86,10 @@ short_time f h =
     let days = padded 3 f.days in
     let space = codes " " in
     both (days ++ space ++ clock_text f) (hundredths_text f.hundredths) 24 67
-    (both (days ++ space) (clock_text f) 7 17 (both days space 6 1 (short_padded 3 f.days 3 (small f.days (omega (arith, h.days)))) (omega arith)) (short_clock f h))
-    (short_part (λ n. codes "." ++ padded 2 n) 67 (λ n. both (codes ".") (padded 2 n) 1 66 (omega arith) (short_padded 2 n 64 (short_digits 10 n))) f.hundredths)
+    (both (days ++ space) (clock_text f) 7 17 (both days space 6 1 (short_padded 3 f.days 3 (small f.days (omega (arith, h.days)))) (omega arith))
+    (short_clock f h))
+    (short_part (λ n. codes "." ++ padded 2 n) 67 (λ n. both (codes ".") (padded 2 n) 1 66 (omega arith) (short_padded 2 n 64 (short_digits 10 n)))
+    f.hundredths)
 
 short_parts : (f : Fields) → length (parts_text f) ≤ 214
 short_parts f =
@@ -95,7 +98,8 @@ short_parts f =
     let control = part_text (λ v. codes " control " ++ hexadecimal v) f.control in
     both (year ++ sbs) control 141 73
     (both year sbs 72 69
-    (short_part (λ v. codes " year " ++ padded 2 v) 72 (λ v. both (codes " year ") (padded 2 v) 6 66 (omega arith) (short_padded 2 v 64 (short_digits 10 v))) f.year)
+    (short_part (λ v. codes " year " ++ padded 2 v) 72
+    (λ v. both (codes " year ") (padded 2 v) 6 66 (omega arith) (short_padded 2 v 64 (short_digits 10 v))) f.year)
     (short_part (λ v. codes " sbs " ++ decimal v) 69 (λ v. both (codes " sbs ") (decimal v) 5 64 (omega arith) (short_digits 10 v)) f.sbs))
     (short_part (λ v. codes " control " ++ hexadecimal v) 73 (λ v. both (codes " control ") (hexadecimal v) 9 64 (omega arith) (short_digits 16 v)) f.control)
 
@@ -106,10 +110,12 @@ short_verdict (verdict.Broken element why) h =
     let space = codes " " in
     omega (
       arith,
-      both (word ++ digits ++ space) (cause_word why) 72 5 (both (word ++ digits) space 71 1 (both word digits 7 64 (omega arith) (short_digits 10 element)) (omega arith)) (short_cause why),
+      both (word ++ digits ++ space) (cause_word why) 72 5
+          (both (word ++ digits) space 71 1 (both word digits 7 64 (omega arith) (short_digits 10 element)) (omega arith)) (short_cause why),
     )
 short_verdict (verdict.Read fields said) h =
-    both (time_text fields ++ parts_text fields) (note_text said) 305 71 (both (time_text fields) (parts_text fields) 91 214 (short_time fields h) (short_parts fields)) (short_note said)
+    both (time_text fields ++ parts_text fields) (note_text said) 305 71
+    (both (time_text fields) (parts_text fields) 91 214 (short_time fields h) (short_parts fields)) (short_note said)
 
 short_whole : (s : Shown) → IsNarrow s.verdict → length (whole_text s) ≤ 516
 short_whole s h =
@@ -120,7 +126,8 @@ short_whole s h =
     let colon = codes ": " in
     both (frame ++ number ++ word ++ rise ++ colon) (verdict_text s.verdict) 140 376
     (both (frame ++ number ++ word ++ rise) colon 138 2
-    (both (frame ++ number ++ word) rise 74 64 (both (frame ++ number) word 70 4 (both frame number 6 64 (omega arith) (short_digits 10 s.number)) (omega arith)) (short_digits 10 s.rise))
+    (both (frame ++ number ++ word) rise 74 64 (both (frame ++ number) word 70 4 (both frame number 6 64 (omega arith) (short_digits 10 s.number))
+    (omega arith)) (short_digits 10 s.rise))
     (omega arith))
     (short_verdict s.verdict h)
 

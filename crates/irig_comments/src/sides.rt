@@ -51,7 +51,7 @@ fn is_same(one: &Verdict, other: &Verdict) -> bool
     are_same(one, other)
 }
 
-/// The same, part by part.
+/// Whether two reports are equal, part by part.
 fn are_same(one: &Verdict, other: &Verdict) -> bool
     ensures { result ≡ same_verdict one.now other.now }
 {
@@ -101,7 +101,7 @@ fn is_same_part(one: Option<u32>, other: Option<u32>) -> bool
     }
 }
 
-/// The same of control functions.
+/// Whether both have control functions and they are the same, or neither has them.
 fn is_same_control(one: Option<u64>, other: Option<u64>) -> bool
     ensures { result ≡ same_part one other }
 {

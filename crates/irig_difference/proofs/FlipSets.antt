@@ -57,7 +57,8 @@ pub flips-flipped : (t : ℕ) (ts xs : List ℕ) → RisesFrom 0 ts → RisesFro
 flips-flipped t ts xs h i =
     let once : RisesFrom 0 (flipped t xs) = RisesFrom-flipped 0 t xs (omega arith) i in
     let r : RisesFrom 0 (flips ts xs) = RisesFrom-flips ts xs i in
-    only_list 0 (flips ts (flipped t xs)) (flipped t (flips ts xs)) (RisesFrom-flips ts (flipped t xs) once) (RisesFrom-flipped 0 t (flips ts xs) (omega arith) r)
+    only_list 0 (flips ts (flipped t xs)) (flipped t (flips ts xs)) (RisesFrom-flips ts (flipped t xs) once)
+    (RisesFrom-flipped 0 t (flips ts xs) (omega arith) r)
     (λ u. has-flips 0 u ts (flipped t xs) h once ∙ elim (cases_eq t u) [
       | inl e ↦ subst (λ k. unlike (has k ts) (has k (flipped t xs)) ≡ has k (flipped t (flips ts xs))) e
           (ap (unlike (has t ts)) (has-flipped_same 0 t xs i) ∙ unlike_not (has t ts) (has t xs)

@@ -11,7 +11,8 @@ use Rattle.irig_difference.specs.{Flips.unlike, Flips.flips, Stretches.is_within
 -- an edge more at or before a time turns its level
 level-cons : (t x : ℕ) (xs : List ℕ) → level_by_edges t (x ∷ xs) ≡ cond (nat_le x t) (not (level_by_edges t xs)) (level_by_edges t xs)
 level-cons t x xs = elim (nat_le x t) as
-    (λ v. not (is_even_long (cond v (x ∷ filter (λ e. nat_le e t) xs) (filter (λ e. nat_le e t) xs))) ≡ cond v (not (level_by_edges t xs)) (level_by_edges t xs))
+    (λ v. not (is_even_long (cond v (x ∷ filter (λ e. nat_le e t) xs) (filter (λ e. nat_le e t) xs)))
+    ≡ cond v (not (level_by_edges t xs)) (level_by_edges t xs))
     [ true ↦ refl | false ↦ refl ]
 
 turn_twice : (c v : Bool) → cond c (not (cond c (not v) v)) (cond c (not v) v) ≡ v

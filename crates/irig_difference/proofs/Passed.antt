@@ -87,4 +87,5 @@ passed_fall (p ∷ ps) lt = low ps
 -- edges between pulses, with some pulses at the front gone
 pub edges_left-dropped : (n : ℕ) (ps : List Pulse) → edges_left ps false ≡ edges_of (take n ps) ++ edges_left (drop n ps) false
 edges_left-dropped n ps =
-    low ps ∙ ap edges_of (sym (take-append-drop n ps)) ∙ edges_of-append (take n ps) (drop n ps) ∙ ap (λ (es : List ℕ). edges_of (take n ps) ++ es) (sym (low (drop n ps)))
+    low ps ∙ ap edges_of (sym (take-append-drop n ps)) ∙ edges_of-append (take n ps) (drop n ps)
+    ∙ ap (λ (es : List ℕ). edges_of (take n ps) ++ es) (sym (low (drop n ps)))

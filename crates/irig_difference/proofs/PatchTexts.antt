@@ -25,5 +25,6 @@ no_patch before after b a e =
 
 pub patch-same : (before after : RecordingView) → IsRecording after.micros after.edges → before ≡ after → patch_text before after ≡ []
 patch-same before after a e =
-    ap (λ r. patch_text r after) e ∙ ap (λ v. (if v then [] else line_of (codes "# length") after.micros after.micros) ++ script_of (stretches_between after after))
+    ap (λ r. patch_text r after) e ∙ ap (λ v. (if v then [] else line_of (codes "# length") after.micros after.micros)
+    ++ script_of (stretches_between after after))
     (eq-eqb after.micros after.micros refl) ∙ ap (λ es. script_of (pairs es)) (flips-same after.edges a.rises)

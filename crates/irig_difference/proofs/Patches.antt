@@ -43,7 +43,8 @@ closer (p ∷ ps) after before i h e =
     )
 
 -- no script of inverts is shorter
-pub least_patch : (others : List Pulse) (before after : List ℕ) → is_even_long before ≡ true → is_even_long after ≡ true → RisesFrom 0 before → RisesFrom 0 after
+pub least_patch : (others : List Pulse) (before after : List ℕ) → is_even_long before ≡ true → is_even_long after ≡ true → RisesFrom 0 before
+    → RisesFrom 0 after
     → patched others before ≡ after → length (pairs (flips after before)) ≤ length others
 least_patch others before after even even2 h i e = omega (
   arith,

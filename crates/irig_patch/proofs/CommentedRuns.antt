@@ -81,14 +81,16 @@ module _ (P : Reply → Type 0) (is_silent : P Silent) where
           let same : r.3.0 ≡ texts = sym (r.3.1 ∙ ap (λ l. l ++ r.3.0) told.2) in
           record {
             answers = answers;
-            runs = subst (λ (ts : List (List ℕ)). Runs old (script_lines rest) answers ts new) same (subst (λ (mid : Machine). Runs mid (script_lines rest) answers r.3.0 new) told.1 r.3.2);
+            runs = subst (λ (ts : List (List ℕ)). Runs old (script_lines rest) answers ts new) same
+                (subst (λ (mid : Machine). Runs mid (script_lines rest) answers r.3.0 new) told.1 r.3.2);
             back = λ p. (subst P (sym told.0) is_silent, p);
             on = λ p. p.1;
           }
 
   -- one line, by what is known of the rest
   one_line : (line joint plain : List ℕ) (old new : Machine) (answers : List Answer) (texts : List (List ℕ))
-      → ((mid : Machine) (others : List Answer) (later : List (List ℕ)) → Runs mid (script_lines joint) others later new → AfterNote P mid (script_lines plain) others later new)
+      → ((mid : Machine) (others : List Answer) (later : List (List ℕ)) → Runs mid (script_lines joint) others later new
+      → AfterNote P mid (script_lines plain) others later new)
       → Runs old (line ∷ script_lines joint) answers texts new → AfterNote P old (line ∷ script_lines plain) answers texts new
   one_line line joint plain old new [] texts rest r = absurd r
   one_line line joint plain old new (a ∷ answers) texts rest r =
@@ -101,7 +103,8 @@ module _ (P : Reply → Type 0) (is_silent : P Silent) where
       }
 
   by_line : (text joint plain : List ℕ) (old new : Machine) (answers : List Answer) (texts : List (List ℕ)) → IsLine text
-      → ((mid : Machine) (others : List Answer) (later : List (List ℕ)) → Runs mid (script_lines joint) others later new → AfterNote P mid (script_lines plain) others later new)
+      → ((mid : Machine) (others : List Answer) (later : List (List ℕ)) → Runs mid (script_lines joint) others later new
+      → AfterNote P mid (script_lines plain) others later new)
       → Runs old (script_lines (text ++ joint)) answers texts new → AfterNote P old (script_lines (text ++ plain)) answers texts new
   by_line text joint plain old new answers texts (inl none) rest r =
       let its = rest old answers texts (subst (λ (t : List ℕ). Runs old (script_lines (t ++ joint)) answers texts new) none r) in
@@ -152,8 +155,11 @@ parts_lines ss (p ∷ ps) rest u h =
     let a : p.rise < 2 ^ 64 = omega (arith, u.0) in
     let b : p.fall < 2 ^ 64 = omega (arith, u.1.0) in
     subst AreLines (sym (append_assoc (notes (begun_by p.fall ss)) (line ∷ later) rest))
-    (notes_lines (begun_by p.fall ss) (line ∷ (later ++ rest))
-    (inr (invert_line p.rise p.fall, invert_plain p.rise p.fall a b, invert_goes_on p.rise p.fall a b, refl), parts_lines (not_begun_by p.fall ss) ps rest u.1.1 h))
+    (notes_lines (begun_by p.fall ss) (line ∷ (later ++ rest)) (
+      inr (invert_line p.rise p.fall, invert_plain p.rise p.fall a b, invert_goes_on p.rise p.fall a b, refl),
+      parts_lines
+          (not_begun_by p.fall ss) ps rest u.1.1 h,
+    ))
 
 note_is : (m n : ℕ) → m ≤ 2 ^ 40 → n ≤ 2 ^ 40 → IsLine (length_note m n)
 note_is m n h k =
@@ -204,9 +210,16 @@ module _ (P : Reply → Type 0) (is_silent : P Silent) (f : FormatView) where
       let runs = subst (λ (ls : List (List ℕ)). Runs run.old ls run.answers run.texts run.new) whole run.runs in
       let its = without P is_silent (its_parts f run) [] run.old run.new run.answers run.texts (are_comments f run) (are_lines f run) runs in
       let plain = is_patch f run [] ∙ ap script_lines (append-nil (patch_text run.before run.after)) in
-      record { answers = its.answers; runs = subst (λ (ls : List (List ℕ)). Runs run.old ls its.answers run.texts run.new) plain its.runs; back = its.back; on = its.on }
+      record {
+        answers = its.answers;
+        runs = subst
+            (λ (ls : List (List ℕ)). Runs run.old ls its.answers run.texts run.new) plain its.runs;
+        back = its.back;
+        on = its.on;
+      }
 
-  pub its_write : (run : RunOf (commented_and_write f)) → AfterNote P run.old (script_lines (patch_and_write run.before run.after)) run.answers run.texts run.new
+  pub its_write : (run : RunOf (commented_and_write f))
+      → AfterNote P run.old (script_lines (patch_and_write run.before run.after)) run.answers run.texts run.new
   its_write run =
       let its = without P is_silent (its_parts f run) (codes "write\n") run.old run.new run.answers run.texts (are_comments f run) (are_lines f run) run.runs in
       record {
@@ -217,7 +230,8 @@ module _ (P : Reply → Type 0) (is_silent : P Silent) (f : FormatView) where
       }
 
 -- the same run of the patch alone
-abbrev plain_of : (f : FormatView) (run : RunOf (commented f)) (answers : List Answer) → Runs run.old (script_lines (patch_text run.before run.after)) answers run.texts run.new
+abbrev plain_of : (f : FormatView) (run : RunOf (commented f)) (answers : List Answer)
+    → Runs run.old (script_lines (patch_text run.before run.after)) answers run.texts run.new
     → RunOf patch_text
 plain_of f run answers runs = record {
   before = run.before;

@@ -91,7 +91,8 @@ pub invert_plain : (a b : ℕ) → a < 2 ^ 64 → b < 2 ^ 64 → IsPlain (invert
 invert_plain a b h k =
     let plain = λ (x : ℕ). not (x == 10) in
     list_all-append plain (codes "invert" ++ 32 ∷ decimal a) (32 ∷ decimal b)
-    ∙ and_from _ _ (list_all-append plain (codes "invert") (32 ∷ decimal a) ∙ plain_digits (decimal a) (spells a h).digits) (plain_digits (decimal b) (spells b k).digits)
+    ∙ and_from _ _ (list_all-append plain (codes "invert") (32 ∷ decimal a) ∙ plain_digits (decimal a) (spells a h).digits)
+    (plain_digits (decimal b) (spells b k).digits)
 
 pub invert_short : (a b : ℕ) → a < 2 ^ 64 → b < 2 ^ 64 → length (invert_line a b) ≤ 1000
 invert_short a b h k =
@@ -134,13 +135,15 @@ note_words a b h k = (
 pub note_goes_on : (a b : ℕ) → a < 2 ^ 64 → b < 2 ^ 64 → is_quit (note_line a b) ≡ false
 note_goes_on a b h k =
     let short = not (nat_lt 1000 (length (note_line a b))) in
-    ap (λ ws. short && are_quit ws) (words_found (note_line a b) (codes "#" ∷ codes "length" ∷ decimal a ∷ decimal b ∷ []) (note_words a b h k)) ∙ never_both short
+    ap (λ ws. short && are_quit ws) (words_found (note_line a b) (codes "#" ∷ codes "length" ∷ decimal a ∷ decimal b ∷ []) (note_words a b h k))
+    ∙ never_both short
 
 pub note_plain : (a b : ℕ) → a < 2 ^ 64 → b < 2 ^ 64 → IsPlain (note_line a b)
 note_plain a b h k =
     let plain = λ (x : ℕ). not (x == 10) in
     list_all-append plain (codes "# length" ++ 32 ∷ decimal a) (32 ∷ decimal b)
-    ∙ and_from _ _ (list_all-append plain (codes "# length") (32 ∷ decimal a) ∙ plain_digits (decimal a) (spells a h).digits) (plain_digits (decimal b) (spells b k).digits)
+    ∙ and_from _ _ (list_all-append plain (codes "# length") (32 ∷ decimal a) ∙ plain_digits (decimal a) (spells a h).digits)
+    (plain_digits (decimal b) (spells b k).digits)
 
 pub note_short : (a b : ℕ) → a < 2 ^ 64 → b < 2 ^ 64 → length (note_line a b) ≤ 1000
 note_short a b h k =

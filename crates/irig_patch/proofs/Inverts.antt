@@ -117,7 +117,8 @@ next_short p e all left old mid new few g step =
     short_refused p.rise p.fall e mid new (omega (arith, g.rest.0.1.0)) g.rest.1.1.0 (omega (arith, few, g.count)) step
 
 -- the stretches between two recordings lie within a length that no edge is above
-pub stretches_fit : (before after : RecordingView) → IsRecording before.micros before.edges → IsRecording after.micros after.edges → UpTo before.micros after.edges
+pub stretches_fit : (before after : RecordingView) → IsRecording before.micros before.edges → IsRecording after.micros after.edges
+    → UpTo before.micros after.edges
     → AreStretches before.micros (stretches_between before after)
 stretches_fit before after b a covers =
     let edges = edges_of-stretches before.edges after.edges b.even a.even b.rises a.rises in (

@@ -24,7 +24,8 @@ abbrev pub invert_lines : List Pulse → List (List ℕ)
 invert_lines [] = []
 invert_lines (p ∷ ps) = invert_line p.rise p.fall ∷ invert_lines ps
 
-pub script_lines-more : (ps : List Pulse) (rest : List ℕ) → UpTo (2 ^ 40) (edges_of ps) → script_lines (script_of ps ++ rest) ≡ invert_lines ps ++ script_lines rest
+pub script_lines-more : (ps : List Pulse) (rest : List ℕ) → UpTo (2 ^ 40) (edges_of ps)
+    → script_lines (script_of ps ++ rest) ≡ invert_lines ps ++ script_lines rest
 script_lines-more [] rest u = refl
 script_lines-more (p ∷ ps) rest u =
     let line = invert_line p.rise p.fall in
@@ -73,7 +74,8 @@ answered a b old new answer put h k is =
     ]
 
 -- an answer to the comment
-pub note_answered : (m n : ℕ) (old new : Machine) (answer : Answer) (put : List (List ℕ)) → m ≤ 2 ^ 40 → n ≤ 2 ^ 40 → Answered old (note_line m n) answer put new
+pub note_answered : (m n : ℕ) (old new : Machine) (answer : Answer) (put : List (List ℕ)) → m ≤ 2 ^ 40 → n ≤ 2 ^ 40
+    → Answered old (note_line m n) answer put new
     → (answer.reply ≡ Silent) × (new ≡ old) × (put ≡ [])
 note_answered m n old new answer put h k is = elim is.0 [
   | inl long ↦ absurd (omega (arith, long.0, note_short m n (omega (arith, h)) (omega (arith, k))))
@@ -93,11 +95,13 @@ pub record AfterNote (P : Reply → Type 0) (old : Machine) (rest : List (List �
   pub back : AllByRecursion (λ a. P a.reply) answers → AllByRecursion (λ a. P a.reply) all
   pub on : AllByRecursion (λ a. P a.reply) all → AllByRecursion (λ a. P a.reply) answers
 
-pub after_note : (P : Reply → Type 0) → P Silent → (m n : ℕ) (rest : List (List ℕ)) (old new : Machine) (answers : List Answer) (texts : List (List ℕ)) → m ≤ 2 ^ 40 → n ≤ 2 ^ 40
+pub after_note : (P : Reply → Type 0) → P Silent → (m n : ℕ) (rest : List (List ℕ)) (old new : Machine) (answers : List Answer) (texts : List (List ℕ))
+    → m ≤ 2 ^ 40 → n ≤ 2 ^ 40
     → Runs old (note_lines m n ++ rest) answers texts new → AfterNote P old rest answers texts new
 after_note P is_silent m n rest old new answers texts h k = by_test (m == n) answers
   where
-    by_test : (v : Bool) (answers : List Answer) → Runs old ((if v then [] else note_line m n ∷ []) ++ rest) answers texts new → AfterNote P old rest answers texts new
+    by_test : (v : Bool) (answers : List Answer) → Runs old ((if v then [] else note_line m n ∷ []) ++ rest) answers texts new
+        → AfterNote P old rest answers texts new
     by_test true answers r = record { answers = answers; runs = r; back = λ p. p; on = λ p. p }
     by_test false [] r = absurd r
     by_test false (a ∷ answers) r =

@@ -93,7 +93,8 @@ small run = UpTo-more run.old.state.micros (2 ^ 40) (edges_of (stretches_between
 start_made : {script : RecordingView → RecordingView → List ℕ} (run : RunOf script)
     → Goes (stretches_between run.before run.after) (stretches_between run.before run.after) run.old run.old
 start_made run =
-    none_made (stretches_between run.before run.after) run.old (subst (RisesFrom 0) (sym (ap (λ r. r.edges) run.opened)) run.is_before.rises) (are_stretches run)
+    none_made (stretches_between run.before run.after) run.old (subst (RisesFrom 0) (sym (ap (λ r. r.edges) run.opened)) run.is_before.rises)
+    (are_stretches run)
 
 -- where all stretches are made, the session is one of the recording after
 all_after : {script : RecordingView → RecordingView → List ℕ} (run : RunOf script) (mid : Machine)
@@ -133,7 +134,8 @@ run_made run granted =
 pub run_stops : (run : RunOf patch_text) → AllByRecursion (λ a. MayStop a.reply) run.answers × (run.texts ≡ [])
 run_stops run =
     let its = its_run MayStop tt run in
-    let stop = runs_stop (stretches_between run.before run.after) 0 run.old run.new its.answers run.texts (short run) (are_stretches run).0 (are_stretches run).1 its.runs in
+    let stop = runs_stop (stretches_between run.before run.after) 0 run.old run.new its.answers run.texts (short run) (are_stretches run).0
+    (are_stretches run).1 its.runs in
     (its.back stop.0, stop.1)
 
 -- the run of the lines after the comment, with the line that writes

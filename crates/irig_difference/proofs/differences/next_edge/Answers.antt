@@ -24,7 +24,8 @@ loop-x-preserved c =
     rw (c.pass-in-Some-Some.ensures, c.pass-in-Some-Some-2.ensures) (record {
       before = rises_past c.loop-x.before c.loop-x.invariant.before;
       after = rises_past c.loop-x.after c.loop-x.invariant.after;
-      same = both_passed c.in-Some-Some.x c.in-Some-Some.y c.loop-x.before c.loop-x.after (sym c.in-Some-Some.ensures) (sym c.in-Some-Some.ensures') (omega arith)
+      same = both_passed c.in-Some-Some.x c.in-Some-Some.y c.loop-x.before c.loop-x.after (sym c.in-Some-Some.ensures) (sym c.in-Some-Some.ensures')
+          (omega arith)
           ∙ c.loop-x.invariant.same;
     })
 

@@ -17,7 +17,8 @@ returns-clause-complete c =
     let b = c.pulses.ensures.lawful in let a = c.pulses-2.ensures.lawful in
     let xs = c.args.before.now.edges in let ys = c.args.after.now.edges in
     rw (c.new.ensures ∙ c.pulses.ensures.exact, c.new-2.ensures ∙ c.pulses-2.ensures.exact)
-    (λ t. level-stretches t 0 (pairs (flips ys xs)) (subst (RisesFrom 0) (sym (edges_of-stretches xs ys b.even a.even b.rises a.rises)) (RisesFrom-flips ys xs b.rises))
+    (λ t. level-stretches t 0 (pairs (flips ys xs))
+    (subst (RisesFrom 0) (sym (edges_of-stretches xs ys b.even a.even b.rises a.rises)) (RisesFrom-flips ys xs b.rises))
     ∙ ap (level_by_edges t) (edges_of-stretches xs ys b.even a.even b.rises a.rises) ∙ level-flips t ys xs)
 
 pub returns-clause-apart : goal.returns-clause-apart
