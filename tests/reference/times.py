@@ -113,15 +113,33 @@ def agrees(kind, one, other):
 
 
 def believed(options, frames):
-    """The frames that one of the two before or after agrees with, or the only one."""
+    """The frames that one of the two before or after agrees with, or the only one, but none of an island; alone, all of them."""
     if options.alone or len(frames) == 1:
         return frames
-    kind, kept = options.kind, []
-    for place, frame in enumerate(frames):
-        before, after = frames[max(0, place - 2):place], frames[place + 1:place + 3]
-        if any(agrees(kind, other, frame) for other in before) or any(agrees(kind, frame, other) for other in after):
-            kept.append(frame)
-    return kept
+    kind, on_island = options.kind, of_islands(options.kind, frames)
+    return [frame for place, frame in enumerate(frames)
+            if (is_backed_before(kind, frames, place) or is_backed_after(kind, frames, place)) and place not in on_island]
+
+
+def is_backed_before(kind, frames, place):
+    return any(agrees(kind, other, frames[place]) for other in frames[max(0, place - 2):place])
+
+
+def is_backed_after(kind, frames, place):
+    return any(agrees(kind, frames[place], other) for other in frames[place + 1:place + 3])
+
+
+def of_islands(kind, frames):
+    """The places of frames that agree with neither of two shores, between these: two frames that agree, with at most three between them,
+    the first of which is backed by a frame before it, and the second by one after it."""
+    found = set()
+    for first in range(len(frames)):
+        for last in range(first + 2, min(first + 5, len(frames))):
+            one, other = frames[first], frames[last]
+            if agrees(kind, one, other) and is_backed_before(kind, frames, first) and is_backed_after(kind, frames, last):
+                found |= {place for place in range(first + 1, last)
+                          if not agrees(kind, one, frames[place]) and not agrees(kind, frames[place], other)}
+    return found
 
 
 TIME_ELEMENTS = {"A": 49, "B": 42, "E": 42, "G": 54}  # the day, the hour, the minute, the second and its parts, and what is between

@@ -12,7 +12,7 @@ from .editor import Problem
 from .units import ELEMENTS
 
 TRACK_PULSES = 1 << 21  # of a window: half of what a track holds
-SUPPORT = 600  # frame periods that are read before and after a window: frames that are farther apart support nothing
+SUPPORT = 1100  # frame periods that are read before and after a window: no frame farther away decides whether one is believed
 MARGIN = 9  # frames that are read before and after a part: the time of a line depends on fewer
 CUT_BEFORE = 10  # elements before the first of these
 NO_END = 1 << 62  # microseconds

@@ -50,13 +50,13 @@ lines.
       ALIGN_JOBS), """\
 irig_time is the one next to the editor, which IRIG_ED names, or the path. The status
 is that of irig_time: 0 if all is right, 1 if the column of some lines has no number,
-if no frame has a time, or if some frames are not supported by another, 2 for a mistake
+if no frame has a time, or if some frames are not believed, 2 for a mistake
 in the command line, 3 if the track was not read, 4 if the run was broken off; and 70
 if memory ran out or the tool has a defect.
 """)
 BATCH = 1 << 27  # bytes of lines that are aligned together
 NO_FRAME_TIMED = "%s: no frame has a time with this format and expression"
-DOUBTED = "%s: frames that read well and that no frame near them supports, so they give no line a time: %d"
+DOUBTED = "%s: frames that read well and are not believed, so they give no line a time: %d"
 BROKEN_OFF = 4  # a status of irig_time
 
 

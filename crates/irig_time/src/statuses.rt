@@ -50,8 +50,7 @@ fn tell_of<R: Eprint, T: Display>(rt: &R, status: u8, path: &str, why: &T) -> Ex
 fn tell_doubted<R: Eprint>(rt: &R, path: &str, count: usize) -> ExitCode
     ensures { exit_status result ≡ 1 }
 {
-    let what =
-        "frames that read well and that no frame near them supports, so they give no line a time";
+    let what = "frames that read well and are not believed, so they give no line a time";
     let _ = eprintln!(rt; "irig_time: {path}: {what}: {count}");
     ExitCode::from(1)
 }

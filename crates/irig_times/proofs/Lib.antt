@@ -15,6 +15,7 @@ pub mod SideCounts
 pub mod SupportCount
 pub mod Found
 pub mod SupportSteps
+pub mod NearFrames
 pub mod Shares
 pub mod PartTimes
 pub mod KeptTimes

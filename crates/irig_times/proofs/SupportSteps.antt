@@ -1,7 +1,6 @@
 -- Frames that are believed, record by record.
-use Rattle.std.proofs.Common.{◌≡◌, ◌<◌, ◌≤◌, ◌+◌, ◌++◌, ◌∷◌, [], ℕ, suc, Bool, true, false, ◌&&◌, List, Option, Some, None, drop, get_or, length, slice_get}
+use Rattle.std.proofs.Common.{◌≡◌, ◌<◌, ◌≤◌, ◌+◌, ◌++◌, ◌∷◌, [], ℕ, suc, Bool, List, Option, Some, None, drop, get_or, length, slice_get}
 use Rattle.std.proofs.Common.{refl, sym, ap, ◌∙◌, append_assoc, add-one}
-use Rattle.std.specs.Prelude.{is_some}
 use Rattle.std.proofs.{Math.Seq.drop-cons}
 use Rattle.std.proofs.lemmas.List.{append-nil, drop_all}
 use Rattle.std.proofs.lemmas.Option.{get_or_from_slice_get, slice_get-get_or, slice_get_within}
@@ -9,7 +8,7 @@ use Rattle.irig_codes.specs.Format.{FormatView}
 use Rattle.irig_recording.specs.declared.pulse.Pulse.{Pulse}
 use Rattle.irig_index.specs.{Frames.frames, declared.record.Cause.TheVariants.Ended, declared.record.Record.Record, declared.record.Verdict.TheVariants.Broken}
 use Rattle.irig_safety.specs.declared.shown.Shown.{Shown}
-use Rattle.irig_times.specs.Support.{believed, farther, held_from, is_held, nearer, shown_in, shown_of, with_frame}
+use Rattle.irig_times.specs.Support.{believed, held_from, is_held, shown_in, shown_of, with_frame}
 
 -- the records from a place on begin with that at the place
 pub from-place : (rs : List Record) (k : ℕ) (r : Record) → slice_get rs k ≡ Some r → drop k rs ≡ r ∷ drop (k + 1) rs
@@ -24,49 +23,39 @@ none = record { marker = 0; verdict = Broken 0 Ended }
 pub stands : (rs : List Record) (k : ℕ) → k < length rs → (r : Record) × (slice_get rs k ≡ Some r)
 stands rs k lt = (get_or rs k none, slice_get-get_or rs k none lt)
 
-pub one-of-two : (a b : Option Shown) (l : List Shown) → (is_some a && is_some b) ≡ false → with_frame a (with_frame b l) ≡ with_frame (nearer a b) l
-one-of-two None b l e = refl
-one-of-two (Some x) None l e = refl
-one-of-two (Some x) (Some y) l e = absurd (cc e)
-
-pub second-of-two : (a b : Option Shown) (l : List Shown) → (is_some a && is_some b) ≡ true → b ≡ slice_get (with_frame a (with_frame b l)) 1
-second-of-two None b l e = absurd (cc e)
-second-of-two (Some x) None l e = absurd (cc e)
-second-of-two (Some x) (Some y) l e = refl
-
 module _ (f : FormatView) (ps : List Pulse) (rs : List Record) where
   pub shown-step : (k : ℕ) (r : Record) → slice_get rs k ≡ Some r → shown_in f ps (drop k rs) ≡ with_frame (shown_of f ps r) (shown_in f ps (drop (k + 1) rs))
   shown-step k r is = ap (shown_in f ps) (from-place rs k r is)
 
-  pub held-step : (alone : Bool) (a2 a : Option Shown) (k : ℕ) (r : Record) → slice_get rs k ≡ Some r
-      → held_from f alone ps a2 a (drop k rs)
-      ≡ is_held f alone a2 a (shown_in f ps (drop (k + 1) rs)) (shown_of f ps r)
-      ∷ held_from f alone ps (farther (shown_of f ps r) a2 a) (nearer (shown_of f ps r) a) (drop (k + 1) rs)
-  held-step alone a2 a k r is = ap (held_from f alone ps a2 a) (from-place rs k r is)
+  pub held-step : (alone : Bool) (before : List Shown) (k : ℕ) (r : Record) → slice_get rs k ≡ Some r
+      → held_from f alone ps before (drop k rs)
+      ≡ is_held f alone before (shown_in f ps (drop (k + 1) rs)) (shown_of f ps r)
+      ∷ held_from f alone ps (with_frame (shown_of f ps r) before) (drop (k + 1) rs)
+  held-step alone before k r is = ap (held_from f alone ps before) (from-place rs k r is)
 
   -- one more record
-  pub held-more : (alone : Bool) (a2 a : Option Shown) (k : ℕ) (list new : List Bool) (b : Bool) (x a2' a' : Option Shown) (all : List Bool)
+  pub held-more : (alone : Bool) (before : List Shown) (k : ℕ) (list new : List Bool) (b : Bool) (x : Option Shown) (all : List Bool)
       → k < length rs → ((r : Record) → slice_get rs k ≡ Some r → x ≡ shown_of f ps r)
-      → b ≡ is_held f alone a2 a (shown_in f ps (drop (k + 1) rs)) x → a2' ≡ farther x a2 a → a' ≡ nearer x a → new ≡ list ++ b ∷ []
-      → list ++ held_from f alone ps a2 a (drop k rs) ≡ all → new ++ held_from f alone ps a2' a' (drop (k + 1) rs) ≡ all
-  held-more alone a2 a k list new b x a2' a' all lt here is far near grows so_far =
+      → b ≡ is_held f alone before (shown_in f ps (drop (k + 1) rs)) x → new ≡ list ++ b ∷ []
+      → list ++ held_from f alone ps before (drop k rs) ≡ all → new ++ held_from f alone ps (with_frame x before) (drop (k + 1) rs) ≡ all
+  held-more alone before k list new b x all lt here is grows so_far =
       let r = stands rs k lt in
       let e = here r.0 r.1 in
-      let rest = held_from f alone ps (farther x a2 a) (nearer x a) (drop (k + 1) rs) in
-      let one : held_from f alone ps a2 a (drop k rs) ≡ b ∷ rest =
-      held-step alone a2 a k r.0 r.1
-      ∙ (ap (λ (o : Option Shown). is_held f alone a2 a (shown_in f ps (drop (k + 1) rs)) o
-      ∷ held_from f alone ps (farther o a2 a) (nearer o a) (drop (k + 1) rs)) (sym e)
+      let rest = held_from f alone ps (with_frame x before) (drop (k + 1) rs) in
+      let one : held_from f alone ps before (drop k rs) ≡ b ∷ rest =
+      held-step alone before k r.0 r.1
+      ∙ (ap (λ (o : Option Shown). is_held f alone before (shown_in f ps (drop (k + 1) rs)) o
+      ∷ held_from f alone ps (with_frame o before) (drop (k + 1) rs)) (sym e)
       ∙ ap (λ (c : Bool). c ∷ rest) (sym is)) in
-      (λ i. grows i ++ held_from f alone ps (far i) (near i) (drop (k + 1) rs))
+      ap (λ (l : List Bool). l ++ rest) grows
       ∙ (append_assoc list (b ∷ []) rest ∙ (ap (λ l. list ++ l) (sym one) ∙ so_far))
 
 -- after the last record
-pub held-all : (f : FormatView) (ps : List Pulse) (rs : List Record) (alone : Bool) (a2 a : Option Shown) (k : ℕ) (list : List Bool)
-    → length rs ≤ k → rs ≡ frames f ps → list ++ held_from f alone ps a2 a (drop k rs) ≡ held_from f alone ps None None rs
+pub held-all : (f : FormatView) (ps : List Pulse) (rs : List Record) (alone : Bool) (before : List Shown) (k : ℕ) (list : List Bool)
+    → length rs ≤ k → rs ≡ frames f ps → list ++ held_from f alone ps before (drop k rs) ≡ held_from f alone ps [] rs
     → list ≡ believed f alone ps
 unfolding believed
-held-all f ps rs alone a2 a k list past are so_far =
+held-all f ps rs alone before k list past are so_far =
     sym (append-nil list)
-    ∙ (ap (λ (l : List Record). list ++ held_from f alone ps a2 a l) (sym (drop_all k rs past))
-    ∙ (so_far ∙ ap (held_from f alone ps None None) are))
+    ∙ (ap (λ (l : List Record). list ++ held_from f alone ps before l) (sym (drop_all k rs past))
+    ∙ (so_far ∙ ap (held_from f alone ps []) are))

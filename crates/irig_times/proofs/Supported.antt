@@ -1,15 +1,16 @@
 -- A frame that is believed is one that another frame of the track agrees with, or the only one.
-use Rattle.std.proofs.Common.{◌≡◌, ◌⊎◌, inl, inr, ◌<◌, ◌≤◌, ◌+◌, ◌-◌, ◌||◌, ◌∷◌, [], ℕ, zero, suc, true, false, not, List, Option, Some, None}
+use Rattle.std.proofs.Common.{◌≡◌, ◌⊎◌, inl, inr, ◌<◌, ◌≤◌, ◌+◌, ◌-◌, ◌&&◌, ◌||◌, ◌∷◌, [], ℕ, zero, suc, true, false, not, List, Option, Some, None}
 use Rattle.std.proofs.Common.{slice_get, refl, sym, ap, ◌∙◌, subst, arith}
 use Rattle.std.specs.Prelude.{is_some}
-use Rattle.std.proofs.lemmas.Bool.{cases_order, or_cases}
+use Rattle.std.proofs.lemmas.Bool.{and_parts, cases_order, or_cases}
 use Rattle.std.proofs.lemmas.Option.{none-some, same_Some}
 use Rattle.irig_codes.specs.Format.{FormatView}
 use Rattle.irig_recording.specs.declared.pulse.Pulse.{Pulse}
 use Rattle.irig_index.specs.{Frames.frames, declared.record.Record.Record}
 use Rattle.irig_safety.specs.{declared.shown.Shown.Shown}
 use Rattle.irig_times.specs.Held.{IsBacked, IsOnly, Shows}
-use Rattle.irig_times.specs.Support.{agrees_from, agrees_to, believed, farther, held_from, is_held, is_supported, nearer, shown_in, shown_of, with_frame}
+use Rattle.irig_times.specs.Support.{believed, held_from, is_believed, is_held, is_supported, shown_in, shown_of, with_frame}
+use Rattle.irig_times.specs.Islands.{agrees_from, agrees_to, is_on_island}
 use Rattle.irig_times.specs.Origins.{FramesAreSupported}
 
 module _ (f : FormatView) (ps : List Pulse) where
@@ -69,6 +70,9 @@ module _ (f : FormatView) (ps : List Pulse) where
   abbrev IsEarlier : ℕ → Option Shown → Type 0
   IsEarlier base o = (y : Shown) → o ≡ Some y → (at : ℕ) × (at < base) × Shows f ps at y
 
+  abbrev AreEarlier : ℕ → List Shown → Type 0
+  AreEarlier base before = (i : ℕ) → IsEarlier base (slice_get before i)
+
   abbrev NoneEarlier : ℕ → Option Shown → Type 0
   NoneEarlier base a = a ≡ None → (at : ℕ) (y : Shown) → at < base → Shows f ps at y → ⊥
 
@@ -122,24 +126,37 @@ module _ (f : FormatView) (ps : List Pulse) where
         ]
       ]
 
-  sure-case : (o : Option Shown) (r : Record) (rs : List Record) (base : ℕ) (a2 a : Option Shown) → AreFrom (r ∷ rs) base → IsEarlier base a2 → IsEarlier base a
-      → NoneEarlier base a → shown_of f ps r ≡ o → is_held f false a2 a (shown_in f ps rs) o ≡ true → IsSure base
-  sure-case None r rs base a2 a are far near none o e = absurd (cc e)
-  sure-case (Some x) r rs base a2 a are far near none o e = (x, first-shows r rs base x are o, supported r rs base a2 a x are far near none o e)
+  believed-one : (r : Record) (rs : List Record) (base : ℕ) (before : List Shown) (x : Shown) → AreFrom (r ∷ rs) base → AreEarlier base before
+      → NoneEarlier base (slice_get before 0) → shown_of f ps r ≡ Some x → is_believed f before x (shown_in f ps rs) ≡ true
+      → IsBacked f ps base x ⊎ IsOnly f ps base
+  believed-one r rs base before x are earlier none o e =
+      supported r rs base (slice_get before 1) (slice_get before 0) x are (earlier 1) (earlier 0) none o
+      (and_parts _ (not (is_on_island f before x (shown_in f ps rs))) e).0
+
+  sure-case : (o : Option Shown) (r : Record) (rs : List Record) (base : ℕ) (before : List Shown) → AreFrom (r ∷ rs) base → AreEarlier base before
+      → NoneEarlier base (slice_get before 0) → shown_of f ps r ≡ o → is_held f false before (shown_in f ps rs) o ≡ true → IsSure base
+  sure-case None r rs base before are earlier none o e = absurd (cc e)
+  sure-case (Some x) r rs base before are earlier none o e = (x, first-shows r rs base x are o, believed-one r rs base before x are earlier none o e)
 
   later : (o : Option Shown) (base : ℕ) → IsEarlier base o → IsEarlier (base + 1) o
   later o base h y e = let it = h y e in (it.0, omega (arith, it.1), it.2)
 
+  -- one more frame is before the next place
+  more-earlier : (r : Record) (rs : List Record) (base : ℕ) (before : List Shown) (x : Shown) → AreFrom (r ∷ rs) base → shown_of f ps r ≡ Some x
+      → AreEarlier base before → AreEarlier (base + 1) (x ∷ before)
+  more-earlier r rs base before x are o earlier zero y is = (base, omega arith, first-shows r rs base y are (o ∙ is))
+  more-earlier r rs base before x are o earlier (suc i) y is = later (slice_get before i) base (earlier i) y is
+
   -- what is shown of the records after one
   abbrev AreSure : List Record → ℕ → Type 0
-  AreSure rs base = (a2 a : Option Shown) → IsEarlier base a2 → IsEarlier base a → NoneEarlier base a → (k : ℕ)
-      → slice_get (held_from f false ps a2 a rs) k ≡ Some true → IsSure (base + k)
+  AreSure rs base = (before : List Shown) → AreEarlier base before → NoneEarlier base (slice_get before 0) → (k : ℕ)
+      → slice_get (held_from f false ps before rs) k ≡ Some true → IsSure (base + k)
 
-  sure-next : (o : Option Shown) (r : Record) (rs : List Record) (base : ℕ) (a2 a : Option Shown) → AreFrom (r ∷ rs) base → IsEarlier base a2 → IsEarlier base a
-      → NoneEarlier base a → shown_of f ps r ≡ o → AreSure rs (base + 1) → (k : ℕ)
-      → slice_get (held_from f false ps (farther o a2 a) (nearer o a) rs) k ≡ Some true → IsSure (base + 1 + k)
-  sure-next None r rs base a2 a are far near none o sure k e =
-      sure a2 a (later a2 base far) (later a base near)
+  sure-next : (o : Option Shown) (r : Record) (rs : List Record) (base : ℕ) (before : List Shown) → AreFrom (r ∷ rs) base → AreEarlier base before
+      → NoneEarlier base (slice_get before 0) → shown_of f ps r ≡ o → AreSure rs (base + 1) → (k : ℕ)
+      → slice_get (held_from f false ps (with_frame o before) rs) k ≡ Some true → IsSure (base + 1 + k)
+  sure-next None r rs base before are earlier none o sure k e =
+      sure before (λ i. later (slice_get before i) base (earlier i))
       (λ is at y lt s. elim (cases_order at base) [
         | inl same ↦ none-some y (sym o ∙ first-is r rs base y are (subst (λ n. Shows f ps n y) same s))
         | inr apart ↦ elim apart [
@@ -147,23 +164,22 @@ module _ (f : FormatView) (ps : List Pulse) where
           | inr gt ↦ absurd (omega (arith, gt, lt))
         ]
       ]) k e
-  sure-next (Some x) r rs base a2 a are far near none o sure k e =
-      sure a (Some x) (later a base near)
-      (λ y is. (base, omega arith, first-shows r rs base y are (o ∙ is))) (λ is. absurd (none-some x (sym is))) k e
+  sure-next (Some x) r rs base before are earlier none o sure k e =
+      sure (x ∷ before) (more-earlier r rs base before x are o earlier) (λ is. absurd (none-some x (sym is))) k e
 
   sure : (rs : List Record) (base : ℕ) → AreFrom rs base → AreSure rs base
-  sure [] base are a2 a far near none k e = absurd (none-some true e)
-  sure (r ∷ rs) base are a2 a far near none zero e =
+  sure [] base are before earlier none k e = absurd (none-some true e)
+  sure (r ∷ rs) base are before earlier none zero e =
       let here : base ≡ base + 0 = omega arith in
-      subst IsSure here (sure-case (shown_of f ps r) r rs base a2 a are far near none refl (same_Some _ true e))
-  sure (r ∷ rs) base are a2 a far near none (suc k) e =
+      subst IsSure here (sure-case (shown_of f ps r) r rs base before are earlier none refl (same_Some _ true e))
+  sure (r ∷ rs) base are before earlier none (suc k) e =
       let place : base + 1 + k ≡ base + suc k = omega arith in
-      subst IsSure place (sure-next (shown_of f ps r) r rs base a2 a are far near none refl (sure rs (base + 1) (next-from r rs base are)) k e)
+      subst IsSure place (sure-next (shown_of f ps r) r rs base before are earlier none refl (sure rs (base + 1) (next-from r rs base are)) k e)
 
 pub frames_are_supported : FramesAreSupported
 unfolding believed
 frames_are_supported f ps number element g (is, on) =
     let place : 0 + is.at ≡ is.at = omega arith in
     subst (λ i. (frame : Shown) × Shows f ps i frame × (IsBacked f ps i frame ⊎ IsOnly f ps i)) place
-    (sure f ps (frames f ps) 0 (λ j. ap (slice_get (frames f ps)) (omega arith)) None None (λ y e. absurd (none-some y e)) (λ y e. absurd (none-some y e))
+    (sure f ps (frames f ps) 0 (λ j. ap (slice_get (frames f ps)) (omega arith)) [] (λ i y e. absurd (none-some y e))
     (λ e at y lt s. absurd (omega (arith, lt))) is.at on)

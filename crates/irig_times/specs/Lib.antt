@@ -6,8 +6,10 @@ pub mod Ends
 pub mod Follows
 pub mod FrameLooks
 pub mod Held
+pub mod Islands
 pub mod Jumps
 pub mod Laws
+pub mod Nearest
 pub mod Origins
 pub mod PartLaws
 pub mod Parts

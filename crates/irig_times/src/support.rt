@@ -1,20 +1,24 @@
-//! Which frames are believed: those that another frame near them supports.
+//! Which frames are believed: those that another one near them supports, and that are on no island.
 
-ghost use Rattle.std.specs.Prelude.{◌≡◌, ◌<◌, ◌&&◌, IfOk, Some, drop, is_some, length};
-ghost use Rattle.std.specs.Prelude.{slice_get};
+ghost use Rattle.std.specs.Prelude.{◌≡◌, ◌<◌, ◌&&◌, IfOk, None, Some, [], drop, is_some, length};
+ghost use Rattle.std.specs.Prelude.{List, not, slice_get};
 ghost use Rattle.irig_index.specs.{Frames.frames, declared.record.Record.Record};
-ghost use Rattle.irig_times.specs.Support.{agrees_from, agrees_to, believed, farther};
-ghost use Rattle.irig_times.specs.Support.{is_held, is_supported, nearer, shown_in, shown_of};
+ghost use Rattle.irig_safety.specs.declared.shown.Shown.{Shown};
+ghost use Rattle.irig_times.specs.{Islands.agrees_from, Islands.is_shore_before, Nearest.nearest};
+ghost use Rattle.irig_times.specs.Support.{believed, is_believed, is_held, is_supported};
+ghost use Rattle.irig_times.specs.Support.{shown_in, shown_of, with_frame};
 
 use crate::frame_lens::FrameLens;
+use crate::islands::{agrees_from, agrees_to, is_on_island, is_shore_before};
+use crate::nearest::Nearest;
 use crate::time::timed;
 use irig_codes::Format;
-use irig_safety::{Shown, Witnesses, agrees};
+use irig_safety::Shown;
 use irig_track::Lens;
 use std::alloc::{AllocError, Global};
 
-/// Of each record, whether its frame is believed: one that is supported, or if frames stand alone
-/// each one that has a time.
+/// Of each record, whether its frame is believed: one that is supported and on no island, or if
+/// frames stand alone each one that has a time.
 pub fn held_frames(
     alloc: Global,
     pulses: &mut Lens<'_>,
@@ -30,37 +34,14 @@ pub fn held_frames(
     ensures same { records.new.records ≡ records.old.records }
 {
     let mut list = Vec::new(alloc);
-    let mut before2 = None;
-    let mut before = None;
+    let mut before = Nearest::none();
     for place in 0..records.len() {
         let frame = shown_at(pulses, records, format, place);
-        let near = (before2, before);
-        let is_held = is_held(pulses, records, format, alone, near, frame, place + 1);
+        let is_held = is_held(pulses, records, format, alone, &before, frame, place + 1);
         list.push(is_held)?;
-        before2 = farther(frame, before2, before);
-        before = nearer(frame, before);
+        before = before.with(frame);
     }
     Ok(list)
-}
-
-/// The nearest frame before the next record.
-fn nearer(frame: Option<Shown>, before: Option<Shown>) -> Option<Shown>
-    ensures { result ≡ nearer frame before }
-{
-    match frame {
-        Some(frame) => Some(frame),
-        None => before,
-    }
-}
-
-/// The frame before that.
-fn farther(frame: Option<Shown>, before2: Option<Shown>, before: Option<Shown>) -> Option<Shown>
-    ensures { result ≡ farther frame before2 before }
-{
-    match frame {
-        Some(_) => before,
-        None => before2,
-    }
 }
 
 /// What the frame of the record at a place shows, if it has a time.
@@ -89,51 +70,79 @@ fn shown_at(
     }
 }
 
-/// The first two frames that have a time of the records from a place on.
+/// The five frames that have a time of the records from a place on that are nearest to it.
 fn shown_after(
     pulses: &mut Lens<'_>,
     records: &mut FrameLens<'_>,
     format: Format,
     from: usize,
-) -> (Option<Shown>, Option<Shown>)
+) -> Nearest
     requires frames { records.old.records ≡ frames format pulses.old.track.pulses }
-    ensures first { result.0
-        ≡ slice_get (shown_in format pulses.old.track.pulses (drop from records.old.records)) 0 }
-    ensures second { result.1
-        ≡ slice_get (shown_in format pulses.old.track.pulses (drop from records.old.records)) 1 }
+    ensures nearest { result
+        ≡ nearest (shown_in format pulses.old.track.pulses (drop from records.old.records)) }
     ensures pulses { pulses.new.track ≡ pulses.old.track }
     ensures same { records.new.records ≡ records.old.records }
 {
-    let mut first = None;
+    let first = next_shown(pulses, records, format, from);
+    let second = next_shown(pulses, records, format, first.1);
+    let third = next_shown(pulses, records, format, second.1);
+    let fourth = next_shown(pulses, records, format, third.1);
+    let fifth = next_shown(pulses, records, format, fourth.1);
+    Nearest {
+        first: first.0,
+        second: second.0,
+        third: third.0,
+        fourth: fourth.0,
+        fifth: fifth.0,
+    }
+}
+
+/// The first frame that has a time of the records from a place on, if there is one, and the place
+/// after its record.
+fn next_shown(
+    pulses: &mut Lens<'_>,
+    records: &mut FrameLens<'_>,
+    format: Format,
+    from: usize,
+) -> (Option<Shown>, usize)
+    requires frames { records.old.records ≡ frames format pulses.old.track.pulses }
+    ensures first { shown_in format pulses.old.track.pulses (drop from records.old.records)
+        ≡ with_frame result.0
+        (shown_in format pulses.old.track.pulses (drop result.1 records.old.records)) }
+    ensures last { result.0 ≡ None
+        → shown_in format pulses.old.track.pulses (drop result.1 records.old.records) ≡ [] }
+    ensures pulses { pulses.new.track ≡ pulses.old.track }
+    ensures same { records.new.records ≡ records.old.records }
+{
     for place in from..records.len() {
         let frame = shown_at(pulses, records, format, place);
-        if are_both(first, frame) {
-            return (first, frame);
+        if is_there(frame) {
+            return (frame, place + 1);
         }
-        first = nearer(first, frame);
     }
-    (first, None)
+    (None, records.len())
 }
 
-/// Whether both frames are there.
-fn are_both(first: Option<Shown>, second: Option<Shown>) -> bool
-    ensures { result ≡ (is_some first && is_some second) }
+/// Whether a frame is there.
+fn is_there(frame: Option<Shown>) -> bool
+    ensures { result ≡ is_some frame }
 {
-    first.is_some() && second.is_some()
+    frame.is_some()
 }
 
-/// Whether a frame is believed, after two others and before the records from a place on.
+/// Whether a frame is believed, after others and before the records from a place on.
 fn is_held(
     pulses: &mut Lens<'_>,
     records: &mut FrameLens<'_>,
     format: Format,
     alone: bool,
-    near: (Option<Shown>, Option<Shown>),
+    before: &Nearest,
     frame: Option<Shown>,
     next: usize,
 ) -> bool
     requires frames { records.old.records ≡ frames format pulses.old.track.pulses }
-    ensures held { result ≡ is_held format alone near.0 near.1
+    ensures held { (list : List Shown) → before.now ≡ nearest list → result
+        ≡ is_held format alone list
         (shown_in format pulses.old.track.pulses (drop next records.old.records)) frame }
     ensures pulses { pulses.new.track ≡ pulses.old.track }
     ensures same { records.new.records ≡ records.old.records }
@@ -144,44 +153,43 @@ fn is_held(
     if alone {
         return true;
     }
-    let (after, after2) = shown_after(pulses, records, format, next);
-    let near = Witnesses {
-        before2: near.0,
-        before: near.1,
-        after,
-        after2,
-    };
-    is_supported(format, &near, &frame)
+    if is_sure(format, before, &frame) {
+        return true;
+    }
+    let after = shown_after(pulses, records, format, next);
+    is_believed(format, before, &frame, &after)
+}
+
+/// Whether the frame before agrees with a frame, and no frame before that shows that it is on an
+/// island: so it is believed, whatever comes after it.
+fn is_sure(format: Format, before: &Nearest, frame: &Shown) -> bool
+    ensures { result ≡ (agrees_from format before.now.first frame.now
+        && (not (is_shore_before format before.now.fourth before.now.third before.now.second
+        frame.now)
+        && not (is_shore_before format before.now.fifth before.now.fourth before.now.third
+        frame.now))) }
+{
+    agrees_from(format, before.first, frame)
+        && !is_shore_before(format, before.next(), frame)
+        && !is_shore_before(format, before.far(), frame)
+}
+
+/// Whether a frame is supported, and on no island.
+fn is_believed(format: Format, before: &Nearest, frame: &Shown, after: &Nearest) -> bool
+    ensures { (left : List Shown) (right : List Shown) → before.now ≡ nearest left
+        → after.now ≡ nearest right → result ≡ is_believed format left frame.now right }
+{
+    is_supported(format, before, frame, after) && !is_on_island(format, before, frame, after)
 }
 
 /// Whether one of the frames next to a frame agrees with it, or there is none.
-fn is_supported(format: Format, near: &Witnesses, frame: &Shown) -> bool
-    ensures { result ≡ is_supported format near.now.before2 near.now.before near.now.after
-        near.now.after2 frame.now }
+fn is_supported(format: Format, before: &Nearest, frame: &Shown, after: &Nearest) -> bool
+    ensures { result ≡ is_supported format before.now.second before.now.first after.now.first
+        after.now.second frame.now }
 {
-    !(near.before.is_some() || near.after.is_some())
-        || agrees_from(format, near.before, frame)
-        || agrees_to(format, frame, near.after)
-        || agrees_from(format, near.before2, frame)
-        || agrees_to(format, frame, near.after2)
-}
-
-/// Whether the frame before agrees with a frame, if there is one.
-fn agrees_from(format: Format, before: Option<Shown>, frame: &Shown) -> bool
-    ensures { result ≡ agrees_from format before frame.now }
-{
-    match before {
-        Some(before) => agrees(format, &before, frame),
-        None => false,
-    }
-}
-
-/// Whether a frame agrees with the frame after it, if there is one.
-fn agrees_to(format: Format, frame: &Shown, after: Option<Shown>) -> bool
-    ensures { result ≡ agrees_to format frame.now after }
-{
-    match after {
-        Some(after) => agrees(format, frame, &after),
-        None => false,
-    }
+    !(before.first.is_some() || after.first.is_some())
+        || agrees_from(format, before.first, frame)
+        || agrees_to(format, frame, after.first)
+        || agrees_from(format, before.second, frame)
+        || agrees_to(format, frame, after.second)
 }

@@ -1,0 +1,93 @@
+//! Which frames are on an island: wrong alike, between frames that agree.
+
+ghost use Rattle.std.specs.Prelude.{◌≡◌, ◌&&◌, List};
+ghost use Rattle.irig_safety.specs.declared.shown.Shown.{Shown};
+ghost use Rattle.irig_times.specs.Islands.{agree, agrees_from, agrees_to, is_on_island};
+ghost use Rattle.irig_times.specs.Islands.{is_shore_after, is_shore_before};
+ghost use Rattle.irig_times.specs.Nearest.{nearest};
+
+use crate::nearest::{Nearest, Three};
+use irig_codes::Format;
+use irig_safety::{Shown, agrees};
+
+/// Whether a frame is on an island, after some frames and before some.
+pub fn is_on_island(format: Format, before: &Nearest, frame: &Shown, after: &Nearest) -> bool
+    ensures { (left : List Shown) (right : List Shown) → before.now ≡ nearest left
+        → after.now ≡ nearest right → result ≡ is_on_island format left frame.now right }
+{
+    is_between(format, before.near(), frame, after.near())
+        || is_between(format, before.near(), frame, after.next())
+        || is_between(format, before.next(), frame, after.near())
+        || is_between(format, before.near(), frame, after.far())
+        || is_between(format, before.next(), frame, after.next())
+        || is_between(format, before.far(), frame, after.near())
+}
+
+/// Whether the first of three frames before a frame and the first of three after it are shores, and
+/// agree.
+fn is_between(format: Format, before: Three, frame: &Shown, after: Three) -> bool
+    ensures { result ≡ (is_shore_before format before.2 before.1 before.0 frame.now
+        && (is_shore_after format frame.now after.0 after.1 after.2
+        && agree format before.0 after.0)) }
+{
+    is_shore_before(format, before, frame)
+        && is_shore_after(format, frame, after)
+        && agree(format, before.0, after.0)
+}
+
+/// Whether the first of three frames before a frame is there and does not agree with it, and one of
+/// the other two supports that first one.
+pub fn is_shore_before(format: Format, before: Three, frame: &Shown) -> bool
+    ensures { result ≡ is_shore_before format before.2 before.1 before.0 frame.now }
+{
+    match before.0 {
+        Some(shore) => {
+            !agrees(format, &shore, frame)
+                && (agrees_from(format, before.1, &shore) || agrees_from(format, before.2, &shore))
+        }
+        None => false,
+    }
+}
+
+/// The same of three frames after it.
+fn is_shore_after(format: Format, frame: &Shown, after: Three) -> bool
+    ensures { result ≡ is_shore_after format frame.now after.0 after.1 after.2 }
+{
+    match after.0 {
+        Some(shore) => {
+            !agrees(format, frame, &shore)
+                && (agrees_to(format, &shore, after.1) || agrees_to(format, &shore, after.2))
+        }
+        None => false,
+    }
+}
+
+/// Whether two frames are there and agree.
+fn agree(format: Format, before: Option<Shown>, after: Option<Shown>) -> bool
+    ensures { result ≡ agree format before after }
+{
+    match before {
+        Some(before) => agrees_to(format, &before, after),
+        None => false,
+    }
+}
+
+/// Whether the frame before agrees with a frame, if there is one.
+pub fn agrees_from(format: Format, before: Option<Shown>, frame: &Shown) -> bool
+    ensures { result ≡ agrees_from format before frame.now }
+{
+    match before {
+        Some(before) => agrees(format, &before, frame),
+        None => false,
+    }
+}
+
+/// Whether a frame agrees with the frame after it, if there is one.
+pub fn agrees_to(format: Format, frame: &Shown, after: Option<Shown>) -> bool
+    ensures { result ≡ agrees_to format frame.now after }
+{
+    match after {
+        Some(after) => agrees(format, frame, &after),
+        None => false,
+    }
+}

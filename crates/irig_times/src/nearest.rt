@@ -1,0 +1,79 @@
+//! The five frames that are nearest to one.
+
+ghost use Rattle.std.specs.Prelude.{◌≡◌, List, []};
+ghost use Rattle.irig_safety.specs.declared.shown.Shown.{Shown};
+ghost use Rattle.irig_times.specs.{Nearest.nearest, Support.with_frame};
+
+use irig_safety::Shown;
+
+/// A frame, if it is there, and the two next to it that are farther away.
+pub type Three = (Option<Shown>, Option<Shown>, Option<Shown>);
+
+/// The five frames that are nearest to a frame on one side of it, the nearest one first.
+#[derive(Clone, Copy)]
+pub struct Nearest {
+    pub first: Option<Shown>,
+    pub second: Option<Shown>,
+    pub third: Option<Shown>,
+    pub fourth: Option<Shown>,
+    pub fifth: Option<Shown>,
+}
+
+impl Nearest {
+    /// No frame.
+    pub fn none() -> Nearest
+        ensures { result ≡ nearest [] }
+    {
+        Nearest {
+            first: None,
+            second: None,
+            third: None,
+            fourth: None,
+            fifth: None,
+        }
+    }
+
+    /// The nearest of these and one more that is nearer, if there is one.
+    pub fn with(self, frame: Option<Shown>) -> Nearest
+        ensures { (frames : List Shown) → self ≡ nearest frames
+            → result ≡ nearest (with_frame frame frames) }
+    {
+        match frame {
+            Some(_) => Nearest {
+                first: frame,
+                second: self.first,
+                third: self.second,
+                fourth: self.third,
+                fifth: self.fourth,
+            },
+            None => self,
+        }
+    }
+
+    /// The first, and the two after it.
+    pub fn near(&self) -> Three
+        ensures first { result.0 ≡ self.now.first }
+        ensures second { result.1 ≡ self.now.second }
+        ensures third { result.2 ≡ self.now.third }
+    {
+        (self.first, self.second, self.third)
+    }
+
+    /// The second, and the two after it.
+    pub fn next(&self) -> Three
+        ensures first { result.0 ≡ self.now.second }
+        ensures second { result.1 ≡ self.now.third }
+        ensures third { result.2 ≡ self.now.fourth }
+    {
+        (self.second, self.third, self.fourth)
+    }
+
+    /// The third, and the two after it.
+    pub fn far(&self) -> Three
+        ensures first { result.0 ≡ self.now.third }
+        ensures second { result.1 ≡ self.now.fourth }
+        ensures third { result.2 ≡ self.now.fifth }
+    {
+        (self.third, self.fourth, self.fifth)
+    }
+}
