@@ -5,6 +5,7 @@ import re
 import tempfile
 from unittest import mock
 
+from built import GUARD
 from cases import case
 from irig_tools import damage_program, mend_program
 from irig_tools.apply import Refused
@@ -359,6 +360,26 @@ def guarded():
     return in_folder(lambda: list(holds()), rec=damages.dump(recorded(glitch), END))
 
 
+def listings():
+    """The editor lists the pulses twice, however long the recording is: before the repair, and after it. The proposal's looks are the first
+    and the last one."""
+    def holds():
+        editor = os.path.abspath(os.environ["IRIG_ED"])
+        with open("irig_ed", "w", encoding="ascii") as file:
+            file.write('#!/bin/sh\ncat > lines\ngrep -c ",list" lines >> counts\nexec %s "$@" < lines\n' % editor)
+        os.chmod("irig_ed", 0o755)
+        os.symlink(GUARD, "irig_guard")
+        with mock.patch.dict(os.environ, IRIG_ED=os.path.abspath("irig_ed")):
+            for name, change in (("a glitch", glitch), ("two damages in a frame", two_in_a_frame)):
+                with open("rec.vcd", "w", encoding="ascii") as file:
+                    file.write(damages.dump(recorded(change), END))
+                status = run("irig_mend", ["--format=B", "--expression=4", "--apply", "new.vcd", "rec.vcd"])[0]
+                yield same("listings, " + name, (status, sum(map(int, text_of("counts").split()))), (0, 2))
+                os.remove("counts")
+
+    return in_folder(lambda: list(holds()))
+
+
 def outside():
     """Pulses that belong to no frame are left: a line has their place, and so has the page, though there is no script."""
     def holds():
@@ -573,4 +594,4 @@ def cases(top):
     return [*(case("apply: " + row[0], applied, *row) for row in APPLIED),
             *(case("apply: " + part.__name__, part)
               for part in (into, options_of_a_script, late_times, saved, page_alone, one_line, cut, growing, upside_down, steady,
-                           guarded, outside, named, guesses, filled, refused, objects, ends, kinds))]
+                           guarded, listings, outside, named, guesses, filled, refused, objects, ends, kinds))]

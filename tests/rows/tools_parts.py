@@ -212,6 +212,19 @@ def of_vague():
     yield same("a steady clock", len(analysis.examine(listing_of(steady[:530] + steady[730:])).parts[0].faults.wanted), 200)
 
 
+def of_another_speed():
+    """A recorder goes on at another speed within a hole: the elements of a long one are left, as nothing says where in it that was."""
+    sound = [[int(0.99 * time) if time < 15000000 else int(1.01 * time - 300000) for time in pulse] for pulse in tools.recording(30)]
+    # 100 elements with 2 % between both speeds: the curve is off by a quarter of an interval in the middle; with 20 by a 20th
+    for name, first, many, wanted, left in (("in a long hole", 1450, 100, 0, 1), ("in a short hole", 1490, 20, 20, 0),
+                                            ("elsewhere, before it", 150, 30, 30, 0), ("elsewhere, after it", 2050, 30, 30, 0)):
+        part, = analysis.examine(listing_of(sound[:first] + sound[first + many:])).parts
+        said = [remark for remark in part.remarks if "the clock wanders" in remark.seen]
+        yield same(name, (len(part.faults.wanted), len(said)), (wanted, left))
+        far = [abs(part.track.rise_at(place) - sound[place][0]) for place in part.faults.wanted]
+        yield same(name + ", to a tenth of an interval", max(far, default=0) < 1000, True)
+
+
 def of_undamaged():
     """Recordings of clocks that wander, get faster, tremble, and all of that: nothing is damage, and no pulse would move."""
     rng = random.Random(81)
@@ -802,7 +815,7 @@ def cases():
         ("clock of runs", of_runs), ("a clock that wanders", of_wander), ("polarity", of_polarity), ("slots", of_slots),
         ("sure runs", of_parts), ("tenths", of_tenths), ("other code", of_other_code),
         ("every second pulse", of_every_second), ("ends of runs on a clock that wanders", of_ends),
-        ("a long hole on a clock that wanders", of_vague),
+        ("a long hole on a clock that wanders", of_vague), ("another speed", of_another_speed),
         ("undamaged", of_undamaged), ("a rise that is off", of_strays), ("a clock that was set", of_set), ("places", of_places),
         ("votes", of_votes),
         ("spans", of_spans), ("pieces", of_pieces), ("leap seconds", of_leap), ("moments", of_moments), ("times", of_times),

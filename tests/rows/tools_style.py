@@ -1,4 +1,5 @@
-"""flake8, mypy --strict and shellcheck find nothing in the tools and their tests, and each name is defined in one module.
+"""flake8, mypy --strict and shellcheck find nothing in the tools and their tests, each name is defined in one module, and the hundred
+elements of a frame are never a bare number.
 
 A checker that is missing is left out by name. The versions whose findings count are in VERSIONS: another version can
 know more, so its findings are printed, and are no failure.
@@ -21,6 +22,15 @@ TYPED_TESTS = ("tests/page", "tests/browser.py", "tests/page_look.py", "tests/pa
 VERSIONS = {"flake8": "5.0.4", "mypy": "1.0.1", "shellcheck": "0.9.0"}  # those of Debian 12
 
 EVERYWHERE = {"COMMAND", "main", "work"}  # what each program has
+
+# What each bare 100 of a module counts; it is none of the elements of a frame, which are ELEMENTS. In `limits` each number has its unit.
+HUNDREDS = {
+    "carrier": ("hertz", "cycles in an element"), "damage": ("percent", "percent"), "dump_units": ("units of time",),
+    "layout": ("microseconds", "hundredths of a second", "of a day's number", "of a day's number", "of a day's number"),
+    "moments": ("hundredths of a second", "years", "years"), "page": ("waveforms",), "picture": ("letters",), "progress": ("percent",),
+    "svg": ("of the width",), "threshold": ("of an interval",) * 4, "units": ("ELEMENTS itself",), "windows": ("frames",),
+}
+UNIT_AT_EACH_NUMBER = ("limits",)
 
 
 def defined(tree):
@@ -46,6 +56,30 @@ def one_name(top):
     if twice:
         print("FAILED names of several modules: " + ", ".join(twice))
     return not twice
+
+
+def hundreds_in(text):
+    """How many numbers of a module are 100."""
+    found = [node.value for node in ast.walk(ast.parse(text)) if isinstance(node, ast.Constant)]
+    return sum(type(value) in (int, float) and value == 100 for value in found)
+
+
+def elements_have_a_name(top):
+    """Whether each bare 100 of the tools is known to be something else than the elements of a frame."""
+    bare = {}
+    for path in glob.glob(os.path.join(top, "tools", "irig_tools", "*.py")):
+        with open(path, encoding="utf-8") as file:
+            bare[os.path.basename(path)[:-3]] = hundreds_in(file.read())
+    unknown = sorted(module for module, many in bare.items()
+                     if module not in UNIT_AT_EACH_NUMBER and many != len(HUNDREDS.get(module, ())))
+    if unknown or not bare:
+        print("FAILED a bare 100 that is not in HUNDREDS, or no longer there; of elements it is ELEMENTS: " + ", ".join(unknown))
+    return bool(bare) and not unknown
+
+
+def hundreds_are_seen():
+    """Whether a 100 is found in each form, and none in a text or in another number."""
+    return [hundreds_in("place % 100, 100 * frame, 1e2, range(0x64)") == 4, hundreds_in("'100', 1000, 10, \"% 100\"  # 100") == 0]
 
 
 def commands(top):
@@ -89,4 +123,5 @@ def no_answer_is_a_no():
 def cases(top):
     """The names, and each checker by its name."""
     checkers = (case("style: " + " ".join(command[:4]), finds_nothing, top, name, command) for name, command in commands(top))
-    return [case("style: names", one_name, top), case("style: no answer", no_answer_is_a_no), *checkers]
+    return [case("style: names", one_name, top), case("style: no answer", no_answer_is_a_no),
+            case("style: a hundred elements", elements_have_a_name, top), case("style: a hundred is seen", hundreds_are_seen), *checkers]

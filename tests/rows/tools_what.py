@@ -192,6 +192,26 @@ def passes():
     return good
 
 
+def judged():
+    """After some windows one of several says what a wire carries, for all of them: it is what most look like, also if that begins late."""
+    steps, laps = {"1 us": search.steps_of("1 us")}, 17
+    edges = [time for time, _ in track("B", 60)[0]][:-2]
+    period = 60 * 1000000
+    for name, low, beyond, wanted in (("upright", 0, 0, False), ("upside down in 107 windows of 198", 40000, 150000, True),
+                                      ("upside down in 49 windows of 198", 150000, 200000, False)):
+        times = [time + lap * period for lap in range(laps) for time in edges]
+        if beyond:  # without one edge a fall is a rise, until another one is left out
+            del times[beyond], times[low]
+        probe = search.Probe(mock.Mock(), steps, search.Room(search.MOST_KEPT_EDGES))
+        with mock.patch.object(search, "kinds_of", wraps=search.kinds_of) as looks:
+            probe.take(times, True)
+            probe.judge()
+        votes = probe.in_units["1 us"]
+        good = votes.most_common(1)[0][0] == ("B", wanted) and looks.call_count < 100 and list(probe.kept) == times
+        good or print("FAILED irig_what, judged, %s: %s, %d looks" % (name, votes, looks.call_count))
+        yield good
+
+
 def silent():
     """100,000 wires that are silent take less than 50 million bytes."""
     codes = ["".join(chr(33 + number // 94 ** place % 94) for place in range(3)) for number in range(100000)]
@@ -215,5 +235,6 @@ def cases(top):
     parts = ["wire TOP.bench.irig (code $), upright, format A", "expression 2: 1 of 1", "109 12:34:56.70"]
     simulated = "a simulator's dump", verilator(top), [], 0, parts, 1
     return [*(case("what: " + row[0], row_holds, top, *row) for row in (*ROWS, simulated)),
-            case("what: in a pipe", piped, top), case("what: one pass", passes), case("what: silent wires", silent),
+            case("what: in a pipe", piped, top), case("what: one pass", passes), case("what: windows", judged),
+            case("what: silent wires", silent),
             case("what: help", lambda: run("irig_what", ["--help"])[0] == 0)]

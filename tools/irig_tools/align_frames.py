@@ -16,7 +16,6 @@ SUPPORT = 1100  # frame periods that are read before and after a window: no fram
 MARGIN = 9  # frames that are read before and after a part: the time of a line depends on fewer
 CUT_BEFORE = 10  # elements before the first of these
 NO_END = 1 << 62  # microseconds
-INTERVALS = {"A": 1000, "B": 10000, "E": 100000, "G": 100}  # microseconds
 TABLE_ROW = re.compile(rb"([0-9]+)\t(?:([0-9]{4})-)?([0-9]{3})T[^\t]*\t(?:yes|no|(unsupported))\n")
 END_READ = 1 << 16  # bytes at an end of the file that say how long it is
 UNIT = re.compile(rb"\$timescale\s+(1|10|100)\s*([munpf]?)s\s+\$end")

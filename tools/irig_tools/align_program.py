@@ -9,20 +9,21 @@ from dataclasses import dataclass
 from itertools import islice
 from typing import IO, Iterator, List, Optional, Tuple
 
-from .align_frames import INTERVALS, TRACK_PULSES, LongTrack
+from .align_frames import TRACK_PULSES, LongTrack
 from .align_lines import PICOS, UNIT_PLACES, LineTimes, each_line, offset_of_lines, offset_text, pattern_of
 from .align_runs import Aligner, AlignerEnded, AlignerRun, Call
 from .align_years import years_of
 from .command import run, unchanged
 from .editor import Problem, find_beside, progress_to
 from .ending import ALL_RIGHT, FOUND, complain
+from .layout import INTERVAL
 from .options import Command, Given, Option, whole
 from .processes import end_all
 from .temporary import temporary_folder
 from .windows import named_size
 
 ALIGN_WIRE = Option("--wire", "NAME", "the wire of the dump, as irig_time has it")
-ALIGN_FORMAT = Option("--format", "A|B|E|G", "the format; B, if it is not given", choices=tuple(INTERVALS))
+ALIGN_FORMAT = Option("--format", "A|B|E|G", "the format; B, if it is not given", choices=tuple(INTERVAL))
 ALIGN_EXPRESSION = Option("--expression", "0..7", "the coded expression; 2, if it is not given", choices=tuple("01234567"))
 TIME_UNIT = Option("--unit", "UNIT", "of the recorder's time: s, ms, us, ns or ps; us, if it is not given", choices=tuple(UNIT_PLACES))
 OFFSET = Option("--offset", "NUMBER", "the recorder's time at the start of the track, in the unit; 0, if it is not given")
@@ -126,7 +127,7 @@ class LongAlignment:
 
     def __init__(self, given: Given, aligner: Aligner) -> None:
         self.given, self.aligner = given, aligner
-        step = INTERVALS[given.text(ALIGN_FORMAT) or "B"]
+        step = INTERVAL[given.text(ALIGN_FORMAT) or "B"]
         self.track = LongTrack(aligner, aligner_words(given, *OF_FRAMES), step, (named_size() or TRACK_PULSES) * step)
         self.places = UNIT_PLACES[given.text(TIME_UNIT) or "us"]
         self.have_numbers, self.number = True, 0

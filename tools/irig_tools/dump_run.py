@@ -1,8 +1,9 @@
 """A part of a dump that has nothing but times and changes of wires of one bit: it is read at once."""
 from __future__ import annotations
 
+import json
 from operator import le, lt
-from typing import Callable, List, NamedTuple, Optional, Sequence
+from typing import Callable, List, NamedTuple, Optional, Sequence, cast
 
 TIME_MARK = 35  # what a time begins with: #
 DIGITS_OF_A_TIME = 60  # of a time
@@ -22,7 +23,11 @@ class WireRun(NamedTuple):
         return "1" if self.is_high ^ bool(number % 2) else "0"
 
     def times(self) -> List[int]:
-        return list(map(int, b"".join(self.marks)[1:].split(b"#"))) if self.marks else []
+        text = b"".join(self.marks)[1:]
+        try:
+            return cast(List[int], json.loads(b"[%s]" % text.replace(b"#", b",")))  # a third less than one by one
+        except ValueError:  # with zeros before them
+            return list(map(int, text.split(b"#")))
 
 
 class RunReader:

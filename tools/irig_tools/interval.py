@@ -184,9 +184,11 @@ class Clock:
         one of both runs has `fewest` pulses."""
         return self.wander.over(steps, fewest < limits.BESIDE) if self.wander else self.doubt * steps
 
-    def inside(self, steps: float) -> float:
-        """How far a pulse in a hole of that many elements can be off, not counting what rises stray; of a clock that wanders alone."""
-        return self.wander.inside(steps) if self.wander else 0
+    def inside(self, steps: float, left: Optional[Run] = None, right: Optional[Run] = None) -> float:
+        """How far a pulse in a hole of that many elements can be off, not counting what rises stray; of a clock that wanders alone. The
+        interval can be another one after the hole than before it, as the runs on both sides of it have it."""
+        before, after = left and left.end_interval, right and right.begin_interval
+        return self.wander.inside(steps, abs(after - before) if before and after else 0) if self.wander else 0
 
     @property
     def most_off(self) -> float:

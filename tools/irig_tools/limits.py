@@ -63,6 +63,7 @@ CURVED = 0.7  # of the noise: a block of 8 alone is a tenth nearer
 WANDER_STEP = 0.01  # intervals: a smaller step is not seen on such a clock: a pulse that is inserted in a hole can be off by that
 MOST_WANDER = 12  # intervals: how far a rest may be off after a hole on a clock that wanders, if the others say the phase
 VAGUE = 0.1  # intervals: an element that can be more off in a hole is not put there: irig_ed would not read it either
+CHANGED_AT_ONCE = 1 / 8  # of the change, by element: the curve is off by that in the middle if the interval changes there at once
 ALIASED = 0.4  # intervals: if all could be so much off, a pulse there can be that of the next element
 LOCAL_STRAY = 0.09  # intervals: how far one rise between runs may be off there
 LONG_RUN = 40  # pulses of a run that can have two phases, or whose position identifiers say its phase

@@ -10,7 +10,7 @@ from .layout import Fields, Layout
 from .units import Base, FrameNumber, Hundredths, plus
 
 DAY = 8640000  # hundredths of a second
-SECOND = 100
+SECOND = 100  # hundredths of a second
 CENTURY = 36525 * DAY  # of which a year of two digits says the year
 
 # of each year of two digits, counted since year 1
@@ -54,7 +54,7 @@ class Calendar:
         return plus(base, number * self.layout.period)
 
     def moment_of(self, told: Fields) -> Hundredths:
-        within = 100 * (3600 * told["hours"] + 60 * told["minutes"] + told["seconds"]) + told.get("hundredths", 0)
+        within = SECOND * (3600 * told["hours"] + 60 * told["minutes"] + told["seconds"]) + told.get("hundredths", 0)
         first = FIRST_DAYS[told.get("year", 0)] if self.with_year else 1
         plain = self._near_leap(Hundredths((first + told["days"] - 1) * DAY + within))
         return plus(plain, SECOND * (self.leap is not None and plain >= self.leap and told["seconds"] != 60))
@@ -77,8 +77,8 @@ class Calendar:
 
     def _plain_fields(self, moment: Hundredths) -> Fields:
         day, within = divmod(moment, DAY)
-        seconds = within // 100
-        told = {"hundredths": within % 100, "seconds": seconds % 60, "minutes": seconds // 60 % 60,
+        seconds, hundredths = divmod(within, SECOND)
+        told = {"hundredths": hundredths, "seconds": seconds % 60, "minutes": seconds // 60 % 60,
                 "hours": seconds // 3600, "binary": seconds}
         if self.with_year:
             date = datetime.date.fromordinal((day - FIRST_DAYS[0]) % (CENTURY // DAY) + FIRST_DAYS[0])

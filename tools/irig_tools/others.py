@@ -12,7 +12,7 @@ from .check import Frame, Frames, Moved, around
 from .editor import Editor, Progress
 from .frames import Times
 from .kinds import DamageKind
-from .moments import Calendar
+from .moments import SECOND, Calendar
 from .script import Repair
 from .texts import counted
 from .units import FrameNumber, Hundredths, PulseIndex
@@ -206,7 +206,7 @@ class Comparison:
 
 
 def _later(by: int) -> str:
-    return "%.2f seconds %s" % (abs(by) / 100, "later" if by > 0 else "earlier")
+    return "%.2f seconds %s" % (abs(by) / SECOND, "later" if by > 0 else "earlier")
 
 
 def others_of(findings: Findings, found: Sequence[Other]) -> Others:

@@ -11,7 +11,7 @@ from .damage import THE_WHOLE, Damage, Seen
 from .editor import Listing
 from .ending import ESCAPED
 from .left import Stretches
-from .moments import DAY
+from .moments import DAY, SECOND
 from .script import Repair
 from .sheet import DAMAGED, LOST, SOUND, STATES, Changes, Place, Sheet, Stretch, Wave, cut, merged
 from .spans import Span
@@ -80,7 +80,7 @@ def _of_day(part: Part, span: Span, place: PlaceNumber) -> int:
     """The microsecond of the day at which the frame of a place begins."""
     calendar = part.times.calendar
     told = calendar.fields(calendar.moment(frame_of(place), span.base))
-    hundredths = 100 * (3600 * told["hours"] + 60 * told["minutes"] + told["seconds"]) + told["hundredths"]
+    hundredths = SECOND * (3600 * told["hours"] + 60 * told["minutes"] + told["seconds"]) + told["hundredths"]
     return HUNDREDTH * hundredths % (DAY * HUNDREDTH)
 
 

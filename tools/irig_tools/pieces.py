@@ -5,12 +5,13 @@ from collections import Counter
 from typing import Callable, Optional, Sequence
 
 from . import limits
-from .moments import DAY
+from .moments import DAY, SECOND
 from .units import Base, FrameNumber
 from .votes import Votes
 
+MINUTE, HOUR = 60 * SECOND, 3600 * SECOND
 # each field with how many hundredths of a second one of it is, and after how many it begins again
-LEVELS = (("hundredths", 1, 100), ("seconds", 100, 6000), ("minutes", 6000, 360000), ("hours", 360000, DAY))
+LEVELS = (("hundredths", 1, SECOND), ("seconds", SECOND, MINUTE), ("minutes", MINUTE, HOUR), ("hours", HOUR, DAY))
 
 
 class _Pieces:

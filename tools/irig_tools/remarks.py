@@ -12,6 +12,7 @@ from .faults import Remark
 from .frames import Times
 from .interval import Run
 from .kinds import DamageKind
+from .moments import SECOND
 from .other_code import ONE_SECOND, OtherCode, named
 from .spans import Span
 from .track import Track
@@ -102,7 +103,7 @@ def _of_cut(track: Track, times: Times, left: List[Run], right: List[Run]) -> Re
 
 def _of_times(track: Track, times: Times, before: Span, after: Span) -> Remark:
     """The times of the frames go on elsewhere."""
-    apart = times.calendar.apart(before.base, after.base) / 100
+    apart = times.calendar.apart(before.base, after.base) / SECOND
     way, cause = ("later", "was cut out and the rest moved") if apart > 0 else ("earlier", "is there twice")
     seen = "from this frame on the times are %.2f seconds %s than the frames before lead to" % (abs(apart), way)
     choice = "either a stretch %s, or the clock was set" % cause

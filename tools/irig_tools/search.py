@@ -22,6 +22,7 @@ from .layout import INTERVAL
 WINDOW = 1024  # edges that are judged together
 FEWEST_EDGES = 16  # edges that are judged
 HOPELESS = 16  # windows without time code, after which a wire is no longer looked at
+ALL_JUDGED, ONE_OF = 64, 8  # windows of a wire with time code, each of which is judged; after them one of that many is, for all of them
 FEWEST_OF_CLASS = 0.04  # the share of pulses that are position identifiers, and of those that are none
 WIDER = 0.45  # intervals: by how much position identifiers are wider than zeros, at least; ones are by 0.3
 MOST_POSITIONS = 0.3  # their share is 0.11, and more if others have run together or are lost
@@ -114,7 +115,7 @@ class Probe:
             self.forget()
         else:
             self.room.left -= len(self.edges)
-            self.kept.extend(self.edges)
+            self.kept.fromlist(self.edges)
 
     def forget(self) -> None:
         """Keeps no edges."""
@@ -124,13 +125,20 @@ class Probe:
     def judge(self) -> None:
         self._keep()
         if len(self.edges) >= FEWEST_EDGES:
-            for unit, steps in self.units.items():
-                found = kinds_of(self.edges, self.rise_first, steps)
-                if found:
-                    votes = self.in_units.setdefault(unit, Counter())
-                    votes[max(found, key=found.__getitem__)] += 1
+            if not self.in_units or self.windows < ALL_JUDGED:
+                self._vote(1)
+            elif self.windows % ONE_OF == 0:
+                self._vote(ONE_OF)
             self.windows += 1
         self.edges = []
+
+    def _vote(self, many: int) -> None:
+        """What the window looks like, in each unit; it stands for that many."""
+        for unit, steps in self.units.items():
+            found = kinds_of(self.edges, self.rise_first, steps)
+            if found:
+                votes = self.in_units.setdefault(unit, Counter())
+                votes[max(found, key=found.__getitem__)] += many
 
     @property
     def kind(self) -> Kind:

@@ -59,7 +59,8 @@ class Track:
                 found[plus(run.place, pulse - run.first)] = self.clock.strays[pulse]
         for zone in self.zones:
             if zone.left and zone.right and not (zone.late or zone.glued or zone.vague or zone.other):
-                most = self.clock.least_stray + max(self.clock.over(zone.right.step), self.clock.inside(zone.right.step))
+                inside = self.clock.inside(zone.right.step, zone.left, zone.right)
+                most = self.clock.least_stray + max(self.clock.over(zone.right.step), inside)
                 for place in zone.inner():
                     pulses = zone.pulses[place]
                     if self.told[place - self.first] in "01P" and abs(self.rises[pulses[0]] - zone.rise_at(place)) > most:

@@ -73,6 +73,11 @@ class Sides:
         first, last = self.of(left, -1, before, hop)[1], self.of(right, 1, after, hop)[1]
         return begin - end - (right - left) * (first + last) / 2
 
+    def change_by(self, run: Ends, left: int, right: int, reach: Reach) -> float:
+        """By how much the interval is another one after these two pulses than before them, without its sign."""
+        first = self.of(left, -1, left - run[0] + 1, reach)[1]
+        return abs(self.of(right, 1, run[1] - right + 1, reach)[1] - first)
+
     def inside_by(self, run: Ends, left: int, right: int, reach: Reach) -> float:
         """How far pulses between these two are off from the curve through both ends, at three places."""
         end, first = self.of(left, -1, left - run[0] + 1, reach)
@@ -131,6 +136,10 @@ class Sample:
         """How far off pulses in holes of just that many elements are, from the least to the most."""
         return sorted(self.sides.inside_by(run, left, left + steps, reach) for run, left, _ in self.holes(steps))
 
+    def changes(self, steps: int, reach: Reach) -> List[float]:
+        """By how much the interval changes over such holes, from the least to the most."""
+        return sorted(self.sides.change_by(run, left, left + steps, reach) for run, left, _ in self.holes(steps))
+
     def best_reach(self, by_chance: float, wanders: bool) -> Reach:
         """The reach that says best where the ends are; that of a steady clock if no other is clearly better, unless it `wanders`
         for sure. It is the best, too, if it is off by no more than `by_chance`."""
@@ -162,6 +171,7 @@ class Wander:
         self.known: Dict[bool, Dict[int, float]] = {False: {}, True: {}}
         self.spread: Dict[bool, float] = {}
         self.inner: Dict[int, float] = {}  # how far off pulses in holes of that many elements are
+        self.changed: Dict[int, float] = {}  # by how much the interval changes over them
         for short, table in self.known.items():
             most = 0.0
             for steps in limits.HOLES_MEASURED:
@@ -174,9 +184,10 @@ class Wander:
                     self.spread[short] = max(median(sample.lates(steps, reach, self.hops[1], short)), off / limits.NINE_OF_TEN)
                 most = max(most, limits.ABOVE_NINE_OF_TEN * off)
                 table[steps] = most
-        most = 0.0
+        most = change = 0.0
         for steps in self.known[False]:
             most = self.inner[steps] = max(most, limits.ABOVE_NINE_OF_TEN * _nine_of_ten(sample.insides(steps, reach)))
+            change = self.changed[steps] = max(change, limits.ABOVE_NINE_OF_TEN * _nine_of_ten(sample.changes(steps, reach)))
 
     def hop(self, steps: float) -> Reach:
         """Which pulses say the interval in a hole of that many elements."""
@@ -186,10 +197,11 @@ class Wander:
         """In microseconds, over that many elements; if `short`, one of both sides has few pulses."""
         return _between(self.known[short], steps, 1)
 
-    def inside(self, steps: float) -> float:
+    def inside(self, steps: float, change: float) -> float:
         """In microseconds, how far off a pulse in a hole of that many elements can be; in a longer one than was tried it is more by
-        the square, as the interval changes meanwhile."""
-        return _between(self.inner, steps, 2)
+        the square, as the interval changes meanwhile. If it changes over this hole by more than it does elsewhere, it can do so at once."""
+        at_once = limits.CHANGED_AT_ONCE * steps * change if change > _between(self.changed, steps, 1) else 0.0
+        return max(at_once, _between(self.inner, steps, 2))
 
 
 def _between(table: Dict[int, float], steps: float, power: int) -> float:

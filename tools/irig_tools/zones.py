@@ -191,12 +191,12 @@ class Zone:
         little, or if most of the pulses there are where the curve has them."""
         if not self._is_bent() or not self.right:
             return 0
-        off = self.clock.inside(self.right.step)
+        off = self.clock.inside(self.right.step, self.left, self.right)
         own = [place for place in self.pulses if self.first < place < self.last]
         near = [place for place in own if self._has_single(place)]
         if off < limits.ALIASED * self.interval and 2 * len(near) > sum(bool(self.pulses[place]) for place in own):
             known = [self.first, *near, self.last]
-            off = self.clock.inside(max(after - before for before, after in zip(known, known[1:])))
+            off = self.clock.inside(max(after - before for before, after in zip(known, known[1:])), self.left, self.right)
         return off if off > limits.VAGUE * self.interval else 0
 
     def _has_single(self, place: PlaceNumber) -> bool:
