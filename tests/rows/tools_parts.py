@@ -212,6 +212,21 @@ def of_vague():
     yield same("a steady clock", len(analysis.examine(listing_of(steady[:530] + steady[730:])).parts[0].faults.wanted), 200)
 
 
+def of_off():
+    """What is filled in on a clock that wanders has a word on how far off it can be, and is not farther off; but not if that is less than
+    a hundredth of an interval, and not on a steady clock."""
+    for name, sound, beyond, is_said in (("a hole of half a turn", wow(tools.recording(14), 0.01, 200), 610, True),
+                                         ("a hole of five elements", wow(tools.recording(14), 0.01, 200), 535, False),
+                                         ("a hole of a steady clock", tools.recording(14), 610, False)):
+        found = analysis.examine(listing_of(sound[:530] + sound[beyond:]))
+        repairs = [each for each in mend.called_for(found) if each.edits]
+        track, off = found.parts[0].track, max(each.off for each in repairs)
+        far = max(abs(track.rise_at(place) - sound[place][0]) for place in range(530, beyond))
+        said = [comment for each in repairs for comment in each.comments if "the clock wanders" in comment]
+        words = ["the clock wanders: what is filled in here can be %.3g milliseconds off" % (off / 1000)]
+        yield same(name, (said, 100 <= off < 1000, far <= max(off, 100)), (words, True, True) if is_said else ([], False, True))
+
+
 def of_undamaged():
     """Recordings of clocks that wander, get faster, tremble, and all of that: nothing is damage, and no pulse would move."""
     rng = random.Random(81)
@@ -802,7 +817,7 @@ def cases():
         ("clock of runs", of_runs), ("a clock that wanders", of_wander), ("polarity", of_polarity), ("slots", of_slots),
         ("sure runs", of_parts), ("tenths", of_tenths), ("other code", of_other_code),
         ("every second pulse", of_every_second), ("ends of runs on a clock that wanders", of_ends),
-        ("a long hole on a clock that wanders", of_vague),
+        ("a long hole on a clock that wanders", of_vague), ("how far off what is filled in can be", of_off),
         ("undamaged", of_undamaged), ("a rise that is off", of_strays), ("a clock that was set", of_set), ("places", of_places),
         ("votes", of_votes),
         ("spans", of_spans), ("pieces", of_pieces), ("leap seconds", of_leap), ("moments", of_moments), ("times", of_times),
