@@ -116,6 +116,9 @@ def of_samples():
                   for pulse in tools.recording()]
         clock = Clock(listing_of(coarse), 10000)
         yield same(name, (abs(clock.grid - 1e6 / rate) < 1, len(clock.runs)), (True, 1))
+    between = [[int(time * 0.9999) // 200 * 200 + 2100 for time in pulse] for pulse in tools.recording()]
+    clock = Clock(listing_of([[0, 400], *between]), 10000)  # the first pulse is cut
+    yield same("edges between two samples, and a wire that is high at first", (clock.grid, len(clock.runs)), (200, 2))
     rough = [[-(-time // 600) * 600 for time in pulse] for pulse in tools.recording()]  # distances of 10,200 and 9,600
     clock = Clock(listing_of(rough), 10000)
     yield same("a sample is 6 % of the interval", (round(clock.grid), len(clock.runs), round(clock.interval, -1)), (600, 1, 10000))
@@ -123,15 +126,15 @@ def of_samples():
 
 def of_one_sample():
     """A recorder gains a sample: the grid, before and after repairs."""
-    for rate, begin, millionths, by in ((3000, 620, 10, 7), (5000, 750, 20, 5)):
-        gained = [[int(-(-(begin + time * (1 + millionths / 1e6)) * rate // 1000000) * 1000000 / rate) for time in pulse]
+    for rate, begin, millionths, by, half in ((3000, 620, 10, 7, 0), (5000, 750, 20, 5, 0), (5000, 750, 20, 5, 100)):
+        gained = [[half + int(-(-(begin + time * (1 + millionths / 1e6)) * rate // 1000000) * 1000000 / rate) for time in pulse]
                   for pulse in tools.recording()]
         grids = []
         for many in (0, 40):
             gained[300:300 + many:2] = [[rise + by, rise + by + 2000] for rise, _ in gained[300:300 + many:2]]
             clock = Clock(listing_of(gained), 10000)
             grids.append((round(clock.grid), len(clock.runs)))
-        yield same("one is off by a sample, before and after repairs, %d" % rate, grids, [(round(1e6 / rate), 1)] * 2)
+        yield same("one is off by a sample, before and after repairs, %d, %d" % (rate, half), grids, [(round(1e6 / rate), 1)] * 2)
 
 
 def of_runs():

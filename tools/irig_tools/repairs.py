@@ -45,7 +45,7 @@ def _repair(faults: Faults, group: List[Item]) -> Repair:
     first, last = (track.within(PlaceNumber(int(place + 0.5))) for place in (group[-1].low, group[0].high))
     at, until = track.rise_at(first), track.rise_at(last)
     concern = faults.concern(first, last)._replace(step=next((item.step for item in group if item.step), None))
-    off = _off(faults, group)
+    off = _can_be_off(faults, group)
     comments += [OFF_HERE % (off / 1000)] if off else []
     edits, instead = [edit for item in group for edit in item.edits], _written_again(faults, group)
     if all(item.single for item in group) and 0 < len(instead) < len(edits):
@@ -53,7 +53,7 @@ def _repair(faults: Faults, group: List[Item]) -> Repair:
     return repair_of(_kind_of(group), at, comments, edits, until, instead=instead, undecided=undecided, concern=concern, off=off)
 
 
-def _off(faults: Faults, group: List[Item]) -> int:
+def _can_be_off(faults: Faults, group: List[Item]) -> int:
     """By how many microseconds what is filled in can be off, as the clock wanders; 0 if that is less than a step that is seen."""
     zones = faults.track.zone_of
     places = (PlaceNumber(int(item.low)) for item in group if item.edits and item.low == int(item.low))
