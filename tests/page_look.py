@@ -114,6 +114,12 @@ def crowded(browser: Browser, address: str) -> None:
     near = """[...document.querySelectorAll('#strip .signs text.many')].map((each) => Number(each.getAttribute("x")))
         .some((x, at, all) => at && x - all[at - 1] < 20)"""
     check("no two numbers cover each other", False, browser.run(near))
+    heights = "[...new Set([...document.querySelectorAll('#strip .damaged')].map((bar) => bar.getAttribute('height')))].join(' ')"
+    check("one damaged frame of 72 on a pixel is a low bar", "11", browser.run(heights))
+    browser.run("view.show(0, 60 * held.frame)")
+    browser.settle()
+    check("one that fills its pixels is a whole bar", "31", browser.run(heights))
+    browser.click("#whole")
     visible = "[...list.children].filter((item) => item.offsetParent).length"
     check("the list has all", 500, browser.run(visible))
     check("how many are left is said", "left to you: 166", browser.run("byId('filter').textContent.trim()"))

@@ -506,7 +506,7 @@ def objects():
         yield same("its script", found[1]["script"], [line for line in lines if line[0] != "#"])
         done = json.loads(run("irig_mend", ["--expression=4", "--json", "--apply", "new.vcd", "rec.vcd"])[1])
         yield same("the summary", done["summary"], {
-            "found": 2, "repaired": 1, "undecided": 0, "left": 0, "steps": 1, "guessed": 0, "filled": 0, "refused": 0,
+            "found": 2, "repaired": 1, "undecided": 0, "left": 0, "steps": 1, "guessed": 0, "filled": 0, "off": 0, "refused": 0,
             "sound_before": 5, "sound_after": 6})
         yield same("what irig_time needs", [done[name] for name in ("recording", "wire", "format", "expression")],
                    ["rec.vcd", "code", "B", 4])

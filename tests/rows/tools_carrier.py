@@ -312,6 +312,21 @@ def hysteresis():
     return results
 
 
+def sharp():
+    """Between a sample that is low and one that is high an edge is half-way, whatever the noise; else the two samples say where."""
+    rng = random.Random(87)
+    values = array("h", [0 if number % 800 < 80 or number % 800 >= 240 else 9000 for number in range(8000)])
+    noisy = array("h", [value + round(rng.gauss(0, 200)) for value in values])
+    slow = array("h", values)
+    slow[80::800] = array("h", [6000] * 10)  # the middle is at three quarters of the way there
+    results = []
+    for name, samples, wanted in (("noise", noisy, 9938), ("a slow edge", slow, 9969)):
+        status, dump, said = run("irig_demodulate", ["--level", "-"], wav(samples, 8000))
+        results.append(status == 0 and rises_of(dump) == [100000 * place + wanted for place in range(10)])
+        results[-1] or print("FAILED irig_demodulate --level, sharp edges, %s: %s %s" % (name, rises_of(dump)[:4], said))
+    return results
+
+
 def same(name, words, data, true):
     """Whether other samples of one signal give its rises, to 300 microseconds."""
     status, dump, said = run("irig_demodulate", [*words, "-"], data)
@@ -528,6 +543,6 @@ def cases(_):
     return [case("carrier: " + name, holds) for name, holds in (
         ("random signals", rates), ("plus and minus", polarity), ("thresholds", steps), ("the beginning", beginning),
         ("ratios", ratios), ("silence of a carrier", no_carrier), ("shares", shares),
-        ("a clock that is off", slope), ("few pulses", few), ("a level that dips", hysteresis),
+        ("a clock that is off", slope), ("few pulses", few), ("a level that dips", hysteresis), ("sharp edges", sharp),
         ("forms of samples", forms), ("silence of a level", silences), ("stretches of a level", stretches),
         ("sound files", sound_files), ("no sound files", no_sound), ("what is said", said_of), ("what is refused", refused))]

@@ -116,6 +116,9 @@ def of_samples():
                   for pulse in tools.recording()]
         clock = Clock(listing_of(coarse), 10000)
         yield same(name, (abs(clock.grid - 1e6 / rate) < 1, len(clock.runs)), (True, 1))
+    between = [[int(time * 0.9999) // 200 * 200 + 2100 for time in pulse] for pulse in tools.recording()]
+    clock = Clock(listing_of([[0, 400], *between]), 10000)  # the first pulse is cut
+    yield same("edges between two samples, and a wire that is high at first", (clock.grid, len(clock.runs)), (200, 2))
     rough = [[-(-time // 600) * 600 for time in pulse] for pulse in tools.recording()]  # distances of 10,200 and 9,600
     clock = Clock(listing_of(rough), 10000)
     yield same("a sample is 6 % of the interval", (round(clock.grid), len(clock.runs), round(clock.interval, -1)), (600, 1, 10000))
@@ -123,15 +126,15 @@ def of_samples():
 
 def of_one_sample():
     """A recorder gains a sample: the grid, before and after repairs."""
-    for rate, begin, millionths, by in ((3000, 620, 10, 7), (5000, 750, 20, 5)):
-        gained = [[int(-(-(begin + time * (1 + millionths / 1e6)) * rate // 1000000) * 1000000 / rate) for time in pulse]
+    for rate, begin, millionths, by, half in ((3000, 620, 10, 7, 0), (5000, 750, 20, 5, 0), (5000, 750, 20, 5, 100)):
+        gained = [[half + int(-(-(begin + time * (1 + millionths / 1e6)) * rate // 1000000) * 1000000 / rate) for time in pulse]
                   for pulse in tools.recording()]
         grids = []
         for many in (0, 40):
             gained[300:300 + many:2] = [[rise + by, rise + by + 2000] for rise, _ in gained[300:300 + many:2]]
             clock = Clock(listing_of(gained), 10000)
             grids.append((round(clock.grid), len(clock.runs)))
-        yield same("one is off by a sample, before and after repairs, %d" % rate, grids, [(round(1e6 / rate), 1)] * 2)
+        yield same("one is off by a sample, before and after repairs, %d, %d" % (rate, half), grids, [(round(1e6 / rate), 1)] * 2)
 
 
 def of_runs():
@@ -223,6 +226,21 @@ def of_another_speed():
         yield same(name, (len(part.faults.wanted), len(said)), (wanted, left))
         far = [abs(part.track.rise_at(place) - sound[place][0]) for place in part.faults.wanted]
         yield same(name + ", to a tenth of an interval", max(far, default=0) < 1000, True)
+
+
+def of_off():
+    """What is filled in on a clock that wanders has a word on how far off it can be, and is not farther off; but not if that is less than
+    a hundredth of an interval, and not on a steady clock."""
+    for name, sound, beyond, is_said in (("a hole of half a turn", wow(tools.recording(14), 0.01, 200), 610, True),
+                                         ("a hole of five elements", wow(tools.recording(14), 0.01, 200), 535, False),
+                                         ("a hole of a steady clock", tools.recording(14), 610, False)):
+        found = analysis.examine(listing_of(sound[:530] + sound[beyond:]))
+        repairs = [each for each in mend.called_for(found) if each.edits]
+        track, off = found.parts[0].track, max(each.off for each in repairs)
+        far = max(abs(track.rise_at(place) - sound[place][0]) for place in range(530, beyond))
+        said = [comment for each in repairs for comment in each.comments if "the clock wanders" in comment]
+        words = ["the clock wanders: what is filled in here can be %.3g milliseconds off" % (off / 1000)]
+        yield same(name, (said, 100 <= off < 1000, far <= max(off, 100)), (words, True, True) if is_said else ([], False, True))
 
 
 def of_undamaged():
@@ -815,7 +833,8 @@ def cases():
         ("clock of runs", of_runs), ("a clock that wanders", of_wander), ("polarity", of_polarity), ("slots", of_slots),
         ("sure runs", of_parts), ("tenths", of_tenths), ("other code", of_other_code),
         ("every second pulse", of_every_second), ("ends of runs on a clock that wanders", of_ends),
-        ("a long hole on a clock that wanders", of_vague), ("another speed", of_another_speed),
+         ("a long hole on a clock that wanders", of_vague), ("another speed", of_another_speed),
+         ("how far off what is filled in can be", of_off),
         ("undamaged", of_undamaged), ("a rise that is off", of_strays), ("a clock that was set", of_set), ("places", of_places),
         ("votes", of_votes),
         ("spans", of_spans), ("pieces", of_pieces), ("leap seconds", of_leap), ("moments", of_moments), ("times", of_times),

@@ -27,6 +27,7 @@ from .temporary import temporary_script
 from .wire import Wish
 
 HEAD = b"$timescale 1 us $end\n"  # how a dump of the editor begins
+OFF_AT_MOST = "the clock wanders: times in holes that were filled can be up to %.3g milliseconds off"
 
 
 @dataclass(frozen=True)
@@ -43,6 +44,7 @@ class Summary:
     refused: int  # lines that were refused
     sound_before: int
     sound_after: int
+    off: int = 0  # by how many microseconds what is filled in can be off at most, if the clock wanders; 0 if that is not worth a word
 
     def text(self) -> str:
         guessed = " (%d by a guess)" % self.guessed if self.guessed else ""
@@ -54,8 +56,9 @@ class Summary:
 
     @property
     def notes(self) -> List[str]:
-        """What is said after the sums: nothing in the recording supports these control functions."""
-        return [filled_text(self.filled)] if self.filled else []
+        """What is said after the sums: nothing in the recording supports these control functions; and how far off all can be that is
+        filled in."""
+        return ([filled_text(self.filled)] if self.filled else []) + ([OFF_AT_MOST % (self.off / 1000)] if self.off else [])
 
     @property
     def is_whole(self) -> bool:
@@ -108,18 +111,19 @@ class Counts:
     refused: int
     sound_before: int
     sound_after: int
+    off: int  # at most, of what is filled in
 
     def plus(self, other: Counts) -> Counts:
         """Of two parts that follow each other."""
         sums = {name: (mine or 0) + (vars(other)[name] or 0) for name, mine in vars(self).items()}
         sums["filled"] = None if self.filled is None or other.filled is None else sums["filled"]
-        return Counts(**sums)
+        return Counts(**{**sums, "off": max(self.off, other.off)})
 
     def summary(self) -> Summary:
         repaired = max(0, self.found - self.there)
         left = max(self.alone, self.there - self.steps - self.undecided)
         return Summary(self.found, repaired, self.undecided, left, self.steps, min(repaired, self.guesses), self.filled, self.refused,
-                       self.sound_before, self.sound_after)
+                       self.sound_before, self.sound_after, self.off)
 
 
 def counts(before: Sequence[Damage], after: Sequence[Damage], script: Sequence[Repair], sound: Tuple[int, int], refused: Refused) -> Counts:
@@ -130,7 +134,8 @@ def counts(before: Sequence[Damage], after: Sequence[Damage], script: Sequence[R
     undecided = sum(len(each.undecided) for each in script if not each.edits and each.kind != DamageKind.DIFFERS)
     guesses = [each for each in script if each.edits and each.undecided and not refused.drops(each)]
     guessed = _places_of(guesses, [each for each in before if not each.is_remark])
-    return Counts(found, there, steps, undecided, guessed, 0, refused.filled, refused.lines, *sound)
+    off = max((each.off for each in script if each.edits and not refused.drops(each)), default=0)
+    return Counts(found, there, steps, undecided, guessed, 0, refused.filled, refused.lines, *sound, off)
 
 
 def _places_of(repairs: Sequence[Repair], damages: Sequence[Damage]) -> int:

@@ -15,13 +15,14 @@ UP, DOWN = 0.6, 0.4  # of the way from low to high: what is above is high, what 
 MIDDLE = 0.1  # of the values of a stretch: more between these two are noise
 STRETCH = 0.5  # seconds: five intervals of format E
 LEAST_STRETCH, MOST_STRETCH = 1 << 12, 1 << 20  # samples in a stretch
+AT_A_LEVEL = 0.15  # of the way: between two samples that are so near to low and high nothing says where the edge was
 LEAST = 1 / 1000  # of the whole range of integers of 16 bits or more: levels that are nearer are noise
 
 LowHigh = Tuple[float, float]  # a low and a high level
 
 
 class Levels:
-    """Edges of a level: hysteresis about the middle, and a straight line between two samples. `gaps` are the stretches
+    """Edges of a level: hysteresis about the middle, and a straight line between two samples, or half-way. `gaps` are the stretches
     without a signal, in samples. Levels that are at most `threshold` apart are noise."""
 
     def __init__(self, samples: Samples, threshold: Optional[float] = None) -> None:
@@ -74,11 +75,11 @@ class Levels:
 
     def _crossings(self, values: Sequence[float], span: LowHigh) -> Iterator[Edge]:
         low, high = span
-        up, down, middle = low + UP * (high - low), low + DOWN * (high - low), (low + high) / 2
+        up, down, middle = low + UP * (high - low), low + DOWN * (high - low), _middle(span)
         last = self.last
         for place, value in enumerate(values, self.length):
             if (value > middle) != (last > middle) and value != last:
-                self.crossed = max(0.0, place - 1 + (middle - last) / (value - last)) if place else 0.0
+                self.crossed = max(0.0, place - 1 + _way(last, value, span)) if place else 0.0
             if value > up and not self.level or value < down and self.level:
                 self.level = 1 - self.level
                 yield self.crossed, self.level
@@ -90,6 +91,19 @@ class Levels:
             start = self.gaps.pop()[0]
         if 2 * (end - start) >= self.size:
             self.gaps.append((start, end))
+
+
+def _middle(span: LowHigh) -> float:
+    return (span[0] + span[1]) / 2
+
+
+def _way(last: float, value: float, span: LowHigh) -> float:
+    """How far from one sample to the next the middle is crossed: half-way if the level is low at one of them and high at the other, as
+    noise alone would say more; else on a straight line."""
+    near = AT_A_LEVEL * (span[1] - span[0])
+    if min(last, value) <= span[0] + near and max(last, value) >= span[1] - near:
+        return 0.5
+    return (_middle(span) - last) / (value - last)
 
 
 def least_of(kind: str) -> float:

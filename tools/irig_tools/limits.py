@@ -37,6 +37,7 @@ OFTEN_OFF = 0.05  # the share of distances that are off by a sample, beyond whic
 ROUNDED = 1  # microseconds: both ends of a distance are rounded down, so it is off by less
 LEAST_SAMPLE = 5  # microseconds: of shorter ones four of ten lengths and more are a whole number by chance: only distances show them
 LEAST_FROM_BEGIN = 50  # microseconds: an exact code is at longer samples, counted from the beginning, in five of a hundred times at most
+LEAST_HALVED = 100  # microseconds: of longer samples edges can be in the middle between two, with the same chance
 SOME_PULSES = 200  # pulses that are looked at for that, so that the search stays short
 ON_SAMPLE = 0.8  # the share of their edges that has to be whole samples after the beginning: the others are damaged or repaired
 ON_GRID = 0.5  # the share of lengths, and of what distances are off, that has to be whole samples: what is repaired is not

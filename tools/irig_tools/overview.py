@@ -12,6 +12,7 @@ from .editor import Listing
 from .ending import ESCAPED
 from .left import Stretches
 from .moments import DAY, SECOND
+from .repairs import OFF_HERE
 from .script import Repair
 from .sheet import DAMAGED, LOST, SOUND, STATES, Changes, Place, Sheet, Stretch, Wave, cut, merged
 from .spans import Span
@@ -108,7 +109,8 @@ def _place_of_damage(seen: Seen, damage: Damage, script: Sequence[Repair], after
         wave = tuple((rise - moved, fall - moved, name) for rise, fall, name in cut_out)
     listing = seen.listing
     before = cut(listing.rises, listing.falls, listing.classes, start, end)
-    return Place(damage.at, until, damage.seen.partition(";")[0], damage.seen, before, wave, lines, damage.name)
+    off = "".join("; " + OFF_HERE % (each.off / 1000) for each in repairs[:1] if each.off)
+    return Place(damage.at, until, damage.seen.partition(";")[0], damage.seen + off, before, wave, lines, damage.name)
 
 
 def _stretches(findings: Findings, length: int) -> Tuple[Stretch, ...]:

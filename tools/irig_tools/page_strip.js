@@ -107,35 +107,47 @@ function axis(view, top, bottom) {
   return made;
 }
 
-// The worst state on each pixel, as runs of pixels of the same state.
+const SHARES = 5;       // steps in which the share of a pixel is shown that is in its worst state
+
+// The worst state on each pixel and how much of the pixel it takes, as runs of pixels that are alike.
 function columns(view, from = SIDE, to = view.width - SIDE) {
   const ranks = ["", "sound", "damaged", "lost"];
   const worst = new Uint8Array(Math.max(1, to - from));
+  const taken = new Float64Array(worst.length);
   const alone = new Map();
   for (const stretch of strip) {
     if (stretch.end <= view.start || stretch.start >= view.end) continue;
-    const first = Math.min(worst.length - 1, Math.max(0, Math.floor(view.x(stretch.start)) - from));
-    const last = Math.min(worst.length, Math.max(first + 1, Math.floor(view.x(stretch.end)) - from));
+    const [left, right] = [view.x(stretch.start) - from, view.x(stretch.end) - from];
+    const first = Math.min(worst.length - 1, Math.max(0, Math.floor(left)));
+    const last = Math.min(worst.length, Math.max(first + 1, Math.floor(right)));
     const rank = ranks.indexOf(stretch.state);
-    for (let x = first; x < last; x += 1) worst[x] = Math.max(worst[x], rank);
+    for (let x = first; x < last; x += 1) {
+      const share = last - first > 1 ? 1 : Math.min(x + 1, right) - Math.max(x, left);
+      taken[x] = rank < worst[x] ? taken[x] : share + (rank === worst[x] ? taken[x] : 0);
+      worst[x] = Math.max(worst[x], rank);
+    }
     alone.set(first, {wide: last - first, frames: stretch.frames});
   }
+  const shareAt = (x) => worst[x] < 2 ? SHARES : Math.max(1, Math.min(SHARES, Math.round(taken[x] * SHARES)));
   const runs = [];
   for (let first = 0, x = 1; x <= worst.length; x += 1) {
-    if (worst[x] === worst[first]) continue;
+    if (worst[x] === worst[first] && shareAt(x) === shareAt(first)) continue;
     const state = ranks[worst[first]];
-    if (state) runs.push({x: from + first, wide: x - first, state, of: alone.get(first)});
+    if (state) runs.push({x: from + first, wide: x - first, state, share: shareAt(first) / SHARES, of: alone.get(first)});
     first = x;
   }
   return runs;
 }
 
-// The bars of the strip: damaged frames rise above it, lost ones reach below it, so that no colour is needed.
+// The bars of the strip: damaged frames rise above it, lost ones reach below it, so that no colour is needed. A bar is as high as its
+// share of the pixel: if few of its frames are damaged, the rest of it is sound.
 function bars(view, top, high, out) {
   const made = draw("g");
-  for (const {x, wide, state, of} of columns(view)) {
-    const [y, height] = [top - (state === "damaged" ? out : 0), high + (state === "sound" ? 0 : out)];
-    made.append(draw("rect", {x, width: wide, y, height, class: state}));
+  for (const {x, wide, state, share, of} of columns(view)) {
+    if (share < 1) made.append(draw("rect", {x, width: wide, y: top, height: high, class: "sound"}));
+    const inside = high * share;
+    const y = state === "damaged" ? top - out : top + high - inside;
+    made.append(draw("rect", {x, width: wide, y, height: inside + (state === "sound" ? 0 : out), class: state}));
     if (!of || of.wide !== wide || wide < 120) continue;
     const words = state + ", " + of.frames.toLocaleString("en") + (of.frames === 1 ? " frame" : " frames");
     made.append(draw("text", {x: x + wide / 2, y: top + high / 2 + 4, class: "on-" + state}, words));

@@ -1,6 +1,7 @@
 """The repairs of a track, with their reasons, from its end to its beginning, so that numbers of pulses stay true."""
 from __future__ import annotations
 
+from math import ceil
 from typing import Dict, List, Tuple
 
 from . import limits
@@ -14,6 +15,8 @@ from .layout import SHARE
 from .script import Repair
 from .units import PlaceNumber, plus, through
 from .wholes import as_elsewhere, late_zones, left_rest, lost_frames, shift
+
+OFF_HERE = "the clock wanders: what is filled in here can be %.3g milliseconds off"
 
 
 def repairs(seen: Faults) -> Tuple[List[Repair], List[Remark]]:
@@ -42,10 +45,20 @@ def _repair(faults: Faults, group: List[Item]) -> Repair:
     first, last = (track.within(PlaceNumber(int(place + 0.5))) for place in (group[-1].low, group[0].high))
     at, until = track.rise_at(first), track.rise_at(last)
     concern = faults.concern(first, last)._replace(step=next((item.step for item in group if item.step), None))
+    off = _can_be_off(faults, group)
+    comments += [OFF_HERE % (off / 1000)] if off else []
     edits, instead = [edit for item in group for edit in item.edits], _written_again(faults, group)
     if all(item.single for item in group) and 0 < len(instead) < len(edits):
-        return repair_of(_kind_of(group), at, comments, instead, until, undecided=undecided, concern=concern)
-    return repair_of(_kind_of(group), at, comments, edits, until, instead=instead, undecided=undecided, concern=concern)
+        return repair_of(_kind_of(group), at, comments, instead, until, undecided=undecided, concern=concern, off=off)
+    return repair_of(_kind_of(group), at, comments, edits, until, instead=instead, undecided=undecided, concern=concern, off=off)
+
+
+def _can_be_off(faults: Faults, group: List[Item]) -> int:
+    """By how many microseconds what is filled in can be off, as the clock wanders; 0 if that is less than a step that is seen."""
+    zones = faults.track.zone_of
+    places = (PlaceNumber(int(item.low)) for item in group if item.edits and item.low == int(item.low))
+    off = max((zones[place].off for place in places if place in zones and zones[place].first < place < zones[place].last), default=0)
+    return ceil(off) if off >= limits.WANDER_STEP * faults.layout.interval else 0
 
 
 def _kind_of(group: List[Item]) -> DamageKind:

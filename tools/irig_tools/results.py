@@ -9,7 +9,7 @@ from typing import Any, Dict, List, Sequence, Tuple
 from .ending import ALL_RIGHT, ESCAPED, FOUND
 from .texts import counted
 
-COUNTS = ("found", "repaired", "guessed", "filled", "undecided", "left", "steps", "refused", "sound_before", "sound_after")
+COUNTS = ("found", "repaired", "guessed", "filled", "off", "undecided", "left", "steps", "refused", "sound_before", "sound_after")
 # the head of each column of the table, and what is in it
 HEADS_OF_TABLE = (
     ("recording", "recording"), ("wire", "wire"), ("format", "format"), ("expression", "expression"), ("places", "found"),

@@ -1,6 +1,7 @@
 """How far apart the samples of a recorder were: distances of pulses are off by one sample now and then."""
 from __future__ import annotations
 
+from bisect import bisect_left, bisect_right
 from collections import Counter
 from operator import sub
 from typing import Dict, Iterable, List, Mapping, Sequence
@@ -31,10 +32,12 @@ def _like(size: int, nominal: int) -> List[float]:
 
 
 def _all_on(listing: Listing, sample: float) -> bool:
-    """Whether all edges are a whole number of samples after the first, up to the rounding of both."""
-    first = listing.rises[0]
-    return not any(
-        _off(time - first, sample) >= limits.ROUNDED for times in (listing.rises, listing.falls) for time in times)
+    """Whether all edges are a whole number of samples after the first, up to the rounding of both. A pulse that the recording cuts has
+    none where it is cut."""
+    rises, falls = listing.rises, listing.falls
+    begins, ends = bisect_right(rises, 0), bisect_left(falls, listing.length)
+    first = rises[begins] if begins < len(rises) else 0
+    return not any(_off(time - first, sample) >= limits.ROUNDED for times in (rises[begins:], falls[:ends]) for time in times)
 
 
 def _off(time: float, sample: float) -> float:
@@ -54,8 +57,10 @@ def _spacing_from_begin(listing: Listing, sizes: Iterable[int], nominal: int) ->
 
 
 def _most_on(times: Sequence[int], sample: float) -> bool:
-    """Whether these are a whole number of samples after the beginning, but for those that are damaged or repaired."""
-    return sum(_off(time, sample) < limits.ROUNDED for time in times) >= limits.ON_SAMPLE * len(times)
+    """Whether these are a whole number of samples after the beginning, but for those that are damaged or repaired; or all of them half a
+    sample more, as an edge between two samples of a level is."""
+    halves = (0, sample / 2) if sample >= limits.LEAST_HALVED else (0,)
+    return any(sum(_off(time - half, sample) < limits.ROUNDED for time in times) >= limits.ON_SAMPLE * len(times) for half in halves)
 
 
 def _spacing_of_most(listing: Listing, between: Sequence[int], interval: float, off: Counter[int]) -> float:

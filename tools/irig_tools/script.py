@@ -27,6 +27,7 @@ class Repair:
     kind: DamageKind = DamageKind.OTHER  # of the damage
     undecided: List[str] = field(default_factory=list)  # the comments that say of what nothing decides
     concern: Concern = NOTHING
+    off: int = 0  # by how many microseconds what it fills in can be off, if the clock wanders and that is worth a word
 
     def text(self) -> str:
         """Its edits, by which it is known."""

@@ -120,7 +120,7 @@ def _left_as_it_was(counted: Counts) -> Counts:
     """Of a part that is left as it was."""
     found = max(1, counted.found)
     return replace(counted, found=found, there=found, steps=0, undecided=0, guesses=0, filled=0, refused=0,
-                   sound_after=counted.sound_before)
+                   sound_after=counted.sound_before, off=0)
 
 
 def _own_reasons(window: TimeWindow, script: Sequence[Repair], ran: Applied) -> List[Tuple[str, bool]]:

@@ -43,7 +43,8 @@ class Zone:
         self.pulses: Dict[PlaceNumber, List[PulseIndex]] = {place: [] for place in through(self.first, self.last)}
         for pulse in pulses:
             self.pulses[min(self.last, max(self.first, self.place_of(pulse)))].append(pulse)
-        self.vague = self._find_vague() if self.right and not self.other else 0.0
+        self.off = self._find_off() if self.right and not self.other else 0.0
+        self.vague = self.off if self.off > limits.VAGUE * self.interval else 0.0
 
     @property
     def glued(self) -> bool:
@@ -186,9 +187,9 @@ class Zone:
         """The places between those of both runs."""
         return through(plus(self.first, 1), plus(self.last, -1))
 
-    def _find_vague(self) -> float:
-        """By how much an element in the hole can be off if the clock wanders, and nothing says more than both ends do; 0 if that is
-        little, or if most of the pulses there are where the curve has them."""
+    def _find_off(self) -> float:
+        """By how much an element in the hole can be off if the clock wanders; if most of the pulses there are where the curve has them,
+        in the longest stretch without one."""
         if not self._is_bent() or not self.right:
             return 0
         off = self.clock.inside(self.right.step, self.left, self.right)
@@ -197,7 +198,7 @@ class Zone:
         if off < limits.ALIASED * self.interval and 2 * len(near) > sum(bool(self.pulses[place]) for place in own):
             known = [self.first, *near, self.last]
             off = self.clock.inside(max(after - before for before, after in zip(known, known[1:])), self.left, self.right)
-        return off if off > limits.VAGUE * self.interval else 0
+        return off
 
     def _has_single(self, place: PlaceNumber) -> bool:
         """Whether a place has one pulse, of a class, about where it should be."""
