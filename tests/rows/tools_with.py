@@ -291,7 +291,7 @@ def of_few():
         found = mended(pulses, slow(other))
         yield same(name, (found[0], [each.endswith(reason) for each in found[1]], found[2]), (wanted, [True] * len(wanted), set()))
     yield same("what is said if it is not enough", len(mended(few(at, frames=7), slow(few(frames=7)))[3]), 1)
-    both = mended(without(few(frames=17), at), slow(code(parity=(75, 1))[800:]))
+    both = mended(without(few(frames=14), at), slow(code(parity=(75, 1))[800:]))
     yield same("a parity that both together show", (both[0], both[2]), ({at: told}, set()))
     none = mended(flipped(code(), at)[:1150], slow(code()[:1150]))
     yield same("no parity", (none[0], len(none[3])), ({}, 1))
