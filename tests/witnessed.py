@@ -41,9 +41,10 @@ class Judged:
 
     @property
     def dropped(self):
-        """Those of the missing frames that irig_guard left broken: it dropped a repair that mends them, perhaps with others."""
+        """Those of the missing frames that irig_guard left as they were: it dropped a repair that mends them, perhaps with others."""
         times = {tuple(mending.time_of(text)) for text in self.after}
-        return {text for text in self.missing if "not kept: " in self.said and tuple(mending.time_of(text)) not in times}
+        return {text for text in self.missing if "not kept: " in self.said and tuple(mending.time_of(text)) not in times
+                or "not kept: frame %s %s at " % tuple(text.split()[:2]) in self.said}
 
     @property
     def contested(self):

@@ -105,6 +105,10 @@ class Draft:
         self.sender = Sender(self.format, self.expression, calendar, self._controls())
         self.sender.runs = self.runs or [Run(0, self.sent, 0, self.time)]
         self.sender.flips = self.flips
+        self.hear()
+
+    def hear(self) -> None:
+        """What comes to the recorder, before any damage."""
         pulses = list(self.sender.pulses())
         rises, falls = (self.clock.places([pulse[end] for pulse in pulses]) for end in (0, 1))
         source = Random(self.random.random())

@@ -11,7 +11,7 @@ from irig_tools import mend_program, others
 from irig_tools.analysis import examine
 from irig_tools.mend import called_for
 from random_input import damages, pairs
-from rows import in_process, tools_rare
+from rows import in_process, tools, tools_rare
 from rows.in_process import run
 from rows.tools_apply import in_folder, text_of
 from rows.tools_parts import same
@@ -145,6 +145,21 @@ def of_votes():
     yield same("one against one", mended(pulses, right, wrong)[2], {LOST})
     reasons = mended(pulses, right, wrong, slow(code(), 0.0001))[1]
     yield same("all that have it are named", [each.count(".vcd at ") for each in reasons], [2])
+    parted = " it is a zero in %s, and a one in %s, so this " % tuple(
+        "%s.vcd at %s" % (name, place_of(other, LOST)) for name, other in sorted(zip("BC", (right, wrong)), key=lambda pair: (
+            pair[0] == "B") == (told == "1")))
+    yield same("what two say that differ", [parted in each for each in mended(pulses, right, wrong)[1]], [True])
+    two = slow(code()), slow(code(), 0.0001)
+    broken = without(flipped(code(), LOST), 1045)
+    yield same("two against a frame that is damaged", mended(broken, *two)[0::2], ({LOST: told, 1045: class_at(code(), 1045)}, set()))
+    yield same("both are named", [each.count(".vcd at ") for each in mended(broken, *two)[1]], [0, 2])
+    yield same("one against it", (mended(broken, right)[0].keys(), len(mended(broken, right)[3])), ({1045}, 1))
+    yield same("two against a frame that reads well", (mended(flipped(code(), LOST), *two)[0], len(mended(flipped(code(), LOST), *two)[3])),
+               ({}, 1))
+    split = [list(pulse) for pulse in flipped(code(), LOST)]
+    rise, fall = split[LOST]
+    split[LOST:LOST + 1] = [[rise, rise + 900], [rise + 940, fall]]
+    yield same("two against what it looks like", mended(split, *two)[0::2], ({LOST: told}, set()))
 
 
 def of_trusted():
@@ -259,6 +274,62 @@ def of_rules():
     yield same("lost, and the other one has a wrong parity", guesses, {LOST, 1075})
 
 
+def of_few():
+    """Neither recording is long enough to show that there is a parity; of both the frames do."""
+    def few(*places, frames=11):
+        return flipped(code(parity=(75, 1)), *places)[:100 * frames + 50]
+
+    at, reason = 563, ", and as element 75 says"
+    told = class_at(few(), at)
+    for name, pulses, other, wanted in (
+        ("eleven frames", few(at), few(), {at: told}),
+        ("it is damaged there", few(), few(at), {}),
+        ("seven frames", few(at, frames=7), few(frames=7), {}),
+        ("another one is not as element 75 says", few(at, 963), few(963), {}),
+        ("it differs in two", few(at, 564), few(), {}),
+    ):
+        found = mended(pulses, slow(other))
+        yield same(name, (found[0], [each.endswith(reason) for each in found[1]], found[2]), (wanted, [True] * len(wanted), set()))
+    yield same("what is said if it is not enough", len(mended(few(at, frames=7), slow(few(frames=7)))[3]), 1)
+    both = mended(without(few(frames=14), at), slow(code(parity=(75, 1))[800:]))
+    yield same("a parity that both together show", (both[0], both[2]), ({at: told}, set()))
+    none = mended(flipped(code(), at)[:1150], slow(code()[:1150]))
+    yield same("no parity", (none[0], len(none[3])), ({}, 1))
+
+
+def of_beside():
+    """What the frames next to it have, and another recording, too, is right."""
+    def seldom(*places):
+        return flipped(code(control=lambda k: 0x155 if k < 20 else 0x2aa), *places)
+
+    def often(*places):
+        return flipped(code(control=lambda k: 0x155 if k % 5 else 0x2aa), *places)
+
+    told, at = class_at(seldom(), LOST), 1363
+    wanted, reasons, guesses, remarks = mended(seldom(LOST), slow(seldom()))
+    yield same("a steady one", (wanted, guesses, remarks), ({LOST: told}, set(), []))
+    yield same("its reason", [each.endswith(" s and in the frames next to it") for each in reasons], [True])
+    for name, pulses, other, many in (
+        ("both recordings have it", seldom(LOST), seldom(LOST), 0),
+        ("the other one alone has it", seldom(), seldom(LOST), 1),
+        ("one that changes often", often(at), often(), 1),
+        ("one that changed there", seldom(1963), seldom(), 1),
+    ):
+        wanted, _, _, remarks = mended(pulses, slow(other))
+        yield same(name, (wanted, len(remarks)), ({}, many))
+
+
+def of_inserted():
+    """An inserted second is lost at an end: another recording shows it. Else the times after it would be a second early."""
+    whole = tools.recording(12, leap=True)
+    lost, rest = [*whole[:350], *whole[620:640]], 620
+    for name, others_of_it, leap in (("shown elsewhere", [slow(whole)], True), ("shown by nobody", [], False),
+                                     ("lost there, too", [slow(lost)], False), ("the other one ends before", [slow(whole[:390])], False)):
+        part, = examine(listed(lost), witnesses=read(lost, *others_of_it).witnesses).parts
+        shown = part.times.name(rest // 100)
+        yield same(name, (part.times.calendar.leap is not None, shown), (leap, "frame 2017-001T00:00:0" + "21"[leap]))
+
+
 # the program
 
 
@@ -337,6 +408,28 @@ def of_guarded():
     return in_folder(lambda: list(holds()), rec=dump(noisy), other=dump(slow(code()), 100))
 
 
+def of_mended():
+    """A frame that reads well gets a control function that another recording and the frames next to it have."""
+    def seldom():
+        return code(control=lambda k: 0x155 if k < 20 else 0x2aa)
+
+    def holds():
+        status, printed, _ = mend("--with", "other.vcd", "--apply", "new.vcd")
+        yield same("--apply", (status, printed), (
+            0, ["rec.vcd: 0 places found, 0 repaired, 0 undecided, 0 left, 0 steps that stay; 29 frames sound before, 29 after"]))
+        yield same("what is written", edges(text_of("new.vcd")) == edges(dump(seldom())), True)
+
+    return in_folder(lambda: list(holds()), rec=dump(flipped(seldom(), LOST)), other=dump(slow(seldom())))
+
+
+def of_two_wires(*signals):
+    """A dump of two wires."""
+    edges = sorted((time, "%d%s" % (1 - end, "!\""[wire])) for wire, pulses in enumerate(signals) for pulse in pulses
+                   for end, time in enumerate(pulse))
+    head = "$timescale 1 us $end $var wire 1 ! one $end $var wire 1 \" two $end $enddefinitions $end #0 0! 0\"\n"
+    return head + "".join("#%d %s\n" % edge for edge in edges)
+
+
 def of_refused():
     """What is no such recording: why, the status, and that nothing changes."""
     pulses = without(code(), LOST)
@@ -359,9 +452,21 @@ def of_refused():
         yield same("a frame that differs", (status, printed[0][:60], len(printed)),
                    (1, "rec.vcd: 1 place found, 1 repaired, 0 undecided, 0 left, 0 s", 2))
         yield same("what is said", " is recorded here, and a " in printed[1], True)
+        status, printed, _ = mend("--with=wrong.vcd", "--with=right.vcd")
+        yield same("two others that differ", (status, printed[0].partition("; ")[2].partition(" in ")[0], len(printed)),
+                   (1, "undecided whether zero or one: it is a zero", 2))
+        status, printed, _ = mend("--with=right.vcd", "--with=day.vcd", "--apply=new.vcd")
+        yield same("one of two is used", (status, "1 repaired, 0 undecided" in printed[0], printed[1:]), (1, True, ["rec.vcd: " + (
+            "day.vcd is not used: none of its frames has the time of one here: its first one is 86400.00 seconds later")]))
         for words, said in (
             ("--with=no.vcd", "no.vcd: No such file or directory"),
             ("--with=text.vcd", None),
+            ("--with=empty.vcd", None),
+            ("--with=.", ".: is a folder"),
+            ("--with=two.vcd", "two.vcd: several wires carry time code, and irig_wire makes a dump of one, which --with takes: "
+             "one (code !), two (code \")"),
+            ("--with=- --with=-", "standard input and standard input" + one_file),
+            ("--with=-", None),
             ("--with=rec.vcd", "rec.vcd and rec.vcd" + one_file),
             ("--with=day.vcd --with=./day.vcd", "day.vcd and ./day.vcd" + one_file),
             ("--with=day.vcd --apply=day.vcd", "--apply day.vcd would write over the file that is read, day.vcd"),
@@ -373,11 +478,12 @@ def of_refused():
         yield same("what is read stays", text_of("day.vcd"), dump(slow(signal(FRAMES, day=DAY + 1))))
 
     files = {"rec": dump(pulses), "a": dump(slow(signal(FRAMES, "A", control=sent))), "day": dump(slow(signal(FRAMES, day=DAY + 1))),
-             "data": dump([[700 * at, 700 * at + 300] for at in range(1, 900)]), "wrong": dump(slow(flipped(code(), 2070))),
-             "text": "no dump"}
+             "data": dump([[700 * at, 700 * at + 300] for at in range(1, 900)]), "wrong": dump(slow(flipped(code(), 2070, LOST))),
+             "right": dump(slow(code())), "text": "no dump", "empty": "", "two": of_two_wires(slow(code()), slow(code(), -0.0004))}
     return in_folder(lambda: list(holds()), **files)
 
 
 def cases(_top):
-    parts = of_lost, of_recorded, of_votes, of_trusted, of_other_code, of_contrary, of_rules, of_apply, of_guarded, of_refused
+    parts = (of_lost, of_recorded, of_votes, of_trusted, of_other_code, of_contrary, of_rules, of_few, of_beside, of_inserted, of_apply,
+             of_guarded, of_mended, of_refused)
     return [case("mend: with: " + part.__name__[3:].replace("_", " "), lambda part=part: list(part())) for part in parts]

@@ -160,23 +160,24 @@ def _remark_unsure(findings: Findings, clock: Clock, run: Run) -> None:
 
 def _moved(track: Track, witnesses: Witnesses) -> List[Part]:
     """The part if what comes late is to be moved."""
-    times = Times(track)
+    times = Times(track, witnesses.inserted(track.layout))
     copies = take_out(track, times)
     if not copies:
         again = settled(track, times)
         if again != track.runs:
             track = Track(track.layout, track.clock, again)
-            times = Times(track)
+            times = Times(track, witnesses.inserted(track.layout))
     return [Part(track, times, copies, faults_of(track, times, witnesses), remarks(track, times))]
 
 
 def _kept(whole: Track, witnesses: Witnesses) -> List[Part]:
     """The parts, from the last to the first, if all times are kept: what is between two steps is one."""
-    times, steps = Times(whole), step_zones(whole)
+    inserted = witnesses.inserted(whole.layout)
+    times, steps = Times(whole, inserted), step_zones(whole)
     if not steps:
         return [_part(whole, times, witnesses)]
     tracks = [Track(whole.layout, whole.clock, runs) for runs in apart(whole, steps)]
-    found, between = [_part(track, Times(track), witnesses) for track in tracks], whole.parted_at(steps)
+    found, between = [_part(track, Times(track, inserted), witnesses) for track in tracks], whole.parted_at(steps)
     for zone, left, right, part in zip(steps, between, between[1:], found[1:]):
         part.remarks.append(Step(whole, times, zone, left, right).remark(part.faults))
     return found[::-1]

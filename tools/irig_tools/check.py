@@ -20,6 +20,7 @@ from .moments import CENTURY, DAY, Calendar
 from .parity import Rule
 from .script import Repair
 from .units import ELEMENTS, Hundredths, Microseconds, plus
+from .witnesses import NO_WITNESSES, Witnesses, time_of_frame
 
 MARKED = re.compile("P(?=P[01]{8}P(?:[01]{9}P){9})")
 
@@ -87,13 +88,15 @@ class Check:
     """What a script does to the frames of a track; `steps` are the times at which those of the repaired track step."""
 
     def __init__(self, layout: Layout, interval: float, steps: Sequence[Microseconds], listings: Tuple[Listing, Listing],
-                 moved: Moved, most_off: float = 0, leap: Optional[Hundredths] = None, rule: Optional[Rule] = None) -> None:
-        """`leap` is when second 60 begins, if there is one, and `rule` that of the control functions."""
-        self.rule = rule
+                 moved: Moved, most_off: float = 0, leap: Optional[Hundredths] = None, rule: Optional[Rule] = None,
+                 witnesses: Witnesses = NO_WITNESSES) -> None:
+        """`leap` is when second 60 begins, if there is one, and `rule` that of the control functions; `witnesses` are frames of other
+        recordings."""
+        self.rule, self.witnesses = rule, witnesses
         self.drift = max(limits.CLOCK_DRIFT, limits.ABOVE_NINE_OF_TEN * most_off)
         self.layout, self.interval, self.steps, self.moved = layout, interval, sorted(steps), moved
-        calendar = Calendar(layout, leap=leap)
-        self.old, self.new = Frames(listings[0], calendar, moved), Frames(listings[1], calendar, Moved())
+        self.calendar = Calendar(layout, leap=leap)
+        self.old, self.new = Frames(listings[0], self.calendar, moved), Frames(listings[1], self.calendar, Moved())
         self.kept = [frame for frame in self.old.all if self._stays(frame)]
 
     def harms(self) -> Iterator[Harm]:
@@ -113,13 +116,19 @@ class Check:
         return Harm(plus(frame.at, -round(self.interval)), plus(frame.at, round(ELEMENTS * self.interval)), seen)
 
     def _stays(self, frame: Frame) -> bool:
-        """Whether it is there after the script, but for control functions that are said to be steady, or that their rule says."""
+        """Whether it is there after the script, but for control functions that are said to be steady, that their rule says, or that
+        another recording has."""
         new = self.new.near(frame.at, limits.MOVED * self.interval)
         if new is None:
             return False
         by_rule = self.rule is not None and self.rule.holds(new.text) and not self.rule.holds(frame.text)
-        free = self.layout.control if self.layout.steady or by_rule else ()
+        free = self.layout.control if self.layout.steady or by_rule or self._is_elsewhere(new) else ()
         return frame.text == new.text or all(a == b or element in free for element, (a, b) in enumerate(zip(frame.text, new.text)))
+
+    def _is_elsewhere(self, frame: Frame) -> bool:
+        """Whether another recording has the same frame."""
+        time = time_of_frame(self.layout, self.calendar.fields(frame.moment))
+        return any(each.text == frame.text for each in self.witnesses.frames.get(time, ()))
 
     def _is_trusted(self, frame: Frame) -> bool:
         """Whether it has the time of a frame next to it, or neither those next to it nor those of the result agree on

@@ -10,38 +10,58 @@ from .layout import NAMES
 from .parity import Rule
 from .track import Track
 from .units import ELEMENTS, FrameNumber, PlaceNumber, place_in
-from .witnesses import Witnesses
+from .witnesses import OTHER, Witnesses, rule_with
 
 BY_HAND = "force the one that is wrong"
 NOT_TAKEN = "so nothing of it is taken: its clock was set otherwise, or it is another code"
-OTHER = {"0": "1", "1": "0"}
 
 
 def faults_of(track: Track, times: Times, witnesses: Witnesses, left: Iterable[FrameNumber] = ()) -> Faults:
     """The faults of a track, with those that the rule shows; `left` are frames that are to stay as they are, `witnesses` those of
     other recordings."""
+    times.rule = rule_with(times, witnesses)
     faults = Faults(track, times, left, witnesses)
     if times.rule:
         for number, text in times.texts.items():
             is_known = times.moment(number) is not None and number not in times.spliced
             if is_known and number not in faults.left and number not in faults.contrary:
                 _Frame(faults, times.rule, number, text).compare()
-    _remark_unlike(faults)
+    _compare_elsewhere(faults)
     return faults
 
 
-def _remark_unlike(faults: Faults) -> None:
-    """What is recorded here, and otherwise in another recording, is left."""
+def _compare_elsewhere(faults: Faults) -> None:
+    """What is recorded here, and otherwise in another recording, is damage if something else says so, too. Else it is left."""
     elsewhere = faults.elsewhere
     for number in sorted(faults.times.texts.keys() - faults.left):
         for element in elsewhere.unlike(number):
             place = place_in(number, element)
-            if place not in faults.wanted:
+            if place in faults.wanted:
+                continue
+            why = _why_damage(faults, number, element) if number not in faults.contrary else None
+            if why is not None:
+                faults.wanted[place], faults.besides[place] = OTHER[faults.times.texts[number][element]], why
+                faults.by_others.add(place)
+            else:
                 faults.remark(place, "%s: %s" % (faults.name(place), elsewhere.said(number, element)), BY_HAND, DamageKind.DIFFERS,
                               elements=[element])
         if number in elsewhere.contrary:
             seen = "%s: %s" % (faults.times.name(number), elsewhere.said_of_frame(number))
             faults.remark(faults.track.within(place_in(number)), seen, NOT_TAKEN, DamageKind.DIFFERS)
+
+
+def _why_damage(faults: Faults, number: FrameNumber, element: int) -> Optional[str]:
+    """What else says that an element is damage here which other recordings have otherwise: it is the only one, and the rule says so; or
+    the frames next to it have it as they do; or the frame is damaged, and most recordings have it so, which needs no more words. None if
+    nothing does, or if the rule confirms it."""
+    times, elsewhere, here = faults.times, faults.elsewhere, faults.times.texts[number][element]
+    if times.is_confirmed(number, element):
+        return None
+    if elsewhere.rule and elsewhere.is_by_rule(number, element) and elsewhere.unlike(number) == [element]:
+        return ", and as element %d says" % elsewhere.rule.element
+    if times.are_beside(number, element, OTHER[here]):
+        return " and in the frames next to it"
+    return "" if number not in times.sound and elsewhere.outvotes(number, element, here) else None
 
 
 class _Frame:

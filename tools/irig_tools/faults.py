@@ -54,6 +54,7 @@ class Faults:
         self.guesses: Dict[PlaceNumber, str] = {}  # places of control functions that nothing says
         self.by_rule: Set[PlaceNumber] = set()  # places of control functions that a rule says
         self.by_others: Set[PlaceNumber] = set()  # and that other recordings have
+        self.besides: Dict[PlaceNumber, str] = {}  # of these places, recorded otherwise here, what else says so
         self.contrary: Set[FrameNumber] = set()  # frames that show another time, too clearly to be damage
         self.remarks: List[Remark] = []
         self.usual = times.usual() if self.layout.steady else {}
@@ -160,9 +161,12 @@ class Faults:
         return self.guesses[place]
 
     def _kept(self, place: PlaceNumber, own: str, other: Optional[str], near: Optional[str]) -> str:
-        """What is recorded here stays; nothing decides it if other recordings have something else, and the frames next to it do not
-        have the same."""
-        if other not in (None, own) and near != own:
+        """What is recorded here stays, unless several other recordings have something else; nothing decides it if one has, and the frames
+        next to it do not have the same."""
+        if other and other != own and near != own:
+            if self.elsewhere.outvotes(frame_of(place), place % ELEMENTS, own):
+                self.by_others.add(place)
+                return other
             self.guesses[place] = own
         return own
 
@@ -250,15 +254,12 @@ class Faults:
         """Why this class has to be there."""
         target, element = NAMES[self.wanted[place]], place % ELEMENTS
         if place in self.guesses:
-            other = self.elsewhere.told(frame_of(place), element)
-            if other:
-                there = NAMES[other], self.elsewhere.sources(frame_of(place), element, other)
-                return "undecided whether zero or one: it looks like a %s here, and is a %s in %s" % (target, *there)
-            return "undecided whether zero or one: nothing says it, so this %s is a guess" % target
+            return "undecided whether zero or one: " + self._guessed(place, target)
         if element in self.usual:
             return "a %s as in most frames" % target
         if place in self.by_others:
-            return "a %s as recorded in %s" % (target, self.elsewhere.sources(frame_of(place), element, self.wanted[place]))
+            sources = self.elsewhere.sources(frame_of(place), element, self.wanted[place])
+            return "a %s as recorded in %s%s" % (target, sources, self.besides.get(place, ""))
         if place in self.by_rule and self.times.rule:
             parts = target, self.times.rule.element
             return "a %s by the elements of its frame, of which element %d says whether the ones are odd in number" % parts
@@ -269,6 +270,17 @@ class Faults:
         if frame_of(place) in self.times.spliced:
             return "a %s follows from the frames before: this frame was cut, and keeps the time with which it begins" % target
         return "a %s follows from the frames around it" % target
+
+    def _guessed(self, place: PlaceNumber, target: str) -> str:
+        """What a guess has to go by."""
+        number, element = frame_of(place), place % ELEMENTS
+        other = self.elsewhere.told(number, element)
+        if other:
+            return "it looks like a %s here, and is a %s in %s" % (target, NAMES[other], self.elsewhere.sources(number, element, other))
+        if self.elsewhere.is_split(number, element):
+            said = ["a %s in %s" % (NAMES[told], self.elsewhere.sources(number, element, told)) for told in "01"]
+            return "it is %s, so this %s is a guess" % (", and ".join(said), target)
+        return "nothing says it, so this %s is a guess" % target
 
     def kind(self, place: PlaceNumber) -> DamageKind:
         """The kind of damage at a place."""

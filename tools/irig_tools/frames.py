@@ -9,7 +9,7 @@ from typing import Dict, List, Mapping, Optional, Sequence, Tuple
 from . import limits
 from .grouping import grouped
 from .interval import Run
-from .layout import READABLE
+from .layout import READABLE, Fields
 from .parity import rule_of
 from .spans import Bases, Span, fit
 from .splices import spliced
@@ -22,8 +22,8 @@ from .votes import Votes
 class Times(Votes):
     """For each frame the moment that most frames near it lead to."""
 
-    def __init__(self, track: Track) -> None:
-        super().__init__(track)
+    def __init__(self, track: Track, elsewhere: Sequence[Fields] = ()) -> None:
+        super().__init__(track, elsewhere)
         self._having: Dict[int, List[FrameNumber]] = {}  # element -> frames in which it is sound
         bases = self._find_bases()
         self.spans = self._find_spans(bases)
@@ -132,6 +132,12 @@ class Times(Votes):
         steady; else None."""
         near, (before, after) = self.around(number, element), self._nearest(number, element)
         return near if near and self._steadiness.holds(element, number - before[-1], after[0] - number) else None
+
+    def are_beside(self, number: FrameNumber, element: int, told: str) -> bool:
+        """Whether the frames next to this one have a class there that another recording has, too, and this one not: what a steady
+        element would have, as far as both say it."""
+        before, after = self._nearest(number, element)
+        return self.around(number, element) == told and self._steadiness.holds_beside(element, number - before[-1], after[0] - number)
 
     def never_changed(self, element: int) -> bool:
         """Whether an element that no field decides is the same in all frames that show it, and these are enough."""

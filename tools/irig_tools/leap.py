@@ -33,16 +33,17 @@ def _possible(calendar: Calendar, read: Read) -> Set[Hundredths]:
     return found
 
 
-def with_leap(calendar: Calendar, read: Read) -> Calendar:
+def with_leap(calendar: Calendar, read: Read, elsewhere: Sequence[Fields] = ()) -> Calendar:
     """The calendar with the moment at which second 60 begins, if there is one: with it at least as many frames agree as
-    without it."""
-    if calendar.layout.period > SECOND:
+    without it. Frames of other recordings can show it, too."""
+    if calendar.layout.period > SECOND or not read:
         return calendar
-    for moment in sorted(_shown(calendar, read) | _possible(calendar, read)):
+    there = _shown(calendar, [(FrameNumber(0), told) for told in elsewhere])
+    for moment in sorted(_shown(calendar, read) | _possible(calendar, read) | there):
         leaping = replace(calendar, leap=moment)
         plain, counted = (Counter(each.base(*frame) for frame in read) for each in (calendar, leaping))
         before, most = max(plain.values()), max(counted.values())
         shown = any(told["seconds"] == 60 and counted[leaping.base(number, told)] == most for number, told in read)
-        if most > before or (shown and most == before and most > 1):
+        if most > before or (most == before and (moment in there or (shown and most > 1))):
             return leaping
     return calendar

@@ -132,10 +132,12 @@ WITNESSES = 2  # frames that have to say a field or a base: one can be damaged [
 # what is steady (steadiness)
 CHANCE = 0.001  # that an element differs from its neighbours, if it is said to be steady [0, 1]
 CHANCES = 24  # times that an element could have changed: if it never did, it differs by about CHANCE [2, 1]
+CHANCE_BESIDE = 0.02  # the same if another recording has it as the neighbours, too: it would have to be damaged there, and not show it
 
 # control functions with a rule (parity)
 EACH_BY_RULE = 3  # frames that have a zero, and a one, as the element of the rule: one that hardly changes shows none
 LEAST_BY_RULE = 16  # frames in which it holds: of 27 elements at random one fits as many in less than one of 1,000 recordings
+FEW_BY_RULE = 8  # the same at element 75 alone, if it only has to say which of two recordings is damaged: by chance one code of 128
 FOR_EACH_AGAINST = 5  # more of them for each frame in which it does not hold
 
 # other recordings of the same code (others)

@@ -94,7 +94,7 @@ class _Mending:
             return []
         moved = Moved(self.script[done:])
         return list(Check(first.layout, clock.interval, step_times(last), (before, self.after), moved, clock.most_off,
-                          first.leap or last.leap, first.rule or last.rule).harms())
+                          first.leap or last.leap, first.rule or last.rule, self.witnesses).harms())
 
 
 def step_times(findings: Findings) -> List[Microseconds]:

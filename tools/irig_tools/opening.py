@@ -21,6 +21,14 @@ from .wire import Extract, Wish
 MOST_READ = 8  # wires that are read; the others are at most named
 
 
+class SeveralWires(Problem):
+    """Several wires of a file carry time code."""
+
+    def __init__(self, name: str, wires: List[str]) -> None:
+        self.wires = ", ".join(wires)
+        super().__init__("%s: several wires carry time code, and --wire names one: %s; 'irig_what %s' says more" % (name, self.wires, name))
+
+
 @dataclass
 class Opened:
     """What the editor is given, and what is said of it."""
@@ -173,11 +181,9 @@ def _of_none(refused: List[str], fine: List[Taken], name: str) -> Problem:
     """Why no wire is taken."""
     if refused and not fine:
         return Problem(refused[0])
-    what = "no frame can be read in any format and expression"
     if fine:
-        what = "several wires carry time code, and --wire names one: " + ", ".join(
-            taken.probe.signal.text() for taken in fine)
-    return Problem("%s: %s; 'irig_what %s' says more" % (name, what, name))
+        return SeveralWires(name, [taken.probe.signal.text() for taken in fine])
+    return Problem("%s: no frame can be read in any format and expression; 'irig_what %s' says more" % (name, name))
 
 
 def _read(path: str, found: Found, probe: Probe, dump: int) -> Taken:

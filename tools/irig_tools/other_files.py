@@ -12,7 +12,7 @@ from .cut_end import note_if_cut
 from .damage_program import say_notes
 from .editor import CUT_OFF, Editor, Problem, Progress, find_editor
 from .ending import Usage, name_of
-from .opening import Opened, opened
+from .opening import Opened, SeveralWires, opened
 from .options import EXPRESSION, FORMAT, Given
 from .others import Other, Others, not_used, other_of, others_of, seen_in
 from .script import Repair
@@ -58,6 +58,9 @@ def _read_other(name: str, code: Given, progress: Progress, program: str, files:
         say_notes(track, name, program)
         other = other_of(name_of(name), seen_in(Editor(track.words), progress))
         other.path = _dump_of_wire(track, files)
+    except SeveralWires as error:
+        raise Problem("%s: several wires carry time code, and irig_wire makes a dump of one, which %s takes: %s" % (
+            name_of(name), "--with", error.wires)) from error
     except Problem as error:  # also if no frame can be read
         problem = error
     own = [] if other.frames else _own_code(path, name)

@@ -74,15 +74,14 @@ def _timed(times: Times, number: FrameNumber, moment: Hundredths, text: str) -> 
 
 
 def other_of(name: str, findings: Findings) -> Other:
-    """The frames of a recording that others can rely on: fine, supported, and as the rule of the control functions wants them, if they
-    have one."""
+    """The frames of a recording that others can rely on: fine and supported."""
     found: List[Tuple[Timed, Witness]] = []
     for part in findings.parts[:1]:  # all parts are of one listing
-        fine, rule = Frames(part.track.listing, part.times.calendar, Moved()).all, findings.rule
+        fine = Frames(part.track.listing, part.times.calendar, Moved()).all
         for frame in fine:
             told = findings.layout.shown(frame.text)
             near = around(fine, frame.at, 2)
-            if told and (rule is None or rule.holds(frame.text)) and any(_supports(part, frame, each) for each in near):
+            if told and any(_supports(part, frame, each) for each in near):
                 first = PulseIndex(bisect_left(part.track.rises, frame.at))
                 timed = Timed(frame.moment, time_of_frame(findings.layout, told), frame.text)
                 found.append((timed, Witness(name, frame.text, part.track.rises, first)))

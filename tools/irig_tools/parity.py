@@ -9,6 +9,7 @@ from typing import Dict, Iterable, NamedTuple, Optional, Sequence
 
 from . import limits
 
+USUAL = 75  # the element
 NOT_KNOWN = str.maketrans("", "", "01P")
 
 
@@ -35,7 +36,13 @@ def rule_of(elements: Iterable[int], texts: Sequence[str]) -> Optional[Rule]:
     return next(filter(None, (_rule_at(element, texts) for element in elements)), None)
 
 
-def _rule_at(element: int, texts: Sequence[str]) -> Optional[Rule]:
+def usual_rule_of(elements: Iterable[int], texts: Sequence[str]) -> Optional[Rule]:
+    """The rule at the element that the standards have for it, if some of these frames show it and none contradicts it."""
+    return _rule_at(USUAL, texts, limits.FEW_BY_RULE, len(texts)) if USUAL in elements else None
+
+
+def _rule_at(element: int, texts: Sequence[str], least: int = limits.LEAST_BY_RULE,
+             for_each: int = limits.FOR_EACH_AGAINST) -> Optional[Rule]:
     row = [text[element] for text in texts]
     if min(row.count("0"), row.count("1")) < limits.EACH_BY_RULE:  # it says nothing if it hardly changes
         return None
@@ -44,5 +51,5 @@ def _rule_at(element: int, texts: Sequence[str]) -> Optional[Rule]:
     many: Dict[bool, int] = {False: sum(map(even.holds, known))}
     many[True] = len(known) - many[False]
     odd = many[True] > many[False]
-    is_rule = many[odd] >= limits.LEAST_BY_RULE + limits.FOR_EACH_AGAINST * many[not odd]
+    is_rule = many[odd] >= least + for_each * many[not odd]
     return Rule(element, odd) if is_rule else None

@@ -27,5 +27,14 @@ class Steadiness:
         did, could = self._did[element], self._could[element]
         if not did and (self._none_did or could >= limits.CHANCES):
             return True
-        rate = (did + 1) / (could + 2)
-        return before * after * rate * rate < limits.CHANCE
+        return _of_two_changes(did, could, before, after) < limits.CHANCE
+
+    def holds_beside(self, element: int, before: int, after: int) -> bool:
+        """The same if this frame shows another class there, and another recording the one of those frames."""
+        return _of_two_changes(self._did[element] - 2, self._could[element] - 2, before, after) < limits.CHANCE_BESIDE
+
+
+def _of_two_changes(did: int, could: int, before: int, after: int) -> float:
+    """The chance that an element changes, and changes back; it changed so often of so many times."""
+    rate = (did + 1) / (could + 2)
+    return before * after * rate * rate

@@ -14,12 +14,13 @@ from .units import Base, FrameNumber
 class Votes:
     """The frames with their letters. A base is the time of frame 0 if the clock had run all along."""
 
-    def __init__(self, track: Track) -> None:
+    def __init__(self, track: Track, elsewhere: Sequence[Fields] = ()) -> None:
+        """`elsewhere` are the times of other recordings that show second 60."""
         self.track, self.layout = track, track.layout
         self.texts = {number: track.frame(number) for number in track.frames()}
         decoded = [(number, self.layout.decode(text)) for number, text in self.texts.items()]
         self.read: List[Tuple[FrameNumber, Fields]] = [(number, told) for number, told in decoded if told]
-        self.calendar = with_leap(self._with_year_length(), self.read)
+        self.calendar = with_leap(self._with_year_length(), self.read, elsewhere)
         self.own = {number: self.calendar.base(number, told) for number, told in self.read}
 
     def _with_year_length(self) -> Calendar:

@@ -7,6 +7,7 @@ from typing import Dict, Iterable, List, Mapping, NamedTuple, Optional, Sequence
 from . import limits
 from .frames import Times
 from .layout import NAMES, Fields, Layout
+from .parity import Rule, rule_of, usual_rule_of
 from .texts import counted, seconds
 from .units import FrameNumber, Microseconds, PulseIndex
 
@@ -32,8 +33,13 @@ class Witnesses:
     def __init__(self, frames: Mapping[TimeOfFrame, Sequence[Witness]]) -> None:
         self.frames = frames
 
+    def inserted(self, layout: Layout) -> List[Fields]:
+        """The times of those that show second 60."""
+        return [told for told in (dict(zip(layout.fields, time)) for time in self.frames) if told.get("seconds") == 60]
+
 
 NO_WITNESSES = Witnesses({})
+OTHER = {"0": "1", "1": "0"}
 
 
 def time_of_frame(layout: Layout, told: Fields) -> TimeOfFrame:
@@ -46,18 +52,39 @@ def time_here(times: Times, number: FrameNumber) -> Optional[TimeOfFrame]:
     return None if moment is None else time_of_frame(times.layout, times.calendar.fields(moment))
 
 
+def rule_with(times: Times, witnesses: Witnesses) -> Optional[Rule]:
+    """The rule of the control functions: that of the frames here; if they show none, that of all recordings."""
+    return times.rule or (rule_of(times.layout.control, texts_of_all(times, witnesses)) if witnesses.frames else None)
+
+
+def texts_of_all(times: Times, witnesses: Witnesses) -> List[str]:
+    """The frames of all recordings, each time once, and none of which two recordings have something else: one of them is damaged."""
+    control = times.layout.control
+    texts = {time: found[0].text for time, found in witnesses.frames.items()
+             if not any(unlike(found[0].text, each.text, control) for each in found)}
+    alone = []  # frames whose time only this recording has
+    for number, text in times.texts.items():
+        time = time_here(times, number)
+        if time is None or time not in witnesses.frames:
+            alone.append(text)
+        elif time in texts and unlike(text, texts[time], control):
+            del texts[time]
+    return [*texts.values(), *alone]
+
+
 def unlike(text: str, other: str, elements: Iterable[int]) -> List[int]:
     """Which of these elements are zero or one in both frames, and differ."""
     return [each for each in elements if text[each] != other[each] and text[each] in "01" and other[each] in "01"]
 
 
 class Elsewhere:
-    """What other recordings have in the elements that no field decides, frame by frame. It is asked for what is damaged here; what is
-    recorded here it never replaces."""
+    """What other recordings have in the elements that no field decides, frame by frame. It is asked for what is damaged here, or
+    recorded otherwise."""
 
     def __init__(self, times: Times, witnesses: Witnesses) -> None:
         self.times, self.elements = times, sorted(times.kept)
         self._near: Dict[FrameNumber, List[Witness]] = {}
+        self.rule = times.rule or (usual_rule_of(times.layout.control, texts_of_all(times, witnesses)) if witnesses.frames else None)
         self.contrary: Dict[FrameNumber, Witness] = {}  # frames of which nothing is taken: too much is recorded otherwise here
         whole = [number for number in times.texts if witnesses.frames and number not in times.spliced]
         shown = {number: time_here(times, number) for number in whole}
@@ -67,8 +94,10 @@ class Elsewhere:
                 self._take(number, witnesses.frames[time])
 
     def _take(self, number: FrameNumber, found: Sequence[Witness]) -> None:
-        text = self.times.texts[number]
+        text, rule = self.times.texts[number], self.rule
         for each in found:
+            if rule and rule.shows(each.text) and not rule.holds(each.text):
+                continue  # damaged there
             if len(unlike(text, each.text, self.elements)) > limits.MOST_CONTRARY:
                 self.contrary[number] = each
             else:
@@ -78,6 +107,20 @@ class Elsewhere:
         """What most of them have there; None if as many differ, or none has this frame."""
         often = Counter(each.text[element] for each in self._near.get(number, ())).most_common(2)
         return None if not often or (len(often) > 1 and often[0][1] == often[1][1]) else often[0][0]
+
+    def is_split(self, number: FrameNumber, element: int) -> bool:
+        """Whether as many of several have a zero there as a one."""
+        return number in self._near and self.told(number, element) is None
+
+    def outvotes(self, number: FrameNumber, element: int, here: str) -> bool:
+        """Whether of all recordings that have a frame, this one counted, most have another class there than is recorded here."""
+        told = [each.text[element] for each in self._near.get(number, ())]
+        return bool(told) and 2 * told.count(OTHER[here]) > len(told) + 1
+
+    def is_by_rule(self, number: FrameNumber, element: int) -> bool:
+        """Whether the rule says that an element is damaged here: the frame does not fit it, and would with what others have."""
+        text, rule = self.times.texts[number], self.rule
+        return rule is not None and element <= rule.element and rule.shows(text) and not rule.holds(text)
 
     def unlike(self, number: FrameNumber) -> List[int]:
         """The elements that are recorded here, and that most of them have otherwise."""
