@@ -163,6 +163,13 @@ judge_on o s new k i p y e most on h = (
   λ found l. h.1 found (subst (λ (r : List Seen). ControlsAt o s k r found) (sym (drop_seen new i y e)) (on (drop (i + 1) new) found l)),
 )
 
+-- a frame that shows what the former one does
+pub judge_kept : (o : OriginalView) (s : State) (new : List Seen) (k i : ℕ) (y : Seen) → slice_get new i ≡ Some y
+    → slice_get o.frames k ≡ Some y.shown → JudgesAll o s new k i → JudgesAll o s new (k + 1) (i + 1)
+judge_kept o s new k i y e here h =
+    let less = slice_get_within o.frames k y.shown here in
+    judge_on o s new k i (k + 1) y e (omega (arith, less)) (λ rest found later. as_at o s k y.shown y rest found here refl (inl refl) later) h
+
 pub judge_none : (o : OriginalView) (s : State) (new : List Seen) (k i : ℕ) (y : Seen) (why : Fault) → slice_get new i ≡ Some y
     → ((rest : List Seen) → ControlsAt o s k (y ∷ rest) (Some why)) → JudgesAll o s new k i → IsUnborneFrom o s None None o.frames new why
 judge_none o s new k i y why e fault h =

@@ -5,6 +5,7 @@ use Rattle.std.specs.Prelude.{◌⊎◌, ◌↔◌, IfErr, IfOk, IsTrue, OnErr, 
 use Rattle.std.specs.List.{AllByRecursion, flat_map}
 use Rattle.std.proofs.lemmas.List.{drop_all, get_or-drop}
 use Rattle.std.proofs.lemmas.Bool.Decides.{nat_tests}
+use Rattle.std.proofs.lemmas.Option.{slice_get_within}
 use Rattle.irig_codes.specs.declared.note.Note.TheVariants.{Fine, Field, SbsDisagrees, Stray}
 use Rattle.irig_recording.specs.declared.pulse.Pulse.{Pulse}
 use Rattle.irig_track.specs.Edges.{pulse}
@@ -137,6 +138,18 @@ stand_on o s new k i p y e most on h = (
   λ found l. h.1 found (subst (λ (r : List Seen). PulsesAt o s k r found) (sym (drop_seen new i y e)) (on (drop (i + 1) new) found l)),
 )
 
+pub first_marker : (ms : List ℕ) (k : ℕ) → get_or (drop k ms) 0 0 ≡ get_or ms k 0
+first_marker ms k = let place : k + 0 ≡ k = omega arith in get_or-drop k ms 0 0 ∙ ap (λ n. get_or ms n 0) place
+
+-- a frame that shows what the former one does, and rises as that
+pub stand_kept : (o : OriginalView) (s : State) (new : List Seen) (k i : ℕ) (y : Seen) → slice_get new i ≡ Some y
+    → slice_get o.frames k ≡ Some y.shown → KeepsRises o.pulses (get_or o.markers k 0) s.pulses y.marker → StandsAll o s new k i
+    → StandsAll o s new (k + 1) (i + 1)
+stand_kept o s new k i y e here keeps h =
+    let less = slice_get_within o.frames k y.shown here in
+    let stands : StandsAs o s (drop k o.markers) y = subst (λ m. KeepsRises o.pulses m s.pulses y.marker) (sym (first_marker o.markers k)) keeps in
+    stand_on o s new k i (k + 1) y e (omega (arith, less)) (λ rest found later. stands_at o s k y.shown y rest found here refl stands later) h
+
 pub stand_none : (o : OriginalView) (s : State) (new : List Seen) (k i : ℕ) (y : Seen) (why : Fault) → slice_get new i ≡ Some y
     → ((rest : List Seen) → PulsesAt o s k (y ∷ rest) (Some why)) → StandsAll o s new k i → StrayFrom o s o.markers None None o.frames new why
 stand_none o s new k i y why e fault h =
@@ -157,9 +170,6 @@ pub stray_all : (o : OriginalView) (s : State) (new : List Seen) (why : Fault) �
 stray_all o s new why h k = stray_so o s o.markers None None o.frames new why h k
 
 -- the first marker of those from a place on
-pub first_marker : (ms : List ℕ) (k : ℕ) → get_or (drop k ms) 0 0 ≡ get_or ms k 0
-first_marker ms k = let place : k + 0 ≡ k = omega arith in get_or-drop k ms 0 0 ∙ ap (λ n. get_or ms n 0) place
-
 -- the frames of a recording by themselves
 one_itself : (o : OriginalView) (s : State) (a2 a : Option Shown) (rise marker : ℕ) (v : Verdict) (old : List Shown) (new : List Seen) → o.pulses ≡ s.pulses
     → ((b2 b : Option Shown) → StandFrom o s (map (λ y. y.marker) new) b2 b old new)

@@ -1,5 +1,5 @@
 -- The frames that read well, and what is known of a recording by them. This project's own.
-use Rattle.std.specs.Prelude.{ℕ, List, [], ◌∷◌, get_or, map}
+use Rattle.std.specs.Prelude.{◌≡◌, ℕ, List, [], ◌∷◌, get_or, map}
 use Rattle.std.specs.List.{flat_map}
 use Rattle.irig_codes.specs.declared.note.Note.TheVariants.{Fine}
 use Rattle.irig_recording.specs.declared.pulse.Pulse.{Pulse}
@@ -9,7 +9,7 @@ use Rattle.irig_index.specs.{declared.record.Record.Record, declared.record.Verd
 use Rattle.irig_edit.specs.State.State.{State, frames_of}
 use Rattle.irig_safety.specs.{Original.OriginalView, Terms.TermsView}
 use Rattle.irig_safety.specs.declared.shown.Shown.{Shown}
-use Rattle.irig_guarding.specs.declared.seen.Seen.{Seen}
+use Rattle.irig_guarding.specs.{declared.seen.Frames.Frames, declared.seen.Seen.Seen}
 
 -- what a frame shows that begins at a time: its fields, if nothing is wrong with it
 abbrev pub shown_at : ℕ → Verdict → List Shown
@@ -37,6 +37,11 @@ seen_by pulses r = seen_at (get_or pulses r.marker (pulse 0 0)).rise r.marker r.
 -- so of all frames of a state
 abbrev pub seen_frames : State → List Seen
 seen_frames s = flat_map (seen_by s.pulses) (frames_of s)
+
+-- these are the frames of a state that read well, with their markers and without
+pub record Lists (s : State) (frames : Frames) : Type 0 where
+  pub seen : frames.seen.items ≡ seen_frames s
+  pub shown : frames.shown.items ≡ fine_frames s
 
 -- what is known of a recording that was opened as a state, and by what repairs are judged besides
 abbrev pub original_of : TermsView → State → OriginalView

@@ -10,7 +10,7 @@ ghost use Rattle.irig_guarding.specs.Controls.{AreBorneFrom, ControlsAt, IsBorne
 ghost use Rattle.irig_guarding.specs.Controls.{Judges};
 ghost use Rattle.irig_guarding.specs.declared.seen.Seen.{Seen as SeenFrame};
 
-use crate::seen::Seen;
+use crate::seen::{Seen, is_as_before};
 use irig_codes::Format;
 use irig_edit::{Pulse, Session};
 use irig_safety::{
@@ -35,6 +35,10 @@ pub fn check_controls(
 {
     let mut passed = 0;
     for frame in frames {
+        if is_as_before(old, passed, frame) {
+            passed += 1;
+            continue;
+        }
         match pass(session, opened, old, passed, frame) {
             Ok(place) => passed = place,
             Err(why) => return Err(why),

@@ -1,31 +1,27 @@
 //! The frames with control functions that are not in the recording.
 
-ghost use Rattle.std.specs.Prelude.{◌≡◌, ◌↔◌, IfOk, IsTrue};
+ghost use Rattle.std.specs.Prelude.{◌≡◌, ◌↔◌, IsTrue};
 ghost use Rattle.irig_guarding.specs.Fillings.{AreFilled, Fills, IsWhole};
+ghost use Rattle.irig_guarding.specs.Reading.{seen_frames};
 
 use crate::controls::is_recorded_at;
-use crate::seen::{Seen, seen_frames};
+use crate::seen::Seen;
 use irig_edit::Session;
 use irig_safety::{Original, functions};
-use std::alloc::{AllocError, Global};
 
 /// How many frames of a session have a control function that is not in the recording. They are not
 /// counted if frames may move, or if none of the recording reads well.
-pub fn filled_frames(
-    alloc: Global,
-    session: &Session,
-    opened: &Original,
-) -> Result<usize, AllocError>
-    ensures { IfOk result (λ many. Fills opened.now session.now.state many) }
+pub fn filled_frames(session: &Session, opened: &Original, frames: &[Seen]) -> usize
+    requires { frames.now ≡ seen_frames session.now.state }
+    ensures { Fills opened.now session.now.state result }
 {
     if opened.is_moved() {
-        return Ok(0);
+        return 0;
     }
     if opened.frames().is_empty() {
-        return Ok(0);
+        return 0;
     }
-    let seen = seen_frames(alloc, session)?;
-    Ok(filled_among(session, opened, seen.as_slice()))
+    filled_among(session, opened, frames)
 }
 
 /// How many of some frames have one.

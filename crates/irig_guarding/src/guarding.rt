@@ -5,7 +5,7 @@ ghost use Rattle.std.specs.Prelude.{is_none, length, take, if◌then◌else◌};
 ghost use Rattle.irig_guarding.specs.Guarded.{IsGuarded, IsSafeAfter, Stands};
 ghost use Rattle.irig_guarding.specs.Trials.{IsCutBefore, IsTried, IsTriedBefore, Shows, Tries};
 ghost use Rattle.irig_guarding.specs.{Controls.IsSafeBy, Fillings.Fills, Known.AreKnown};
-ghost use Rattle.irig_guarding.specs.{Reading.original_of};
+ghost use Rattle.irig_guarding.specs.Reading.{Lists, original_of};
 ghost use Rattle.irig_guarding.specs.{Reasons.head_lines, Repair.texts};
 ghost use Rattle.irig_script.specs.Obey.Run.{unlines};
 ghost use Rattle.irig_script.specs.declared.obey.status.Status.TheVariants.{SomeRefused};
@@ -21,7 +21,7 @@ use crate::printing::{put_head, put_lines, put_remarks};
 use crate::product::Kept;
 use crate::reason::Reason;
 use crate::reason_text::put_reason;
-use crate::seen::{seen_frames, shown_of};
+use crate::seen::{Frames, list_frames};
 use irig_edit::Session;
 use irig_safety::{Original, Terms};
 use irig_script::Status;
@@ -47,35 +47,37 @@ pub fn guard(
 {
     let opened = original_of(alloc, session, terms)?;
     let lines = lines_of(alloc, script)?;
+    let proposed = lines.as_slice();
     let mut out = Vec::new(alloc);
     put_head(&mut out, opened.frames())?;
     let mut known = unknown(alloc, opened.frames().len())?;
+    let mut last = list_frames(alloc, session)?;
+    learn(session, &opened, last.seen.as_slice(), &mut known);
     let status = guard_lines(
-        alloc,
-        session,
-        &opened,
-        &mut known,
-        lines.as_slice(),
-        &mut out,
+        alloc, session, &opened, &mut known, &mut last, proposed, &mut out,
     )?;
-    let filled = filled_frames(alloc, session, &opened)?;
+    let filled = filled_frames(session, &opened, last.seen.as_slice());
     Ok((out, Kept { status, filled }))
 }
 
-/// Runs lines on a session repair by repair, and prints them. Returns whether all were kept.
+/// Runs lines on a session repair by repair, and prints them. The frames that read well are listed
+/// before and after it. Returns whether all were kept.
 fn guard_lines(
     alloc: Global,
     session: &mut Session,
     opened: &Original,
     known: &mut Vec<Option<usize>>,
+    last: &mut Frames,
     lines: &[Line],
     out: &mut Vec<u8>,
 ) -> Result<Status, AllocError>
     requires closed { session.old.floor ≡ None }
     requires known { AreKnown opened.now session.old.state.pulses known.old.items }
+    requires lists { Lists session.old.state last.old }
     requires opened { opened.now ≡ original_of opened.now.terms session.old.state }
     requires head { out.old.items ≡ unlines (head_lines opened.now.frames) }
     ensures stands { OnOk result (Stands session.old out.new.items session.new) }
+    ensures lists { OnOk result (Lists session.new.state last.new) }
     ensures safe { OnOk result (IsSafeAfter opened.now.terms session.old.state
         session.new.state) }
     ensures tried { IfOk result (λ status. IsTriedBefore opened.now.terms session.old
@@ -85,7 +87,7 @@ fn guard_lines(
     let mut status = Status::AllAccepted;
     while at < lines.len() {
         let end = repair_end(lines, at);
-        let dropped = guard_repair(alloc, session, opened, known, &lines[at..end], out)?;
+        let dropped = guard_repair(alloc, session, opened, known, last, &lines[at..end], out)?;
         status = status_with(status, dropped);
         at = end;
     }
@@ -127,22 +129,25 @@ fn guard_repair(
     session: &mut Session,
     opened: &Original,
     known: &mut Vec<Option<usize>>,
+    last: &mut Frames,
     repair: &[Line],
     out: &mut Vec<u8>,
 ) -> Result<Option<Reason>, AllocError>
     requires closed { session.old.floor ≡ None }
     requires known { AreKnown opened.now session.old.state.pulses known.old.items }
+    requires lists { Lists session.old.state last.old }
     requires safe { IsSafeBy opened.now session.old.state }
     ensures safe { IsSafeBy opened.now session.new.state }
     ensures closed { session.new.floor ≡ None }
     ensures format { session.new.state.format ≡ session.old.state.format }
     ensures known { AreKnown opened.now session.new.state.pulses known.new.items }
+    ensures lists { Lists session.new.state last.new }
     ensures tried { IfOk result (λ dropped. Tries opened.now session.old (texts repair.now) dropped
         session.new) }
     ensures printed { IfOk result (λ dropped. Shows (texts repair.now) dropped out.old.items
         out.new.items) }
 {
-    let dropped = try_repair(alloc, session, opened, known, repair)?;
+    let dropped = try_repair(alloc, session, opened, known, last, repair)?;
     put_repair(out, repair, dropped)?;
     Ok(dropped)
 }
@@ -153,28 +158,37 @@ fn try_repair(
     session: &mut Session,
     opened: &Original,
     known: &mut Vec<Option<usize>>,
+    last: &mut Frames,
     repair: &[Line],
 ) -> Result<Option<Reason>, AllocError>
     requires closed { session.old.floor ≡ None }
     requires known { AreKnown opened.now session.old.state.pulses known.old.items }
+    requires lists { Lists session.old.state last.old }
     requires safe { IsSafeBy opened.now session.old.state }
     ensures safe { IsSafeBy opened.now session.new.state }
     ensures closed { session.new.floor ≡ None }
     ensures format { session.new.state.format ≡ session.old.state.format }
     ensures known { AreKnown opened.now session.new.state.pulses known.new.items }
+    ensures lists { Lists session.new.state last.new }
     ensures tried { IfOk result (λ dropped. Tries opened.now session.old (texts repair.now) dropped
         session.new) }
 {
     if are_remarks(repair) {
         return Ok(None);
     }
-    let seen = seen_frames(alloc, session)?;
-    let last = shown_of(alloc, session, seen.as_slice())?;
-    learn(session, opened, seen.as_slice(), known);
     let mut tried = known.clone()?;
-    match take(alloc, session, opened, &mut tried, last.as_slice(), repair) {
-        Ok(()) => {
+    match take(
+        alloc,
+        session,
+        opened,
+        &mut tried,
+        last.shown.as_slice(),
+        repair,
+    ) {
+        Ok(frames) => {
+            learn(session, opened, frames.seen.as_slice(), &mut tried);
             *known = tried;
+            *last = frames;
             Ok(None)
         }
         Err(reason) => Ok(Some(reason)),

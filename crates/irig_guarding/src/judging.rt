@@ -1,59 +1,63 @@
 //! Whether what a repair leads to may stay.
 
-ghost use Rattle.std.specs.Prelude.{◌≡◌, IfErr, OnErr, OnOk, false, true};
+ghost use Rattle.std.specs.Prelude.{◌≡◌, IfErr, IfOk, OnErr, OnOk, false, true};
 ghost use Rattle.irig_safety.specs.Original.{with_frames};
 ghost use Rattle.irig_guarding.specs.Controls.{AreBorneBy, IsUnborneBy};
 ghost use Rattle.irig_guarding.specs.Known.{AreKnown};
 ghost use Rattle.irig_guarding.specs.Pulses.{StandBy, StrayBy};
 ghost use Rattle.irig_guarding.specs.Trials.{HasFaultAt, MayStay, StaysAt, Sways};
-ghost use Rattle.irig_guarding.specs.{Reading.fine_frames, Reading.seen_frames};
+ghost use Rattle.irig_guarding.specs.Reading.{Lists, fine_frames, seen_frames};
 
 use crate::controls::check_controls;
 use crate::pulses::{check_rooted, check_stand};
 use crate::reason::Reason;
-use crate::seen::{Seen, seen_frames, shown_of};
+use crate::seen::{Frames, Seen, list_frames};
 use irig_edit::Session;
 use irig_safety::{Fault, Original, Shown, check_safe, check_unspoiled, moved_in};
 use std::alloc::Global;
 
 /// Whether what the frames show may stay: it is safe by what they showed at first, and none is
-/// spoiled of those that read well before.
+/// spoiled of those that read well before. Returns the frames that read well now.
 pub fn check(
     alloc: Global,
     session: &Session,
     opened: &Original,
     known: &[Option<usize>],
     before: &[Shown],
-) -> Result<(), Reason>
+) -> Result<Frames, Reason>
     requires { AreKnown opened.now session.now.state.pulses known.now }
+    ensures lists { IfOk result (λ frames. Lists session.now.state frames) }
     ensures stays { OnOk result (MayStay opened.now before.now session.now.state) }
     ensures sways { IfErr result (Sways opened.now before.now session.now.state) }
 {
-    let Ok(seen) = seen_frames(alloc, session) else {
+    let Ok(frames) = list_frames(alloc, session) else {
         return Err(Reason::OutOfMemory);
     };
-    let Ok(frames) = shown_of(alloc, session, seen.as_slice()) else {
-        return Err(Reason::OutOfMemory);
-    };
+    match check_listed(alloc, session, opened, known, before, &frames) {
+        Ok(()) => Ok(frames),
+        Err(reason) => Err(reason),
+    }
+}
+
+/// The same of the frames that read well.
+fn check_listed(
+    alloc: Global,
+    session: &Session,
+    opened: &Original,
+    known: &[Option<usize>],
+    before: &[Shown],
+    frames: &Frames,
+) -> Result<(), Reason>
+    requires known { AreKnown opened.now session.now.state.pulses known.now }
+    requires lists { Lists session.now.state frames.now }
+    ensures stays { OnOk result (MayStay opened.now before.now session.now.state) }
+    ensures sways { IfErr result (Sways opened.now before.now session.now.state) }
+{
+    let (now, seen) = (frames.shown.as_slice(), frames.seen.as_slice());
     if opened.is_moved() {
-        check_moved(
-            alloc,
-            session,
-            opened,
-            known,
-            before,
-            frames.as_slice(),
-            seen.as_slice(),
-        )
+        check_moved(alloc, session, opened, known, before, now, seen)
     } else {
-        check_unmoved(
-            session,
-            opened,
-            known,
-            before,
-            frames.as_slice(),
-            seen.as_slice(),
-        )
+        check_unmoved(session, opened, known, before, now, seen)
     }
 }
 

@@ -1,8 +1,8 @@
 //! Repairs that are tried, and kept if they are safe.
 
-ghost use Rattle.std.specs.Prelude.{◌≡◌, ◌≢◌, ◌∷◌, ◌++◌, [], ℕ, List, None, IfErr, OnErr, OnOk};
+ghost use Rattle.std.specs.Prelude.{◌≡◌, ◌≢◌, ◌∷◌, ◌++◌, [], ℕ, List, None, IfErr, IfOk, OnErr, OnOk};
 ghost use Rattle.irig_edit.specs.{Session.Calls.Call, Session.Session.work_in};
-ghost use Rattle.irig_guarding.specs.Known.{AreKnown};
+ghost use Rattle.irig_guarding.specs.{Known.AreKnown, Reading.Lists};
 ghost use Rattle.irig_guarding.specs.Repair.{Agrees, Asks, IsBeyond, IsGroup, IsRepair, Obeyed};
 ghost use Rattle.irig_guarding.specs.Repair.{ObeyedAll, texts};
 ghost use Rattle.irig_guarding.specs.Trials.{Drops, Holds, IsIdle, MayStay, StopsAt, StopsIn};
@@ -17,6 +17,7 @@ use crate::known::follow;
 use crate::line::Line;
 use crate::place::place_of;
 use crate::reason::Reason;
+use crate::seen::Frames;
 use irig_edit::Session;
 use irig_lines::Command;
 use irig_safety::{Original, Shown};
@@ -107,23 +108,24 @@ fn mend_all(
     Ok(())
 }
 
-/// Ends the open group if what the frames show may stay.
+/// Ends the open group if what the frames show may stay. Returns the frames that read well.
 fn end_safely(
     alloc: Global,
     session: &mut Session,
     opened: &Original,
     known: &[Option<usize>],
     before: &[Shown],
-) -> Result<(), Reason>
+) -> Result<Frames, Reason>
     requires { AreKnown opened.now session.old.state.pulses known.now }
     ensures ended { OnOk result (Calls Call.End session.old Silent session.new) }
+    ensures lists { IfOk result (λ frames. Lists session.old.state frames) }
     ensures stays { OnOk result (MayStay opened.now before.now session.old.state) }
     ensures holds { IfErr result (Holds opened.now before.now session.old) }
     ensures open { OnErr result (work_in session.new ≡ work_in session.old) }
 {
-    check(alloc, session, opened, known, before)?;
+    let frames = check(alloc, session, opened, known, before)?;
     match session.end() {
-        Ok(()) => Ok(()),
+        Ok(()) => Ok(frames),
         Err(why) => Err(Reason::Refused(why)),
     }
 }
@@ -137,10 +139,11 @@ fn mend_group(
     known: &mut Vec<Option<usize>>,
     before: &[Shown],
     lines: &[Line],
-) -> Result<(), Reason>
+) -> Result<Frames, Reason>
     requires closed { session.old.floor ≡ None }
     requires known { AreKnown opened.now session.old.state.pulses known.old.items }
     ensures made { OnOk result (IsGroup session.old (texts lines.now) session.new) }
+    ensures lists { IfOk result (λ frames. Lists session.new.state frames) }
     ensures stays { OnOk result (MayStay opened.now before.now session.new.state) }
     ensures drops { (first last : List ℕ) → Asks command.Begin first → Asks command.End last
         → IfErr result (Drops opened.now before.now session.old
@@ -157,11 +160,13 @@ fn mend_group(
         let _ = session.abort();
         return Err(reason);
     }
-    if let Err(reason) = end_safely(alloc, session, opened, known.as_slice(), before) {
-        let _ = session.abort();
-        return Err(reason);
+    match end_safely(alloc, session, opened, known.as_slice(), before) {
+        Ok(frames) => Ok(frames),
+        Err(reason) => {
+            let _ = session.abort();
+            Err(reason)
+        }
     }
-    Ok(())
 }
 
 /// Obeys an edit and keeps what it did if it is safe. If not, all is as it was but for what can be
@@ -173,11 +178,12 @@ fn mend_one(
     known: &mut Vec<Option<usize>>,
     before: &[Shown],
     command: Command,
-) -> Result<(), Reason>
+) -> Result<Frames, Reason>
     requires one { IsRepair command }
     requires closed { session.old.floor ≡ None }
     requires known { AreKnown opened.now session.old.state.pulses known.old.items }
     ensures made { OnOk result (Obeys command session.old Silent session.new) }
+    ensures lists { IfOk result (λ frames. Lists session.new.state frames) }
     ensures stays { OnOk result (MayStay opened.now before.now session.new.state) }
     ensures drops { (line : List ℕ) → Asks command line
         → IfErr result (Drops opened.now before.now session.old (line ∷ [])) }
@@ -189,11 +195,13 @@ fn mend_one(
     if let Err(reason) = edit(session, known, command) {
         return Err(reason);
     }
-    if let Err(reason) = check(alloc, session, opened, known.as_slice(), before) {
-        let _ = session.undo();
-        return Err(reason);
+    match check(alloc, session, opened, known.as_slice(), before) {
+        Ok(frames) => Ok(frames),
+        Err(reason) => {
+            let _ = session.undo();
+            Err(reason)
+        }
     }
-    Ok(())
 }
 
 /// Obeys one line if it is an edit, and keeps what it did if it is safe.
@@ -204,10 +212,11 @@ fn take_line(
     known: &mut Vec<Option<usize>>,
     before: &[Shown],
     line: &Line,
-) -> Result<(), Reason>
+) -> Result<Frames, Reason>
     requires closed { session.old.floor ≡ None }
     requires known { AreKnown opened.now session.old.state.pulses known.old.items }
     ensures made { OnOk result (Obeyed session.old line.now.bytes.items session.new) }
+    ensures lists { IfOk result (λ frames. Lists session.new.state frames) }
     ensures stays { OnOk result (MayStay opened.now before.now session.new.state) }
     ensures drops { (Asks command.Nothing line.now.bytes.items → ⊥)
         → IfErr result (Drops opened.now before.now session.old (line.now.bytes.items ∷ [])) }
@@ -237,10 +246,11 @@ pub fn take(
     known: &mut Vec<Option<usize>>,
     before: &[Shown],
     repair: &[Line],
-) -> Result<(), Reason>
+) -> Result<Frames, Reason>
     requires closed { session.old.floor ≡ None }
     requires known { AreKnown opened.now session.old.state.pulses known.old.items }
     ensures made { OnOk result (ObeyedAll session.old (texts repair.now) session.new) }
+    ensures lists { IfOk result (λ frames. Lists session.new.state frames) }
     ensures stays { OnOk result (MayStay opened.now before.now session.new.state) }
     ensures drops { (IsIdle (texts repair.now) → ⊥)
         → IfErr result (Drops opened.now before.now session.old (texts repair.now)) }

@@ -1,10 +1,13 @@
 //! The frames of another recording of the same code.
 
-ghost use Rattle.std.specs.Prelude.{◌≡◌, ◌≤◌, ◌^◌, ◌++◌, ℕ, List, Option, length, Ok, IfErr};
+ghost use Rattle.std.specs.Prelude.{◌≡◌, ◌≤◌, ◌^◌, ◌++◌, ℕ, Err, List, Option, length, Ok, IfErr};
 ghost use Rattle.std.specs.Prelude.{IfSome, OnOk};
+ghost use Rattle.irig_edit.specs.Opened.Openings.{MayBeShort};
 ghost use Rattle.irig_guarding.specs.{Others.Adds, Others.IsUnadded, Reading.fine_frames};
+ghost use Rattle.irig_guarding.specs.declared.product.GuardFault.TheVariants.{Dump};
 ghost use Rattle.irig_safety.specs.Others.{backed};
 ghost use Rattle.irig_vcd.specs.{Answer.bytes_of, Parts.dump_parts};
+ghost use Rattle.irig_vcd.specs.declared.fault.VcdFault.TheVariants.{OutOfMemory};
 
 use crate::product::GuardFault;
 use crate::reading::fine_frames;
@@ -30,6 +33,8 @@ pub fn add_frames(
     ensures fault { IfErr result (λ e. (wire : Option (List ℕ)) (bytes : List ℕ)
         → dump_parts wire bytes ≡ Ok (recording, bytes_of journal)
         → IsUnadded wire bytes e) }
+    ensures memory { result ≡ Err (Dump OutOfMemory)
+        → MayBeShort (Ok (recording, bytes_of journal)) }
 {
     let session = match Session::open_parts(alloc, recording, journal, format) {
         Ok(session) => session,

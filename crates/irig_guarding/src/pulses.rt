@@ -1,7 +1,7 @@
 //! Whether the pulses of the frames stay where they were.
 
 ghost use Rattle.std.specs.Prelude.{◌≡◌, ◌↔◌, ◌+◌, ◌<◌, ◌≤◌, ◌∷◌, List, IsTrue, None, Option, Some};
-ghost use Rattle.std.specs.Prelude.{IfErr, IfOk, OnErr, OnOk, drop, get_or, length};
+ghost use Rattle.std.specs.Prelude.{IfErr, IfOk, OnErr, OnOk, drop, get_or, length, slice_get};
 ghost use Rattle.irig_safety.specs.Original.{with_frames};
 ghost use Rattle.irig_safety.specs.Rises.{KeepsRises, rise_in};
 ghost use Rattle.irig_safety.specs.declared.fault.Fault.{Fault as SomeFault};
@@ -14,7 +14,7 @@ ghost use Rattle.irig_guarding.specs.declared.seen.Seen.{Seen as SeenFrame};
 use crate::anchors::{are_placed, is_rooted};
 use crate::controls::pulse_at;
 use crate::known::is_known;
-use crate::seen::Seen;
+use crate::seen::{Seen, is_as_before};
 use irig_edit::Session;
 use irig_safety::{Fault, Original, Shown, Witnesses, frame_at, near_in, rise_or};
 
@@ -37,12 +37,27 @@ pub fn check_stand(
 {
     let mut passed = 0;
     for frame in frames {
+        if is_unmoved(old, known, passed, frame) {
+            passed += 1;
+            continue;
+        }
         match pass(session, opened, known, old, passed, frame) {
             Ok(place) => passed = place,
             Err(why) => return Err(why),
         }
     }
     Ok(())
+}
+
+/// Whether a frame shows what the former one at a place does, and is known to rise as that.
+fn is_unmoved(old: &[Shown], known: &[Option<usize>], place: usize, frame: &Seen) -> bool
+    ensures same { IsTrue result → slice_get old.now place ≡ Some frame.now.shown }
+    ensures known { IsTrue result → get_or known.now place None ≡ Some frame.now.marker }
+{
+    if !is_as_before(old, place, frame) {
+        return false;
+    }
+    is_known(known, place, frame.marker)
 }
 
 /// How many of the former frames are passed after one more frame, or why it is at fault.

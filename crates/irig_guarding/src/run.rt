@@ -1,9 +1,11 @@
 //! A run under guard on a dump, from the bytes that come in to those that go out.
 
-ghost use Rattle.std.specs.Prelude.{◌≡◌, ◌≤◌, ◌^◌, ℕ, List, None, Option, length, Ok, IfErr, IfOk};
+ghost use Rattle.std.specs.Prelude.{◌≡◌, ◌≤◌, ◌^◌, ℕ, Err, List, None, Option, length, Ok, IfErr, IfOk};
 ghost use Rattle.std.specs.Prelude.{IfSome, OnErr, OnOk, [], ◌∷◌};
-ghost use Rattle.irig_edit.specs.Opened.Openings.{IsOpened, IsUnopened};
+ghost use Rattle.irig_edit.specs.Opened.Openings.{IsOpened, IsUnopened, MayBeShort};
 ghost use Rattle.irig_vcd.specs.{Answer.bytes_of, Parts.dump_parts};
+ghost use Rattle.irig_vcd.specs.declared.fault.VcdFault.TheVariants.{OutOfMemory};
+ghost use Rattle.irig_guarding.specs.declared.product.GuardFault.TheVariants.{Dump};
 ghost use Rattle.irig_guarding.specs.GuardedRun.{GuardsOnDump, RunsUnderGuard, product_texts};
 ghost use Rattle.irig_script.specs.Obey.Desk.{desk};
 ghost use Rattle.irig_text.specs.Shelved.{Puts};
@@ -39,6 +41,9 @@ pub fn guard_on_parts<R: Read, W: Write, S: Shelf>(
         → GuardsOnDump wire format terms bytes product (R.remaining script.old)
         (R.remaining script.new) (desk (W.contents out.old) (S.known shelf.old))
         (desk (W.contents out.new) (S.known shelf.new)) result }
+    // out of memory for what the dump says, only if its session may be
+    ensures memory { result ≡ Err (Dump OutOfMemory)
+        → MayBeShort (Ok (recording, bytes_of journal)) }
     ensures label { (S.known shelf.new).label ≡ (S.known shelf.old).label }
     ensures since { S.since shelf.old shelf.new }
     ensures nothing { product ≡ Product.Nothing → shelf.new ≡ shelf.old }
@@ -64,6 +69,8 @@ fn open_closed(
     ensures fault { IfErr result (λ e. (wire : Option (List ℕ)) (bytes : List ℕ)
         → dump_parts wire bytes ≡ Ok (recording, bytes_of journal)
         → IsUnopened wire bytes e) }
+    ensures memory { result ≡ Err OutOfMemory
+        → MayBeShort (Ok (recording, bytes_of journal)) }
 {
     match Session::open_parts(alloc, recording, journal, format) {
         Ok(mut session) => {

@@ -1,13 +1,14 @@
 //! The frames of a session that read well, with their markers.
 
-ghost use Rattle.std.specs.Prelude.{◌≡◌, ◌≤◌, ◌-◌, ◌++◌, length, map, slice_get, Some, IfOk, OnOk};
+ghost use Rattle.std.specs.Prelude.{◌≡◌, ◌≤◌, ◌-◌, ◌++◌, length, map, slice_get, Some, IfOk, IsTrue};
+ghost use Rattle.std.specs.Prelude.{OnOk};
 ghost use Rattle.irig_index.specs.declared.record.Record.{Record};
 ghost use Rattle.irig_edit.specs.State.State.{frames_of};
-ghost use Rattle.irig_guarding.specs.Reading.{fine_frames, seen_at, seen_by, seen_frames};
+ghost use Rattle.irig_guarding.specs.Reading.{Lists, fine_frames, seen_at, seen_by, seen_frames};
 
 use irig_codes::Note;
 use irig_edit::{Session, Verdict};
-use irig_safety::Shown;
+use irig_safety::{Shown, frame_at, is_same};
 use std::alloc::{AllocError, Global};
 
 /// A frame that reads well, and the place of its marker among the pulses, from 0.
@@ -15,6 +16,23 @@ use std::alloc::{AllocError, Global};
 pub struct Seen {
     pub shown: Shown,
     pub marker: usize,
+}
+
+/// The frames of a session that read well, in rising order: with their markers, and what they show
+/// alone.
+#[derive(Drop)]
+pub struct Frames {
+    pub seen: Vec<Seen>,
+    pub shown: Vec<Shown>,
+}
+
+/// Lists the frames of a session that read well.
+pub fn list_frames(alloc: Global, session: &Session) -> Result<Frames, AllocError>
+    ensures { IfOk result (λ frames. Lists session.now.state frames) }
+{
+    let seen = seen_frames(alloc, session)?;
+    let shown = shown_of(alloc, session, seen.as_slice())?;
+    Ok(Frames { seen, shown })
 }
 
 /// The frames of a session that read well, in rising order.
@@ -46,6 +64,16 @@ fn shown_among(alloc: Global, seen: &[Seen]) -> Result<Vec<Shown>, AllocError>
         shown.push(frame.shown)?;
     }
     Ok(shown)
+}
+
+/// Whether a frame shows what the one at a place does.
+pub fn is_as_before(old: &[Shown], place: usize, frame: &Seen) -> bool
+    ensures { IsTrue result → slice_get old.now place ≡ Some frame.now.shown }
+{
+    match frame_at(old, place) {
+        Some(former) => is_same(&former, &frame.shown),
+        None => false,
+    }
 }
 
 /// Puts a frame, from 1, after others if it reads well.

@@ -11,4 +11,4 @@ pub returns-clause-tried : goal.returns-clause-tried
 returns-clause-tried c =
     tried_whole c.args.terms _ c.args.session.now c.in_ok-lines.lines.items _ c.args.script.now _ _ _
     (ap (λ (o : OriginalView). o.terms) c.in_ok-opened.ensures)
-    c.as_slice.ensures.value c.in_ok-lines.ensures c.in_ok-status.ensures.tried
+    c.as_slice-proposed.ensures.value c.in_ok-lines.ensures c.in_ok-status.ensures.tried

@@ -12,6 +12,7 @@ loop-at-init c = (
   omega arith,
   c.requires.known,
   tried_none c.args.session.now c.args.opened.now _ _ c.requires.opened c.requires.head,
+  c.requires.lists,
 )
 
 pub loop-at-preserved : goal.loop-at-preserved
@@ -25,7 +26,11 @@ loop-at-preserved c =
       c.guard_repair.ensures.known,
       tried_step c.args.session.now c.args.opened.now c.args.lines.now _ _ _ _ _ _ _ _ _ c.requires.opened c.repair_end-end.ensures.more s.6 c.repair_end-end.ensures.cut
           c.in_ok-dropped.ensures.tried c.in_ok-dropped.ensures.printed c.status_with-status.ensures,
+      c.guard_repair.ensures.lists,
     )
+
+pub returns-clause-lists : goal.returns-clause-lists
+returns-clause-lists c = c.loop-at.invariant.7
 
 pub returns-clause-safe : goal.returns-clause-safe
 returns-clause-safe c =

@@ -1,5 +1,5 @@
 use Rattle.std.proofs.Common.{◌≡◌, ◌-◌, ◌≤◌, None, drop, length, take}
-use Rattle.irig_guarding.specs.{Controls.IsSafeBy, Guarded.Stands, Known.AreKnown, Repair.texts, Trials.IsTriedBefore}
+use Rattle.irig_guarding.specs.{Controls.IsSafeBy, Guarded.Stands, Known.AreKnown, Reading.Lists, Repair.texts, Trials.IsTriedBefore}
 use Rattle.irig_guarding.proofs.guarding.guard_lines.Given as goal
 
 abbrev pub decreases-loop-at : goal.decreases-loop-at
@@ -13,3 +13,4 @@ invariant-loop-at l = Stands l.fn.session l.out.items l.session
     × (l.at ≤ length l.lines)
     × AreKnown l.opened l.session.state.pulses l.known.items
     × IsTriedBefore l.opened.terms l.fn.session (texts (take l.at l.lines)) (texts (drop l.at l.lines)) l.out.items l.status l.session
+    × Lists l.session.state l.last
