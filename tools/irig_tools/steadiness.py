@@ -35,6 +35,6 @@ class Steadiness:
 
 
 def _of_two_changes(did: int, could: int, before: int, after: int) -> float:
-    """The chance that an element changes, and changes back; it changed so often of so many times."""
+    """The chance that an element changes, and changes back; it changed so often of that many times."""
     rate = (did + 1) / (could + 2)
     return before * after * rate * rate
