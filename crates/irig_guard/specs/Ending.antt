@@ -1,6 +1,6 @@
 -- What the program does for the words of its command line: from the files and the script to what is
 -- printed and written. This project's own.
-use Rattle.std.specs.Prelude.{◌≡◌, ◌<◌, ◌^◌, ℕ, List, Result, Ok, Err, IfSome, is_some}
+use Rattle.std.specs.Prelude.{◌≡◌, ◌<◌, ◌^◌, ℕ, List, Option, Result, Ok, Err, IfSome, is_some}
 use Rattle.std.specs.Prelude.{length, true}
 use Rattle.clap.specs.Words.{Text}
 use Rattle.irig_files.specs.declared.dump_file.DumpFileFault.TheVariants.{TooLong}
@@ -11,7 +11,7 @@ use Rattle.irig_guard.specs.declared.ending.Ending.TheVariants.{Usage, Value, Un
 use Rattle.irig_guard.specs.declared.ending.Ending.TheVariants.{OverOther, Ran, Unheard}
 use Rattle.irig_guard.specs.Given.{Ends, Files, IsRead, place_of}
 use Rattle.irig_guard.specs.{Others.IsOther, Others.IsUnheard, RunsBy.RunsBy}
-use Rattle.irig_guard.specs.{Settings.Reads, Statuses.HasStatus}
+use Rattle.irig_guard.specs.{Settings.Reads, Statuses.Reports}
 use Rattle.irig_guard.specs.declared.ending.Ending.{Ending}
 
 -- nothing was read of the script, printed or written
@@ -63,9 +63,10 @@ EndsBy words given old new (Value fault) =
     Reads words (Err (of_value fault)) × IsUntouched given old new
 EndsBy words given old new ending = Follows words given old new ending
 
--- the words were obeyed, and the status of the process is the one of how that ended
+-- the words were obeyed; of how that ended is the status of the process, and what came to the
+-- output of help
 pub record Serves (words : List Text) (given : Files) (old new : Ends)
-    (status : ℕ) : Type 0 where
+    (help helped : Option (List ℕ)) (status : ℕ) : Type 0 where
   pub ending : Ending
   pub obeyed : EndsBy words given old new ending
-  pub told : HasStatus ending status
+  pub told : Reports ending help helped status

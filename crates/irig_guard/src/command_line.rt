@@ -6,7 +6,7 @@ ghost use Rattle.irig_guard.specs.Options.{IsCommand, IsJudging, IsParsed, IsRea
 ghost use Rattle.irig_guard.specs.Options.{beside, flag, moving, the_command};
 ghost use Rattle.irig_guard.specs.Settings.{AreValues, Reads, Values, all_values, paths};
 ghost use Rattle.irig_words.specs.Arguments.{option};
-ghost use Rattle.irig_words.specs.Errors.{IsMistake, MayRefuse, WantsMemory};
+ghost use Rattle.irig_words.specs.Errors.{MayRefuse, WantsMemory};
 
 use crate::asked::Asked;
 use crate::chosen::{OptionFault, Settings};
@@ -47,13 +47,6 @@ fn asked<'a>(alloc: Global, words: &'a [String]) -> Result<Asked<'a>, Error>
         Ok(matches) => values_of(alloc, &matches),
         Err(error) => Err(error),
     }
-}
-
-/// What `clap` says of an argument that is not UTF-8.
-pub fn not_text(alloc: Global) -> Error
-    ensures { IsMistake result }
-{
-    irig_words::not_text(command(alloc))
 }
 
 /// The values of the matches.
@@ -98,7 +91,7 @@ fn parse_words<'a>(alloc: Global, words: &'a [String]) -> Result<ArgMatches<'a>,
 }
 
 /// The command line of the program.
-fn command<'a>(alloc: Global) -> Result<Command<'a>, AllocError>
+pub fn command<'a>(alloc: Global) -> Result<Command<'a>, AllocError>
     ensures { IfOk result (λ c. IsCommand (app_of c)) }
 {
     let out = option_arg(alloc, "out", "PATH", "where the mended track is written");

@@ -6,7 +6,7 @@ ghost use Rattle.irig_time.specs.Chosen.{IsSound};
 ghost use Rattle.irig_time.specs.Options.{IsCommand, IsMarking, IsParsed, IsPlacing, IsReading};
 ghost use Rattle.irig_time.specs.Options.{IsTaking, IsWriting, alone, table, the_command, why};
 ghost use Rattle.irig_time.specs.Settings.{AreValues, Reads, Values};
-ghost use Rattle.irig_words.specs.Errors.{IsMistake, MayRefuse, WantsMemory};
+ghost use Rattle.irig_words.specs.Errors.{MayRefuse, WantsMemory};
 
 use crate::asked::Asked;
 use crate::chosen::{Chosen, OptionFault};
@@ -50,13 +50,6 @@ fn asked<'a>(alloc: Global, words: &'a [String]) -> Result<Asked<'a>, Error>
     }
 }
 
-/// What `clap` says of an argument that is not UTF-8.
-pub fn not_text(alloc: Global) -> Error
-    ensures { IsMistake result }
-{
-    irig_words::not_text(command(alloc))
-}
-
 /// The values of the matches.
 fn values_of<'a>(matches: &ArgMatches<'a>) -> Result<Asked<'a>, Error>
     ensures values { IfOk result (AreValues (found_of matches.now)) }
@@ -95,7 +88,7 @@ fn parse_words<'a>(alloc: Global, words: &'a [String]) -> Result<ArgMatches<'a>,
 }
 
 /// The command line of the program.
-fn command<'a>(alloc: Global) -> Result<Command<'a>, AllocError>
+pub fn command<'a>(alloc: Global) -> Result<Command<'a>, AllocError>
     ensures { IfOk result (λ c. IsCommand (app_of c)) }
 {
     let Ok(marking) = marking(alloc) else {
