@@ -1,21 +1,17 @@
 -- The statuses of the program as a process, after diff(1) of POSIX. This project's own.
 use Rattle.std.specs.Prelude.{ℕ, List, true, false, Option}
 use Rattle.clap.specs.Words.{Text}
-use Rattle.irig_diff.specs.declared.ending.Ending.TheVariants.{Usage, Value, Unread, Compared}
+use Rattle.irig_diff.specs.declared.ending.Ending.TheVariants.{Usage, Unread, Compared}
 use Rattle.irig_diff.specs.declared.ending.Ending.TheVariants.{Unprinted}
 use Rattle.irig_diff.specs.{Ending.EndsBy, Ending.Held, Help.help_text, declared.ending.Ending.Ending}
-use Rattle.irig_words.specs.Errors.{IsHelp, IsMistake}
-use Rattle.irig_words.specs.Telling.{EndsWith, Helps}
+use Rattle.irig_words.specs.Telling.{EndsWith, Explains}
 
 -- the status for how the program ended, and what is printed on the output of help: 0 if the tracks
 -- are the same, 1 if they differ, 2 in trouble; help ends with 0, or with 2 if it was not printed
 abbrev pub Reports : Ending → Option (List ℕ) → Option (List ℕ) → ℕ → Type 0
 Reports (Compared true) old new status = EndsWith 0 old new status
 Reports (Compared false) old new status = EndsWith 1 old new status
-Reports (Usage error) old new status =
-    (IsMistake error → EndsWith 2 old new status)
-    × (IsHelp error → Helps help_text 2 old new status)
-Reports (Value fault) old new status = EndsWith 2 old new status
+Reports (Usage fault) old new status = Explains help_text 2 fault old new status
 Reports (Unread path fault) old new status = EndsWith 2 old new status
 Reports Unprinted old new status = EndsWith 2 old new status
 

@@ -21,8 +21,7 @@ pub fn report<R: Eprint, H: Write>(rt: &R, ending: &Ending<'_>, help: &mut H) ->
 {
     let program = program();
     match ending {
-        Ending::Usage(error) => program.explain(rt, error, help),
-        Ending::Value(fault) => program.tell(rt, 2, fault),
+        Ending::Usage(fault) => program.explain(rt, fault, help),
         Ending::Unread(path, fault) => tell_unread(rt, path, *fault),
         Ending::Over => program.tell(rt, 2, &OptionFault::Out),
         Ending::Unknown => program.tell(rt, 4, &"--out: cannot find out whether it is TRACK"),

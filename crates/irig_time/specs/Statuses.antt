@@ -1,9 +1,8 @@
 -- The statuses of the program as a process. This project's own.
 use Rattle.std.specs.Prelude.{ℕ, List, true, false, Option}
 use Rattle.clap.specs.Words.{Text}
-use Rattle.irig_words.specs.Errors.{IsHelp, IsMistake}
-use Rattle.irig_words.specs.Telling.{EndsWith, Helps}
-use Rattle.irig_time.specs.declared.ending.Ending.TheVariants.{Usage, Value, Unread, Aligned}
+use Rattle.irig_words.specs.Telling.{EndsWith, Explains}
+use Rattle.irig_time.specs.declared.ending.Ending.TheVariants.{Usage, Unread, Aligned}
 use Rattle.irig_time.specs.declared.ending.Ending.TheVariants.{Listed, Timeless, Doubted, Broken}
 use Rattle.irig_time.specs.{Ending.EndsBy, Ending.Held, Help.help_text, declared.ending.Ending.Ending}
 
@@ -17,10 +16,7 @@ Reports (Aligned false) old new status = EndsWith 1 old new status
 Reports Listed old new status = EndsWith 0 old new status
 Reports (Timeless path) old new status = EndsWith 1 old new status
 Reports (Doubted path count) old new status = EndsWith 1 old new status
-Reports (Usage error) old new status =
-    (IsMistake error → EndsWith 2 old new status)
-    × (IsHelp error → Helps help_text 4 old new status)
-Reports (Value fault) old new status = EndsWith 2 old new status
+Reports (Usage fault) old new status = Explains help_text 4 fault old new status
 Reports (Unread path fault) old new status = EndsWith 3 old new status
 Reports (Broken fault) old new status = EndsWith 4 old new status
 

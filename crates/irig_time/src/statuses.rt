@@ -16,8 +16,7 @@ pub fn report<R: Eprint, H: Write>(rt: &R, ending: &Ending<'_>, help: &mut H) ->
 {
     let program = program();
     match ending {
-        Ending::Usage(error) => program.explain(rt, error, help),
-        Ending::Value(fault) => program.tell(rt, 2, fault),
+        Ending::Usage(fault) => program.explain(rt, fault, help),
         Ending::Unread(path, fault) => program.tell_of(rt, 3, path, fault),
         Ending::Aligned(true) | Ending::Listed => ExitCode::SUCCESS,
         Ending::Aligned(false) => ExitCode::from(1),

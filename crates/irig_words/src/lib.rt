@@ -3,8 +3,12 @@
 
 mod arguments;
 mod errors;
+mod formats;
 mod telling;
+mod usage;
 
-pub use arguments::{needed_arg, option_arg};
+pub use arguments::{flag_arg, needed_arg, option_arg};
 pub use errors::{matches_of, not_text};
+pub use formats::{FormatFault, format_named, text_or};
 pub use telling::Program;
+pub use usage::UsageFault;

@@ -3,9 +3,10 @@
 ghost use Rattle.std.specs.Prelude.{◌≡◌};
 ghost use Rattle.std.specs.Process.{exit_status};
 ghost use Rattle.irig_words.specs.Errors.{IsHelp, IsMistake};
-ghost use Rattle.irig_words.specs.Telling.{EndsWith, Helps};
+ghost use Rattle.irig_words.specs.Telling.{EndsWith, Explains, Helps};
 
 use crate::errors::not_text;
+use crate::usage::UsageFault;
 use clap::{Command, Error};
 use irig_print::put_all;
 use std::alloc::AllocError;
@@ -69,8 +70,25 @@ impl<'a> Program<'a> {
         }
     }
 
+    /// Says why a command line asks for nothing. If the words ask for help, it is printed on its
+    /// output.
+    pub fn explain<R: Eprint, F: Display, H: Write>(
+        &self,
+        rt: &R,
+        fault: &UsageFault<F>,
+        help: &mut H,
+    ) -> ExitCode
+        ensures { Explains self.now.help.now self.now.status fault.now (H.contents help.old)
+            (H.contents help.new) (exit_status result) }
+    {
+        match fault {
+            UsageFault::Words(error) => self.answer(rt, error, help),
+            UsageFault::Value(fault) => self.tell(rt, 2, fault),
+        }
+    }
+
     /// Prints the help on its output if the words ask for it; else says which mistake they have.
-    pub fn explain<R: Eprint, H: Write>(&self, rt: &R, error: &Error, help: &mut H) -> ExitCode
+    fn answer<R: Eprint, H: Write>(&self, rt: &R, error: &Error, help: &mut H) -> ExitCode
         ensures mistake { IsMistake error.now → EndsWith 2 (H.contents help.old)
             (H.contents help.new) (exit_status result) }
         ensures help { IsHelp error.now → Helps self.now.help.now self.now.status
