@@ -17,7 +17,6 @@ if_room : (chosen : Settings) (text : List ℕ) (b a : RecordingView) (old new :
 if_room chosen text b a old new (ending.Compared same) p = p
 if_room chosen text b a old new ending.Unprinted p = p
 if_room chosen text b a old new (ending.Usage error) p = absurd p
-if_room chosen text b a old new (ending.Value fault) p = absurd p
 if_room chosen text b a old new (ending.Unread path fault) p = absurd p
 
 pub printed-plain : (chosen : Settings) (b a : RecordingView) (old new : Option (List ℕ)) (e : Ending) → chosen.frames ≡ None
@@ -39,7 +38,6 @@ pub obeyed : (held : Held) (chosen : Settings) (b a : RecordingView) (old new : 
 obeyed held chosen b a old new (ending.Compared same) x y p = record { before = b; after = a; of_before = x; of_after = y; printed = p.0; told = p.1 }
 obeyed held chosen b a old new ending.Unprinted x y p = record { before = b; after = a; of_before = x; of_after = y; printed = p }
 obeyed held chosen b a old new (ending.Usage error) x y p = absurd p
-obeyed held chosen b a old new (ending.Value fault) x y p = absurd p
 obeyed held chosen b a old new (ending.Unread path fault) x y p = elim p.0 [
   | inl first ↦ (inl (ap (λ z. z.now) first, no_room (held chosen.before.now) (name_in chosen.wire) fault p.1), p.2)
   | inr second ↦ (inr (ap (λ z. z.now) second, no_room (held chosen.after.now) (name_in chosen.wire_after) fault p.1), p.2)

@@ -7,8 +7,7 @@ use Rattle.irig_codes.specs.Format.{FormatView}
 use Rattle.irig_comments.specs.{Framed.framed, Parts.commented_text}
 use Rattle.irig_difference.specs.PatchText.{patch_text}
 use Rattle.irig_recording.specs.Recording.{RecordingView}
-use Rattle.irig_diff.specs.declared.command_line.UsageFault.TheVariants.{Words, Value as of_value}
-use Rattle.irig_diff.specs.declared.ending.Ending.TheVariants.{Usage, Value, Unread, Compared}
+use Rattle.irig_diff.specs.declared.ending.Ending.TheVariants.{Usage, Unread, Compared}
 use Rattle.irig_diff.specs.declared.ending.Ending.TheVariants.{Unprinted}
 use Rattle.irig_diff.specs.{Printing.AppendsFront, Settings.Reads}
 use Rattle.irig_files.specs.Tracks.{HasFault, Says, name_in}
@@ -74,12 +73,10 @@ Obeys held chosen old new (Compared same) = Compares held chosen old new same
 Obeys held chosen old new (Unread path fault) =
     HasFaultAt held chosen path.now fault × (new ≡ old)
 Obeys held chosen old new Unprinted = Breaks held chosen old new
-Obeys held chosen old new (Usage error) = ⊥
-Obeys held chosen old new (Value fault) = ⊥
+Obeys held chosen old new (Usage fault) = ⊥
 
 -- the settings are those of the words, and they were obeyed; or the words have none
 abbrev pub EndsBy : List Text → Held → Option (List ℕ) → Option (List ℕ) → Ending → Type 0
-EndsBy words held old new (Usage error) = Reads words (Err (Words error)) × (new ≡ old)
-EndsBy words held old new (Value fault) = Reads words (Err (of_value fault)) × (new ≡ old)
+EndsBy words held old new (Usage fault) = Reads words (Err fault) × (new ≡ old)
 EndsBy words held old new ending =
     (chosen : Settings) × Reads words (Ok chosen) × Obeys held chosen old new ending

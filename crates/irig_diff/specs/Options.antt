@@ -1,13 +1,7 @@
 -- The command line: four options, a flag and two paths. This project's own.
-use Rattle.std.specs.Prelude.{◌≡◌, List, codes, None, Some}
-use Rattle.clap.specs.Words.{App, Rule, Text, new_app, new_rule, with_rule, HasMatchesOf}
-use Rattle.clap.specs.declared.builder.ArgAction.TheVariants.{SetTrue}
-use Rattle.clap.specs.declared.parser.matches.ArgMatches.{ArgMatches}
-use Rattle.irig_words.specs.Arguments.{needed, option}
-
--- the flag that asks for the frames
-abbrev pub flag : Rule
-flag = record (new_rule (codes "frames")) { long = Some (codes "frames"); action = Some SetTrue }
+use Rattle.std.specs.Prelude.{◌≡◌, codes, None}
+use Rattle.clap.specs.Words.{App, new_app, with_rule}
+use Rattle.irig_words.specs.Arguments.{flag, needed, option}
 
 -- the wires' names
 abbrev pub wired : App
@@ -19,7 +13,7 @@ wired =
 -- and how frames are shown
 abbrev pub showing : App
 showing =
-    with_rule (with_rule (with_rule wired flag) (option (codes "format") None))
+    with_rule (with_rule (with_rule wired (flag (codes "frames"))) (option (codes "format") None))
     (option (codes "expression") None)
 
 -- the command: the wires' names, how frames are shown, the dump before and the dump after
@@ -37,7 +31,3 @@ IsShowing app = app ≡ showing
 -- it is the command line of the program
 abbrev pub IsCommand : App → Type 0
 IsCommand app = app ≡ the_command
-
--- matches that a parse of the words by the command may give
-abbrev pub IsParsed : List Text → ArgMatches → Type 0
-IsParsed words matches = HasMatchesOf the_command words matches

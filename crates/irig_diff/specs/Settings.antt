@@ -1,13 +1,12 @@
 -- What the words of a command line ask for. This project's own.
-use Rattle.std.specs.Prelude.{◌≡◌, List, true, false, codes, None, Some, Result, Ok, Err}
+use Rattle.std.specs.Prelude.{◌≡◌, List, true, false, codes, None, Some, Result}
 use Rattle.std.specs.Prelude.{option_map}
-use Rattle.clap.specs.Words.{Text, first_value, found_of, one_text}
+use Rattle.clap.specs.Words.{Text, first_value, one_text}
 use Rattle.clap.specs.declared.parser.matches.Found.{Found}
-use Rattle.clap.specs.declared.parser.matches.ArgMatches.{ArgMatches}
-use Rattle.irig_words.specs.Errors.{MayRefuse}
-use Rattle.irig_diff.specs.declared.command_line.UsageFault.{UsageFault}
-use Rattle.irig_diff.specs.declared.command_line.UsageFault.TheVariants.{Words, Value}
-use Rattle.irig_diff.specs.{Chosen.HasFault, Chosen.IsChosen, Options.IsParsed, Options.the_command}
+use Rattle.irig_words.specs.Usage as usage
+use Rattle.irig_words.specs.declared.usage.UsageFault.{UsageFault}
+use Rattle.irig_diff.specs.declared.chosen.OptionFault.{OptionFault}
+use Rattle.irig_diff.specs.{Chosen.HasFault, Chosen.IsChosen, Options.the_command}
 use Rattle.irig_diff.specs.{declared.asked.Asked.Asked, declared.chosen.Settings.Settings}
 
 -- the values are those of the matches
@@ -22,15 +21,6 @@ pub record AreValues (f : Found) (a : Asked) : Type 0 where
   pub not_shown : one_text f (codes "frames") ≡ Some (codes "false") → a.frames ≡ false
   pub not_asked : one_text f (codes "frames") ≡ None → a.frames ≡ false
 
--- there are matches that a parse of the words may give, and these are their values
-pub record Values (words : List Text) (asked : Asked) : Type 0 where
-  pub matches : ArgMatches
-  pub parsed : IsParsed words matches
-  pub values : AreValues (found_of matches) asked
-
--- what the words ask for; or the error is one that the parse may give, or an option has a value
--- that it cannot have
-abbrev pub Reads : List Text → Result Settings UsageFault → Type 0
-Reads words (Ok s) = (asked : Asked) × Values words asked × IsChosen asked s
-Reads words (Err (Words error)) = MayRefuse the_command words error
-Reads words (Err (Value fault)) = (asked : Asked) × Values words asked × HasFault asked fault
+-- what the words ask for, or why they ask for nothing
+abbrev pub Reads : List Text → Result Settings (UsageFault OptionFault) → Type 0
+Reads words result = usage.Reads the_command AreValues IsChosen HasFault words result

@@ -1,6 +1,7 @@
 //! What a command line asks for.
 
 use irig_codes::Format;
+use irig_words::FormatFault;
 use thiserror::Error;
 
 /// What a command line asks for.
@@ -21,12 +22,9 @@ pub struct Settings<'a> {
 /// An option with a value that it cannot have.
 #[derive(Clone, Copy, Debug, Error)]
 pub enum OptionFault {
-    /// The letter of no format.
-    #[error("--format: not A, B, E or G")]
-    Format,
-    /// No expression, or one that the format does not permit.
-    #[error("--expression: not one of the format")]
-    Expression,
+    /// An option of the format has it.
+    #[error(transparent)]
+    Format(FormatFault),
     /// A format, and no frames that are shown.
     #[error("--format, --expression: no frames are shown without --frames")]
     Alone,

@@ -1,31 +1,25 @@
 //! The command line, read by `clap`.
 
 ghost use Rattle.std.specs.Prelude.{◌≡◌, IfErr, IfOk, None, false, map, string_bytes};
-ghost use Rattle.clap.specs.Words.{app_of, found_of, rule_of};
-ghost use Rattle.irig_diff.specs.Options.{IsCommand, IsParsed, IsShowing, IsWired, flag};
-ghost use Rattle.irig_diff.specs.Options.{the_command};
-ghost use Rattle.irig_diff.specs.Settings.{AreValues, Reads, Values};
+ghost use Rattle.clap.specs.Words.{HasMatchesOf, app_of, found_of, rule_of};
+ghost use Rattle.irig_diff.specs.Options.{IsCommand, IsShowing, IsWired, the_command};
+ghost use Rattle.irig_diff.specs.Settings.{AreValues, Reads};
 ghost use Rattle.irig_words.specs.Arguments.{option};
-ghost use Rattle.irig_words.specs.Errors.{IsMistake, MayRefuse, WantsMemory};
+ghost use Rattle.irig_words.specs.Errors.{MayRefuse, WantsMemory};
+ghost use Rattle.irig_words.specs.Usage.{Values};
 
 use crate::asked::Asked;
 use crate::chosen::{OptionFault, Settings};
 use crate::options::settings_of;
-use clap::{Arg, ArgAction, ArgMatches, Command, Error};
-use irig_words::{matches_of, needed_arg, option_arg};
+use clap::{Arg, ArgMatches, Command, Error};
+use irig_words::{UsageFault, flag_arg, matches_of, needed_arg, option_arg};
 use std::alloc::{AllocError, Global};
 
-/// Why a command line asks for nothing.
-#[derive(Drop)]
-pub enum UsageFault {
-    /// The words are not those of the command line, or ask for help.
-    Words(Error),
-    /// An option has a value that it cannot have.
-    Value(OptionFault),
-}
-
 /// What the words of a command line ask for, the program's name being the first.
-pub fn settings<'a>(alloc: Global, words: &'a [String]) -> Result<Settings<'a>, UsageFault>
+pub fn settings<'a>(
+    alloc: Global,
+    words: &'a [String],
+) -> Result<Settings<'a>, UsageFault<OptionFault>>
     ensures { Reads (map string_bytes words.entry.now) result }
 {
     let asked = match asked(alloc, words) {
@@ -40,20 +34,14 @@ pub fn settings<'a>(alloc: Global, words: &'a [String]) -> Result<Settings<'a>, 
 
 /// The values of a command line.
 fn asked<'a>(alloc: Global, words: &'a [String]) -> Result<Asked<'a>, Error>
-    ensures values { IfOk result (Values (map string_bytes words.entry.now)) }
+    ensures values { IfOk result (Values the_command AreValues
+        (map string_bytes words.entry.now)) }
     ensures refused { IfErr result (MayRefuse the_command (map string_bytes words.entry.now)) }
 {
     match parse_words(alloc, words) {
         Ok(matches) => values_of(&matches),
         Err(error) => Err(error),
     }
-}
-
-/// What `clap` says of an argument that is not UTF-8.
-pub fn not_text(alloc: Global) -> Error
-    ensures { IsMistake result }
-{
-    irig_words::not_text(command(alloc))
 }
 
 /// The values of the matches.
@@ -80,14 +68,14 @@ fn values_of<'a>(matches: &ArgMatches<'a>) -> Result<Asked<'a>, Error>
 
 /// The matches of a command line that is accepted.
 fn parse_words<'a>(alloc: Global, words: &'a [String]) -> Result<ArgMatches<'a>, Error>
-    ensures parsed { IfOk result (IsParsed (map string_bytes words.entry.now)) }
+    ensures parsed { IfOk result (HasMatchesOf the_command (map string_bytes words.entry.now)) }
     ensures refused { IfErr result (MayRefuse the_command (map string_bytes words.entry.now)) }
 {
     matches_of(command(alloc)?, words)
 }
 
 /// The command line of the program.
-fn command<'a>(alloc: Global) -> Result<Command<'a>, AllocError>
+pub fn command<'a>(alloc: Global) -> Result<Command<'a>, AllocError>
     ensures { IfOk result (λ c. IsCommand (app_of c)) }
 {
     let before = needed_arg(alloc, "BEFORE", "the dump of the track before");
@@ -99,12 +87,14 @@ fn command<'a>(alloc: Global) -> Result<Command<'a>, AllocError>
 fn showing<'a>(alloc: Global) -> Result<Command<'a>, AllocError>
     ensures { IfOk result (λ c. IsShowing (app_of c)) }
 {
+    let frames = flag_arg(
+        alloc,
+        "frames",
+        "show in comments what the lines do to the frames",
+    );
     let format = option_arg(alloc, "format", "FORMAT", "A, B, E or G: B");
     let expression = option_arg(alloc, "expression", "NUMBER", "of the format: 2");
-    wired(alloc)?
-        .arg(frames_arg(alloc))?
-        .arg(format)?
-        .arg(expression)
+    wired(alloc)?.arg(frames)?.arg(format)?.arg(expression)
 }
 
 /// Its options, which name the wires.
@@ -122,15 +112,4 @@ fn wire_arg<'a>(alloc: Global, name: &'a str, help: &'a str) -> Arg<'a>
     ensures local { result.global ≡ false }
 {
     option_arg(alloc, name, "NAME", help)
-}
-
-/// Whether comments show what stretches do to the frames.
-fn frames_arg<'a>(alloc: Global) -> Arg<'a>
-    ensures rule { rule_of result ≡ flag }
-    ensures local { result.global ≡ false }
-{
-    Arg::new(alloc, "frames")
-        .long("frames")
-        .help("show in comments what the lines do to the frames")
-        .action(ArgAction::SetTrue)
 }

@@ -7,7 +7,7 @@ ghost use Rattle.irig_vcd.specs.Answer.{name_of};
 ghost use Rattle.irig_diff.specs.Ending.{EndsBy, Obeys, PrintsIfRoom, PrintsText, text_between};
 
 use crate::chosen::Settings;
-use crate::command_line::{UsageFault, settings};
+use crate::command_line::settings;
 use crate::ending::Ending;
 use crate::printing::print;
 use irig_codes::Format;
@@ -31,8 +31,7 @@ pub fn compare_words<'a, D: Disk, W: Write>(
 {
     match settings(alloc, words) {
         Ok(chosen) => compare_files(alloc, &chosen, disk, out),
-        Err(UsageFault::Words(error)) => Ending::Usage(error),
-        Err(UsageFault::Value(fault)) => Ending::Value(fault),
+        Err(fault) => Ending::Usage(fault),
     }
 }
 

@@ -2,14 +2,13 @@
 
 use crate::chosen::OptionFault;
 use irig_files::TrackFault;
+use irig_words::UsageFault;
 
 /// How the program ends, before it is reported.
 #[derive(Drop)]
 pub enum Ending<'a> {
     /// The command line asks for no comparison.
-    Usage(clap::Error),
-    /// An option has a value that it cannot have.
-    Value(OptionFault),
+    Usage(UsageFault<OptionFault>),
     /// The track at this path was not read.
     Unread(&'a str, TrackFault),
     /// The patch between the two tracks was printed. It says whether they are the same.

@@ -6,18 +6,20 @@ mod chosen;
 mod command_line;
 mod comparing;
 mod ending;
+mod help;
 mod options;
 mod printing;
 mod statuses;
 
-ghost use Rattle.std.specs.Prelude.{◌≡◌, map, string_bytes};
+ghost use Rattle.std.specs.Prelude.{map, string_bytes};
 ghost use Rattle.std.specs.Process.{exit_status};
 ghost use Rattle.irig_diff.specs.Statuses.{Serves};
 
-use command_line::not_text;
+use command_line::command;
 use comparing::compare_words;
+use help::program;
 use irig_files::{FileSystem, Files, system_files};
-use statuses::{explain, report, tell};
+use statuses::report;
 use std::io::Write;
 use std::process::ExitCode;
 use std::rt::Runtime;
@@ -25,22 +27,17 @@ use std::{env, io};
 
 fn main(rt: HostRuntime) -> ExitCode {
     let Ok(files) = system_files(&rt) else {
-        return tell_no_words(&rt, &io::Error::from(io::ErrorKind::OutOfMemory));
+        return program().tell(&rt, 2, &io::Error::from(io::ErrorKind::OutOfMemory));
     };
     match arguments(&rt) {
-        Ok(words) => start(&rt, words.as_slice(), &files, &mut io::writer(&rt)),
-        Err(error) => tell_no_words(&rt, &error),
-    }
-}
-
-/// Says why there are no words.
-fn tell_no_words<R: Print + Eprint + AllocGlobal>(rt: &R, error: &io::Error) -> ExitCode
-    ensures { exit_status result ≡ 2 }
-{
-    if error.kind() == io::ErrorKind::InvalidData {
-        explain(rt, &not_text(rt.alloc()))
-    } else {
-        tell(rt, error)
+        Ok(words) => start(
+            &rt,
+            words.as_slice(),
+            &files,
+            &mut io::writer(&rt),
+            &mut io::writer(&rt),
+        ),
+        Err(error) => program().tell_no_words(&rt, &error, command(rt.alloc())),
     }
 }
 
@@ -52,15 +49,19 @@ fn arguments<R: Runtime + AllocGlobal>(rt: &R) -> io::Result<Vec<String>> {
 
 /// Compares the tracks that the words name, by the files of this system and this output, and
 /// reports how that ended.
-fn start<P: Print + Eprint + AllocGlobal, C: FileSystem, W: Write>(
+fn start<P: Eprint + AllocGlobal, C: FileSystem, W: Write, H: Write>(
     rt: &P,
     words: &[String],
     disk: &Files<C>,
     out: &mut W,
+    help: &mut H,
 ) -> ExitCode
+    // The words were obeyed. The output of help has the help that was asked for, and nothing else:
+    // there is no other way to print.
     ensures { Serves (map string_bytes words.now) (C.held disk.now.system)
-        (W.contents out.old) (W.contents out.new) (exit_status result) }
+        (W.contents out.old) (W.contents out.new) (H.contents help.old) (H.contents help.new)
+        (exit_status result) }
 {
     let ending = compare_words(rt.alloc(), words, disk, out);
-    report(rt, &ending)
+    report(rt, &ending, help)
 }

@@ -1,12 +1,12 @@
 //! What the values of a command line mean.
 
-ghost use Rattle.std.specs.Prelude.{◌≡◌, IfErr, IfOk, true};
-ghost use Rattle.irig_diff.specs.Chosen.{AreFrames, HasFault, IsChosen, IsFormat, digit_named};
-ghost use Rattle.irig_diff.specs.Chosen.{names_format, text_or};
+ghost use Rattle.std.specs.Prelude.{◌≡◌, IfErr, IfOk};
+ghost use Rattle.irig_diff.specs.Chosen.{AreFrames, HasFault, IsChosen, names_format};
 
 use crate::asked::Asked;
 use crate::chosen::{OptionFault, Settings};
-use irig_codes::{Format, kind_named};
+use irig_codes::Format;
+use irig_words::format_named;
 
 /// What the values of a command line ask for.
 pub fn settings_of<'a>(asked: &Asked<'a>) -> Result<Settings<'a>, OptionFault>
@@ -31,9 +31,9 @@ fn frames_of(asked: &Asked<'_>) -> Result<Option<Format>, OptionFault>
     ensures fault { IfErr result (HasFault asked.now) }
 {
     if asked.frames {
-        return match format_of(asked) {
+        return match format_named(asked.format, asked.expression) {
             Ok(format) => Ok(Some(format)),
-            Err(fault) => Err(fault),
+            Err(fault) => Err(OptionFault::Format(fault)),
         };
     }
     if names_format(asked) {
@@ -47,42 +47,4 @@ fn names_format(asked: &Asked<'_>) -> bool
     ensures { result ≡ names_format asked.now }
 {
     asked.format.is_some() || asked.expression.is_some()
-}
-
-/// The format that is asked for.
-fn format_of(asked: &Asked<'_>) -> Result<Format, OptionFault>
-    requires { asked.now.frames ≡ true }
-    ensures format { IfOk result (IsFormat asked.now) }
-    ensures fault { IfErr result (HasFault asked.now) }
-{
-    let Some(kind) = kind_named(text_or(asked.format, "B")) else {
-        return Err(OptionFault::Format);
-    };
-    let Some(expression) = digit_named(text_or(asked.expression, "2")) else {
-        return Err(OptionFault::Expression);
-    };
-    match Format::new(kind, expression) {
-        Ok(format) => Ok(format),
-        Err(_) => Err(OptionFault::Expression),
-    }
-}
-
-/// The bytes of an option, or others if it is not given.
-fn text_or<'a>(value: Option<&'a str>, other: &'a str) -> &'a [u8]
-    ensures { result.now ≡ text_or value.entry other.entry.now }
-{
-    match value {
-        Some(text) => text.as_bytes(),
-        None => other.as_bytes(),
-    }
-}
-
-/// The number of a text that is one digit.
-fn digit_named(text: &[u8]) -> Option<u8>
-    ensures { result ≡ digit_named text.now }
-{
-    match text {
-        [digit @ b'0'..=b'9'] => Some(*digit - b'0'),
-        _ => None,
-    }
 }

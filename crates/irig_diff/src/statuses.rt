@@ -1,52 +1,24 @@
 //! The statuses of the program as a process, and what it says of faults.
 
-ghost use Rattle.std.specs.Prelude.{◌≡◌, ◌⊎◌};
 ghost use Rattle.std.specs.Process.{exit_status};
-ghost use Rattle.irig_words.specs.Errors.{IsHelp, IsMistake};
-ghost use Rattle.irig_diff.specs.Statuses.{HasStatus};
+ghost use Rattle.irig_diff.specs.Statuses.{Reports};
 
 use crate::ending::Ending;
-use std::fmt::Display;
+use crate::help::program;
+use std::io::Write;
 use std::process::ExitCode;
 
-/// The status of the process for how the program ended, which is reported if it is a fault.
-pub fn report<R: Print + Eprint>(rt: &R, ending: &Ending<'_>) -> ExitCode
-    ensures { HasStatus ending.now (exit_status result) }
+/// The status of the process for how the program ended, which is reported if it is a fault. Help
+/// that was asked for is printed on its output.
+pub fn report<R: Eprint, H: Write>(rt: &R, ending: &Ending<'_>, help: &mut H) -> ExitCode
+    ensures { Reports ending.now (H.contents help.old) (H.contents help.new) (exit_status result) }
 {
+    let program = program();
     match ending {
-        Ending::Usage(error) => explain(rt, error),
-        Ending::Value(fault) => tell(rt, fault),
-        Ending::Unread(path, fault) => tell_of(rt, path, fault),
+        Ending::Usage(fault) => program.explain(rt, fault, help),
+        Ending::Unread(path, fault) => program.tell_of(rt, 2, path, fault),
         Ending::Compared(true) => ExitCode::SUCCESS,
         Ending::Compared(false) => ExitCode::from(1),
-        Ending::Unprinted => tell(rt, &"output failed"),
-    }
-}
-
-/// Says why nothing was compared.
-pub fn tell<R: Eprint, T: Display>(rt: &R, why: &T) -> ExitCode
-    ensures { exit_status result ≡ 2 }
-{
-    let _ = eprintln!(rt; "irig_diff: {why}");
-    ExitCode::from(2)
-}
-
-/// Says why a track was not read.
-fn tell_of<R: Eprint, T: Display>(rt: &R, path: &str, why: &T) -> ExitCode
-    ensures { exit_status result ≡ 2 }
-{
-    let _ = eprintln!(rt; "irig_diff: {path}: {why}");
-    ExitCode::from(2)
-}
-
-/// Prints what `clap` says: help on the standard output, a mistake on the standard error.
-pub fn explain<R: Print + Eprint>(rt: &R, error: &clap::Error) -> ExitCode
-    ensures mistake { IsMistake error.now → exit_status result ≡ 2 }
-    ensures help { IsHelp error.now → (exit_status result ≡ 0) ⊎ (exit_status result ≡ 2) }
-{
-    match error.print(rt) {
-        _ if error.use_stderr() => ExitCode::from(2),
-        Ok(()) => ExitCode::SUCCESS,
-        Err(_) => tell(rt, &"output failed"),
+        Ending::Unprinted => program.tell(rt, 2, &"output failed"),
     }
 }

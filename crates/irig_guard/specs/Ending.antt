@@ -1,17 +1,15 @@
 -- What the program does for the words of its command line: from the files and the script to what is
 -- printed and written. This project's own.
-use Rattle.std.specs.Prelude.{◌≡◌, ◌<◌, ◌^◌, ℕ, List, Result, Ok, Err, IfSome, is_some}
+use Rattle.std.specs.Prelude.{◌≡◌, ◌<◌, ◌^◌, ℕ, List, Option, Result, Ok, Err, IfSome, is_some}
 use Rattle.std.specs.Prelude.{length, true}
 use Rattle.clap.specs.Words.{Text}
 use Rattle.irig_files.specs.declared.dump_file.DumpFileFault.TheVariants.{TooLong}
 use Rattle.irig_guard.specs.declared.chosen.Settings.{Settings}
-use Rattle.irig_guard.specs.declared.command_line.UsageFault.{UsageFault}
-use Rattle.irig_guard.specs.declared.command_line.UsageFault.TheVariants.{Words, Value as of_value}
-use Rattle.irig_guard.specs.declared.ending.Ending.TheVariants.{Usage, Value, Unread, Over, Unknown}
+use Rattle.irig_guard.specs.declared.ending.Ending.TheVariants.{Usage, Unread, Over, Unknown}
 use Rattle.irig_guard.specs.declared.ending.Ending.TheVariants.{OverOther, Ran, Unheard}
 use Rattle.irig_guard.specs.Given.{Ends, Files, IsRead, place_of}
 use Rattle.irig_guard.specs.{Others.IsOther, Others.IsUnheard, RunsBy.RunsBy}
-use Rattle.irig_guard.specs.{Settings.Reads, Statuses.HasStatus}
+use Rattle.irig_guard.specs.{Settings.Reads, Statuses.Reports}
 use Rattle.irig_guard.specs.declared.ending.Ending.{Ending}
 
 -- nothing was read of the script, printed or written
@@ -38,8 +36,7 @@ Obeys given old new chosen (OverOther path) =
     × given.same path.now (place_of chosen)
 Obeys given old new chosen (Unheard path why) =
     IsUntouched given old new × IsOther chosen path.now × IsUnheard (given.held path.now) why
-Obeys given old new chosen (Usage error) = ⊥
-Obeys given old new chosen (Value fault) = ⊥
+Obeys given old new chosen (Usage fault) = ⊥
 
 -- The settings are those of the words, and they were obeyed. However that ended, a crash at any
 -- moment leaves at the places of the dump and of the other recordings what was there.
@@ -50,22 +47,16 @@ pub record Follows (words : List Text) (given : Files) (old new : Ends) (ending 
   pub obeyed : Obeys given old new chosen ending
   pub stays : (path : List ℕ) → IsRead chosen path → given.spared path
 
--- the end of words that have no settings
-abbrev pub IsEndOf : UsageFault → Ending → Type 0
-IsEndOf (Words error) ending = ending ≡ Usage error
-IsEndOf (of_value fault) ending = ending ≡ Value fault
-
 -- they were obeyed, or the words have no settings
 abbrev pub EndsBy : List Text → Files → Ends → Ends → Ending → Type 0
-EndsBy words given old new (Usage error) =
-    Reads words (Err (Words error)) × IsUntouched given old new
-EndsBy words given old new (Value fault) =
-    Reads words (Err (of_value fault)) × IsUntouched given old new
+EndsBy words given old new (Usage fault) =
+    Reads words (Err fault) × IsUntouched given old new
 EndsBy words given old new ending = Follows words given old new ending
 
--- the words were obeyed, and the status of the process is the one of how that ended
+-- the words were obeyed; of how that ended is the status of the process, and what came to the
+-- output of help
 pub record Serves (words : List Text) (given : Files) (old new : Ends)
-    (status : ℕ) : Type 0 where
+    (help helped : Option (List ℕ)) (status : ℕ) : Type 0 where
   pub ending : Ending
   pub obeyed : EndsBy words given old new ending
-  pub told : HasStatus ending status
+  pub told : Reports ending help helped status

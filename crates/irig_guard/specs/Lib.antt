@@ -1,6 +1,7 @@
 pub mod Chosen
 pub mod Ending
 pub mod Given
+pub mod Help
 pub mod Options
 pub mod Others
 pub mod RunsBy

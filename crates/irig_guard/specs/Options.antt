@@ -1,17 +1,8 @@
 -- The command line: five options, two flags and the track. This project's own.
-use Rattle.std.specs.Prelude.{◌≡◌, List, codes, None, Some}
-use Rattle.clap.specs.Words.{App, Rule, Text, new_app, new_rule, with_rule, HasMatchesOf}
-use Rattle.clap.specs.declared.builder.ArgAction.TheVariants.{Append, SetTrue}
-use Rattle.clap.specs.declared.parser.matches.ArgMatches.{ArgMatches}
-use Rattle.irig_words.specs.Arguments.{needed, option}
-
--- the flag that asks for the journal
-abbrev pub flag : Rule
-flag = record (new_rule (codes "save")) { long = Some (codes "save"); action = Some SetTrue }
-
--- the flag that says that frames may move
-abbrev pub moving : Rule
-moving = record (new_rule (codes "moved")) { long = Some (codes "moved"); action = Some SetTrue }
+use Rattle.std.specs.Prelude.{◌≡◌, codes, None, Some}
+use Rattle.clap.specs.Words.{App, Rule, new_app, new_rule, with_rule}
+use Rattle.clap.specs.declared.builder.ArgAction.TheVariants.{Append}
+use Rattle.irig_words.specs.Arguments.{flag, needed, option}
 
 -- the option that names another recording, as often as it is given
 abbrev pub beside : Rule
@@ -29,12 +20,12 @@ reading =
 
 -- and by what repairs are judged besides: whether frames may move, and other recordings
 abbrev pub judging : App
-judging = with_rule (with_rule reading moving) beside
+judging = with_rule (with_rule reading (flag (codes "moved"))) beside
 
 -- the command: how the track is read, by what repairs are judged, what is written, and the track
 abbrev pub the_command : App
 the_command =
-    with_rule (with_rule (with_rule judging (option (codes "out") None)) flag)
+    with_rule (with_rule (with_rule judging (option (codes "out") None)) (flag (codes "save")))
     (needed (codes "TRACK"))
 
 -- it says how the track is read
@@ -48,7 +39,3 @@ IsJudging app = app ≡ judging
 -- it is the command line of the program
 abbrev pub IsCommand : App → Type 0
 IsCommand app = app ≡ the_command
-
--- matches that a parse of the words by the command may give
-abbrev pub IsParsed : List Text → ArgMatches → Type 0
-IsParsed words matches = HasMatchesOf the_command words matches

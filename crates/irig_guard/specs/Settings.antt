@@ -1,16 +1,15 @@
 -- What the words of a command line ask for. This project's own.
 use denote.Ref.{Bor}
-use Rattle.std.specs.Prelude.{◌≡◌, ℕ, List, [], true, false, codes, None, Some, Result, Ok, Err}
+use Rattle.std.specs.Prelude.{◌≡◌, ℕ, List, [], true, false, codes, None, Some, Result}
 use Rattle.std.specs.Prelude.{map, option_map, unwrap_or}
-use Rattle.clap.specs.Words.{Text, first_value, found_of, matched_of, one_text, raw_values}
+use Rattle.clap.specs.Words.{Text, first_value, matched_of, one_text, raw_values}
 use Rattle.clap.specs.declared.parser.matches.Found.{Found}
-use Rattle.clap.specs.declared.parser.matches.ArgMatches.{ArgMatches}
-use Rattle.irig_guard.specs.Options.{IsParsed, the_command}
+use Rattle.irig_guard.specs.Options.{the_command}
 use Rattle.irig_guard.specs.declared.chosen.Settings.{Settings}
-use Rattle.irig_guard.specs.declared.command_line.UsageFault.{UsageFault}
-use Rattle.irig_guard.specs.declared.command_line.UsageFault.TheVariants.{Words, Value}
+use Rattle.irig_guard.specs.declared.chosen.OptionFault.{OptionFault}
 use Rattle.irig_guard.specs.{Chosen.HasFault, Chosen.IsChosen, declared.asked.Asked.Asked}
-use Rattle.irig_words.specs.Errors.{MayRefuse}
+use Rattle.irig_words.specs.Usage as usage
+use Rattle.irig_words.specs.declared.usage.UsageFault.{UsageFault}
 
 -- the texts of paths
 abbrev pub paths : List (Bor (List ℕ)) → List (List ℕ)
@@ -35,15 +34,6 @@ pub record AreValues (f : Found) (a : Asked) : Type 0 where
   pub not_moved : one_text f (codes "moved") ≡ Some (codes "false") → a.moved ≡ false
   pub moved_not_asked : one_text f (codes "moved") ≡ None → a.moved ≡ false
 
--- there are matches that a parse of the words may give, and these are their values
-pub record Values (words : List Text) (asked : Asked) : Type 0 where
-  pub matches : ArgMatches
-  pub parsed : IsParsed words matches
-  pub values : AreValues (found_of matches) asked
-
--- what the words ask for; or the error is one that the parse may give, or an option has a value
--- that it cannot have
-abbrev pub Reads : List Text → Result Settings UsageFault → Type 0
-Reads words (Ok s) = (asked : Asked) × Values words asked × IsChosen asked s
-Reads words (Err (Words error)) = MayRefuse the_command words error
-Reads words (Err (Value fault)) = (asked : Asked) × Values words asked × HasFault asked fault
+-- what the words ask for, or why they ask for nothing
+abbrev pub Reads : List Text → Result Settings (UsageFault OptionFault) → Type 0
+Reads words result = usage.Reads the_command AreValues IsChosen HasFault words result

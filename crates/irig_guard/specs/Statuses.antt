@@ -1,11 +1,11 @@
 -- The statuses of the program as a process. This project's own.
-use Rattle.std.specs.Prelude.{◌≡◌, ◌⊎◌, ℕ, List, Result, Ok, Err, codes}
-use Rattle.irig_words.specs.Errors.{IsHelp, IsMistake}
+use Rattle.std.specs.Prelude.{ℕ, List, Option, Result, Ok, Err, codes}
+use Rattle.irig_words.specs.Telling.{EndsWith, Explains}
 use Rattle.irig_files.specs.declared.dump_file.DumpFileFault.{DumpFileFault}
 use Rattle.irig_files.specs.declared.dump_file.DumpFileFault.TheVariants.{CannotBeRead, TooLong}
 use Rattle.irig_files.specs.declared.dump_file.DumpFileFault.TheVariants.{OutOfMemory}
-use Rattle.irig_guard.specs.declared.ending.Ending.{Ending}
-use Rattle.irig_guard.specs.declared.ending.Ending.TheVariants.{Usage, Value, Unread, Over, Unknown}
+use Rattle.irig_guard.specs.{Help.help_text, declared.ending.Ending.Ending}
+use Rattle.irig_guard.specs.declared.ending.Ending.TheVariants.{Usage, Unread, Over, Unknown}
 use Rattle.irig_guard.specs.declared.ending.Ending.TheVariants.{OverOther, Ran, Unheard}
 use Rattle.irig_script.specs.declared.obey.status.Status.{Status}
 use Rattle.irig_script.specs.declared.obey.status.Status.TheVariants.{AllAccepted, SomeRefused}
@@ -30,15 +30,13 @@ unread_text CannotBeRead = codes "cannot be read"
 unread_text TooLong = codes "too long"
 unread_text OutOfMemory = codes "V14 OutOfMemory"
 
--- the status of the process for how the program ended: help ends with 0, or with 4 if it could not
--- be printed
-abbrev pub HasStatus : Ending → ℕ → Type 0
-HasStatus (Usage error) status =
-    (IsMistake error → status ≡ 2) × (IsHelp error → (status ≡ 0) ⊎ (status ≡ 4))
-HasStatus (Value fault) status = status ≡ 2
-HasStatus (Unread path fault) status = status ≡ 3
-HasStatus Over status = status ≡ 2
-HasStatus Unknown status = status ≡ 4
-HasStatus (OverOther path) status = status ≡ 2
-HasStatus (Unheard path why) status = status ≡ 3
-HasStatus (Ran path result) status = status ≡ status_number result
+-- the status of the process for how the program ended, and what is printed on the output of help:
+-- help ends with 0, or with 4 if it was not printed
+abbrev pub Reports : Ending → Option (List ℕ) → Option (List ℕ) → ℕ → Type 0
+Reports (Usage fault) old new status = Explains help_text 4 fault old new status
+Reports (Unread path fault) old new status = EndsWith 3 old new status
+Reports Over old new status = EndsWith 2 old new status
+Reports Unknown old new status = EndsWith 4 old new status
+Reports (OverOther path) old new status = EndsWith 2 old new status
+Reports (Unheard path why) old new status = EndsWith 3 old new status
+Reports (Ran path result) old new status = EndsWith (status_number result) old new status

@@ -1,31 +1,24 @@
 //! The command line, read by `clap`.
 
 ghost use Rattle.std.specs.Prelude.{◌≡◌, IfErr, IfOk, None, codes, false, map, string_bytes};
-ghost use Rattle.clap.specs.Words.{app_of, found_of, rule_of};
-ghost use Rattle.irig_guard.specs.Options.{IsCommand, IsJudging, IsParsed, IsReading};
-ghost use Rattle.irig_guard.specs.Options.{beside, flag, moving, the_command};
-ghost use Rattle.irig_guard.specs.Settings.{AreValues, Reads, Values, all_values, paths};
-ghost use Rattle.irig_words.specs.Arguments.{option};
-ghost use Rattle.irig_words.specs.Errors.{IsMistake, MayRefuse, WantsMemory};
+ghost use Rattle.clap.specs.Words.{HasMatchesOf, app_of, found_of, rule_of};
+ghost use Rattle.irig_guard.specs.Options.{IsCommand, IsJudging, IsReading, beside, the_command};
+ghost use Rattle.irig_guard.specs.Settings.{AreValues, Reads, all_values, paths};
+ghost use Rattle.irig_words.specs.Errors.{MayRefuse, WantsMemory};
+ghost use Rattle.irig_words.specs.Usage.{Values};
 
 use crate::asked::Asked;
 use crate::chosen::{OptionFault, Settings};
 use crate::options::settings_of;
 use clap::{Arg, ArgAction, ArgMatches, Command, Error};
-use irig_words::{matches_of, needed_arg, option_arg};
+use irig_words::{UsageFault, flag_arg, matches_of, needed_arg, option_arg};
 use std::alloc::{AllocError, Global};
 
-/// Why a command line asks for nothing.
-#[derive(Drop)]
-pub enum UsageFault {
-    /// The words are not those of the command line, or ask for help.
-    Words(Error),
-    /// An option has a value that it cannot have.
-    Value(OptionFault),
-}
-
 /// What the words of a command line ask for, the program's name being the first.
-pub fn settings<'a>(alloc: Global, words: &'a [String]) -> Result<Settings<'a>, UsageFault>
+pub fn settings<'a>(
+    alloc: Global,
+    words: &'a [String],
+) -> Result<Settings<'a>, UsageFault<OptionFault>>
     ensures { Reads (map string_bytes words.entry.now) result }
 {
     let asked = match asked(alloc, words) {
@@ -40,20 +33,14 @@ pub fn settings<'a>(alloc: Global, words: &'a [String]) -> Result<Settings<'a>, 
 
 /// The values of a command line.
 fn asked<'a>(alloc: Global, words: &'a [String]) -> Result<Asked<'a>, Error>
-    ensures values { IfOk result (Values (map string_bytes words.entry.now)) }
+    ensures values { IfOk result (Values the_command AreValues
+        (map string_bytes words.entry.now)) }
     ensures refused { IfErr result (MayRefuse the_command (map string_bytes words.entry.now)) }
 {
     match parse_words(alloc, words) {
         Ok(matches) => values_of(alloc, &matches),
         Err(error) => Err(error),
     }
-}
-
-/// What `clap` says of an argument that is not UTF-8.
-pub fn not_text(alloc: Global) -> Error
-    ensures { IsMistake result }
-{
-    irig_words::not_text(command(alloc))
 }
 
 /// The values of the matches.
@@ -91,26 +78,32 @@ fn others_of<'a>(alloc: Global, matches: &ArgMatches<'a>) -> Result<Vec<&'a str>
 
 /// The matches of a command line that is accepted.
 fn parse_words<'a>(alloc: Global, words: &'a [String]) -> Result<ArgMatches<'a>, Error>
-    ensures parsed { IfOk result (IsParsed (map string_bytes words.entry.now)) }
+    ensures parsed { IfOk result (HasMatchesOf the_command (map string_bytes words.entry.now)) }
     ensures refused { IfErr result (MayRefuse the_command (map string_bytes words.entry.now)) }
 {
     matches_of(command(alloc)?, words)
 }
 
 /// The command line of the program.
-fn command<'a>(alloc: Global) -> Result<Command<'a>, AllocError>
+pub fn command<'a>(alloc: Global) -> Result<Command<'a>, AllocError>
     ensures { IfOk result (λ c. IsCommand (app_of c)) }
 {
     let out = option_arg(alloc, "out", "PATH", "where the mended track is written");
     let track = needed_arg(alloc, "TRACK", "the dump; repairs come on standard input");
-    judging(alloc)?.arg(out)?.arg(save_arg(alloc))?.arg(track)
+    let save = flag_arg(alloc, "save", "write the journal with the track");
+    judging(alloc)?.arg(out)?.arg(save)?.arg(track)
 }
 
 /// Its options that say how the track is read, and by what repairs are judged besides.
 fn judging<'a>(alloc: Global) -> Result<Command<'a>, AllocError>
     ensures { IfOk result (λ c. IsJudging (app_of c)) }
 {
-    reading(alloc)?.arg(moved_arg(alloc))?.arg(with_arg(alloc))
+    let moved = flag_arg(
+        alloc,
+        "moved",
+        "frames that are fine may move, in their order",
+    );
+    reading(alloc)?.arg(moved)?.arg(with_arg(alloc))
 }
 
 /// Its options that say how the track is read.
@@ -126,17 +119,6 @@ fn reading<'a>(alloc: Global) -> Result<Command<'a>, AllocError>
         .arg(expression)
 }
 
-/// Whether frames that are fine may move.
-fn moved_arg<'a>(alloc: Global) -> Arg<'a>
-    ensures rule { rule_of result ≡ moving }
-    ensures local { result.global ≡ false }
-{
-    Arg::new(alloc, "moved")
-        .long("moved")
-        .help("frames that are fine may move, in their order")
-        .action(ArgAction::SetTrue)
-}
-
 /// Other recordings of the same code.
 fn with_arg<'a>(alloc: Global) -> Arg<'a>
     ensures rule { rule_of result ≡ beside }
@@ -147,15 +129,4 @@ fn with_arg<'a>(alloc: Global) -> Arg<'a>
         .value_name("OTHER")
         .help("another recording of the same code")
         .action(ArgAction::Append)
-}
-
-/// Whether the journal is written too.
-fn save_arg<'a>(alloc: Global) -> Arg<'a>
-    ensures rule { rule_of result ≡ flag }
-    ensures local { result.global ≡ false }
-{
-    Arg::new(alloc, "save")
-        .long("save")
-        .help("write the journal with the track")
-        .action(ArgAction::SetTrue)
 }

@@ -4,14 +4,13 @@ use crate::chosen::OptionFault;
 use crate::unheard::Unheard;
 use irig_files::DumpFileFault;
 use irig_guarding::{GuardFault, Kept};
+use irig_words::UsageFault;
 
 /// How the program ends, before it is reported.
 #[derive(Drop)]
 pub enum Ending<'a> {
     /// The command line asks for nothing.
-    Usage(clap::Error),
-    /// An option has a value that it cannot have.
-    Value(OptionFault),
+    Usage(UsageFault<OptionFault>),
     /// The file at this path is no dump that can be read.
     Unread(&'a str, DumpFileFault),
     /// The path to write leads to the dump.

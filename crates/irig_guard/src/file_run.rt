@@ -3,7 +3,7 @@
 ghost use Rattle.std.specs.Prelude.{◌≡◌, ℕ, [], IfOk, IfSome, IsTrue, List, false, is_some, map};
 ghost use Rattle.std.specs.Prelude.{option_map, string_bytes, true};
 ghost use Rattle.irig_vcd.specs.{Answer.Gives, Answer.name_of, Parts.dump_parts};
-ghost use Rattle.irig_guard.specs.Ending.{EndsBy, IsEndOf, Obeys};
+ghost use Rattle.irig_guard.specs.Ending.{EndsBy, Obeys};
 ghost use Rattle.irig_guard.specs.RunsBy.{RunsBy};
 ghost use Rattle.irig_guard.specs.Given.{AreOthersApart, AreSpared, IsApart, ends, files};
 ghost use Rattle.irig_guard.specs.Given.{place_of, product_of};
@@ -13,7 +13,7 @@ ghost use Rattle.irig_files.specs.Reads.{HasFewBytes, parts_of};
 ghost use Rattle.irig_files.specs.Puts.{writes_on};
 
 use crate::chosen::Settings;
-use crate::command_line::{UsageFault, settings};
+use crate::command_line::settings;
 use crate::ending::Ending;
 use crate::others::{frames_of_others, over_other};
 use irig_files::{Disk, DumpFileFault, FileShelf, Parts, Room};
@@ -40,17 +40,7 @@ pub fn obey_words<'a, D: Disk, R: Read, W: Write>(
 {
     match settings(alloc, words) {
         Ok(chosen) => run_on_track(alloc, &chosen, disk, script, out),
-        Err(fault) => end_of(fault),
-    }
-}
-
-/// The end of a command line that asks for nothing.
-fn end_of<'a>(fault: UsageFault) -> Ending<'a>
-    ensures { IsEndOf fault result }
-{
-    match fault {
-        UsageFault::Words(error) => Ending::Usage(error),
-        UsageFault::Value(fault) => Ending::Value(fault),
+        Err(fault) => Ending::Usage(fault),
     }
 }
 

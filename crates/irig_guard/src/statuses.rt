@@ -1,53 +1,33 @@
 //! The statuses of the program as a process, and what it says of faults.
 
-ghost use Rattle.std.specs.Prelude.{◌≡◌, ◌⊎◌};
+ghost use Rattle.std.specs.Prelude.{◌≡◌};
 ghost use Rattle.std.specs.Process.{exit_status};
-ghost use Rattle.irig_guard.specs.Statuses.{HasStatus, kept_number, status_number, unread_text};
-ghost use Rattle.irig_words.specs.Errors.{IsHelp, IsMistake};
+ghost use Rattle.irig_guard.specs.Statuses.{Reports, kept_number, status_number, unread_text};
 
 use crate::chosen::OptionFault;
 use crate::ending::Ending;
+use crate::help::program;
 use crate::unheard::Unheard;
 use irig_files::DumpFileFault;
 use irig_guarding::{GuardFault, Kept};
 use irig_script::Status;
-use irig_vcd::VcdFault;
-use std::fmt::Display;
+use std::io::Write;
 use std::process::ExitCode;
 
-/// The status of the process for how the program ended, which is reported if it is a fault.
-pub fn report<R: Print + Eprint>(rt: &R, ending: &Ending<'_>) -> ExitCode
-    ensures { HasStatus ending.now (exit_status result) }
+/// The status of the process for how the program ended, which is reported if it is a fault. Help
+/// that was asked for is printed on its output.
+pub fn report<R: Eprint, H: Write>(rt: &R, ending: &Ending<'_>, help: &mut H) -> ExitCode
+    ensures { Reports ending.now (H.contents help.old) (H.contents help.new) (exit_status result) }
 {
+    let program = program();
     match ending {
-        Ending::Usage(error) => explain(rt, error),
-        Ending::Value(fault) => tell(rt, 2, fault),
+        Ending::Usage(fault) => program.explain(rt, fault, help),
         Ending::Unread(path, fault) => tell_unread(rt, path, *fault),
-        Ending::Over => tell(rt, 2, &OptionFault::Out),
-        Ending::Unknown => tell(rt, 4, &"--out: cannot find out whether it is TRACK"),
+        Ending::Over => program.tell(rt, 2, &OptionFault::Out),
+        Ending::Unknown => program.tell(rt, 4, &"--out: cannot find out whether it is TRACK"),
         Ending::OverOther(path) => tell_over(rt, path),
         Ending::Unheard(path, why) => tell_unheard(rt, path, *why),
         Ending::Ran(path, outcome) => tell_ended(rt, path, *outcome),
-    }
-}
-
-/// Says why the program ends with a status.
-pub fn tell<R: Eprint, T: Display>(rt: &R, status: u8, why: &T) -> ExitCode
-    ensures { exit_status result ≡ status }
-{
-    let _ = eprintln!(rt; "irig_guard: {why}");
-    ExitCode::from(status)
-}
-
-/// Prints what `clap` says: help on the standard output, a mistake on the standard error.
-pub fn explain<R: Print + Eprint>(rt: &R, error: &clap::Error) -> ExitCode
-    ensures mistake { IsMistake error.now → exit_status result ≡ 2 }
-    ensures help { IsHelp error.now → (exit_status result ≡ 0) ⊎ (exit_status result ≡ 4) }
-{
-    match error.print(rt) {
-        _ if error.use_stderr() => ExitCode::from(2),
-        Ok(()) => ExitCode::SUCCESS,
-        Err(_) => tell(rt, 4, &GuardFault::PrintFailed),
     }
 }
 
@@ -55,9 +35,7 @@ pub fn explain<R: Print + Eprint>(rt: &R, error: &clap::Error) -> ExitCode
 fn tell_unread<R: Eprint>(rt: &R, name: &str, fault: DumpFileFault) -> ExitCode
     ensures { exit_status result ≡ 3 }
 {
-    let why = unread_text(fault);
-    let _ = eprintln!(rt; "irig_guard: {name}: {why}");
-    ExitCode::from(3)
+    program().tell_of(rt, 3, name, &unread_text(fault))
 }
 
 /// Says that the path to write is another recording.
@@ -74,16 +52,8 @@ fn tell_unheard<R: Eprint>(rt: &R, name: &str, why: Unheard) -> ExitCode
 {
     match why {
         Unheard::File(fault) => tell_unread(rt, name, fault),
-        Unheard::Dump(fault) => tell_fault(rt, name, fault),
+        Unheard::Dump(fault) => program().tell_of(rt, 3, name, &fault),
     }
-}
-
-/// Says what fault a dump has.
-fn tell_fault<R: Eprint>(rt: &R, name: &str, fault: VcdFault) -> ExitCode
-    ensures { exit_status result ≡ 3 }
-{
-    let _ = eprintln!(rt; "irig_guard: {name}: {fault}");
-    ExitCode::from(3)
 }
 
 /// What the program says of a track that it did not read.
@@ -103,8 +73,8 @@ fn tell_ended<R: Eprint>(rt: &R, name: &str, outcome: Result<Kept, GuardFault>) 
 {
     match outcome {
         Ok(kept) => tell_kept(rt, name, kept),
-        Err(GuardFault::Dump(fault)) => tell_fault(rt, name, fault),
-        Err(fault) => tell(rt, 4, &fault),
+        Err(GuardFault::Dump(fault)) => program().tell_of(rt, 3, name, &fault),
+        Err(fault) => program().tell(rt, 4, &fault),
     }
 }
 

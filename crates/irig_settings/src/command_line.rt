@@ -1,19 +1,16 @@
 //! The command line, read by `clap`.
 
 ghost use Rattle.std.specs.Prelude.{◌≡◌, IfErr, IfOk, None, false, codes, map, string_bytes};
-ghost use Rattle.std.specs.Prelude.{MatchOption, true};
 ghost use Rattle.clap.specs.Words.{Rule, app_of, found_of, new_app, rule_of, with_rule};
 ghost use Rattle.irig_settings.specs.Options.{IsCommand, IsReading, IsChoice, IsParsed, letters};
 ghost use Rattle.irig_settings.specs.Options.{track};
 ghost use Rattle.irig_settings.specs.Errors.{MayRefuse};
-ghost use Rattle.irig_settings.specs.Settings.{Chooses, Reads, digit_named, expression_of};
-ghost use Rattle.irig_settings.specs.Settings.{is_chosen_format, kind_of, kind_or_b};
+ghost use Rattle.irig_settings.specs.Settings.{Chooses, Reads};
 ghost use Rattle.irig_words.specs.{Arguments.option, Errors.IsMistake};
 
 use crate::chosen::{Settings, UsageFault};
 use clap::{Arg, ArgMatches, Command, Error};
-use irig_codes::{Format, Kind, kind_named};
-use irig_words::{matches_of, needed_arg, option_arg};
+use irig_words::{format_named, matches_of, needed_arg, option_arg};
 use std::alloc::{AllocError, Global};
 
 static LETTERS: [&str; 4] = ["A", "B", "E", "G"];
@@ -41,8 +38,9 @@ pub fn not_text(alloc: Global) -> Error
 fn chosen_of<'a>(matches: &ArgMatches<'a>) -> Result<Settings<'a>, UsageFault>
     ensures { Chooses (found_of matches.now) result }
 {
-    let Some(format) = chosen_format(matches) else {
-        return Err(UsageFault::BadExpression);
+    let format = match format_named(matches.get_str("format"), matches.get_str("expression")) {
+        Ok(format) => format,
+        Err(_) => return Err(UsageFault::BadExpression),
     };
     let Some(track) = matches.get_str("TRACK") else {
         return Err(UsageFault::Words(AllocError.into()));
@@ -53,38 +51,6 @@ fn chosen_of<'a>(matches: &ArgMatches<'a>) -> Result<Settings<'a>, UsageFault>
         out: matches.get_str("out").unwrap_or(track),
         format,
     })
-}
-
-/// The format that the matches ask for, if its kind permits the expression.
-fn chosen_format(matches: &ArgMatches<'_>) -> Option<Format>
-    ensures { MatchOption result (is_chosen_format (found_of matches.now) ≡ false)
-        (λ f. (f.kind ≡ kind_of (found_of matches.now))
-        × (f.expression ≡ expression_of (found_of matches.now))
-        × (is_chosen_format (found_of matches.now) ≡ true)) }
-{
-    let kind = kind_or_b(matches.get_str("format").unwrap_or("B"));
-    let expression = digit_named(matches.get_str("expression").unwrap_or("2"));
-    match Format::new(kind, expression) {
-        Ok(format) => Some(format),
-        Err(_) => None,
-    }
-}
-
-/// The kind of time code with this letter; B for any other text.
-fn kind_or_b(text: &str) -> Kind
-    ensures { result ≡ kind_or_b text.now }
-{
-    kind_named(text.as_bytes()).unwrap_or(Kind::B)
-}
-
-/// The number that the first byte of a text is as a digit.
-fn digit_named(text: &str) -> u8
-    ensures { result ≡ digit_named text.now }
-{
-    match text.as_bytes() {
-        [first, ..] => first.saturating_sub(b'0'),
-        [] => 0,
-    }
 }
 
 /// The matches of a command line that is accepted.

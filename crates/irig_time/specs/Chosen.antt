@@ -2,20 +2,15 @@
 use Rattle.std.specs.Prelude.{◌≡◌, ◌&&◌, ◌||◌, ◌^◌, ◌<◌, ◌≤◌, Bool, true, false, nat_lt, not}
 use Rattle.std.specs.Prelude.{Some, IfSome, codes, is_some}
 use Rattle.std.specs.Str.{bytes_eq}
-use Rattle.irig_codes.specs.{Format.FormatView, Format.is_permitted, Words.kind_named}
+use Rattle.irig_codes.specs.Format.{FormatView}
 use Rattle.irig_stamps.specs.declared.settings.Form.TheVariants.{Ordinal, Calendar, Seconds}
 use Rattle.irig_stamps.specs.{declared.picos.Picos.Picos, declared.settings.Form.Form}
 use Rattle.irig_stamps.specs.declared.settings.Settings.{Settings}
 use Rattle.irig_time.specs.Samples.{HasColumns, HasDates, HasName}
-use Rattle.irig_time.specs.{Values.digit_named, Values.text_or, Values.whole_between}
+use Rattle.irig_time.specs.Values.{whole_between}
+use Rattle.irig_words.specs.Formats.{IsFormat, given, text_or}
 use Rattle.irig_time.specs.{Windows.IsWindow, declared.samples.Column.Column}
 use Rattle.irig_time.specs.{declared.asked.Asked.Asked, declared.chosen.Chosen.Chosen}
-
--- the format is the one of the letter and the number: B and 2, if they are not given
-pub record IsFormat (a : Asked) (f : FormatView) : Type 0 where
-  pub kind : kind_named (text_or a.format (codes "B")) ≡ Some f.kind
-  pub expression : digit_named (text_or a.expression (codes "2")) ≡ Some f.expression
-  pub permitted : is_permitted f.kind f.expression ≡ true
 
 -- whether each fine frame is believed
 abbrev pub stands_alone : Asked → Bool
@@ -71,7 +66,7 @@ pub record IsChosen (a : Asked) (c : Chosen) : Type 0 where
   pub track : c.track ≡ a.track
   pub wire : c.wire ≡ a.wire
   pub window : IsWindow a c.window
-  pub format : IsFormat a c.format
+  pub format : IsFormat (given a.format) (given a.expression) c.format
   pub settings : HasSettings a c.settings
   pub year : lacks_year c.format c.settings ≡ false
   pub table : c.table ≡ wants_table a

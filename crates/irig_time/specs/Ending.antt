@@ -4,8 +4,7 @@ use Rattle.std.specs.Prelude.{◌≡◌, ◌<◌, ℕ, Bool, true, false, List, 
 use Rattle.clap.specs.Words.{Text}
 use Rattle.irig_recording.specs.Recording.{RecordingView}
 use Rattle.irig_stamps.specs.{Aligned.Aligns, Aligned.outcome, Aligned.standing, Tables.ListsRecording}
-use Rattle.irig_time.specs.declared.command_line.UsageFault.TheVariants.{Words, Value as of_value}
-use Rattle.irig_time.specs.declared.ending.Ending.TheVariants.{Usage, Value, Unread, Aligned}
+use Rattle.irig_time.specs.declared.ending.Ending.TheVariants.{Usage, Unread, Aligned}
 use Rattle.irig_time.specs.declared.ending.Ending.TheVariants.{Listed, Timeless, Doubted, Broken}
 use Rattle.irig_files.specs.Tracks.{HasFault, Says, name_in}
 use Rattle.irig_time.specs.Settings.{Reads}
@@ -68,16 +67,13 @@ Obeys held chosen lines left from to (Unread path fault) =
     (path ≡ chosen.track)
     × (HasFault chosen.window (held chosen.track.now) (name_in chosen.wire) fault
     × ((left ≡ lines) × (to ≡ from)))
-Obeys held chosen lines left from to (Usage error) = ⊥
-Obeys held chosen lines left from to (Value fault) = ⊥
+Obeys held chosen lines left from to (Usage fault) = ⊥
 Obeys held chosen lines left from to ending = RunsFile held chosen lines left from to ending
 
 -- what the words ask for was done; or they ask for nothing, and nothing was read or printed
 abbrev pub EndsBy : List Text → Held → Option (List ℕ) → Option (List ℕ) → Option (List ℕ)
     → Option (List ℕ) → Ending → Type 0
-EndsBy words held lines left from to (Usage error) =
-    Reads words (Err (Words error)) × ((left ≡ lines) × (to ≡ from))
-EndsBy words held lines left from to (Value fault) =
-    Reads words (Err (of_value fault)) × ((left ≡ lines) × (to ≡ from))
+EndsBy words held lines left from to (Usage fault) =
+    Reads words (Err fault) × ((left ≡ lines) × (to ≡ from))
 EndsBy words held lines left from to ending =
     (chosen : Chosen) × Reads words (Ok chosen) × Obeys held chosen lines left from to ending

@@ -1,12 +1,12 @@
 -- Which value of a command line cannot be, and why. This project's own.
-use Rattle.std.specs.Prelude.{◌≡◌, ◌⊎◌, ◌&&◌, ℕ, true, false, Option, Some, None, codes, is_some}
-use Rattle.irig_codes.specs.Format.{FormatView, is_permitted}
-use Rattle.irig_codes.specs.{Words.kind_named, declared.format.Kind.Kind}
+use Rattle.std.specs.Prelude.{◌≡◌, ◌&&◌, ℕ, true, false, Option, Some, None, codes, is_some}
+use Rattle.irig_codes.specs.Format.{FormatView}
 use Rattle.irig_stamps.specs.declared.settings.Settings.{Settings}
-use Rattle.irig_time.specs.Chosen.{HasSettings, IsFormat, lacks_year, tells_of_lines, wants_table}
-use Rattle.irig_time.specs.Values.{comma_named, digit_named, form_named, offset_named, places_named}
+use Rattle.irig_time.specs.Chosen.{HasSettings, lacks_year, tells_of_lines, wants_table}
+use Rattle.irig_time.specs.Values.{comma_named, form_named, offset_named, places_named}
 use Rattle.irig_time.specs.{Names.is_name, Samples.IsComma, Samples.names_column}
-use Rattle.irig_time.specs.{Values.text_or, Values.whole_between}
+use Rattle.irig_time.specs.Values.{whole_between}
+use Rattle.irig_words.specs.Formats.{HasFormatFault, IsFormat, given, text_or}
 use Rattle.irig_time.specs.Windows.{EndsEarly, end_of, first_of}
 use Rattle.irig_time.specs.declared.asked.Asked.{Asked}
 use Rattle.irig_time.specs.declared.chosen.OptionFault.{OptionFault}
@@ -17,11 +17,8 @@ abbrev pub HasFault : Asked → OptionFault → Type 0
 HasFault a fault.From = first_of a ≡ None
 HasFault a fault.To = end_of a ≡ None
 HasFault a fault.Early = EndsEarly a
-HasFault a fault.Format = kind_named (text_or a.format (codes "B")) ≡ None
-HasFault a fault.Expression =
-    (digit_named (text_or a.expression (codes "2")) ≡ None)
-    ⊎ ((k : Kind) × (n : ℕ) × (kind_named (text_or a.format (codes "B")) ≡ Some k)
-    × (digit_named (text_or a.expression (codes "2")) ≡ Some n) × (is_permitted k n ≡ false))
+HasFault a (fault.Format of_format) =
+    HasFormatFault (given a.format) (given a.expression) of_format
 HasFault a fault.Unit = places_named (text_or a.unit (codes "us")) ≡ None
 HasFault a fault.Offset = (n : ℕ) × (places_named (text_or a.unit (codes "us")) ≡ Some n)
     × (offset_named n (text_or a.offset (codes "0")) ≡ None)
@@ -37,6 +34,7 @@ HasFault a fault.Unnamed = (is_some a.name ≡ true)
     × (whole_between 0 4294967296 (text_or a.header (codes "0")) ≡ Some 0)
 HasFault a fault.Year = whole_between 1 9998 (text_or a.year (codes "")) ≡ None
 HasFault a fault.Form = form_named (text_or a.form (codes "ordinal")) ≡ None
-HasFault a fault.NoYear = (f : FormatView) × (s : Settings) × IsFormat a f × HasSettings a s
-    × (lacks_year f s ≡ true)
+HasFault a fault.NoYear =
+    (f : FormatView) × (s : Settings) × IsFormat (given a.format) (given a.expression) f
+    × HasSettings a s × (lacks_year f s ≡ true)
 HasFault a fault.Table = (wants_table a && tells_of_lines a) ≡ true

@@ -7,4 +7,5 @@ pub mod Chosen
 pub mod Faults
 pub mod Settings
 pub mod Ending
+pub mod Help
 pub mod Statuses

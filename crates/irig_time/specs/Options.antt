@@ -1,21 +1,7 @@
 -- The command line: its options and the track. This project's own.
-use Rattle.std.specs.Prelude.{◌≡◌, List, codes, None, Some}
-use Rattle.clap.specs.Words.{App, Rule, Text, new_app, new_rule, with_rule, HasMatchesOf}
-use Rattle.clap.specs.declared.builder.ArgAction.TheVariants.{SetTrue}
-use Rattle.clap.specs.declared.parser.matches.ArgMatches.{ArgMatches}
-use Rattle.irig_words.specs.Arguments.{needed, option}
-
--- the option that asks for the table, which has no value
-abbrev pub table : Rule
-table = record (new_rule (codes "table")) { long = Some (codes "table"); action = Some SetTrue }
-
--- the option that believes each fine frame, which has no value
-abbrev pub alone : Rule
-alone = record (new_rule (codes "alone")) { long = Some (codes "alone"); action = Some SetTrue }
-
--- the option that asks why lines have no time, which has no value
-abbrev pub why : Rule
-why = record (new_rule (codes "why")) { long = Some (codes "why"); action = Some SetTrue }
+use Rattle.std.specs.Prelude.{◌≡◌, codes, None}
+use Rattle.clap.specs.Words.{App, new_app, with_rule}
+use Rattle.irig_words.specs.Arguments.{flag, needed, option}
 
 -- which part of the dump is read
 abbrev pub taking : App
@@ -42,7 +28,9 @@ writing =
 
 -- and which frames are taken, and what is printed of them
 abbrev pub marking : App
-marking = with_rule (with_rule (with_rule writing alone) why) table
+marking =
+    with_rule (with_rule (with_rule writing (flag (codes "alone"))) (flag (codes "why")))
+    (flag (codes "table"))
 
 -- the command
 abbrev pub the_command : App
@@ -66,7 +54,3 @@ IsMarking app = app ≡ marking
 -- it is the command line of the program
 abbrev pub IsCommand : App → Type 0
 IsCommand app = app ≡ the_command
-
--- matches that a parse of the words by the command may give
-abbrev pub IsParsed : List Text → ArgMatches → Type 0
-IsParsed words matches = HasMatchesOf the_command words matches

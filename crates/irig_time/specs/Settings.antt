@@ -1,12 +1,11 @@
 -- What the words of a command line ask for. This project's own.
-use Rattle.std.specs.Prelude.{◌≡◌, List, codes, Some, Result, Ok, Err, option_map}
-use Rattle.clap.specs.Words.{Text, first_value, found_of}
+use Rattle.std.specs.Prelude.{◌≡◌, List, codes, Some, Result, option_map}
+use Rattle.clap.specs.Words.{Text, first_value}
 use Rattle.clap.specs.declared.parser.matches.Found.{Found}
-use Rattle.clap.specs.declared.parser.matches.ArgMatches.{ArgMatches}
-use Rattle.irig_words.specs.Errors.{MayRefuse}
-use Rattle.irig_time.specs.declared.command_line.UsageFault.{UsageFault}
-use Rattle.irig_time.specs.declared.command_line.UsageFault.TheVariants.{Words, Value}
-use Rattle.irig_time.specs.{Faults.HasFault, Chosen.IsChosen, Options.IsParsed, Options.the_command}
+use Rattle.irig_words.specs.Usage as usage
+use Rattle.irig_words.specs.declared.usage.UsageFault.{UsageFault}
+use Rattle.irig_time.specs.declared.chosen.OptionFault.{OptionFault}
+use Rattle.irig_time.specs.{Faults.HasFault, Chosen.IsChosen, Options.the_command}
 use Rattle.irig_time.specs.{declared.asked.Asked.Asked, declared.chosen.Chosen.Chosen}
 
 -- the values are those of the matches
@@ -29,15 +28,6 @@ pub record AreValues (f : Found) (a : Asked) : Type 0 where
   pub why : first_value f (codes "why") ≡ option_map (λ w. w.now) a.why
   pub table : first_value f (codes "table") ≡ option_map (λ w. w.now) a.table
 
--- there are matches that a parse of the words may give, and these are their values
-pub record Values (words : List Text) (asked : Asked) : Type 0 where
-  pub matches : ArgMatches
-  pub parsed : IsParsed words matches
-  pub values : AreValues (found_of matches) asked
-
--- what the words ask for; or the error is one that the parse may give, or an option has a value
--- that it cannot have
-abbrev pub Reads : List Text → Result Chosen UsageFault → Type 0
-Reads words (Ok chosen) = (asked : Asked) × Values words asked × IsChosen asked chosen
-Reads words (Err (Words error)) = MayRefuse the_command words error
-Reads words (Err (Value fault)) = (asked : Asked) × Values words asked × HasFault asked fault
+-- what the words ask for, or why they ask for nothing
+abbrev pub Reads : List Text → Result Chosen (UsageFault OptionFault) → Type 0
+Reads words result = usage.Reads the_command AreValues IsChosen HasFault words result

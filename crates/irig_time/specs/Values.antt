@@ -1,21 +1,10 @@
 -- The values of the command line. This project's own.
-use Rattle.std.specs.Prelude.{◌==◌, ◌&&◌, ◌||◌, ◌^◌, ◌-◌, ℕ, Bool, not, nat_le, List, [], ◌∷◌, Option}
-use Rattle.std.specs.Prelude.{Some, None, codes, if◌then◌else◌, option_map, unwrap_or}
+use Rattle.std.specs.Prelude.{◌==◌, ◌&&◌, ◌||◌, ◌^◌, ℕ, Bool, not, nat_le, List, [], ◌∷◌, Option}
+use Rattle.std.specs.Prelude.{Some, None, codes, if◌then◌else◌}
 use Rattle.std.specs.Str.{bytes_eq}
-use denote.Ref.{Bor}
 use Rattle.irig_stamps.specs.Numbers.{number_in, whole_in}
 use Rattle.irig_stamps.specs.declared.settings.Form.TheVariants.{Ordinal, Calendar, Seconds}
 use Rattle.irig_stamps.specs.{Columns.is_digit, declared.picos.Picos.Picos, declared.settings.Form.Form}
-
--- the text of an option, or another one if it is not given
-abbrev pub text_or : Option (Bor (List ℕ)) → List ℕ → List ℕ
-text_or value other = unwrap_or (option_map (λ v. v.now) value) other
-
--- the number of a text that is one digit
-abbrev pub digit_named : List ℕ → Option ℕ
-digit_named [] = None
-digit_named (d ∷ []) = if is_digit d then Some (d - 48) else None
-digit_named (d ∷ e ∷ ds) = None
 
 -- a number, if it is one from the first to the last
 abbrev pub within : ℕ → ℕ → Option ℕ → Option ℕ

@@ -1,7 +1,8 @@
 -- The window of the dump that a command line asks for. This project's own.
 use Rattle.std.specs.Prelude.{◌≡◌, ◌<◌, ◌≤◌, ℕ, List, Option, Some, None, codes}
 use Rattle.irig_vcd.specs.declared.window.Window.{Window}
-use Rattle.irig_time.specs.Values.{text_or, whole_between}
+use Rattle.irig_time.specs.Values.{whole_between}
+use Rattle.irig_words.specs.Formats.{text_or}
 use Rattle.irig_time.specs.declared.asked.Asked.{Asked}
 
 -- a time in microseconds, of at most 64 bits

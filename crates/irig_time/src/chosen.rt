@@ -3,6 +3,7 @@
 use irig_codes::Format;
 use irig_stamps::Settings;
 use irig_vcd::Window;
+use irig_words::FormatFault;
 use thiserror::Error;
 
 /// What a command line asks for.
@@ -34,12 +35,9 @@ pub enum OptionFault {
     /// A window that ends before it begins.
     #[error("--to: before --from")]
     Early,
-    /// The letter of no format.
-    #[error("--format: not A, B, E or G")]
-    Format,
-    /// No expression, or one that the format does not permit.
-    #[error("--expression: not one of the format")]
-    Expression,
+    /// An option of the format has it.
+    #[error(transparent)]
+    Format(FormatFault),
     /// No unit.
     #[error("--unit: not s, ms, us, ns or ps")]
     Unit,

@@ -1,31 +1,23 @@
 //! The command line, read by `clap`.
 
-ghost use Rattle.std.specs.Prelude.{◌≡◌, IfErr, IfOk, false, map, string_bytes};
-ghost use Rattle.clap.specs.Words.{app_of, found_of, rule_of};
+ghost use Rattle.std.specs.Prelude.{◌≡◌, IfErr, IfOk, map, string_bytes};
+ghost use Rattle.clap.specs.Words.{HasMatchesOf, app_of, found_of};
 ghost use Rattle.irig_time.specs.Chosen.{IsSound};
-ghost use Rattle.irig_time.specs.Options.{IsCommand, IsMarking, IsParsed, IsPlacing, IsReading};
-ghost use Rattle.irig_time.specs.Options.{IsTaking, IsWriting, alone, table, the_command, why};
-ghost use Rattle.irig_time.specs.Settings.{AreValues, Reads, Values};
-ghost use Rattle.irig_words.specs.Errors.{IsMistake, MayRefuse, WantsMemory};
+ghost use Rattle.irig_time.specs.Options.{IsCommand, IsMarking, IsPlacing, IsReading, IsTaking};
+ghost use Rattle.irig_time.specs.Options.{IsWriting, the_command};
+ghost use Rattle.irig_time.specs.Settings.{AreValues, Reads};
+ghost use Rattle.irig_words.specs.Errors.{MayRefuse, WantsMemory};
+ghost use Rattle.irig_words.specs.Usage.{Values};
 
 use crate::asked::Asked;
 use crate::chosen::{Chosen, OptionFault};
 use crate::options::chosen_of;
-use clap::{Arg, ArgAction, ArgMatches, Command, Error};
-use irig_words::{matches_of, needed_arg, option_arg};
+use clap::{ArgMatches, Command, Error};
+use irig_words::{UsageFault, flag_arg, matches_of, needed_arg, option_arg};
 use std::alloc::{AllocError, Global};
 
-/// Why a command line asks for nothing.
-#[derive(Drop)]
-pub enum UsageFault {
-    /// The words are not those of the command line, or ask for help.
-    Words(Error),
-    /// An option has a value that it cannot have.
-    Value(OptionFault),
-}
-
 /// What the words of a command line ask for, the program's name being the first.
-pub fn chosen<'a>(alloc: Global, words: &'a [String]) -> Result<Chosen<'a>, UsageFault>
+pub fn chosen<'a>(alloc: Global, words: &'a [String]) -> Result<Chosen<'a>, UsageFault<OptionFault>>
     ensures reads { Reads (map string_bytes words.entry.now) result }
     ensures sound { IfOk result (λ c. IsSound c.settings) }
 {
@@ -41,20 +33,14 @@ pub fn chosen<'a>(alloc: Global, words: &'a [String]) -> Result<Chosen<'a>, Usag
 
 /// The values of a command line.
 fn asked<'a>(alloc: Global, words: &'a [String]) -> Result<Asked<'a>, Error>
-    ensures values { IfOk result (Values (map string_bytes words.entry.now)) }
+    ensures values { IfOk result (Values the_command AreValues
+        (map string_bytes words.entry.now)) }
     ensures refused { IfErr result (MayRefuse the_command (map string_bytes words.entry.now)) }
 {
     match parse_words(alloc, words) {
         Ok(matches) => values_of(&matches),
         Err(error) => Err(error),
     }
-}
-
-/// What `clap` says of an argument that is not UTF-8.
-pub fn not_text(alloc: Global) -> Error
-    ensures { IsMistake result }
-{
-    irig_words::not_text(command(alloc))
 }
 
 /// The values of the matches.
@@ -88,14 +74,14 @@ fn values_of<'a>(matches: &ArgMatches<'a>) -> Result<Asked<'a>, Error>
 
 /// The matches of a command line that is accepted.
 fn parse_words<'a>(alloc: Global, words: &'a [String]) -> Result<ArgMatches<'a>, Error>
-    ensures parsed { IfOk result (IsParsed (map string_bytes words.entry.now)) }
+    ensures parsed { IfOk result (HasMatchesOf the_command (map string_bytes words.entry.now)) }
     ensures refused { IfErr result (MayRefuse the_command (map string_bytes words.entry.now)) }
 {
     matches_of(command(alloc)?, words)
 }
 
 /// The command line of the program.
-fn command<'a>(alloc: Global) -> Result<Command<'a>, AllocError>
+pub fn command<'a>(alloc: Global) -> Result<Command<'a>, AllocError>
     ensures { IfOk result (λ c. IsCommand (app_of c)) }
 {
     let Ok(marking) = marking(alloc) else {
@@ -119,10 +105,22 @@ fn writing<'a>(alloc: Global) -> Result<Command<'a>, AllocError>
 fn marking<'a>(alloc: Global) -> Result<Command<'a>, AllocError>
     ensures { IfOk result (λ c. IsMarking (app_of c)) }
 {
-    writing(alloc)?
-        .arg(alone_arg(alloc))?
-        .arg(why_arg(alloc))?
-        .arg(table_arg(alloc))
+    let alone = flag_arg(
+        alloc,
+        "alone",
+        "take each frame that reads well, supported by another or not",
+    );
+    let why = flag_arg(
+        alloc,
+        "why",
+        "a word in place of - says why a line has no time",
+    );
+    let table = flag_arg(
+        alloc,
+        "table",
+        "print a table of the frames; no lines are read",
+    );
+    writing(alloc)?.arg(alone)?.arg(why)?.arg(table)
 }
 
 /// Its options: also where the recorder's time is in a line.
@@ -180,37 +178,4 @@ fn taking<'a>(alloc: Global) -> Result<Command<'a>, AllocError>
         .arg(wire)?
         .arg(from)?
         .arg(to)
-}
-
-/// The option that believes each fine frame.
-fn alone_arg<'a>(alloc: Global) -> Arg<'a>
-    ensures rule { rule_of result ≡ alone }
-    ensures local { result.global ≡ false }
-{
-    Arg::new(alloc, "alone")
-        .long("alone")
-        .help("take each frame that reads well, supported by another or not")
-        .action(ArgAction::SetTrue)
-}
-
-/// The option that asks why lines have no time.
-fn why_arg<'a>(alloc: Global) -> Arg<'a>
-    ensures rule { rule_of result ≡ why }
-    ensures local { result.global ≡ false }
-{
-    Arg::new(alloc, "why")
-        .long("why")
-        .help("a word in place of - says why a line has no time")
-        .action(ArgAction::SetTrue)
-}
-
-/// The option that asks for the table.
-fn table_arg<'a>(alloc: Global) -> Arg<'a>
-    ensures rule { rule_of result ≡ table }
-    ensures local { result.global ≡ false }
-{
-    Arg::new(alloc, "table")
-        .long("table")
-        .help("print a table of the frames; no lines are read")
-        .action(ArgAction::SetTrue)
 }

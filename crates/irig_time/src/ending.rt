@@ -3,14 +3,13 @@
 use crate::chosen::OptionFault;
 use irig_files::TrackFault;
 use irig_stamps::RunFault;
+use irig_words::UsageFault;
 
 /// How the program ends, before it is reported.
 #[derive(Drop)]
 pub enum Ending<'a> {
     /// The command line asks for nothing.
-    Usage(clap::Error),
-    /// An option has a value that it cannot have.
-    Value(OptionFault),
+    Usage(UsageFault<OptionFault>),
     /// The track at this path was not read.
     Unread(&'a str, TrackFault),
     /// All lines were printed. The column of each has a number, or not.

@@ -5,7 +5,7 @@ ghost use Rattle.irig_time.specs.Ending.{AlignsAs, EndsBy, ListsAs, Obeys, RunsA
 ghost use Rattle.irig_time.specs.Chosen.{IsSound};
 
 use crate::chosen::Chosen;
-use crate::command_line::{UsageFault, chosen};
+use crate::command_line::chosen;
 use crate::ending::Ending;
 use irig_files::{Disk, read_track};
 use irig_recording::Recording;
@@ -26,8 +26,7 @@ pub fn align_words<'a, D: Disk, R: Read, W: Write>(
 {
     match chosen(alloc, words) {
         Ok(chosen) => run_file(alloc, &chosen, disk, lines, out),
-        Err(UsageFault::Words(error)) => Ending::Usage(error),
-        Err(UsageFault::Value(fault)) => Ending::Value(fault),
+        Err(fault) => Ending::Usage(fault),
     }
 }
 

@@ -6,6 +6,7 @@ mod chosen;
 mod command_line;
 mod ending;
 mod file_run;
+mod help;
 mod naming;
 mod options;
 mod samples;
@@ -13,14 +14,15 @@ mod statuses;
 mod values;
 mod window;
 
-ghost use Rattle.std.specs.Prelude.{◌≡◌, map, string_bytes};
+ghost use Rattle.std.specs.Prelude.{map, string_bytes};
 ghost use Rattle.std.specs.Process.{exit_status};
 ghost use Rattle.irig_time.specs.Statuses.{Serves};
 
-use command_line::not_text;
+use command_line::command;
 use file_run::align_words;
+use help::program;
 use irig_files::{FileSystem, Files, system_files};
-use statuses::{explain, report, tell};
+use statuses::report;
 use std::io::{Read, Write};
 use std::process::ExitCode;
 use std::rt::Runtime;
@@ -28,7 +30,7 @@ use std::{env, io};
 
 fn main(rt: HostRuntime) -> ExitCode {
     let Ok(files) = system_files(&rt) else {
-        return tell_no_words(&rt, &io::Error::from(io::ErrorKind::OutOfMemory));
+        return program().tell(&rt, 2, &io::Error::from(io::ErrorKind::OutOfMemory));
     };
     match arguments(&rt) {
         Ok(words) => start(
@@ -37,19 +39,9 @@ fn main(rt: HostRuntime) -> ExitCode {
             &files,
             &mut rt.reader(),
             &mut io::writer(&rt),
+            &mut io::writer(&rt),
         ),
-        Err(error) => tell_no_words(&rt, &error),
-    }
-}
-
-/// Says why there are no words.
-fn tell_no_words<R: Print + Eprint + AllocGlobal>(rt: &R, error: &io::Error) -> ExitCode
-    ensures { exit_status result ≡ 2 }
-{
-    if error.kind() == io::ErrorKind::InvalidData {
-        explain(rt, &not_text(rt.alloc()))
-    } else {
-        tell(rt, 2, error)
+        Err(error) => program().tell_no_words(&rt, &error, command(rt.alloc())),
     }
 }
 
@@ -61,16 +53,20 @@ fn arguments<R: Runtime + AllocGlobal>(rt: &R) -> io::Result<Vec<String>> {
 
 /// Aligns lines with the track that the words name, by the files of this system, and reports how
 /// that ended.
-fn start<P: Print + Eprint + AllocGlobal, C: FileSystem, R: Read, W: Write>(
+fn start<P: Eprint + AllocGlobal, C: FileSystem, R: Read, W: Write, H: Write>(
     rt: &P,
     words: &[String],
     disk: &Files<C>,
     lines: &mut R,
     out: &mut W,
+    help: &mut H,
 ) -> ExitCode
+    // The words were obeyed. The output of help has the help that was asked for, and nothing else:
+    // there is no other way to print.
     ensures { Serves (map string_bytes words.now) (C.held disk.now.system) (R.remaining lines.old)
-        (R.remaining lines.new) (W.contents out.old) (W.contents out.new) (exit_status result) }
+        (R.remaining lines.new) (W.contents out.old) (W.contents out.new) (H.contents help.old)
+        (H.contents help.new) (exit_status result) }
 {
     let ending = align_words(rt.alloc(), words, disk, lines, out);
-    report(rt, &ending)
+    report(rt, &ending, help)
 }

@@ -4,11 +4,12 @@ ghost use Rattle.std.specs.Prelude.{◌≡◌, IfErr, IfOk, Some, codes};
 ghost use Rattle.irig_time.specs.Faults.{HasFault};
 ghost use Rattle.irig_time.specs.Samples.{HasName, IsComma};
 ghost use Rattle.irig_time.specs.Names.{has, has_comma, is_name};
-ghost use Rattle.irig_time.specs.Values.{text_or, whole_between};
+ghost use Rattle.irig_time.specs.Values.{whole_between};
+ghost use Rattle.irig_words.specs.Formats.{text_or};
 
 use crate::asked::Asked;
 use crate::chosen::OptionFault;
-use crate::values::text_or;
+use irig_words::text_or;
 
 /// The name of the column of times, if a byte parts columns, or white space, and the header has a
 /// number of lines.

@@ -1,7 +1,7 @@
 //! What the values of a command line mean.
 
 ghost use Rattle.std.specs.Prelude.{◌≡◌, IfErr, IfOk};
-ghost use Rattle.irig_time.specs.Chosen.{HasSettings, IsChosen, IsFormat, IsSound, asks_why};
+ghost use Rattle.irig_time.specs.Chosen.{HasSettings, IsChosen, IsSound, asks_why};
 ghost use Rattle.irig_time.specs.Chosen.{lacks_year, stands_alone, tells_of_lines, wants_table};
 ghost use Rattle.irig_time.specs.Faults.{HasFault};
 
@@ -9,10 +9,11 @@ use crate::asked::Asked;
 use crate::chosen::{Chosen, OptionFault};
 use crate::naming::name_of;
 use crate::samples::{columns_of, dates_of, header_of};
-use crate::values::{digit_named, is_text, text_or};
+use crate::values::is_text;
 use crate::window::window_of;
-use irig_codes::{Format, kind_named};
+use irig_codes::Format;
 use irig_stamps::{Form, Settings};
+use irig_words::{format_named, text_or};
 
 /// What the values of a command line ask for.
 pub fn chosen_of<'a>(asked: &Asked<'a>) -> Result<Chosen<'a>, OptionFault>
@@ -21,7 +22,10 @@ pub fn chosen_of<'a>(asked: &Asked<'a>) -> Result<Chosen<'a>, OptionFault>
     ensures fault { IfErr result (HasFault asked.now) }
 {
     let window = window_of(asked)?;
-    let format = format_of(asked)?;
+    let format = match format_named(asked.format, asked.expression) {
+        Ok(format) => format,
+        Err(fault) => return Err(OptionFault::Format(fault)),
+    };
     let settings = settings_of(asked)?;
     if lacks_year(format, &settings) {
         return Err(OptionFault::NoYear);
@@ -71,23 +75,6 @@ fn tells_of_lines(asked: &Asked<'_>) -> bool
         || asked.header.is_some()
         || asked.name.is_some()
         || asks_why(asked)
-}
-
-/// The format that is asked for.
-fn format_of(asked: &Asked<'_>) -> Result<Format, OptionFault>
-    ensures format { IfOk result (IsFormat asked.now) }
-    ensures fault { IfErr result (HasFault asked.now) }
-{
-    let Some(kind) = kind_named(text_or(asked.format, "B")) else {
-        return Err(OptionFault::Format);
-    };
-    let Some(expression) = digit_named(text_or(asked.expression, "2")) else {
-        return Err(OptionFault::Expression);
-    };
-    match Format::new(kind, expression) {
-        Ok(format) => Ok(format),
-        Err(_) => Err(OptionFault::Expression),
-    }
 }
 
 /// How lines are read and stamped.

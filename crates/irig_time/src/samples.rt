@@ -4,13 +4,15 @@ ghost use Rattle.std.specs.Prelude.{◌≡◌, ◌≤◌, ◌<◌, ◌^◌, IfEr
 ghost use Rattle.irig_time.specs.Faults.{HasFault};
 ghost use Rattle.irig_time.specs.Samples.{HasColumns, HasDates, IsColumn, IsComma, is_column_name};
 ghost use Rattle.irig_time.specs.Samples.{names_column};
-ghost use Rattle.irig_time.specs.Values.{text_or, whole_between};
+ghost use Rattle.irig_time.specs.Values.{whole_between};
+ghost use Rattle.irig_words.specs.Formats.{text_or};
 ghost use Rattle.irig_time.specs.declared.chosen.OptionFault.TheVariants.{Comma};
 
 use crate::asked::Asked;
 use crate::chosen::OptionFault;
-use crate::values::{comma_named, form_named, offset_named, places_named, text_or, whole_between};
+use crate::values::{comma_named, form_named, offset_named, places_named, whole_between};
 use irig_stamps::{Form, Picos, whole};
+use irig_words::text_or;
 
 /// The last column.
 const COLUMN_LIMIT: u128 = 65_536;

@@ -2,34 +2,14 @@
 
 ghost use Rattle.std.specs.Prelude.{◌≡◌, ◌≤◌, ◌<◌, ◌^◌, IfSome, Some};
 ghost use Rattle.std.specs.Str.{bytes_eq};
-ghost use Rattle.irig_time.specs.Values.{comma_named, digit_named, form_named, is_of_text};
+ghost use Rattle.irig_time.specs.Values.{comma_named, form_named, is_of_text};
 ghost use Rattle.irig_time.specs.Values.{is_parting, near, offset_named, places_named};
-ghost use Rattle.irig_time.specs.Values.{prefix_places, text_or, whole_between, within};
+ghost use Rattle.irig_time.specs.Values.{prefix_places, whole_between, within};
 
 use irig_stamps::{Form, Picos, number, whole};
 
 /// The greatest offset: 2^119 picoseconds.
 const LATEST: u128 = 664_613_997_892_457_936_451_903_530_140_172_288;
-
-/// The bytes of an option, or others if it is not given.
-pub fn text_or<'a>(value: Option<&'a str>, other: &'a str) -> &'a [u8]
-    ensures { result.now ≡ text_or value.entry other.entry.now }
-{
-    match value {
-        Some(text) => text.as_bytes(),
-        None => other.as_bytes(),
-    }
-}
-
-/// The number of a text that is one digit.
-pub fn digit_named(text: &[u8]) -> Option<u8>
-    ensures { result ≡ digit_named text.now }
-{
-    match text {
-        [digit @ b'0'..=b'9'] => Some(*digit - b'0'),
-        _ => None,
-    }
-}
 
 /// A whole number from the first to the last.
 pub fn whole_between(first: u128, last: u128, text: &[u8]) -> Option<u128>

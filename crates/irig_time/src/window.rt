@@ -6,8 +6,9 @@ ghost use Rattle.irig_time.specs.Windows.{IsWindow, time_named};
 
 use crate::asked::Asked;
 use crate::chosen::OptionFault;
-use crate::values::{text_or, whole_between};
+use crate::values::whole_between;
 use irig_vcd::Window;
+use irig_words::text_or;
 
 /// The greatest time in microseconds: 2^64 - 1.
 const TIME_LIMIT: u128 = 18_446_744_073_709_551_615;

@@ -1,2 +1,5 @@
 pub mod Arguments
 pub mod Errors
+pub mod Formats
+pub mod Telling
+pub mod Usage

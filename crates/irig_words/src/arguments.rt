@@ -2,7 +2,7 @@
 
 ghost use Rattle.std.specs.Prelude.{◌≡◌, None, false};
 ghost use Rattle.clap.specs.Words.{rule_of};
-ghost use Rattle.irig_words.specs.Arguments.{needed, option};
+ghost use Rattle.irig_words.specs.Arguments.{flag, needed, option};
 
 use clap::{Arg, ArgAction};
 use std::alloc::Global;
@@ -17,6 +17,17 @@ pub fn option_arg<'a>(alloc: Global, name: &'a str, value: &'a str, help: &'a st
         .value_name(value)
         .help(help)
         .action(ArgAction::Set)
+}
+
+/// An option `--name` that has no value.
+pub fn flag_arg<'a>(alloc: Global, name: &'a str, help: &'a str) -> Arg<'a>
+    ensures rule { rule_of result ≡ flag name.entry.now }
+    ensures local { result.global ≡ false }
+{
+    Arg::new(alloc, name)
+        .long(name)
+        .help(help)
+        .action(ArgAction::SetTrue)
 }
 
 /// A word that has to be there.

@@ -1,8 +1,14 @@
-//! The words of a command line, as `clap` reads them.
+//! The words of a command line, as `clap` reads them, and what a program says of them.
 #![tactic(auto)]
 
 mod arguments;
 mod errors;
+mod formats;
+mod telling;
+mod usage;
 
-pub use arguments::{needed_arg, option_arg};
+pub use arguments::{flag_arg, needed_arg, option_arg};
 pub use errors::{matches_of, not_text};
+pub use formats::{FormatFault, format_named, text_or};
+pub use telling::Program;
+pub use usage::UsageFault;

@@ -1,0 +1,48 @@
+//! What the program says of itself, its help first.
+
+ghost use Rattle.std.specs.Prelude.{◌≡◌};
+ghost use Rattle.irig_time.specs.Help.{help_text};
+
+use irig_words::Program;
+
+/// What the program says of itself.
+pub fn program<'a>() -> Program<'a>
+    ensures help { result.help.now ≡ help_text }
+    ensures status { result.status ≡ 4 }
+{
+    Program {
+        name: "irig_time",
+        help: help_text(),
+        status: 4,
+        fault: "output failed",
+    }
+}
+
+/// What is printed if the words ask for help.
+fn help_text<'a>() -> &'a str
+    ensures { result.now ≡ help_text }
+{
+    "Usage: irig_time [OPTIONS] <TRACK>\n\n\
+     Arguments:\n  \
+     <TRACK>  the dump; lines come on standard input\n\n\
+     Options:\n      \
+     --wire <NAME>          the wire of the dump\n      \
+     --from <TIME>          in microseconds, is the new 0: 0\n      \
+     --to <TIME>            in microseconds, ends the part that is read\n      \
+     --format <FORMAT>      A, B, E or G: B\n      \
+     --expression <NUMBER>  of the format: 2\n      \
+     --unit <UNIT>          s, ms, us, ns or ps: us\n      \
+     --offset <NUMBER>      its time at the start of TRACK: 0\n      \
+     --column <COLUMN>      of its time: a number from 1, or its name in the \
+     header: 1\n      \
+     --comma <CHARACTER>    parts columns, if not white space\n      \
+     --header <NUMBER>      lines of the header: 0\n      \
+     --name <NAME>          of the new column: time\n      \
+     --year <YEAR>          the year of the first fine frame\n      \
+     --form <FORM>          ordinal, calendar or seconds\n      \
+     --alone                take each frame that reads well, supported by \
+     another or not\n      \
+     --why                  a word in place of - says why a line has no time\n      \
+     --table                print a table of the frames; no lines are read\n  \
+     -h, --help                 Print help\n"
+}

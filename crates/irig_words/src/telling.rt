@@ -1,0 +1,121 @@
+//! What a program says of itself, and the statuses with which it ends.
+
+ghost use Rattle.std.specs.Prelude.{◌≡◌};
+ghost use Rattle.std.specs.Process.{exit_status};
+ghost use Rattle.irig_words.specs.Errors.{IsHelp, IsMistake};
+ghost use Rattle.irig_words.specs.Telling.{EndsWith, Explains, Helps};
+
+use crate::errors::not_text;
+use crate::usage::UsageFault;
+use clap::{Command, Error};
+use irig_print::put_all;
+use std::alloc::AllocError;
+use std::fmt::Display;
+use std::io;
+use std::io::Write;
+use std::process::ExitCode;
+
+/// What a program says of itself.
+#[derive(Clone, Copy)]
+pub struct Program<'a> {
+    /// Its name, with which it begins what it says of faults.
+    pub name: &'a str,
+    /// Its help.
+    pub help: &'a str,
+    /// The status with which it ends if its output fails.
+    pub status: u8,
+    /// What it says then.
+    pub fault: &'a str,
+}
+
+impl<'a> Program<'a> {
+    /// Says why the program ends with a status.
+    pub fn tell<R: Eprint, T: Display>(&self, rt: &R, status: u8, why: &T) -> ExitCode
+        ensures { exit_status result ≡ status }
+    {
+        let name = self.name;
+        let _ = eprintln!(rt; "{name}: {why}");
+        ExitCode::from(status)
+    }
+
+    /// Says of a path why the program ends with a status.
+    pub fn tell_of<R: Eprint, T: Display>(
+        &self,
+        rt: &R,
+        status: u8,
+        path: &str,
+        why: &T,
+    ) -> ExitCode
+        ensures { exit_status result ≡ status }
+    {
+        let name = self.name;
+        let _ = eprintln!(rt; "{name}: {path}: {why}");
+        ExitCode::from(status)
+    }
+
+    /// Says why there are no words, by the command that would take them or the lack of memory for
+    /// it.
+    pub fn tell_no_words<R: Eprint>(
+        &self,
+        rt: &R,
+        why: &io::Error,
+        command: Result<Command<'_>, AllocError>,
+    ) -> ExitCode
+        ensures { exit_status result ≡ 2 }
+    {
+        if why.kind() == io::ErrorKind::InvalidData {
+            tell_mistake(rt, &not_text(command))
+        } else {
+            self.tell(rt, 2, why)
+        }
+    }
+
+    /// Says why a command line asks for nothing. If the words ask for help, it is printed on its
+    /// output.
+    pub fn explain<R: Eprint, F: Display, H: Write>(
+        &self,
+        rt: &R,
+        fault: &UsageFault<F>,
+        help: &mut H,
+    ) -> ExitCode
+        ensures { Explains self.now.help.now self.now.status fault.now (H.contents help.old)
+            (H.contents help.new) (exit_status result) }
+    {
+        match fault {
+            UsageFault::Words(error) => self.answer(rt, error, help),
+            UsageFault::Value(fault) => self.tell(rt, 2, fault),
+        }
+    }
+
+    /// Prints the help on its output if the words ask for it; else says which mistake they have.
+    fn answer<R: Eprint, H: Write>(&self, rt: &R, error: &Error, help: &mut H) -> ExitCode
+        ensures mistake { IsMistake error.now → EndsWith 2 (H.contents help.old)
+            (H.contents help.new) (exit_status result) }
+        ensures help { IsHelp error.now → Helps self.now.help.now self.now.status
+            (H.contents help.old) (H.contents help.new) (exit_status result) }
+    {
+        if error.use_stderr() {
+            return tell_mistake(rt, error);
+        }
+        self.print_help(rt, help)
+    }
+
+    /// Prints the help. The exit status says whether all of it was printed.
+    fn print_help<R: Eprint, H: Write>(&self, rt: &R, help: &mut H) -> ExitCode
+        ensures { Helps self.now.help.now self.now.status (H.contents help.old)
+            (H.contents help.new) (exit_status result) }
+    {
+        match put_all(help, self.help.as_bytes()) {
+            Ok(()) => ExitCode::SUCCESS,
+            Err(_) => self.tell(rt, self.status, &self.fault),
+        }
+    }
+}
+
+/// Says which mistake the words have.
+fn tell_mistake<R: Eprint>(rt: &R, error: &Error) -> ExitCode
+    ensures { exit_status result ≡ 2 }
+{
+    let _ = eprint!(rt; "{error}");
+    ExitCode::from(2)
+}
