@@ -56,7 +56,8 @@ goes_nowhere at target now = record {
 }
 
 -- what is seen after both
-seen_then : (a b c : Disk) (target : Option (List ℕ)) → (bc : Goes b c target) → (ws : List Write) (place : List ℕ) (x : Option Held)
+seen_then : (a b c : Disk) (target : Option (List ℕ)) → (bc : Goes b c target)
+    → (ws : List Write) (place : List ℕ) (x : Option Held)
     → IsMeant b target place → (seen_under b place ≡ x) ⊎ IsLeftBy ws place (seen_under b place)
     → (seen_under c place ≡ x) ⊎ IsLeftBy (ws ++ writes_in bc.more) place (seen_under c place)
 seen_then a b c target bc ws place x meant first = ⊎_elim
@@ -116,10 +117,15 @@ goes_on a b c target ab bc =
       there = λ place is. bc.there place (ab.there place is);
       at_target = subst (AreAt target) (sym both) (at_both target (writes_in ab.more) (writes_in bc.more) ab.at_target bc.at_target);
       seen = λ place meant.
-          let meant_then : IsMeant b target place = ⊎_elim (λ is. inl (ab.there place is)) (λ at. inr at) meant in
-          let done : (seen_under c place ≡ seen_under a place) ⊎ IsLeftBy (writes_in ab.more ++ writes_in bc.more) place (seen_under c place) =
-          seen_then a b c target bc (writes_in ab.more) place (seen_under a place) meant_then (ab.seen place meant) in
-          subst (λ ws. (seen_under c place ≡ seen_under a place) ⊎ IsLeftBy ws place (seen_under c place)) (sym both) done;
+          let meant_then : IsMeant b target place =
+          ⊎_elim (λ is. inl (ab.there place is)) (λ at. inr at) meant in
+          let done : (seen_under c place ≡ seen_under a place)
+          ⊎ IsLeftBy (writes_in ab.more ++ writes_in bc.more) place (seen_under c place) =
+          seen_then a b c target bc (writes_in ab.more) place (seen_under a place) meant_then
+          (ab.seen place meant) in
+          subst
+          (λ ws. (seen_under c place ≡ seen_under a place) ⊎ IsLeftBy ws place (seen_under c place))
+          (sym both) done;
       any_moment = λ place x meant l.
           let done : MayLeave a place x ⊎ IsLeftBy (writes_in ab.more ++ writes_in bc.more) place x = ⊎_elim
           (λ mid. ⊎_elim (λ was. inl was) (λ by. inr (left_front (writes_in ab.more) (writes_in bc.more) place x by))
