@@ -59,6 +59,11 @@ pub record IsPut (old new : Disk) (target : List ℕ) (text : Held) : Type 0 whe
   pub at_target : seen_under new target ≡ Some text
   pub others : (n : List ℕ) → n ≢ target → seen_under new n ≡ seen_under old n
 
+-- and that is the last that was done
+abbrev pub IsPutLast : Disk → Disk → List ℕ → Held → Type 0
+IsPutLast old new target text =
+    IsPut old new target text × (new.log ≡ old.log ++ Moved target (Some text) ∷ [])
+
 -- and each crash from now on leaves it there
 pub record IsKept (old new : Disk) (target : List ℕ) (text : Held) : Type 0 where
   pub put : IsPut old new target text
@@ -73,7 +78,7 @@ SeenAfter old new target text NamesTaken = SeenSame old new
 SeenAfter old new target text (Failed _) = SeenSame old new
 SeenAfter old new target text (LeftBehind _ _) = SeenSameIfThere old new target
 SeenAfter old new target text (Remains _) = SeenSameIfThere old new target
-SeenAfter old new target text (NotKept _) = IsPut old new target text
+SeenAfter old new target text (NotKept _) = IsPutLast old new target text
 
 -- what a fault leaves
 pub record AfterFault {X : Type 0} (old new : Disk) (target : List ℕ) (text : Held)

@@ -2,7 +2,7 @@
 use Rattle.std.specs.Prelude.{◌≡◌, ◌≢◌, ◌⊎◌, ℕ, List, [], ◌∷◌, ◌++◌, Option, Some, None}
 use Rattle.irig_disk.specs.Disk.{Disk, IsPlace, seen_under, MayLeave, LeavesOnly}
 use Rattle.irig_disk.specs.Put.{OldIfThere, TriesNone, TriesOne, OldOrNewIfThere, SeenSame}
-use Rattle.irig_disk.specs.Put.{SeenSameIfThere, IsPut}
+use Rattle.irig_disk.specs.Put.{SeenSameIfThere, IsPutLast}
 use Rattle.irig_disk.specs.declared.fault.PutFault.{PutFault}
 use Rattle.irig_disk.specs.declared.fault.PutFault.TheVariants.{Memory, NamesTaken, Failed}
 use Rattle.irig_disk.specs.declared.fault.PutFault.TheVariants.{LeftBehind, Remains, NotKept}
@@ -79,7 +79,7 @@ SeenUnfinished old new target text NamesTaken = ⊥
 SeenUnfinished old new target text (Failed _) = SeenSame old new
 SeenUnfinished old new target text (LeftBehind _ _) = SeenSameIfThere old new target
 SeenUnfinished old new target text (Remains _) = ⊥
-SeenUnfinished old new target text (NotKept _) = IsPut old new target text
+SeenUnfinished old new target text (NotKept _) = IsPutLast old new target text
 
 -- and what it leaves
 pub record NotFinished {X : Type 0} (old new : Disk) (target : List ℕ) (text : Held)

@@ -12,10 +12,11 @@ const LIMIT: u64 = 64;
 pub const MODE: u32 = 0o640;
 
 /// The paths of folders, and what their places begin with.
-static PATHS: [(&str, &str); 6] = [
+static PATHS: [(&str, &str); 7] = [
     (".", "/"),
     ("a", "a/"),
     ("b", "b/"),
+    ("a/..", "/"),
     ("a/../b", "b/"),
     ("/top/b", "b/"),
     ("/top", "/"),
@@ -25,7 +26,7 @@ static PATHS: [(&str, &str); 6] = [
 pub static OLD: [&str; 4] = ["/t", "/u", "a/t", "b/t"];
 
 /// The places of links, and their texts.
-pub static LINKS: [(&str, &str); 8] = [
+pub static LINKS: [(&str, &str); 9] = [
     ("/relative", "a/t"),
     ("a/upward", "../b/t"),
     ("/absolute", "/top/b/t"),
@@ -34,6 +35,7 @@ pub static LINKS: [(&str, &str); 8] = [
     ("/loop", "pool"),
     ("/pool", "loop"),
     ("/piped", "pipe"),
+    ("a/answered", "../answers"),
 ];
 
 /// A write that succeeds: its path, the place that it goes to, and whether a file is there.
@@ -79,6 +81,7 @@ pub fn folders(alloc: Global) -> Result<Tree, MemoryFault> {
     }
     tree.add_file("/locked", b"old", 0o440)?;
     tree.add_other("/pipe", None)?;
+    tree.add_output("/answers")?;
     Ok(tree)
 }
 

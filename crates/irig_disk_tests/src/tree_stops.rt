@@ -58,7 +58,7 @@ fn others_stay(calls: &[Call], last: usize, row: Row) -> bool {
             return false;
         }
     }
-    is_same(calls, before, "/pipe")
+    is_same(calls, before, "/pipe") && is_same(calls, before, "/answers")
 }
 
 /// Whether a name leads to the same file after calls as before them.

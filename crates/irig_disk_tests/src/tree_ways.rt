@@ -61,11 +61,13 @@ fn is_in_place(alloc: Global, path: &str) -> bool {
         }
 }
 
-// What is no regular file is written in place, through a link too.
+// What is no regular file is written in place, and so is the file that the answers go to, through a
+// link too.
 #[test]
-fn a_pipe_is_written_in_place(rt: HostRuntime) {
-    assert!(rt; is_in_place(rt.alloc(), "pipe"));
-    assert!(rt; is_in_place(rt.alloc(), "piped"));
+fn a_pipe_and_the_standard_output_are_written_in_place(rt: HostRuntime) {
+    for path in ["pipe", "piped", "answers", "a/answered"].iter() {
+        assert!(rt; is_in_place(rt.alloc(), path));
+    }
 }
 
 /// Adds this many links: `0` leads to `1`, and so on, and the last to `a/t`.

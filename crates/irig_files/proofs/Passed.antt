@@ -1,7 +1,7 @@
 -- What holds of a call's outcome holds of it without its error.
 use Rattle.std.proofs.Common.{◌≡◌, ◌⊎◌, ℕ, List, Option, Some, None, Result, Ok, Err, inl, inr, arith, refl, ◌≢◌}
 use Rattle.std.specs.Prelude.{IfOk, IfErr, IsErr, IsOk, OnOk, OnErr}
-use Rattle.irig_disk.specs.{Disk.Disk, Disk.IsPlace, Disk.LeavesOnly, Disk.MayLeave, Held.Held, Put.AfterFault, Put.IsKept, Put.IsPut, Put.OldOrNewIfThere}
+use Rattle.irig_disk.specs.{Disk.Disk, Disk.IsPlace, Disk.LeavesOnly, Disk.MayLeave, Held.Held, Put.AfterFault, Put.IsKept, Put.IsPutLast, Put.OldOrNewIfThere}
 use Rattle.irig_disk.specs.{Put.SeenAfter, Put.SeenSameIfThere, Stays.Stays, Writing.IsUnchanged, declared.fault.PutFault.PutFault}
 use Rattle.irig_disk.specs.declared.fault.PutFault.TheVariants as fault
 use Rattle.irig_files.specs.Once.{FailsToPut, PutsOnce, Replaces}
@@ -12,7 +12,7 @@ value_passed P outcome (Ok v) same p = rw same at p
 value_passed P outcome (Err e) same p = tt
 
 left : {X : Type 0} (old new : Disk) (target : List ℕ) (text : Held) (e : PutFault X) → SeenAfter old new target text e
-    → SeenSameIfThere old new target ⊎ IsPut old new target text
+    → SeenSameIfThere old new target ⊎ IsPutLast old new target text
 left old new target text fault.Memory h = inl (λ n _. h n)
 left old new target text fault.NamesTaken h = inl (λ n _. h n)
 left old new target text (fault.Failed x) h = inl (λ n _. h n)

@@ -3,7 +3,7 @@ use Rattle.std.proofs.Common.{Bool, ◌≡◌, ◌≢◌, ◌⊎◌, inl, inr, �
 use Rattle.std.proofs.Common.{List, [], ◌∷◌, ◌++◌, append_assoc, Option, Some, None, ◌≤◌}
 use Rattle.std.proofs.lemmas.List.{append-nil}
 use Rattle.irig_disk.specs.Trail.{Step, Moved, NotMoved, Synced}
-use Rattle.irig_disk.specs.{Disk.Disk, Disk.MayLeave, Held.Held}
+use Rattle.irig_disk.specs.{Disk.Disk, Disk.MayLeave, Disk.seen_under, Held.Held}
 use Rattle.irig_files.specs.Writes.{AreAt, EachIsKept, Goes, IsKeptIfDone, IsLeftBy, IsMeant, Write}
 use Rattle.irig_files.specs.Writes.{LeavesTo, kept_by, write, writes_in}
 use Rattle.irig_files.specs.Taken.{HasFile, StaysBarred}
@@ -49,10 +49,25 @@ goes_nowhere at target now = record {
   paths = refl;
   there = λ place is. is;
   at_target = tt;
+  seen = λ place meant. inl refl;
   any_moment = λ place c meant l. inl (now place c l);
   before = λ t place c le meant l. inl l;
   kept = tt;
 }
+
+-- what is seen after both
+seen_then : (a b c : Disk) (target : Option (List ℕ)) → (bc : Goes b c target)
+    → (ws : List Write) (place : List ℕ) (x : Option Held)
+    → IsMeant b target place → (seen_under b place ≡ x) ⊎ IsLeftBy ws place (seen_under b place)
+    → (seen_under c place ≡ x) ⊎ IsLeftBy (ws ++ writes_in bc.more) place (seen_under c place)
+seen_then a b c target bc ws place x meant first = ⊎_elim
+    (λ same. ⊎_elim
+    (λ is. inl (same ∙ is))
+    (λ by. inr (subst (IsLeftBy (ws ++ writes_in bc.more) place) (sym same)
+    (left_front ws (writes_in bc.more) place (seen_under b place) by)))
+    first)
+    (λ by. inr (left_back ws (writes_in bc.more) place (seen_under c place) by))
+    (bc.seen place meant)
 
 -- what was kept still is
 still_kept : (a b c : Disk) (target : Option (List ℕ)) → Goes a b target → (bc : Goes b c target) → (w : Write) (after : List Write) (at : Option ℕ)
@@ -62,6 +77,7 @@ still_kept a b c target ab bc w after (Some m) k = record {
   began = k.began;
   ended = omega (arith, k.ended, bc.later);
   there = bc.there w.place k.there;
+  seen = seen_then a b c target bc after w.place (Some w.held) (inl k.there) k.seen;
   left = λ x l. ⊎_elim
       (λ was. ⊎_elim (λ is. inl is) (λ later. inr (left_front after (writes_in bc.more) w.place x later)) (k.left x was))
       (λ now. inr (left_back after (writes_in bc.more) w.place x now))
@@ -70,7 +86,13 @@ still_kept a b c target ab bc w after (Some m) k = record {
 
 begun_later : (a b c : Disk) → a.moment ≤ b.moment → (w : Write) (after : List Write) (at : Option ℕ) → IsKeptIfDone b c w after at → IsKeptIfDone a c w after at
 begun_later a b c le w after None k = tt
-begun_later a b c le w after (Some m) k = record { began = omega (arith, le, k.began); ended = k.ended; there = k.there; left = k.left }
+begun_later a b c le w after (Some m) k = record {
+  began = omega (arith, le, k.began);
+  ended = k.ended;
+  there = k.there;
+  seen = k.seen;
+  left = k.left;
+}
 
 each_begun_later : (a b c : Disk) → a.moment ≤ b.moment → (ws : List Write) → EachIsKept b c ws → EachIsKept a c ws
 each_begun_later a b c le [] each = tt
@@ -94,6 +116,16 @@ goes_on a b c target ab bc =
       paths = bc.paths ∙ ab.paths;
       there = λ place is. bc.there place (ab.there place is);
       at_target = subst (AreAt target) (sym both) (at_both target (writes_in ab.more) (writes_in bc.more) ab.at_target bc.at_target);
+      seen = λ place meant.
+          let meant_then : IsMeant b target place =
+          ⊎_elim (λ is. inl (ab.there place is)) (λ at. inr at) meant in
+          let done : (seen_under c place ≡ seen_under a place)
+          ⊎ IsLeftBy (writes_in ab.more ++ writes_in bc.more) place (seen_under c place) =
+          seen_then a b c target bc (writes_in ab.more) place (seen_under a place) meant_then
+          (ab.seen place meant) in
+          subst
+          (λ ws. (seen_under c place ≡ seen_under a place) ⊎ IsLeftBy ws place (seen_under c place))
+          (sym both) done;
       any_moment = λ place x meant l.
           let done : MayLeave a place x ⊎ IsLeftBy (writes_in ab.more ++ writes_in bc.more) place x = ⊎_elim
           (λ mid. ⊎_elim (λ was. inl was) (λ by. inr (left_front (writes_in ab.more) (writes_in bc.more) place x by))

@@ -1,13 +1,13 @@
 -- What one write makes of a disk. This project's own.
 use Rattle.std.specs.Prelude.{◌≡◌, ◌⊎◌, ℕ, List, Option, Some, None, Result, OnOk, OnErr}
 use Rattle.irig_disk.specs.Disk.{Disk, IsPlace, LeavesOnly}
-use Rattle.irig_disk.specs.Put.{IsKept, IsPut, OldOrNewIfThere, SeenSameIfThere, TriesOne}
+use Rattle.irig_disk.specs.Put.{IsKept, IsPutLast, OldOrNewIfThere, SeenSameIfThere, TriesOne}
 use Rattle.irig_disk.specs.{Held.Held, Writing.IsUnchanged}
 use Rattle.irig_files.specs.Taken.{mode_at}
 
 -- what a write that does not succeed leaves at its place
 pub record FailsToPut (old new : Disk) (place : List ℕ) (held : Held) : Type 0 where
-  pub seen : SeenSameIfThere old new place ⊎ IsPut old new place held
+  pub seen : SeenSameIfThere old new place ⊎ IsPutLast old new place held
   pub log : TriesOne old new place held
   pub paths : IsPlace old place → new.paths ≡ old.paths
 

@@ -2,7 +2,7 @@
 use Rattle.std.specs.Prelude.{◌≡◌, ◌≢◌, ◌⊎◌, ◌≤◌, ◌++◌, Bool, IsTrue, ℕ, List, [], ◌∷◌, Option}
 use Rattle.std.specs.Prelude.{Some, None}
 use Rattle.irig_disk.specs.Trail.{Step, Moved, NotMoved, Synced}
-use Rattle.irig_disk.specs.{Disk.Disk, Disk.MayLeave, Held.Held}
+use Rattle.irig_disk.specs.{Disk.Disk, Disk.MayLeave, Disk.seen_under, Held.Held}
 use Rattle.irig_files.specs.Taken.{StaysBarred}
 
 -- a write that was tried: its place, what it was to leave there, and the moment at which it had
@@ -43,12 +43,14 @@ abbrev pub AreAt : Option (List ℕ) → List Write → Type 0
 AreAt place [] = Unit {0}
 AreAt place (w ∷ writes) = (Some w.place ≡ place) × AreAt place writes
 
--- a write that succeeded: each crash since then leaves it, or a later one
+-- a write that succeeded: it is seen, or a later one, and each crash since then leaves one of these
 pub record IsKeptSince (old new : Disk) (w : Write) (after : List Write) (moment : ℕ)
     : Type 0 where
   pub began : old.moment ≤ moment
   pub ended : moment ≤ new.moment
   pub there : new.leads w.place ≢ None
+  pub seen : (seen_under new w.place ≡ Some w.held)
+      ⊎ IsLeftBy after w.place (seen_under new w.place)
   pub left : (c : Option Held) → new.left_since moment w.place c
       → (c ≡ Some w.held) ⊎ IsLeftBy after w.place c
 
@@ -78,6 +80,10 @@ pub record Goes (old new : Disk) (target : Option (List ℕ)) : Type 0 where
   pub paths : new.paths ≡ old.paths
   pub there : (place : List ℕ) → old.leads place ≢ None → new.leads place ≢ None
   pub at_target : AreAt target (writes_in more)
+  -- What is seen is what was seen before, or the whole of a write.
+  pub seen : (place : List ℕ) → IsMeant old target place
+      → (seen_under new place ≡ seen_under old place)
+      ⊎ IsLeftBy (writes_in more) place (seen_under new place)
   -- A crash at any moment since old leaves what it might have left before, or the whole of a write.
   pub any_moment : (place : List ℕ) (c : Option Held) → IsMeant old target place
       → new.left_since old.moment place c

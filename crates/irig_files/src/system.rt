@@ -1,7 +1,9 @@
 //! The files of the system: each method is one call. Nothing is known of them.
 
-ghost use Rattle.std.specs.Prelude.{◌≡◌, ◌↔◌, IfErr, IfOk, IsOk, IsTrue, None, Ok, OnErr, Some, ⊤};
-ghost use Rattle.std.specs.{Fs.IsFile, Fs.file_type, IoError.error_kind};
+ghost use Rattle.std.specs.Prelude.{◌≡◌, ◌≢◌, ◌↔◌, IfErr, IfOk, IsOk, IsTrue, None, Ok, OnErr, OnOk};
+ghost use Rattle.std.specs.Prelude.{Some, false, ⊤};
+ghost use Rattle.std.specs.Fs.{IsFile, asks_create, asks_truncate, asks_write, file_type};
+ghost use Rattle.std.specs.{IoError.error_kind};
 ghost use Rattle.std.proofs.Common.{ap};
 
 use crate::described::Described;
@@ -39,14 +41,14 @@ impl<'a, R: Files + Print + AllocGlobal> PlainCalls for SystemFolder<'a, R> {
     }
 
     fn open_other(&self, path: &str) -> Result<R::File, SystemFault> {
-        match OpenOptions::new().write(true).open(self.runtime(), path) {
+        match as_it_is().open(self.runtime(), path) {
             Ok(file) => Ok(file),
             Err(error) => Err(SystemFault(error)),
         }
     }
 
     fn open_seen(&self, path: &str) -> Result<SystemSeen<R::File>, SystemFault> {
-        match OpenOptions::new().write(true).open(self.runtime(), path) {
+        match as_it_is().open(self.runtime(), path) {
             Ok(file) => Ok(SystemSeen(file)),
             Err(error) => Err(SystemFault(error)),
         }
@@ -101,11 +103,7 @@ impl<R: Files + Print + AllocGlobal> FileSystem for SystemFolder<'_, R> {
     }
 
     fn output(&self) -> Result<Option<(u64, u64)>, SystemFault> {
-        match fs::metadata(self.runtime(), "/dev/stdout") {
-            Ok(found) => Ok(Some((found.dev(), found.ino()))),
-            Err(error) if error.kind() == ErrorKind::NotFound => Ok(None),
-            Err(error) => Err(SystemFault(error)),
-        }
+        numbers(fs::metadata(self.runtime(), "/dev/stdout"))
     }
 
     fn read_link(&self, path: &str) -> Result<Option<PathBuf>, SystemFault> {
@@ -137,6 +135,32 @@ fn found(said: io::Result<Metadata>) -> Result<Option<Described>, SystemFault>
         Err(fault) if fault.kind() == ErrorKind::NotFound => Ok(None),
         Err(fault) => Err(SystemFault(fault)),
     }
+}
+
+/// The numbers of what the answers go to, by what the system says of it; none only if it says that
+/// they go nowhere.
+fn numbers(said: io::Result<Metadata>) -> Result<Option<(u64, u64)>, SystemFault>
+    ensures some { OnOk said (IfOk result (λ id. id ≢ None)) }
+    ensures none { IfErr said (λ error. IsOk result
+        ↔ (error_kind error ≡ ErrorKind.NotFound)) }
+    ensures nothing { OnErr said (IfOk result (λ id. id ≡ None)) }
+{
+    match said {
+        Ok(found) => Ok(Some((found.dev(), found.ino()))),
+        Err(fault) if fault.kind() == ErrorKind::NotFound => Ok(None),
+        Err(fault) => Err(SystemFault(fault)),
+    }
+}
+
+/// How a file that is there is opened to be written: it is not cut, and none is made.
+fn as_it_is() -> OpenOptions
+    ensures write { IsTrue (asks_write result) }
+    ensures kept { asks_truncate result ≡ false }
+    ensures none { asks_create result ≡ false }
+{
+    let mut how = OpenOptions::new();
+    how.write(true);
+    how
 }
 
 /// What the system says of a file.

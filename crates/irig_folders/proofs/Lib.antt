@@ -1,3 +1,4 @@
 mod KeptFiles
 mod Lifted
 mod LogSteps
+mod Outputs

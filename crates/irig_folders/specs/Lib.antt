@@ -3,4 +3,5 @@ pub mod Led
 pub mod Log
 pub mod LogLaws
 pub mod Tree
+pub mod TreeFiles
 pub mod TreeLaws

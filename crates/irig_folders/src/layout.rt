@@ -1,7 +1,7 @@
 //! Which folders in memory there are, and which files in them are no regular ones.
 
 ghost use Rattle.std.specs.Prelude.{◌≡◌, is_none, option_copied};
-ghost use Rattle.irig_folders.specs.Tree.{front_in, other_in};
+ghost use Rattle.irig_folders.specs.{Tree.front_in, Tree.other_in, TreeFiles.output_in};
 
 /// A path of a folder. A folder can have many.
 #[derive(Drop)]
@@ -12,13 +12,15 @@ pub struct FolderPath {
     pub front: String,
 }
 
-/// A file that is no regular one.
+/// A file that is no regular one, or one that is written in place.
 #[derive(Drop)]
 pub struct Other {
     /// Its number.
     pub number: usize,
     /// Where it leads, if it is a link.
     pub text: Option<String>,
+    /// Whether the program's answers go to it.
+    pub takes_answers: bool,
 }
 
 /// Which folders there are, which files are no regular ones, and how many links a path may follow.
@@ -56,4 +58,15 @@ pub fn other_at<'o>(others: &'o [Other], number: usize) -> Option<&'o Other>
         return Some(other);
     }
     other_at(rest, number)
+}
+
+/// The number of the file that the program's answers go to, if they go to one.
+pub fn output_at(others: &[Other]) -> Option<usize>
+    ensures { result ≡ output_in others.now }
+{
+    let (other, rest) = others.split_first()?;
+    if other.takes_answers {
+        return Some(other.number);
+    }
+    output_at(rest)
 }

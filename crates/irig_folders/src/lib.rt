@@ -10,6 +10,7 @@ mod memory_system;
 mod seen_file;
 mod tree;
 mod tree_paths;
+mod tree_reads;
 mod tree_system;
 
 pub use call::Call;

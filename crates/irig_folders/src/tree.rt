@@ -68,11 +68,30 @@ impl Tree {
 
     /// Adds a file that is no regular one: a link, if it has a text.
     pub fn add_other(&mut self, place: &str, text: Option<String>) -> Result<(), MemoryFault> {
+        self.add_in_place(place, text, false)
+    }
+
+    /// Adds the file that the program's answers go to.
+    pub fn add_output(&mut self, place: &str) -> Result<(), MemoryFault> {
+        self.add_in_place(place, None, true)
+    }
+
+    /// Adds a file that is written in place.
+    fn add_in_place(
+        &mut self,
+        place: &str,
+        text: Option<String>,
+        takes_answers: bool,
+    ) -> Result<(), MemoryFault> {
         let number = self.memory.calls().len();
         let Some(_) = self.memory.make_new(place, false)? else {
             return Err(MemoryFault::NoSuchName);
         };
-        self.layout.others.push(Other { number, text })?;
+        self.layout.others.push(Other {
+            number,
+            text,
+            takes_answers,
+        })?;
         self.memory.sync_front("")
     }
 

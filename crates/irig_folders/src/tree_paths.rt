@@ -1,9 +1,12 @@
 //! Where paths lead in folders in memory.
 
-ghost use Rattle.std.specs.Prelude.{◌≡◌, ◌++◌, IfOk, option_copied, option_map, string_bytes};
+ghost use Rattle.std.specs.Prelude.{◌≡◌, ◌++◌, IfOk, IsErrOf, None, option_copied, option_map};
+ghost use Rattle.std.specs.Prelude.{string_bytes};
 ghost use Rattle.std.specs.Path.{path_buf_bytes};
 ghost use Rattle.irig_folders.specs.Log.{leads_in};
 ghost use Rattle.irig_folders.specs.Tree.{IsFound, end_of, over, place_in, text_at, text_of};
+ghost use Rattle.irig_folders.specs.TreeFiles.{file_to};
+ghost use Rattle.irig_folders.specs.declared.memory_fault.MemoryFault.TheVariants.{NoSuchName};
 ghost use Rattle.irig_files.specs.Paths.{followed};
 
 use crate::layout::{Other, front_at, other_at};
@@ -103,8 +106,10 @@ fn next_path(mut path: PathBuf, text: &str) -> Result<PathBuf, AllocError>
 
 /// The file that a path leads to; none if nothing is there. It fails if the path leads nowhere.
 pub fn find(tree: &Tree, path: &str) -> Result<Option<usize>, MemoryFault>
-    ensures { IfOk result (λ found. IsFound tree.now.layout
+    ensures found { IfOk result (λ found. IsFound tree.now.layout
         (leads_in tree.now.memory.calls.items) path.now found) }
+    ensures nowhere { IsErrOf result NoSuchName → file_to tree.now.layout
+        (leads_in tree.now.memory.calls.items) path.now ≡ None }
 {
     let start = path_of(tree.alloc, path)?;
     let Some(end) = end_at(tree, start, tree.layout.limit)? else {

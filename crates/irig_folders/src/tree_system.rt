@@ -1,19 +1,22 @@
 //! The single calls on paths of folders in memory, for tests.
 
-ghost use Rattle.std.specs.Prelude.{◌≡◌, ◌↔◌, IfOk, IsTrue, None, is_none, option_copied};
-ghost use Rattle.std.specs.Prelude.{⊤};
+ghost use Rattle.std.specs.Prelude.{◌≡◌, ◌≢◌, ◌↔◌, IfOk, IsTrue, None, Some, false, true};
+ghost use Rattle.std.specs.Prelude.{is_none, option_copied, option_map};
 ghost use Rattle.std.proofs.Common.{ap};
 ghost use Rattle.irig_folders.specs.Log.{holds_in, leads_in};
 ghost use Rattle.irig_folders.specs.Tree.{IsOther, IsWritable, link_at, other_in, over};
-ghost use Rattle.irig_folders.specs.TreeLaws.{follows_link};
+ghost use Rattle.irig_folders.specs.{TreeFiles.held_at, TreeFiles.output_in, TreeLaws.follows_link};
 
-use crate::layout::{front_at, is_regular};
+use crate::layout::{front_at, is_regular, output_at};
 use crate::left::mode_of;
 use crate::memory_fault::MemoryFault;
 use crate::seen_file::SeenFile;
 use crate::tree::{Plain, Tree, TreeDir};
 use crate::tree_paths::{end_at, find, link_text, path_of};
-use irig_files::{Described, DumpFileFault, FileSystem, Parts, PlainCalls};
+use crate::tree_reads::{bytes_at, read_of};
+use irig_files::{
+    Described, DumpFileFault, FileSystem, Parts, PlainCalls, read_whole, read_window,
+};
 use irig_vcd::{VcdFault, Window};
 use std::alloc::Global;
 use std::io::{self, Write};
@@ -82,7 +85,7 @@ fn is_writable(mode: u32) -> bool
     mode / 0o200 % 2 == 1
 }
 
-/// What a file is.
+/// What a file is; one that is written in place counts as no regular one.
 fn described(tree: &Tree, file: usize) -> Described
     ensures file { result.is_file ≡ is_none (other_in tree.now.layout.others.items file) }
     ensures mode { result.mode ≡ (holds_in tree.now.memory.calls.items file).mode }
@@ -92,6 +95,31 @@ fn described(tree: &Tree, file: usize) -> Described
         is_file: is_regular(&tree.layout.others, file),
         mode: mode_of(tree.memory.calls(), file),
         id: (0, file as u64),
+    }
+}
+
+/// What a file is, by a path that leads to it: the one that the answers go to is a regular one.
+fn shown(tree: &Tree, file: usize) -> Described
+    ensures regular { result.is_file ≡ true → output_in tree.now.layout.others.items ≢ Some file
+        → is_none (other_in tree.now.layout.others.items file) ≡ true }
+    ensures other { result.is_file ≡ false
+        → is_none (other_in tree.now.layout.others.items file) ≡ false }
+    ensures id { result.id ≡ (0, file) }
+{
+    let mut seen = described(tree, file);
+    if output_at(&tree.layout.others) == Some(file) {
+        seen.is_file = true;
+    }
+    seen
+}
+
+/// The numbers of the file that the answers go to, if they go to one.
+fn output_id(tree: &Tree) -> Option<(u64, u64)>
+    ensures { result ≡ option_map (λ file. (0, file)) (output_in tree.now.layout.others.items) }
+{
+    match output_at(&tree.layout.others) {
+        Some(file) => Some((0, file as u64)),
+        None => None,
     }
 }
 
@@ -109,7 +137,7 @@ fn read_text<'t>(tree: &'t Tree, path: &str) -> Result<Option<&'t str>, MemoryFa
 }
 
 impl FileSystem for Tree {
-    ghost output_id = { λ _. None };
+    ghost output_id = { λ t. option_map (λ file. (0, file)) (output_in t.layout.others.items) };
 
     ghost id_of = { λ _ file. (0, file) };
 
@@ -117,33 +145,34 @@ impl FileSystem for Tree {
 
     ghost link_at = { λ t. link_at t.layout (over t.layout (leads_in t.memory.calls.items)) };
 
-    ghost held = { λ _ _. None };
+    ghost held = { λ t. held_at t.layout t.memory.calls.items };
 
-    ghost unread = { λ _ _. ⊤ };
+    ghost unread = { λ t path. held_at t.layout t.memory.calls.items path ≡ None };
 
     ghost follows = { λ t. follows_link t.layout
         (over t.layout (leads_in t.memory.calls.items)) };
 
     ghost ids_differ = { λ _ one other same. ap (λ id. id.1) same };
 
-    /// No dump is read here.
     fn read(
         &self,
-        _: Global,
-        _: &str,
-        _: Option<&[u8]>,
+        alloc: Global,
+        path: &str,
+        wire: Option<&[u8]>,
     ) -> Result<Result<Parts, VcdFault>, DumpFileFault> {
-        Err(DumpFileFault::CannotBeRead)
+        let bytes = bytes_at(self, alloc, path)?;
+        read_of(read_whole(alloc, bytes.as_slice(), wire))
     }
 
     fn read_window(
         &self,
-        _: Global,
-        _: &str,
-        _: Option<&[u8]>,
-        _: Window,
+        alloc: Global,
+        path: &str,
+        wire: Option<&[u8]>,
+        window: Window,
     ) -> Result<Result<Parts, VcdFault>, DumpFileFault> {
-        Err(DumpFileFault::CannotBeRead)
+        let bytes = bytes_at(self, alloc, path)?;
+        read_of(read_window(alloc, bytes.as_slice(), wire, window))
     }
 
     fn describe(&self, path: &str) -> Result<Option<Described>, MemoryFault> {
@@ -151,7 +180,7 @@ impl FileSystem for Tree {
             return Err(MemoryFault::Planned);
         }
         match find(self, path) {
-            Ok(Some(file)) => Ok(Some(described(self, file))),
+            Ok(Some(file)) => Ok(Some(shown(self, file))),
             Ok(None) => Ok(None),
             Err(fault) => Err(fault),
         }
@@ -160,7 +189,7 @@ impl FileSystem for Tree {
     fn output(&self) -> Result<Option<(u64, u64)>, MemoryFault> {
         match self.blind {
             Some(Plain::Output) => Err(MemoryFault::Planned),
-            _ => Ok(None),
+            _ => Ok(output_id(self)),
         }
     }
 

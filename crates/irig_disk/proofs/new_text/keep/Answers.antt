@@ -14,7 +14,11 @@ returns-in-Ok-clause-any_moment g c told start beside name text is p =
 pub returns-clause-err : goal.returns-clause-err
 returns-clause-err g c told start beside name text is p =
     let stays = c.in-Err.ensures.err told in
-    record { seen = stays_put _ _ _ _ _ _ p stays.names.seen stays.names.left stays.files; log = not_kept _ _ _ _ _ _ p stays; paths = λ at. stays.names.paths ∙ p.paths at }
+    record {
+      seen = (stays_put _ _ _ _ _ _ p stays.names.seen stays.names.left stays.files, stays.names.log ∙ p.log);
+      log = not_kept _ _ _ _ _ _ p stays;
+      paths = λ at. stays.names.paths ∙ p.paths at;
+    }
 
 pub returns-clause-any_moment : goal.returns-clause-any_moment
 returns-clause-any_moment g c told start beside name text is p =
