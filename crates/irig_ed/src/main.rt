@@ -4,6 +4,8 @@
 mod ending;
 mod file_run;
 mod help;
+#[cfg(test)]
+mod in_memory;
 mod statuses;
 
 ghost use Rattle.std.specs.Prelude.{◌≡◌, IfOk, OnErr, map, string_bytes};

@@ -1,0 +1,118 @@
+//! The program over folders in memory, where the standard output is one of the files. They report
+//! all, so the clause of a run has no premise.
+
+ghost use Rattle.std.specs.Prelude.{◌≡◌, Some, map, string_bytes, true, None};
+ghost use Rattle.std.specs.Process.{exit_status};
+ghost use Rattle.irig_files.specs.{Puts.writes_on, Taken.IsLocked, Writes.LeavesTo};
+ghost use Rattle.irig_folders.specs.{Log.disk_of, Log.holds_in, Tree.IsWritable, Tree.tree_disk};
+ghost use Rattle.irig_folders.specs.TreeFiles.{held_at};
+ghost use Rattle.irig_ed.specs.{Ending.Serves, Ending.ends, Ending.files};
+
+use crate::start;
+use irig_files::Files;
+use irig_folders::{MemoryFault, Tree, TreeDir};
+use irig_script::{NoWitness, Screen};
+use std::alloc::Global;
+use std::process::ExitCode;
+
+/// Edits the track that the words name, in folders in memory.
+fn start_in_memory<P: Eprint + AllocGlobal>(
+    rt: &P,
+    words: &[String],
+    disk: &mut Files<Tree>,
+    script: &mut &[u8],
+    screen: &mut Screen<&mut Vec<u8>, NoWitness>,
+    help: &mut Vec<u8>,
+) -> ExitCode
+    ensures { Serves (map string_bytes words.now)
+        (files (held_at disk.old.system.layout disk.old.system.memory.calls.items)
+        (λ path. held_at disk.old.system.layout disk.old.system.memory.calls.items path ≡ None)
+        (tree_disk disk.old.system.layout (disk_of disk.old.system.memory.calls.items)).paths
+        (LeavesTo true
+        (IsLocked (λ i. IsWritable (holds_in disk.old.system.memory.calls.items i).mode))
+        (IsLocked (λ i. IsWritable (holds_in disk.new.system.memory.calls.items i).mode))
+        (tree_disk disk.old.system.layout (disk_of disk.old.system.memory.calls.items))
+        (tree_disk disk.new.system.layout (disk_of disk.new.system.memory.calls.items))))
+        (ends screen.old (writes_on true
+        (tree_disk disk.old.system.layout (disk_of disk.old.system.memory.calls.items)))
+        (Some script.old.now))
+        (ends screen.new (writes_on true
+        (tree_disk disk.new.system.layout (disk_of disk.new.system.memory.calls.items)))
+        (Some script.new.now))
+        (Some help.old.items) (Some help.new.items) (exit_status result) }
+{
+    start(rt, words, disk, script, screen, help)
+}
+
+/// A dump of two pulses.
+static DUMP: &[u8] = b"$timescale 1 us $end $var wire 1 ! code $end $enddefinitions $end\n\
+    #100 1!\n#120 0!\n#200 1!\n#280 0!\n#1000\n";
+
+/// A run that writes twice: the track, the path, the status, what is printed, and how many calls
+/// change the folders.
+type Row = (&'static str, &'static str, u8, &'static [u8], usize);
+
+/// What is no regular file, and the standard output, are written in place, also through a link.
+static ROWS: [Row; 7] = [
+    ("t", "w", 0, b"163\n163\n", 11),
+    ("t", "t", 0, b"163\n163\n", 12),
+    ("t", "out", 0, b"163\n163\n", 0),
+    ("t", "link", 0, b"163\n163\n", 0),
+    ("t", "pipe", 0, b"163\n163\n", 0),
+    ("t", "no/w", 1, b"? S3 WriteFailed\n? S3 WriteFailed\n", 0),
+    ("none", "w", 3, b"", 0),
+];
+
+/// A folder with the dump, the standard output, a link to it, and a pipe.
+fn folder(alloc: Global) -> Result<Tree, MemoryFault> {
+    let mut tree = Tree::new(alloc, 40);
+    tree.add_path(".", "/")?;
+    tree.add_file("/t", DUMP, 0o640)?;
+    tree.add_output("/out")?;
+    tree.add_other("/link", Some(String::from_str(alloc, "out")?))?;
+    tree.add_other("/pipe", None)?;
+    Ok(tree)
+}
+
+/// The words of a row.
+fn words(alloc: Global, track: &str, out: &str) -> Option<Vec<String>> {
+    let mut words = Vec::new(alloc);
+    for word in ["irig_ed", "--out", out, track].iter() {
+        let word = String::from_str(alloc, word).ok()?;
+        words.push(word).ok()?;
+    }
+    Some(words)
+}
+
+/// Whether the run of a row ends, prints and writes as the row says.
+fn is_run<R: Eprint + AllocGlobal>(rt: &R, tree: Tree, row: Row) -> bool {
+    let (track, out, status, printed, calls) = row;
+    let alloc = rt.alloc();
+    let Some(words) = words(alloc, track, out) else {
+        return false;
+    };
+    let before = tree.memory.calls().len();
+    let dir = TreeDir {
+        front: String::new(alloc),
+    };
+    let mut disk = Files::new(tree, dir);
+    let mut script: &[u8] = b"write\nwrite\n";
+    let (mut shown, mut help) = (Vec::new(alloc), Vec::new(alloc));
+    let mut screen = Screen::new(&mut shown, NoWitness);
+    let ended = start_in_memory(rt, &words, &mut disk, &mut script, &mut screen, &mut help);
+    ended == ExitCode::from(status)
+        && shown.as_slice() == printed
+        && help.is_empty()
+        && disk.system().memory.calls().len() == before + calls
+}
+
+// Only a path that leads to the place of a regular file, or of none yet, changes the folder.
+#[test]
+fn the_standard_output_is_written_in_place(rt: HostRuntime) {
+    for row in ROWS.iter() {
+        match folder(rt.alloc()) {
+            Ok(tree) => assert!(rt; is_run(&rt, tree, *row)),
+            Err(_) => assert!(rt; false),
+        }
+    }
+}
