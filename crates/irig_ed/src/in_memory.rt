@@ -103,7 +103,7 @@ fn is_run<R: Eprint + AllocGlobal>(rt: &R, tree: Tree, row: Row) -> bool {
     ended == ExitCode::from(status)
         && shown.as_slice() == printed
         && help.is_empty()
-        && disk.system().memory.calls().len() == before + calls
+        && disk.system().memory.calls().len().saturating_sub(before) == calls
 }
 
 // Only a path that leads to the place of a regular file, or of none yet, changes the folder.
