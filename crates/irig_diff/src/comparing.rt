@@ -51,7 +51,7 @@ fn compare_files<'a, D: Disk, W: Write>(
     compare_with_block(alloc, chosen, disk, out, &mut block)
 }
 
-/// The same, in a block.
+/// Compares two files as the words ask, and prints by a block that was made before.
 fn compare_with_block<'a, D: Disk, W: Write>(
     alloc: Global,
     chosen: &Settings<'a>,

@@ -26,7 +26,7 @@ impl Session {
         )
     }
 
-    /// That text in parts. It takes no memory.
+    /// The text of the saved session, in parts. It takes no memory.
     pub fn saved_parts(&self) -> SavedText<'_>
         ensures { result ≡ saved_text (work_in self.now) }
     {

@@ -159,7 +159,7 @@ pub fn read_window<R: Read + Drop>(
     read_by_parts(alloc, &mut reader, &mut part, wire, Some(window))
 }
 
-/// The same, part by part.
+/// Reads a window of a dump part by part, and counts all bytes.
 fn read_by_parts<R: Read>(
     alloc: Global,
     reader: &mut R,
@@ -199,7 +199,7 @@ pub fn read_dump<R: Files>(
     read_open(alloc, file, wire)
 }
 
-/// The same of an open file.
+/// Reads a dump from a file that is open, unless its size is too large.
 fn read_open<F: OpenFile + Read + Drop>(
     alloc: Global,
     file: F,

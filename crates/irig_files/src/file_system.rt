@@ -48,7 +48,7 @@ pub trait FileSystem: PlainCalls {
             → IfSome (held self.now path.now) (λ all. 2 ^ 28 < length all) }
         ensures unread { IsErrOf result DumpFileFault.CannotBeRead → unread self.now path.now };
 
-    /// The same of a window of the dump. At most one more byte than 2^47 is read.
+    /// Reads a window of the dump in the file at a path. At most one more byte than 2^47 is read.
     fn read_window(
         &self,
         alloc: Global,

@@ -22,7 +22,7 @@ struct Ends {
     after: Option<Anchor>,
 }
 
-/// Those of the frames next to a frame.
+/// The markers of the two frames next to a frame, as they are seen from it.
 fn ends_of(session: &Session, near: &Witnesses, frame: &Seen) -> Ends
     ensures before { result.before
         ≡ marker_before session.now.state.format near.now frame.now.shown 0 }

@@ -20,7 +20,7 @@ pub fn command_of(line: &Line) -> Option<Command>
     command_in(line.bytes.as_slice())
 }
 
-/// The same of the bytes of a line.
+/// What the bytes of a line ask for, if they are valid.
 fn command_in(line: &[u8]) -> Option<Command>
     ensures { MatchOption result ((asked : SomeCommand) → Asks asked line.now → ⊥)
         (λ asked. Asks asked line.now) }

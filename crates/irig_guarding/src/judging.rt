@@ -61,7 +61,7 @@ fn check_listed(
     }
 }
 
-/// The same of the frames that read well, if none may move.
+/// Why a repair is dropped by the frames that read well, if none may move.
 fn check_unmoved(
     session: &Session,
     opened: &Original,
@@ -83,7 +83,8 @@ fn check_unmoved(
     }
 }
 
-/// The same if they may move: by the places where the former ones are now.
+/// Why a repair is dropped by the frames that read well, if they may move: by the places where the
+/// former ones are now.
 fn check_moved(
     alloc: Global,
     session: &Session,

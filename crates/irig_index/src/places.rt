@@ -59,7 +59,8 @@ pub fn is_up_to(records: &Gap<Stored>, pulses: usize, k: usize, last: usize) -> 
     k < records.len() && record_at(records, pulses, k).marker() <= last
 }
 
-/// Writes a record over the one at place `k`, from 0.
+/// Writes a record over the one at place `k`, from 0. Right of the gap a marker is kept by how many
+/// pulses come after it, so the record is turned there.
 pub fn set_record(records: &mut Gap<Stored>, pulses: usize, k: usize, found: Stored)
     requires { k < length records.old.items }
     ensures shown { shown pulses records.new ≡ slice_set (shown pulses records.old) k found }

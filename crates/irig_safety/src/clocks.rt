@@ -31,7 +31,7 @@ fn is_in_time(format: Format, one: &Shown, other: &Shown, from: &Shown, frame: &
         && 2 * apart(here, wanted) <= whole * u128::from(format.interval())
 }
 
-/// The same, if the two frames show their clock.
+/// Whether another frame begins when it should after some frame, by the clock that two frames show.
 pub fn is_by_clock(format: Format, one: &Shown, other: &Shown, from: &Shown, frame: &Shown) -> bool
     ensures { result ≡ is_by_clock format one.now other.now from.now frame.now }
 {
@@ -139,7 +139,8 @@ fn is_amid(
     }
 }
 
-/// The same of four frames.
+/// Whether two frames are as far apart as lies between what the clock of the two before says and
+/// that of the two after.
 fn is_amid_of(
     format: Format,
     before2: &Shown,

@@ -173,7 +173,7 @@ fn is_bent(format: Format, sides: &Sides, before: &Anchor, rise: u64, after: &An
     is_straight(format, before, micros, after)
 }
 
-/// So by the four nearest frames, if they are there.
+/// Whether a time is on the curve that the four nearest frames give, if all are there.
 pub fn is_on_curve(
     format: Format,
     near: &Witnesses,

@@ -65,7 +65,7 @@ pub fn marker_before(
     }
 }
 
-/// So the marker of the frame after it.
+/// The marker of the frame after a frame, as it is seen from an element of that, if it is counted.
 pub fn marker_after(
     format: Format,
     near: &Witnesses,
@@ -146,7 +146,7 @@ fn is_at_clock(format: Format, steps: u128, micros: u128, one: &Shown, other: &S
     shows_clock(format, one, other) && apart(micros * whole, wanted) <= whole * tenth(format)
 }
 
-/// So by that of two frames, if they are there.
+/// Whether steps and microseconds fit the clock of two frames, if both are there.
 fn is_at_clock_of(
     format: Format,
     steps: u128,
@@ -163,7 +163,7 @@ fn is_at_clock_of(
     }
 }
 
-/// So by that of the two nearest frames.
+/// Whether steps and microseconds fit the clock of the two nearest frames on a side.
 fn is_clocked(format: Format, near: &Witnesses, steps: u128, micros: u128) -> bool
     requires { (steps ≤ 2 ^ 17) × (micros < 2 ^ 64) }
     ensures { result ≡ is_clocked format near.now steps micros }

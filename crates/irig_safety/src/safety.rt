@@ -97,7 +97,7 @@ fn passed(format: Format, old: &[Shown], kept: usize, frame: &Shown) -> Result<u
     }
 }
 
-/// The same of a frame between former ones.
+/// How many former frames are passed after a frame between them, or why it is not safe.
 fn come(format: Format, old: &[Shown], kept: usize, frame: &Shown) -> Result<usize, Fault>
     requires { kept ≤ length old.now }
     ensures { result ≡ if is_borne format (behind (kept - 1) old.now) (behind kept old.now)

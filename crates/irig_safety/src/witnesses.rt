@@ -34,7 +34,8 @@ fn is_led(format: Format, before: Option<Shown>, after: Option<Shown>, frame: &S
     }
 }
 
-/// The same between two frames.
+/// Whether the first of two frames leads to a frame between them, or that one leads to the second,
+/// to half an interval and what these two stray.
 fn is_led_by(format: Format, before: &Shown, after: &Shown, frame: &Shown) -> bool
     ensures { result ≡ is_led format (Some before.now) (Some after.now) frame.now }
 {

@@ -44,7 +44,7 @@ pub fn align<R: Read, W: Write>(
     align_named(alloc, recording, lines, out, format, settings, name)
 }
 
-/// The same, if the number of the column is known.
+/// Prints lines with the times that a recording gives them, if the column has a number.
 fn align_numbered<R: Read, W: Write>(
     alloc: Global,
     recording: Recording,
@@ -66,7 +66,7 @@ fn align_numbered<R: Read, W: Write>(
     align_track(alloc, &track, b"", lines, out, format, settings)
 }
 
-/// The same, if the column has this name in the header.
+/// Prints lines with the times that a recording gives them, if the header names the column.
 fn align_named<R: Read, W: Write>(
     alloc: Global,
     recording: Recording,
@@ -99,7 +99,7 @@ fn align_named<R: Read, W: Write>(
     align_track(alloc, &track, before, lines, out, format, &settings)
 }
 
-/// The same with a track, and with what was read of the lines before.
+/// Prints lines with the times that a track gives them, first those that were read already.
 fn align_track<R: Read, W: Write>(
     alloc: Global,
     track: &Track,

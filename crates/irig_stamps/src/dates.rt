@@ -50,7 +50,7 @@ pub fn date_in(year: Option<u32>, days: u32) -> Option<(u32, u32)>
     }
 }
 
-/// The same for a year that is known.
+/// The month and the day of it of a day in a year that is known.
 fn date_from(year: u32, days: u32) -> Option<(u32, u32)>
     requires { year ≤ 9999 }
     ensures { result ≡ date_from year days }

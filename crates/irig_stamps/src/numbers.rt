@@ -21,7 +21,7 @@ pub fn number(places: usize, text: &[u8]) -> Option<Picos>
     signed(places, text)
 }
 
-/// The same after the white space.
+/// The number with its sign, after white space.
 fn signed(places: usize, text: &[u8]) -> Option<Picos>
     ensures { result ≡ option_map capped (signed places text.now) }
 {
@@ -46,7 +46,7 @@ fn positive(places: usize, text: &[u8]) -> Option<Picos>
     above(size_in(false, places, text))
 }
 
-/// So long after zero.
+/// A number this far above zero.
 fn above(size: Option<u128>) -> Option<Picos>
     ensures { result ≡ above size }
 {
@@ -59,7 +59,7 @@ fn above(size: Option<u128>) -> Option<Picos>
     }
 }
 
-/// So long before zero.
+/// A number this far below zero.
 fn below(size: Option<u128>) -> Option<Picos>
     ensures { result ≡ below size }
 {
@@ -130,7 +130,7 @@ fn with_exponent(
     }
 }
 
-/// The same after the e of an exponent.
+/// The number with these digits and the exponent after its e.
 fn after_e(up: bool, places: usize, whole: &[u8], fraction: &[u8], rest: &[u8]) -> Option<u128>
     ensures { result ≡ option_map (λ v. min v (2 ^ 120))
         (after_e up places whole.now fraction.now rest.now) }
@@ -142,7 +142,7 @@ fn after_e(up: bool, places: usize, whole: &[u8], fraction: &[u8], rest: &[u8]) 
     }
 }
 
-/// The same from the digits of the exponent on.
+/// The number with these digits and an exponent, from its digits on.
 fn powered(
     up: bool,
     left: bool,

@@ -44,7 +44,7 @@ pub fn list<W: Write>(
     list_track(alloc, &track, out, format, settings)
 }
 
-/// The same of a track.
+/// Prints the table of a track.
 fn list_track<W: Write>(
     alloc: Global,
     track: &Track,

@@ -90,7 +90,7 @@ pub fn command<'a>(alloc: Global) -> Result<Command<'a>, AllocError>
     marking.arg(needed_arg(alloc, "TRACK", "the dump; lines come on standard input"))
 }
 
-/// Its options: also what the header is, and how a time is written.
+/// The command with all options: the last say what the header is, and how a time is written.
 fn writing<'a>(alloc: Global) -> Result<Command<'a>, AllocError>
     ensures { IfOk result (λ c. IsWriting (app_of c)) }
 {
@@ -101,7 +101,7 @@ fn writing<'a>(alloc: Global) -> Result<Command<'a>, AllocError>
     placing(alloc)?.arg(header)?.arg(name)?.arg(year)?.arg(form)
 }
 
-/// Its options: also which frames are taken, and what is printed of them.
+/// The command with the options up to those that say which frames are taken, and what is printed.
 fn marking<'a>(alloc: Global) -> Result<Command<'a>, AllocError>
     ensures { IfOk result (λ c. IsMarking (app_of c)) }
 {
@@ -123,7 +123,7 @@ fn marking<'a>(alloc: Global) -> Result<Command<'a>, AllocError>
     writing(alloc)?.arg(alone)?.arg(why)?.arg(table)
 }
 
-/// Its options: also where the recorder's time is in a line.
+/// The command with the options up to those that say where the recorder's time is in a line.
 fn placing<'a>(alloc: Global) -> Result<Command<'a>, AllocError>
     ensures { IfOk result (λ c. IsPlacing (app_of c)) }
 {
@@ -153,7 +153,7 @@ fn placing<'a>(alloc: Global) -> Result<Command<'a>, AllocError>
         .arg(comma)
 }
 
-/// Its options: also how the track is read.
+/// The command with the options up to those that say how the track is read.
 fn reading<'a>(alloc: Global) -> Result<Command<'a>, AllocError>
     ensures { IfOk result (λ c. IsReading (app_of c)) }
 {
@@ -162,7 +162,7 @@ fn reading<'a>(alloc: Global) -> Result<Command<'a>, AllocError>
     taking(alloc)?.arg(format)?.arg(expression)
 }
 
-/// Its options: which part of the dump is read.
+/// The command with the options that say which part of the dump is read.
 fn taking<'a>(alloc: Global) -> Result<Command<'a>, AllocError>
     ensures { IfOk result (λ c. IsTaking (app_of c)) }
 {

@@ -51,8 +51,10 @@ pub fn gap(from: &Part, to: &Part) -> usize
     to.number - (from.number + from.count)
 }
 
-/// The parts between two, if some pulses after the first and some before the second are in step, and
-/// the pulse after the first ones is in step with them or not.
+/// The pulses that are counted between two parts, on from the first and back from the second.
+/// `after` pulses follow the first in step, and `before` ones lead to the second; `in_step` says
+/// whether these meet in step. If just one frame of 100 pulses is missing, and both counts reach
+/// over all of it, all of them go on from the first.
 fn sides(
     from: &Part,
     to: &Part,

@@ -71,7 +71,8 @@ fn is_day_after(count: u32, a: &Time, b: &Time) -> bool
     }
 }
 
-/// The same, by the year of a century; 365 or 366 days, if it is unknown.
+/// Whether the second time is on the day after that of the first, by its year in a century; a year
+/// that is unknown has 365 days or 366.
 fn day_follows(century: u32, a: &Time, b: &Time) -> bool
     requires { century ≤ 99 }
     ensures { result ≡ day_follows century a.now.year a.now b.now }

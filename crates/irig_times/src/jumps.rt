@@ -128,7 +128,7 @@ fn slips(
     }
 }
 
-/// The same, if both markers are there.
+/// Whether two markers are whole periods apart, and the times of their frames are not that many.
 fn slips_by(format: Format, century: u32, from: &Time, to: &Time, first: Pulse, last: Pulse) -> bool
     requires century { century ≤ 99 }
     requires times { (from.now.micros < 2 ^ 59) × (to.now.micros < 2 ^ 59) }

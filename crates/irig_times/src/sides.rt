@@ -84,7 +84,7 @@ fn borne(
     confirmed(pulses, format, wanted, side, count)
 }
 
-/// The same of a side that is of a frame of a time.
+/// How many pulses of a side the frame of this time bears out; none if no frame has this time.
 fn borne_at(pulses: &mut Lens<'_>, format: Format, time: &Time, side: &Side, most: usize) -> usize
     requires { (side.now.number < 2 ^ 32) × (most ≤ 100) }
     ensures count { result ≡ borne_at format pulses.old.track.pulses time.now side.now most }

@@ -89,7 +89,8 @@ fn started(
     }
 }
 
-/// Whether a frame is followed by another, if its last pulse is `number`, up to which there are
+/// Whether the next frame begins right after one with these fields, one frame period later. The
+/// last pulse of that is `number`, from 1, up to which there are
 /// `next` records.
 fn is_followed(
     records: &mut FrameLens<'_>,

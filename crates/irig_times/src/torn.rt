@@ -81,7 +81,7 @@ pub fn tenths_found(pulses: &mut Lens<'_>, from: &Part, to: &Part) -> u64
     tenths_by(both, time) + 990
 }
 
-/// The same by their times.
+/// How many tenths of an interval one frame ends after another, by their times.
 fn tenths_told(pulses: &mut Lens<'_>, format: Format, from: &Part, to: &Part) -> u64
     ensures count { result ≡ tenths_told format pulses.old.track.pulses from.now to.now }
     ensures few { result ≤ 2 ^ 54 }

@@ -122,7 +122,8 @@ fn why_next_to(
     why_steady(pulses, format, century, from, to)
 }
 
-/// The same, if the time does not jump there.
+/// Why pulses between two frames, before the first one or after the last one have no time, if the
+/// time does not jump there.
 fn why_steady(
     pulses: &mut Lens<'_>,
     format: Format,

@@ -82,7 +82,7 @@ impl Journals {
         Pending::Nothing
     }
 
-    /// The same of a comment from its first word on.
+    /// Passes a comment, from its first word on, and notes where a journal is.
     pub fn take_comment(&mut self, tokens: &mut Tokens) -> Pending
         ensures read { (code : List ℕ) (unit : ℕ) (s : Scan) → Keeps s self.old pending.Comment
             → Reaches code unit s tokens.old None tokens.new self.new result }

@@ -42,7 +42,7 @@ fn eight(pair: u64) -> u64
     pair.wrapping_mul(42949672960001) >> 32
 }
 
-/// The numbers of eight digits that four of four make.
+/// The two numbers of eight digits that four numbers of four digits make, two by two.
 #[inline(always)]
 fn eights(fours: u32x4) -> [u64; 2]
     requires digits { AllBelowBase 10000 fours }

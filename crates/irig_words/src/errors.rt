@@ -30,7 +30,7 @@ pub fn not_text(command: Result<Command<'_>, AllocError>) -> Error
     }
 }
 
-/// The same, if memory suffices.
+/// What `clap` says of an argument that is not UTF-8; an error if memory runs out for it.
 fn said_of_bytes(command: Result<Command<'_>, AllocError>) -> Result<Error, AllocError>
     ensures { IfOk result IsMistake }
 {

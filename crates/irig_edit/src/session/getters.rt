@@ -126,7 +126,7 @@ impl Session {
         whole(self.alloc, self.present.text_room(), &mut self.text_parts())
     }
 
-    /// That text in parts. It takes no memory.
+    /// The text of the track's dump, in parts. It takes no memory.
     pub fn text_parts(&self) -> TrackText<'_>
         ensures { result ≡ file_text (recording_of self.now.state) }
     {
