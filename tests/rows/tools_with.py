@@ -126,8 +126,8 @@ def of_recorded():
     split[LOST:LOST + 1] = [[rise, rise + 900], [rise + 940, fall]]
     wanted, reasons, guesses, _ = mended(split, other)
     yield same("with a glitch, which is seen through", (wanted, guesses), ({LOST: class_at(pulses, LOST)}, {LOST}))
-    yield same("its reason", reasons, ["undecided whether zero or one: it looks like a %s here, and is a %s in B.vcd at %s" % (
-        here, there, place_of(other, LOST))])
+    yield same("its reason", reasons, ["this %s is a guess: it looks like a %s here, and is a %s in B.vcd at %s" % (
+        here, here, there, place_of(other, LOST))])
     moved = late([list(pulse) for pulse in pulses], LOST, 1500)
     yield same("late, and as wide as it was sent", mended(moved, other)[::2], ({LOST: class_at(pulses, LOST)}, {LOST}))
     yield same("the same, and the other has it, too", mended(moved, slow(code()))[::2], ({LOST: class_at(pulses, LOST)}, set()))
@@ -145,7 +145,7 @@ def of_votes():
     yield same("one against one", mended(pulses, right, wrong)[2], {LOST})
     reasons = mended(pulses, right, wrong, slow(code(), 0.0001))[1]
     yield same("all that have it are named", [each.count(".vcd at ") for each in reasons], [2])
-    parted = " it is a zero in %s, and a one in %s, so this " % tuple(
+    parted = " is a guess: it is a zero in %s, and a one in %s" % tuple(
         "%s.vcd at %s" % (name, place_of(other, LOST)) for name, other in sorted(zip("BC", (right, wrong)), key=lambda pair: (
             pair[0] == "B") == (told == "1")))
     yield same("what two say that differ", [parted in each for each in mended(pulses, right, wrong)[1]], [True])
@@ -453,8 +453,8 @@ def of_refused():
                    (1, "rec.vcd: 1 place found, 1 repaired, 0 undecided, 0 left, 0 s", 2))
         yield same("what is said", " is recorded here, and a " in printed[1], True)
         status, printed, _ = mend("--with=wrong.vcd", "--with=right.vcd")
-        yield same("two others that differ", (status, printed[0].partition("; ")[2].partition(" in ")[0], len(printed)),
-                   (1, "undecided whether zero or one: it is a zero", 2))
+        yield same("two others that differ", (status, printed[0].partition(": it is ")[2].partition(" in ")[0], len(printed)),
+                   (1, "a zero", 2))
         status, printed, _ = mend("--with=right.vcd", "--with=day.vcd", "--apply=new.vcd")
         yield same("one of two is used", (status, "1 repaired, 0 undecided" in printed[0], printed[1:]), (1, True, ["rec.vcd: " + (
             "day.vcd is not used: none of its frames has the time of one here: its first one is 86400.00 seconds later")]))

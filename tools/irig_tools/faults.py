@@ -254,7 +254,7 @@ class Faults:
         """Why this class has to be there."""
         target, element = NAMES[self.wanted[place]], place % ELEMENTS
         if place in self.guesses:
-            return "undecided whether zero or one: " + self._guessed(place, target)
+            return "this %s is a guess: %s" % (target, self._guessed(place, target))
         if element in self.usual:
             return "a %s as in most frames" % target
         if place in self.by_others:
@@ -279,8 +279,8 @@ class Faults:
             return "it looks like a %s here, and is a %s in %s" % (target, NAMES[other], self.elsewhere.sources(number, element, other))
         if self.elsewhere.is_split(number, element):
             said = ["a %s in %s" % (NAMES[told], self.elsewhere.sources(number, element, told)) for told in "01"]
-            return "it is %s, so this %s is a guess" % (", and ".join(said), target)
-        return "nothing says it, so this %s is a guess" % target
+            return "it is %s" % ", and ".join(said)
+        return "nothing says whether it was zero or one"
 
     def kind(self, place: PlaceNumber) -> DamageKind:
         """The kind of damage at a place."""

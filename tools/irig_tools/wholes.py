@@ -155,5 +155,5 @@ def _generate(faults: Faults, frames: List[_Lost]) -> Item:
         why += "; what no frame around them says" + elsewhere.replace(", or is", " is")
     guessed = sorted({place % ELEMENTS for place in faults.guesses if own[0] <= place <= own[-1]})
     if guessed:
-        why += "; undecided are the control elements %s" % ", ".join(map(str, guessed))
+        why += "; guesses are the control elements %s" % ", ".join(map(str, guessed))
     return Item(own[0], own[-1], [Edit("regen", (*values, *control))], why, targets=lost, kind=DamageKind.STRETCH, is_guess=bool(guessed))
