@@ -9,7 +9,7 @@ from typing import Dict, Iterable, NamedTuple, Optional, Sequence
 
 from . import limits
 
-USUAL = 75  # the element
+MOST_USUAL = 75  # the element
 NOT_KNOWN = str.maketrans("", "", "01P")
 
 
@@ -38,7 +38,7 @@ def rule_of(elements: Iterable[int], texts: Sequence[str]) -> Optional[Rule]:
 
 def usual_rule_of(elements: Iterable[int], texts: Sequence[str]) -> Optional[Rule]:
     """The rule at the element that the standards have for it, if some of these frames show it and none contradicts it."""
-    return _rule_at(USUAL, texts, limits.FEW_BY_RULE, len(texts)) if USUAL in elements else None
+    return _rule_at(MOST_USUAL, texts, limits.FEW_BY_RULE, len(texts)) if MOST_USUAL in elements else None
 
 
 def _rule_at(element: int, texts: Sequence[str], least: int = limits.LEAST_BY_RULE,
