@@ -480,8 +480,9 @@ def larger_rows():
     for frame in (4, 7, 8):
         changing[100 * frame + 74][1] += 3000
     del changing[674]
-    seen = "# %s6, element 74, at 6740000: no pulse; this zero is a guess: nothing says whether it was zero or one" % FRAME
-    yield starts("a control function that changes", mended(changing, 12000000)[0].splitlines()[:1], [seen])
+    first = mended(changing, 12000000)[0].splitlines()[:1]
+    yield starts("a control function that changes", first, ["# %s6, element 74, at 6740000: no pulse; this " % FRAME])
+    yield same("what is said of it", [line.partition(" is a ")[2] for line in first], ["guess: nothing says whether it was zero or one"])
     turns = "the falls come at one distance, the rises do not: the wire is upside down from "
     over = recording()
     upside_down_in(over, 2503000, 8000000)
