@@ -122,9 +122,9 @@ def of_one_frame():
                 words = [*CODE, "--column=2", word, name]
                 yield same("%s %s" % (name, word), aligned(15000, words, plain(500)), whole(words, plain(500)))
 
-    pulses = code(1000)
+    pulses = code(1700)
     return in_folder(lambda: list(holds()), one=dump(pulses[40099:40202] + pulses[-1:]), none=dump(pulses[40110:40190] + pulses[-1:]),
-                     two=dump(pulses[99:202] + pulses[88099:88202] + pulses[-1:]))
+                     two=dump(pulses[99:202] + pulses[150099:150202] + pulses[-1:]))
 
 
 def by_halves():

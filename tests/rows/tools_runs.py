@@ -25,7 +25,7 @@ def head(chance, codes):
 def body(chance, codes):
     """Words of changes; those of the first wire are most often edges. Now and then all times have zeros before them."""
     time, levels = chance.choice((0, 5, 98, 1000, 1 << 50)), dict.fromkeys(codes, 0)
-    form = chance.choice(("#%d", "#%d", "#%d", "#%017d"))
+    form = "#%017d" if chance.getrandbits(2) == 0 else "#%d"
     yield from ["#0", *(chance.choice("01x") + code for code in codes)][:chance.choice((0, 9))]
     for _ in range(chance.randrange(60)):
         time += chance.choice((0, 1, 1, 2, 3, 7, 10, 100, 1000))
