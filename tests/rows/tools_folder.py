@@ -220,11 +220,13 @@ def ended():
                 time.sleep(0.05)
             time.sleep(0.3)
             process.send_signal(number)
+            process.wait()  # not for those that hold its standard error
+            left = os.listdir("tmp"), [name for name in os.listdir("mended") if name[0] == "."]
             said = process.communicate()[1]
             yield same("the status after signal %d" % number, process.returncode, wanted)
             if number != signal.SIGKILL:
                 yield same("what is said", "of 4 recordings are looked at; the same command does the others" in said, True)
-                yield same("what is left", (os.listdir("tmp"), [name for name in os.listdir("mended") if name[0] == "."]), ([], []))
+                yield same("what is left", left, ([], []))
         kept = {name: os.stat("mended/" + name).st_mtime_ns for name in whole()[:2]}
         status, lines, _ = mended()
         yield same("the rest is done", (status, whole()), (0, ["%d.vcd" % number for number in range(4)]))
