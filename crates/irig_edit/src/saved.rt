@@ -14,8 +14,9 @@ use std::alloc::AllocError;
 pub use text::SavedText;
 
 impl Session {
-    /// The text of the track's dump with the journal after it, as `docs/FORMATS.md` says under
-    /// "The saved journal". The steps of an open group are saved one by one.
+    /// The text of the track's dump with the journal after it, as `docs/FORMATS.md` says under "The
+    /// saved journal". The steps of an open group are saved one by one. It fails only if memory
+    /// runs out.
     pub fn saved(&self) -> Result<Vec<u8>, AllocError>
         ensures { IfOk result (λ text. text.items ≡ saved_text (work_in self.now)) }
     {

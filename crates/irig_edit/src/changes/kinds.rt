@@ -1,5 +1,10 @@
 //! How each kind of single change turns, of the track and of the marks alone: the change is made,
 //! and what leads back is left instead.
+//!
+//! Times are in microseconds. A `Span` says which pulses a turn touched: from pulse `at` on, from
+//! 0, `old` pulses became `new`.
+//!
+//! What is marked "Read for .." does nothing: it only lets the proof use what a type promises.
 
 ghost use Rattle.std.specs.Prelude.{◌≡◌, ◌≤◌, ◌<◌, ◌+◌, ◌-◌, neg_ℤ, length, get_or, slice_set};
 ghost use Rattle.std.specs.Prelude.{None, IsTrue};
@@ -16,7 +21,8 @@ use irig_codes::{Format, Kind};
 use irig_saved::{Letters, Marks};
 use irig_track::{Span, Track};
 
-/// Turns a toggle, and returns the pulses that it touched.
+/// Turns a toggle: inverts the level from `a` to `b`. Returns the pulses that it touched. The same
+/// toggle leads back.
 pub(crate) fn turn_toggle(track: &mut Track, a: u64, b: u64) -> Span
     requires can { CanToggle track.old.micros a b track.old.pulses }
     requires spare { 0 < track.old.spare }
@@ -37,8 +43,9 @@ pub(crate) fn turn_toggle(track: &mut Track, a: u64, b: u64) -> Span
     span
 }
 
-/// Turns a shift of the pulses `i` to `j`, from 0: pulses and marks move, and the distance becomes
-/// its opposite. Returns the pulses that it touched.
+/// Turns a shift of the pulses `i` to `j`, from 0, by `by`, below 0 if they come earlier. With them
+/// move the marks of the letters that are true in `letters`. The distance becomes its opposite,
+/// which leads back. Returns the pulses that it touched.
 pub(crate) fn turn_shift(
     track: &mut Track,
     marks: &mut Marks,
@@ -67,7 +74,8 @@ pub(crate) fn turn_shift(
     span
 }
 
-/// Turns the setting of a mark: mark and time change places.
+/// Turns the setting of a mark, whose letter counts from 0: mark and time change places, so `time`
+/// is what leads back. `None` is a mark that is not set.
 pub(crate) fn turn_mark(marks: &mut Marks, letter: usize, time: &mut Option<u64>)
     requires { letter < 26 }
     ensures marks { marks.new ≡ slice_set marks.old letter time.old }

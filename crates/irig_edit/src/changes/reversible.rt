@@ -1,4 +1,9 @@
 //! Changes of the present state, turned in place.
+//!
+//! A journal asks these calls of a state (`Reversible`). To turn a change is to make it and to
+//! leave the change that leads back in it.
+//!
+//! What is marked "Read for .." does nothing: it only lets the proof use what a type promises.
 
 ghost use Rattle.std.specs.Prelude.{ℕ};
 ghost use Rattle.irig_edit.specs.Changes.Delta.{Fits, gathered, turned, weight_of};
@@ -56,23 +61,28 @@ impl Reversible for Present {
 
     ghost gathered = { gathered };
 
+    // Does nothing but make known that the state is lawful.
     fn known(&self) {
         // Read for the law of its type alone.
         let _track = self.track();
     }
 
+    // Whether the change can be made to the state as it is.
     fn applies(&self, turn: &Turn) -> bool {
         self.allows(&turn.single)
     }
 
+    // Makes the room that the turn and its turn back take. State and change stay what they are.
     fn prepare(&mut self, turn: &mut Turn) -> Result<(), AllocError> {
         self.room_for(turn)
     }
 
+    // Makes the change, and leaves the one that leads back in `turn`. It takes no memory.
     fn turn(&mut self, turn: &mut Turn) {
         self.make_turn(turn);
     }
 
+    // How many pulses the change holds.
     fn weight(turn: &Turn) -> u64 {
         turn.held() as u64
     }

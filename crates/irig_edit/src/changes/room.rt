@@ -1,4 +1,10 @@
 //! Whether a change of the present state can be made, and room for its turn.
+//!
+//! The limits of a track: its pulses do not touch and lie within its length, and they are at most
+//! 2^22. A change counts pulses from 1, a track from 0. A record is what the index keeps of a
+//! frame.
+//!
+//! What is marked "Read for .." does nothing: it only lets the proof use what a type promises.
 
 ghost use Rattle.std.specs.Prelude.{◌≡◌, ◌≤◌, ◌↔◌, IsTrue, OnErr, OnOk, length};
 ghost use Rattle.irig_track.specs.{Shifts.CanShift, Splices.CanSplice, Toggles.CanToggle};
@@ -36,7 +42,8 @@ impl Present {
         self.track.can_shift(i, j, by)
     }
 
-    /// Whether `count` pulses from `at` on, from 0, can be replaced within the limits.
+    /// Whether `count` pulses from `at` on, from 0, can be replaced by those of `put` within the
+    /// limits.
     fn can_splice(&self, at: usize, count: usize, put: &Pulses) -> bool
         ensures { IsTrue result ↔ CanSplice self.now.state.micros at count put.now
             self.now.state.pulses }
@@ -44,13 +51,15 @@ impl Present {
         self.track.can_splice(at, count, put.as_gap())
     }
 
-    /// Whether the pulses `i` to `j`, from 0, and marks with them can be moved within the limits.
+    /// Whether the pulses `i` to `j`, from 0, can be moved by `by` microseconds within the limits,
+    /// and with them the marks of the letters that are true in `letters`: each has to be set and to
+    /// stay within the length.
     fn can_move(&self, i: usize, j: usize, by: i64, letters: &Letters) -> bool
         ensures { IsTrue result ↔ CanShift self.now.state.micros i j by self.now.state.pulses
             × AllMayMove self.now.state.micros by letters.now self.now.state.marks
             × (length letters.now ≡ 26) }
     {
-        // What was read has its length.
+        // Read for its length alone.
         let _first = letters[0];
         self.can_shift(i, j, by) && all_may_move(&self.marks, letters, by, self.track.length())
     }
@@ -76,7 +85,8 @@ impl Present {
 
 /// Room for turns.
 impl Present {
-    /// Makes room for a turn of a single change, which stays what it is, and for its turn back.
+    /// Makes room for a turn of a single change, which stays what it is, and for its turn back. It
+    /// fails only if memory runs out.
     pub(crate) fn room_for(&mut self, turn: &mut Turn) -> Result<(), AllocError>
         requires fits { FitsSingle self.old.state (single_of turn.old) }
         ensures known { IsState self.old.state }
@@ -94,7 +104,10 @@ impl Present {
         self.index.reserve(records)
     }
 
-    /// How many records a turn of a single change may bring, in addition to those there are.
+    /// How many records a turn of a single change may bring, at most, in addition to those there
+    /// are. A frame begins by a pulse and the one before it. So a change can also bring frames that
+    /// begin at the pulses on its two edges. All numbers here are upper bounds: that for a toggle
+    /// is of what the pulses that rise between its times can become.
     fn records_for(&self, single: &Single) -> usize
         requires fits { FitsSingle self.now.state single.now }
         ensures records { result ≡ records_for self.now.state single.now }
@@ -116,7 +129,8 @@ impl Present {
         }
     }
 
-    /// Makes places in the track for the pulses that a single change inserts.
+    /// Makes places in the track for the pulses that a single change inserts. A toggle brings one
+    /// pulse more than it takes, at most, and on the way another one.
     fn reserve_put(&mut self, single: &Single) -> Result<(), AllocError>
         ensures state { self.new.state ≡ self.old.state }
         ensures index { self.new.index ≡ self.old.index }

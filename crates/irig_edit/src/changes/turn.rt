@@ -21,7 +21,7 @@ pub struct Turn {
 }
 
 impl Turn {
-    /// How many pulses it holds.
+    /// How many pulses the change holds in memory: those that a splice inserts.
     pub(crate) fn held(&self) -> usize
         ensures { result ≡ held_in self.now.single }
     {
@@ -34,7 +34,8 @@ impl Turn {
         }
     }
 
-    /// Makes places for the pulses that go.
+    /// Makes places for the pulses that go: a splice removes `count`. It fails only if memory runs
+    /// out.
     pub(crate) fn reserve_taken(&mut self) -> Result<(), AllocError>
         ensures same { self.new.single ≡ self.old.single }
         ensures takes { OnOk result (goes self.new.single ≤ self.new.taken.capacity) }

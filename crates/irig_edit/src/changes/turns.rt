@@ -1,4 +1,10 @@
 //! Single changes turned in place, with the frames repaired at their places.
+//!
+//! To turn a change is to make it and to leave the change that leads back in it. The index holds
+//! the frames of the track; `repair` reads those again that the pulses of a span may have changed.
+//! Times are in microseconds. A change counts pulses from 1, a track from 0.
+//!
+//! What is marked "Read for .." does nothing: it only lets the proof use what a type promises.
 
 ghost use Rattle.std.specs.Prelude.{◌≡◌, ◌≤◌, ◌<◌, [], IsTrue, neg_ℤ, length};
 ghost use Rattle.irig_codes.specs.Format.{is_permitted};
@@ -70,7 +76,9 @@ impl Present {
         }
     }
 
-    /// Turns a splice at a pulse, from 0.
+    /// Turns a splice: replaces `count` pulses from `at` on, from 0, by those of `put`. Then `put`
+    /// holds the pulses that went, and `count` how many came, which leads back. `taken` is empty,
+    /// with places for the pulses that go.
     fn splice(&mut self, at: usize, count: &mut u64, put: &mut Pulses, taken: &mut Gap<Pulse>)
         requires can { CanSplice self.old.state.micros at count.old put.old
             self.old.state.pulses }
@@ -94,8 +102,8 @@ impl Present {
         self.index.repair(&mut self.track.lens(), self.format, span);
     }
 
-    /// Turns a toggle, which leads back itself. On the way there can be one pulse more, so there is
-    /// room for one.
+    /// Turns a toggle from `a` to `b`, which leads back itself. On the way there can be one pulse
+    /// more, so there is room for one.
     fn toggle(&mut self, a: u64, b: u64)
         requires can { CanToggle self.old.state.micros a b self.old.state.pulses }
         requires before { HoldsState (places_in self.old) 1 self.old.state }
@@ -111,7 +119,7 @@ impl Present {
         self.index.repair(&mut self.track.lens(), self.format, span);
     }
 
-    /// Turns a shift.
+    /// Turns a shift: `single` is one. Its distance becomes its opposite, which leads back.
     fn turn_shift(&mut self, single: &mut Single)
         requires shift { IsShift single.old }
         requires fits { FitsSingle self.old.state single.old }
@@ -134,8 +142,8 @@ impl Present {
         }
     }
 
-    /// Moves the pulses `i` to `j`, from 0, and marks with them. Returns the distance of the way
-    /// back.
+    /// Moves the pulses `i` to `j`, from 0, by `by`, with the marks of the letters that are true in
+    /// `letters`. Returns the distance of the way back.
     fn shift(&mut self, i: usize, j: usize, by: i64, letters: &Letters) -> i64
         requires can { CanShift self.old.state.micros i j by self.old.state.pulses }
         requires marks { AllMayMove self.old.state.micros by letters.now self.old.state.marks }
@@ -158,7 +166,8 @@ impl Present {
         back
     }
 
-    /// Turns the setting of a format, after which all frames are read again.
+    /// Turns the setting of a format: `kind` and `expression` become the former ones. All frames
+    /// are read again in the new format.
     fn set_format(&mut self, kind: &mut Kind, expression: &mut u8)
         requires permitted { IsTrue (is_permitted kind.old expression.old) }
         requires holds { HoldsState (places_in self.old) 0 (state self.old.state.micros

@@ -1,4 +1,7 @@
 //! Removes pulses.
+//!
+//! Pulses count from 1, and times are in microseconds. `plan` judges the edit and changes nothing.
+//! Its refusals: E2 is `NoPulse`. If memory runs out, E11, nothing changes either.
 
 ghost use Rattle.std.specs.Prelude.{◌≡◌, ◌+◌, ◌-◌, ◌≤◌, [], Some, MatchResult, OnOk};
 ghost use Rattle.irig_edit.specs.Edits.Becoming.{Plans, judgement_of};
@@ -10,7 +13,8 @@ use crate::session::session::Session;
 use crate::state::present::Present;
 use irig_saved::Pulses;
 
-/// The cursor after the pulses `i` to `j` are removed, if they are there.
+/// Where the cursor goes if the pulses `i` to `j` are removed: to the pulse that then has number
+/// `i`, or else to the last one, 0 if none is left. `NoPulse` unless the pulses are there.
 fn plan(present: &Present, i: usize, j: usize) -> Result<usize, Refusal>
     ensures plan { MatchResult result
         (λ cursor. Plans (Delete i j) present.now.state i (j + 1 - i) [] cursor)

@@ -1,4 +1,8 @@
 //! A pulse gets the width of an element.
+//!
+//! Pulses count from 1, and times are in microseconds. `plan` judges the edit and changes nothing.
+//! Its refusals: E1 is `OutOfRange`, E2 `NoPulse`, E3 `Touching`. If memory runs out, E11, nothing
+//! changes either.
 
 ghost use Rattle.std.specs.Prelude.{◌≡◌, ◌≤◌, [], ◌∷◌, Some, MatchResult, length};
 ghost use Rattle.irig_edit.specs.Edits.Becoming.{Plans, judgement_of};
@@ -13,7 +17,9 @@ use crate::state::present::Present;
 use irig_codes::{Element, nominal};
 use irig_track::Pulse;
 
-/// Pulse `i` with the nominal width of an element, if there is room for it.
+/// What becomes of pulse `i`: the same rise, and a fall that gives it the nominal width of an
+/// element. It is refused if the pulse is not there, or the fall comes after the length or meets
+/// the next pulse.
 fn plan(present: &Present, i: usize, element: Element) -> Result<Pulse, Refusal>
     ensures { MatchResult result
         (λ p. Plans (Force i element) present.now.state i 1 (p ∷ []) i)

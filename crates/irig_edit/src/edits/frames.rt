@@ -1,4 +1,7 @@
 //! The pulses of frames that are generated.
+//!
+//! Times are in microseconds. A frame is 100 pulses, one for each element. They rise one interval
+//! of the format after another.
 
 ghost use Rattle.std.specs.Prelude.{◌≡◌, ◌+◌, ◌*◌, ◌^◌, ◌<◌, ◌≤◌, ◌++◌, length, IsTrue, IfOk};
 ghost use Rattle.irig_codes.specs.Format.{control_count_of, interval_of};
@@ -14,7 +17,7 @@ use irig_saved::Pulses;
 use irig_track::Pulse;
 use std::alloc::{AllocError, Global};
 
-/// How long frames are together, in microseconds.
+/// How long this many frames of a format are together.
 pub(crate) fn span(format: Format, frames: u64) -> u64
     requires { frames ≤ 10000 }
     ensures value { result ≡ 100 * frames * interval_of format.kind }
@@ -23,8 +26,9 @@ pub(crate) fn span(format: Format, frames: u64) -> u64
     100 * frames * format.interval()
 }
 
-/// The pulses of frames, one after the other, from a start on, in microseconds. The first frame
-/// carries the moment.
+/// The pulses of `frames` frames, one after the other, from `start` on. The first frame carries the
+/// moment, each other one a frame period more; all carry the control functions, of which the first
+/// element is the lowest bit. It fails only if memory runs out.
 pub(crate) fn pulses_of(
     alloc: Global,
     format: Format,
@@ -48,7 +52,8 @@ pub(crate) fn pulses_of(
     Ok(Pulses::of(pulses))
 }
 
-/// Adds frame `k`, from 0, after the pulses. Frame 0 begins at a start, in microseconds.
+/// Adds the pulses of frame `k`, from 0, after those of `pulses`, by its elements. Frame 0 begins
+/// at `start`.
 fn put_frame(pulses: &mut Gap<Pulse>, format: Format, start: u64, k: u64, elements: &[Element; 100])
     requires last { pulses.old.place ≡ length pulses.old.items }
     requires room { length pulses.old.items + 100 ≤ pulses.old.capacity }

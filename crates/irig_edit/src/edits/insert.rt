@@ -1,4 +1,8 @@
 //! Inserts a pulse.
+//!
+//! Pulses count from 1, and times are in microseconds. `plan` judges the edit and changes nothing.
+//! Its refusals: E1 is `OutOfRange`, E3 `Touching`, E5 `TooMany`. If memory runs out, E11, nothing
+//! changes either.
 
 ghost use Rattle.std.specs.Prelude.{◌≡◌, [], ◌∷◌, Some, MatchResult};
 ghost use Rattle.irig_track.specs.Edges.{pulse};
@@ -12,7 +16,7 @@ use crate::session::session::Session;
 use crate::state::present::Present;
 use irig_track::Pulse;
 
-/// The number of a pulse from `a` to `b`, from 1, if it can be inserted.
+/// The number that a pulse from `a` to `b` gets, if it can be inserted.
 fn plan(present: &Present, a: u64, b: u64) -> Result<usize, Refusal>
     ensures { MatchResult result
         (λ i. Plans (Insert a b) present.now.state i 0 (pulse a b ∷ []) i)

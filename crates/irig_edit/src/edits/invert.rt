@@ -1,4 +1,7 @@
 //! Inverts the level between two times.
+//!
+//! Pulses count from 1, and times are in microseconds. `plan` judges the edit and changes nothing.
+//! Its refusals: E1 is `OutOfRange`, E5 `TooMany`. If memory runs out, E11, nothing changes either.
 
 ghost use Rattle.std.specs.Prelude.{◌≡◌, None, Some, IfErr, OnOk};
 ghost use Rattle.irig_track.specs.Toggles.{CanToggle};
@@ -11,7 +14,8 @@ use crate::session::session::Session;
 use crate::state::present::Present;
 use irig_saved::Single;
 
-/// Whether the level can be inverted from `a` to `b`.
+/// Whether the level can be inverted from `a` to `b`: the times are in order and within the length,
+/// and there are not too many pulses afterwards.
 fn plan(present: &Present, a: u64, b: u64) -> Result<(), Refusal>
     ensures refused { IfErr result (λ e. judgement_of (Invert a b) present.now.state ≡ Some e) }
     ensures allowed { OnOk result (judgement_of (Invert a b) present.now.state ≡ None) }
@@ -30,7 +34,7 @@ fn plan(present: &Present, a: u64, b: u64) -> Result<(), Refusal>
 impl Session {
     /// Inverts the level from `a` to `b`, in microseconds: an edge that is at one of them
     /// goes, and if none is there one comes. The cursor goes to the last pulse that rises at or
-    /// before `b`.
+    /// before `b`, which is known only after the change.
     ///
     /// E1 unless `a < b` and `b` is within the length; E5 if there would be more than 2^22
     /// pulses.

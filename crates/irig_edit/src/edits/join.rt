@@ -1,4 +1,7 @@
 //! Joins pulses into one.
+//!
+//! Pulses count from 1, and times are in microseconds. `plan` judges the edit and changes nothing.
+//! Its refusals: E2 is `NoPulse`. If memory runs out, E11, nothing changes either.
 
 ghost use Rattle.std.specs.Prelude.{◌≡◌, ◌+◌, ◌-◌, ◌<◌, [], ◌∷◌, Some, MatchResult, OnOk};
 ghost use Rattle.irig_edit.specs.Edits.Becoming.{Plans, judgement_of};

@@ -1,4 +1,10 @@
 //! Fills a stretch of time with frames.
+//!
+//! Pulses count from 1, and times are in microseconds. `plan` judges the edit and changes nothing.
+//! Its refusals: E1 is `OutOfRange`, E3 `Touching`, E5 `TooMany`, E7 `BadTime`, E8 `BadControl`. If
+//! memory runs out, E11, nothing changes either.
+//!
+//! What is marked "Read for .." does nothing: it only lets the proof use what a type promises.
 
 ghost use Rattle.std.specs.Prelude.{◌≡◌, ◌+◌, ◌-◌, ◌*◌, ◌^◌, ◌<◌, ◌≤◌, None, Some, IfOk, OnOk};
 ghost use Rattle.std.specs.Prelude.{MatchResult, IsTrue, length, if◌then◌else◌};
@@ -25,8 +31,8 @@ struct Stretch {
     count: usize,
 }
 
-/// The time at which frames end that begin at a start, if there are 1 to 10,000 of them and they
-/// end within the length; in microseconds.
+/// The time at which this many frames end that begin at `start`. `None` unless there are 1 to
+/// 10,000 of them and they end within the length.
 fn end_of(present: &Present, start: u64, frames: u64) -> Option<u64>
     ensures { result ≡ (if are_frames start frames present.now.state
         then Some (frames_end present.now.state.format start frames) else None) }
@@ -53,7 +59,8 @@ fn rising_before(present: &Present, time: u64) -> usize
     if time == 0 { 0 } else { present.find(time - 1) }
 }
 
-/// Whether the last of the pulses that rise before a time falls at it or after it.
+/// Whether a pulse rises before `time` and falls at it or after it. `risen` is how many pulses rise
+/// before it: the last of these is the only one that can.
 fn is_met(present: &Present, risen: usize, time: u64) -> bool
     requires count { risen ≡ length (rising_before time present.now.state.pulses) }
     requires within { risen ≤ length present.now.state.pulses }
@@ -64,7 +71,8 @@ fn is_met(present: &Present, risen: usize, time: u64) -> bool
     risen > 0 && present.pulse(risen).fall >= time
 }
 
-/// The pulses that frames from a start on replace, if the frames can be made.
+/// The pulses that `frames` frames from `start` on replace: those that rise from the start up to
+/// the end of the frames. The checks come in the order of the refusals' numbers.
 fn plan(
     present: &Present,
     start: u64,

@@ -1,4 +1,8 @@
 //! Moves pulses in time.
+//!
+//! Pulses count from 1, and times are in microseconds. `plan` judges the edit and changes nothing.
+//! Its refusals: E1 is `OutOfRange`, E2 `NoPulse`, E3 `Touching`. If memory runs out, E11, nothing
+//! changes either.
 
 ghost use Rattle.std.specs.Prelude.{◌≡◌, ◌-◌, ◌≤◌, None, Some, IfOk, IfErr, OnOk, length};
 ghost use Rattle.irig_track.specs.Shifts.{CanShift};
@@ -14,7 +18,8 @@ use crate::session::session::Session;
 use crate::state::present::Present;
 use irig_saved::Single;
 
-/// Whether the pulses `i` to `j`, moved by `by` microseconds, leave the track.
+/// Whether the pulses `i` to `j`, moved by `by`, leave the track: the first rises before 0, or the
+/// last falls after the length. It compares sums, as these numbers cannot go below 0.
 fn leaves(present: &Present, i: usize, j: usize, by: i64) -> bool
     requires { (1 ≤ i) × (i ≤ j) × (j ≤ length present.now.state.pulses) }
     ensures { result ≡ leaves i j by present.now.state }
@@ -30,7 +35,7 @@ fn leaves(present: &Present, i: usize, j: usize, by: i64) -> bool
     }
 }
 
-/// Whether the pulses `i` to `j` can be moved.
+/// Whether the pulses `i` to `j` can be moved by `by`; if not, why.
 fn judge(present: &Present, i: usize, j: usize, by: i64) -> Result<(), Refusal>
     ensures refused { IfErr result (λ e. judgement_of (Shift i j by) present.now.state ≡ Some e) }
     ensures allowed { OnOk result (judgement_of (Shift i j by) present.now.state ≡ None) }
@@ -51,8 +56,8 @@ fn judge(present: &Present, i: usize, j: usize, by: i64) -> Result<(), Refusal>
     }
 }
 
-/// The pulses `i` to `j` as a shift by `by`, with the marks from the first to the last, if they can
-/// be moved.
+/// The change that moves the pulses `i` to `j` by `by`, and with them the marks from the rise of
+/// the first to the fall of the last, if they can be moved.
 fn plan(present: &Present, i: usize, j: usize, by: i64) -> Result<Single, Refusal>
     ensures refused { IfErr result (λ e. judgement_of (Shift i j by) present.now.state ≡ Some e) }
     ensures allowed { OnOk result (judgement_of (Shift i j by) present.now.state ≡ None) }

@@ -1,4 +1,8 @@
 //! Splits a pulse in two.
+//!
+//! Pulses count from 1, and times are in microseconds. `plan` judges the edit and changes nothing.
+//! Its refusals: E1 is `OutOfRange`, E2 `NoPulse`, E4 `NotInside`, E5 `TooMany`. If memory runs
+//! out, E11, nothing changes either.
 
 ghost use Rattle.std.specs.Prelude.{◌≡◌, ◌+◌, [], ◌∷◌, Some, MatchResult};
 ghost use Rattle.irig_track.specs.Edges.{pulse};
@@ -12,7 +16,8 @@ use crate::session::session::Session;
 use crate::state::present::Present;
 use irig_track::Pulse;
 
-/// Pulse `i`, if it can be split.
+/// Pulse `i` as it is, if it can be made low from `a` to `b`: both times lie inside of it, and
+/// there is room for one pulse more.
 fn plan(present: &Present, i: usize, a: u64, b: u64) -> Result<Pulse, Refusal>
     ensures { MatchResult result
         (λ p. Plans (Split i a b) present.now.state i 1

@@ -1,4 +1,7 @@
 //! What a saved journal says above its steps: format, cursor and marks.
+//!
+//! The text of a journal: line 1 names it, line 2 is the format, line 3 the cursor, and from line 4
+//! on each mark that is set has a line. Then comes the line that counts the steps back.
 
 ghost use Rattle.std.specs.Prelude.{◌≡◌, ◌+◌, ◌≤◌, Err, IfOk, IfErr, MatchResult, None, Some, []};
 ghost use Rattle.std.specs.Prelude.{length};
@@ -16,8 +19,9 @@ use irig_saved::{Marks, Saved};
 use irig_vcd::VcdFault;
 use std::alloc::Global;
 
-/// The state of a recording with format, cursor and marks of a journal, with no steps, and the
-/// number of the line after its marks. Format, cursor and marks are judged before it takes memory.
+/// The state of a recording with format, cursor and marks of a journal, with no steps yet, and the
+/// number of the line after its marks. `BadJournal` has the number of the line at fault, from 1.
+/// Format, cursor and marks are judged before it takes memory.
 pub(crate) fn start(
     alloc: Global,
     recording: Recording,
@@ -46,9 +50,9 @@ pub(crate) fn start(
     }
 }
 
-/// The format of a journal, and the number of the line after its marks, from 1, if the format is
-/// permitted, the cursor within the pulses and no mark beyond the length. Else it is the number of
-/// the first line at fault.
+/// The format of a journal, and the number of the line after its marks, from 1. The format has to
+/// be permitted, the cursor within the pulses and no mark beyond the length. Else it is the number
+/// of the first line at fault.
 fn head_of(recording: &Recording, saved: &Saved) -> Result<(Format, usize), usize>
     ensures { MatchResult result
         (λ head. (head_fault (state_of recording.now saved.now) saved.now ≡ None)
@@ -77,7 +81,7 @@ fn pulse_count(recording: &Recording) -> usize
 }
 
 impl Present {
-    /// Replaces all marks by these.
+    /// Replaces all marks by these, each a time within the length or none.
     fn put_marks(&mut self, marks: &Marks)
         requires { mark_beyond self.old.state.micros 4 marks.now ≡ None }
         ensures { self.new.state
@@ -87,8 +91,8 @@ impl Present {
     }
 }
 
-/// The number of the line after those of marks, from 1, the first being line 4; if one is
-/// beyond a length in microseconds, the number of the first such line.
+/// The number of the line after those of the marks, if the first of them is line 4. If a mark is
+/// beyond a length in microseconds, the number of the first such line is the error.
 fn line_behind(marks: &Marks, micros: u64) -> Result<usize, usize>
     ensures { MatchResult result
         (λ line. (mark_beyond micros 4 marks.now ≡ None)

@@ -1,4 +1,7 @@
 //! A session is opened from a dump, with the journal that it carries.
+//!
+//! A journal (`Saved`) has a format, a cursor, marks, and the steps back and forward. V13 is
+//! `VcdFault::BadJournal`, with the number of the journal's line at fault, from 1.
 
 ghost use Rattle.std.specs.Prelude.{◌≡◌, ◌≤◌, ◌^◌, ◌⊎◌, ℕ, List, Option, Ok, Err, IfOk, IfErr};
 ghost use Rattle.std.specs.Prelude.{IfSome, None, length};
@@ -79,7 +82,8 @@ impl Session {
     }
 }
 
-/// The recording of a dump, and the journal that it carries. None of its steps was tried.
+/// The recording of a dump, and the journal that it carries, `None` if it has none. Only the form
+/// of the journal is judged: none of its steps was tried.
 fn parts_of(
     alloc: Global,
     bytes: Vec<u8>,
@@ -107,7 +111,7 @@ fn parts_of(
     }
 }
 
-/// The journal of this text.
+/// The journal that this text is. V13 if it is none; its steps are not tried.
 fn journal_of(alloc: Global, text: &[u8]) -> Result<Saved, VcdFault>
     requires short { length text.now ≤ 2 ^ 28 }
     ensures saved { IfOk result (IsTextOf text.now) }
@@ -122,7 +126,7 @@ fn journal_of(alloc: Global, text: &[u8]) -> Result<Saved, VcdFault>
     }
 }
 
-/// The journal of a text, if there is one.
+/// The journal of a text, if there is one. V13 if the text is none; its steps are not tried.
 fn saved_of(alloc: Global, text: Option<Vec<u8>>) -> Result<Option<Saved>, VcdFault>
     requires short { IfSome text (λ text. length text.items ≤ 2 ^ 28) }
     ensures saved { IfOk result (IsJournalOf (bytes_of text)) }
@@ -139,7 +143,8 @@ fn saved_of(alloc: Global, text: Option<Vec<u8>>) -> Result<Option<Saved>, VcdFa
     }
 }
 
-/// The session of a recording with the journal, if there is one; else in the format.
+/// The session of a recording with the journal, if there is one: its format counts then. Else it is
+/// a session in `format`, with no steps.
 fn session_with(
     alloc: Global,
     recording: Recording,
@@ -160,7 +165,8 @@ fn session_with(
     }
 }
 
-/// The session of a recording with a journal.
+/// The session of a recording with a journal. V13 if its head does not go with the recording or one
+/// of its steps cannot be made.
 fn session_of(alloc: Global, recording: Recording, saved: Saved) -> Result<Session, VcdFault>
     requires short { length (saved_lines saved) ≤ 2 ^ 28 }
     ensures opened { IfOk result (IsAccepted (state_of recording saved) saved) }

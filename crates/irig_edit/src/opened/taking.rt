@@ -1,4 +1,11 @@
 //! The steps of a saved journal, taken one after another.
+//!
+//! A step is a change and the cursor that it leads to. The steps of a journal are tried on the
+//! state that was read: steps back lead to former states, steps forward to states that were undone.
+//! To take a step is to make its change as an edit. After all are taken they are undone again, so
+//! that they lie ahead, to be redone.
+//!
+//! What is marked "Read for .." does nothing: it only lets the proof use what a type promises.
 
 ghost use Rattle.std.specs.Prelude.{◌≡◌, ◌+◌, ◌≤◌, ◌<◌, ◌^◌, ◌++◌, List, [], Err, IfErr, IfOk};
 ghost use Rattle.std.specs.Prelude.{MatchBool, MatchResult, None, OnOk, length, reverse};
@@ -34,7 +41,9 @@ pub(crate) enum NotTaken {
 }
 
 impl Walk {
-    /// Takes steps, the last first, and goes back: they are ahead then.
+    /// Takes steps, the last of the list first, and undoes them again: the state is as before, and
+    /// they are ahead. If one cannot be taken, or memory runs out, nothing is said of what it
+    /// leaves.
     fn follow(&mut self, alloc: Global, steps: Steps) -> Result<(), NotTaken>
         requires ahead { self.old.future ≡ [] }
         requires lines { length (steps_lines (reverse steps)) < 2 ^ 63 }
@@ -51,8 +60,9 @@ impl Walk {
         Ok(())
     }
 
-    /// Takes the steps of a journal, and makes the session. The line after its marks has this
-    /// number, from 1.
+    /// Takes the steps of a journal, and makes the session. `line` is the number, from 1, of the
+    /// line after the journal's marks, which counts the steps back. V13 has the line of the step
+    /// that cannot be taken.
     pub(crate) fn open(
         mut self,
         alloc: Global,
@@ -77,8 +87,12 @@ impl Walk {
         }
     }
 
-    /// Takes the steps back of a journal, and goes back; then the steps forward, and goes back.
-    /// The line that counts the steps forward has this number, from 1.
+    /// Takes the steps back of a journal, undoes them, and swaps past and future: now they can be
+    /// undone. Then it does the same with the steps forward, which are ahead in the end.
+    ///
+    /// `line` is the number, from 1, of the line that counts the steps forward. The newest step
+    /// back ends just before it, so the line of a fault there is found by counting back from it.
+    /// For a step forward it is found by counting on.
     fn follow_both(
         &mut self,
         alloc: Global,
@@ -111,7 +125,8 @@ impl Walk {
         }
     }
 
-    /// Takes steps, the last first.
+    /// Takes steps, the last of the list first. An error says how many lines of steps it had
+    /// passed.
     fn take_all(&mut self, alloc: Global, mut steps: Steps) -> Result<(), NotTaken>
         requires ahead { self.old.future ≡ [] }
         requires lines { length (steps_lines (reverse steps)) < 2 ^ 63 }
@@ -132,7 +147,7 @@ impl Walk {
         Ok(())
     }
 
-    /// Takes this many steps back.
+    /// Undoes this many steps, which are then ahead.
     fn go_back(&mut self, count: usize)
         ensures { (h : History State Change) → (ds : List (Step Change))
             → IsState h.state → CanTakeAll h.state ds → self.old ≡ gone_along h ds
@@ -166,6 +181,7 @@ impl Walk {
     }
 
     /// Makes the change of a step, stays at its cursor, and returns whether the change can be made.
+    /// Nothing is said of what is left if it cannot.
     fn make(&mut self, alloc: Global, change: Change) -> Result<bool, AllocError>
         requires ahead { self.old.future ≡ [] }
         ensures { MatchResult result
@@ -180,7 +196,7 @@ impl Walk {
         }
     }
 
-    /// Makes a single change.
+    /// Makes a single change if it can be made, and returns whether it can.
     fn make_one(&mut self, alloc: Global, single: Single) -> Result<bool, AllocError>
         ensures { MatchResult result
             (λ made. MatchBool made
@@ -195,7 +211,8 @@ impl Walk {
         Ok(true)
     }
 
-    /// Makes single changes one after another, and makes one group of them.
+    /// Makes single changes in their order, and makes one step of them, a group. Returns whether
+    /// all can be made. The list is turned round, as a change is taken from its end.
     fn make_all(&mut self, alloc: Global, mut singles: Vec<Single>) -> Result<bool, AllocError>
         requires ahead { self.old.future ≡ [] }
         ensures { MatchResult result

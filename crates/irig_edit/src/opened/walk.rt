@@ -1,4 +1,6 @@
 //! A state on its way along steps.
+//!
+//! What is marked "Read for .." does nothing: it only lets the proof use what a type promises.
 
 ghost use Rattle.std.specs.Prelude.{◌≡◌, ◌≢◌, ◌≤◌, ◌∷◌, Some, None, OnOk, [], drop, length, take};
 ghost use Rattle.irig_journal.specs.History.{step, stepped_back, turned_round};
@@ -43,7 +45,7 @@ impl Model for Walk {
 }
 
 impl Walk {
-    /// At a state with this cursor, with no steps.
+    /// A state with this cursor, with no steps back or forward.
     pub(crate) fn new(alloc: Global, present: Present, cursor: usize) -> Walk
         ensures { result ≡ walk present.state cursor [] [] }
     {
@@ -62,7 +64,8 @@ impl Walk {
         self.present.track().len()
     }
 
-    /// Makes a single change, and stays at its cursor.
+    /// Makes a single change, which has to be possible, as a new step back. The cursor stays. It
+    /// fails only if memory runs out.
     pub(crate) fn change(&mut self, alloc: Global, single: Single) -> Result<(), AllocError>
         requires { FitsSingle self.old.state single }
         ensures { OnOk result (self.new ≡ changed self.old (One single)) }
@@ -75,8 +78,8 @@ impl Walk {
         }
     }
 
-    /// Makes one group of the newest steps, which leads to its cursor. It takes memory only if
-    /// there are none.
+    /// Makes one group of the newest `count` steps back, which leads to this cursor if it is
+    /// undone. It takes memory only if `count` is 0.
     pub(crate) fn gather(&mut self, count: usize) -> Result<(), AllocError>
         requires { count ≤ length self.old.past }
         ensures { OnOk result (self.new ≡ walk self.old.state self.old.cursor
@@ -89,7 +92,7 @@ impl Walk {
         }
     }
 
-    /// Moves the cursor to a place.
+    /// Moves the cursor to a pulse, from 1, or to 0.
     pub(crate) fn go(&mut self, cursor: usize)
         ensures { self.new ≡ walk self.old.state cursor self.old.past self.old.future }
     {
@@ -111,7 +114,7 @@ impl Walk {
         self.journal.turn_round();
     }
 
-    /// The session, which shows no looks yet.
+    /// The session with this state and these steps. Its count of looks at pulses is 0.
     pub(crate) fn into_session(self, alloc: Global) -> Session
         requires cursor { self.cursor ≤ length self.state.pulses }
         requires steps { CanTakeAll self.state self.past × CanTakeAll self.state self.future }

@@ -1,4 +1,7 @@
 //! The lines of single changes, in parts.
+//!
+//! A line is one of the text of a saved journal; a change has one, and a splice one more for each
+//! pulse that it inserts.
 
 ghost use Rattle.std.specs.Prelude.{◌≡◌, ◌≤◌, ◌<◌, ◌++◌, [], IfOk, OnOk, false, reverse, true};
 ghost use Rattle.std.specs.Prelude.{vec_len};
@@ -27,7 +30,7 @@ impl<'s> Model for ChangeLines<'s> {
 }
 
 impl<'s> ChangeLines<'s> {
-    /// The lines of all of them, the last first.
+    /// The lines of all these changes, the last first.
     pub(crate) fn new(turns: &'s [Turn]) -> ChangeLines<'s>
         ensures { result ≡ changes_text (reverse turns.now) }
     {
@@ -37,8 +40,9 @@ impl<'s> ChangeLines<'s> {
         }
     }
 
-    /// Adds lines to a block until it has `enough` bytes. Returns whether no line is left, and the
-    /// block has fewer.
+    /// Adds lines to a block until it has `enough` bytes or none is left. Returns whether no line
+    /// is left and the block has fewer; so `false` means that the block is full. It fails only if
+    /// memory runs out.
     pub(crate) fn fill(&mut self, block: &mut Vec<u8>, enough: usize) -> Result<bool, AllocError>
         ensures bytes { OnOk result (block.new.items ++ self.new ≡ block.old.items ++ self.old) }
         ensures end { IfOk result (λ ended. ended ≡ true → self.new ≡ []) }

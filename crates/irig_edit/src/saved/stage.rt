@@ -18,14 +18,14 @@ pub(crate) enum Stage {
 }
 
 impl Stage {
-    /// Whether nothing comes.
+    /// Whether nothing comes any more.
     pub(crate) fn is_over(self) -> bool
         ensures { IsTrue result ↔ self ≡ Over }
     {
         matches!(self, Stage::Over)
     }
 
-    /// What comes after it.
+    /// The stage that comes after this one.
     pub(crate) fn next(self) -> Stage
         ensures { result ≡ next_stage self }
     {

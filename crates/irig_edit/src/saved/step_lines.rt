@@ -1,4 +1,7 @@
 //! The lines of the steps on one side of the present, in parts.
+//!
+//! A step is a change, or a group of them, and the cursor of the state that it leads to. A line is
+//! one of the text of a saved journal.
 
 ghost use Rattle.std.specs.Prelude.{◌≡◌, ◌≤◌, ◌<◌, ◌++◌, [], IfOk, OnOk, false, length, true};
 ghost use Rattle.std.specs.Prelude.{vec_len};
@@ -41,8 +44,9 @@ impl<'s> StepLines<'s> {
         }
     }
 
-    /// Adds lines to a block until it has `enough` bytes. Returns whether no line is left, and the
-    /// block has fewer.
+    /// Adds lines to a block until it has `enough` bytes or none is left. Returns whether no line
+    /// is left and the block has fewer; so `false` means that the block is full. It fails only if
+    /// memory runs out.
     pub(crate) fn fill(&mut self, block: &mut Vec<u8>, enough: usize) -> Result<bool, AllocError>
         ensures bytes { OnOk result (block.new.items ++ self.new ≡ block.old.items ++ self.old) }
         ensures end { IfOk result (λ ended. ended ≡ true → self.new ≡ []) }
@@ -63,7 +67,8 @@ impl<'s> StepLines<'s> {
     }
 }
 
-/// Begins the next step. Returns whether none is left.
+/// Writes the first lines of the next step to the block, and puts the lines of its changes into
+/// `changes`, which was empty. Returns whether no step was left; then nothing is written.
 fn begin_next<'s>(
     changes: &mut ChangeLines<'s>,
     left: &mut StepsLeft<'s, Turn>,
@@ -83,7 +88,8 @@ fn begin_next<'s>(
     Ok(false)
 }
 
-/// Writes the first line of a step, and of a group the second. Returns the lines of its changes.
+/// Writes the first line of a step, which has its cursor, and of a group the second, which counts
+/// its changes. Returns the lines of the changes, which are still to be written.
 fn begin_step<'s>(text: &mut Vec<u8>, kept: Step<'s, Turn>) -> Result<ChangeLines<'s>, AllocError>
     requires alone { kept.is_group ≡ false → length kept.changes.now ≡ 1 }
     ensures { IfOk result (λ left. text.new.items ++ left ≡ text.old.items ++ text_of (step_lines

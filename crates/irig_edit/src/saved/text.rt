@@ -40,7 +40,8 @@ impl<'s> Model for SavedText<'s> {
 }
 
 impl<'s> SavedText<'s> {
-    /// The text from its first byte on.
+    /// The text of a state with its cursor and the steps of its journal, from its first byte on. It
+    /// takes no memory.
     pub(crate) fn new(
         present: &'s Present,
         cursor: usize,
@@ -63,6 +64,8 @@ impl<'s> SavedText<'s> {
 impl Text for SavedText<'_> {
     ghost rest = { λ t. t };
 
+    // Adds text to the block until it has `enough` bytes or the text ends. Returns whether it has
+    // ended. It fails only if memory runs out.
     fn fill(&mut self, block: &mut Vec<u8>, enough: usize) -> Result<bool, AllocError> {
         // Each turn ends a stage, unless the block is full.
         while !self.stage.is_over() {
@@ -94,7 +97,7 @@ impl Text for SavedText<'_> {
 }
 
 /// Adds the dump or the steps of a stage to a block until it has `enough` bytes. Returns whether
-/// none of it is left, and the block has fewer.
+/// none of it is left and the block has fewer.
 fn fill_stage(
     stage: Stage,
     dump: &mut TrackText<'_>,
@@ -118,7 +121,8 @@ fn fill_stage(
     }
 }
 
-/// Writes what comes between a stage and the next, and goes on to that.
+/// Writes what comes between a stage and the next, and goes on to that: after the dump the head of
+/// the journal, after the steps back the line that counts the steps forward, and in the end `$end`.
 fn end_stage(
     stage: &mut Stage,
     text: &mut Vec<u8>,
@@ -140,7 +144,8 @@ fn end_stage(
     }
 }
 
-/// Writes the beginning of the section, up to the line that counts the steps back.
+/// Writes the beginning of the comment that holds the journal, up to the line that counts the steps
+/// back.
 fn put_opening(
     text: &mut Vec<u8>,
     present: &Present,

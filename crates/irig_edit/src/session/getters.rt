@@ -30,7 +30,7 @@ impl Session {
         self.present.track().len()
     }
 
-    /// A pulse, from 1.
+    /// The pulse with a number, from 1. Its times are in microseconds.
     pub fn pulse(&self, number: usize) -> Pulse
         requires { (1 ≤ number) × (number ≤ length self.now.state.pulses) }
         ensures { slice_get self.now.state.pulses (number - 1) ≡ Some result }
@@ -45,7 +45,7 @@ impl Session {
         self.present.find(time)
     }
 
-    /// The format.
+    /// The format in which frames are read.
     pub fn current_format(&self) -> Format
         ensures { result ≡ self.now.state.format }
     {
@@ -118,7 +118,7 @@ impl Session {
         }
     }
 
-    /// The text of the track's dump.
+    /// The text of the track's dump. It fails only if memory runs out.
     pub fn text(&self) -> Result<Vec<u8>, AllocError>
         ensures { IfOk result (λ text.
             text.items ≡ file_text (recording_of self.now.state)) }

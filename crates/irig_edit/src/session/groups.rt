@@ -1,4 +1,9 @@
 //! Groups: several edits that are one step.
+//!
+//! A refused call changes nothing. A step is what one undo reverses.
+//!
+//! A look is one read of a pulse to keep the frames; `last_looks` is how many the last change,
+//! undo, redo or abort took.
 
 ghost use Rattle.irig_edit.specs.Session.Calls.Call.{Begin, End, Abort};
 ghost use Rattle.irig_edit.specs.Session.Session.{LooksAfter, Steps};

@@ -12,7 +12,7 @@ use irig_track::{Pulse, Track};
 use std::alloc::Global;
 
 /// Takes a session apart: it keeps one state, a cursor, a journal of changes and a number, and no
-/// former state.
+/// former state. It does nothing but compile.
 pub fn take_apart(session: &Session) {
     let Session {
         alloc,

@@ -43,6 +43,7 @@ pub enum Refusal {
 impl From<AllocError> for Refusal {
     ghost from_gives = { λ _ e. e ≡ OutOfMemory };
 
+    // Memory ran out: E11.
     fn from(_e: AllocError) -> Refusal {
         Refusal::OutOfMemory
     }

@@ -1,4 +1,7 @@
 //! A track under edit.
+//!
+//! A look is one read of a pulse to keep the frames; `last_looks` is how many the last change, undo
+//! or redo took.
 
 ghost use Rattle.std.specs.Prelude.{◌≡◌, ◌≤◌, ◌<◌, ◌-◌, length, IfOk, OnOk, OnErr, IsErrOf, None};
 ghost use Rattle.std.specs.Prelude.{Ok};
@@ -54,8 +57,8 @@ impl Model for Session {
 }
 
 impl Session {
-    /// The session of a recording in a format. The cursor is at the last pulse, no mark is
-    /// set, and no step can be undone.
+    /// The session of a recording in a format. The cursor is at the last pulse, no mark is set, and
+    /// no step can be undone. It fails only if memory runs out.
     pub fn open(alloc: Global, recording: Recording, format: Format) -> Result<Session, AllocError>
         ensures { IfOk result (λ s. (s ≡ started s.looks s.state)
             × (recording_of s.state ≡ recording) × (s.state.format ≡ format)
@@ -72,7 +75,7 @@ impl Session {
         })
     }
 
-    /// Sets the format.
+    /// Sets the format, as a step; the cursor stays. Only memory can run out, E11.
     pub fn format(&mut self, format: Format) -> Result<(), Refusal>
         ensures step { Steps (Make (SetFormat format)) self.old result self.new }
         ensures looks { LooksAfter (Make (SetFormat format)) self.old result self.new }
@@ -82,7 +85,10 @@ impl Session {
         self.change(Single::SetFormat { kind, expression }, cursor)
     }
 
-    /// Sets the mark of a letter a to z to a time in microseconds, or clears it.
+    /// Sets the mark of a letter a to z to a time in microseconds, or clears it, as a step; the
+    /// cursor stays.
+    ///
+    /// E1 if the time is beyond the length.
     pub fn mark(&mut self, letter: u8, time: Option<u64>) -> Result<(), Refusal>
         requires { (97 ≤ letter) × (letter ≤ 122) }
         ensures step { Steps (Make (SetMark (letter - 97) time)) self.old result self.new }
@@ -145,7 +151,8 @@ impl Session {
         Ok(())
     }
 
-    /// Replaces `count` pulses from one on, from 1, by the pulses of `put`, as a step.
+    /// Replaces `count` pulses from `first` on, from 1, by the pulses of `put`, as a step that
+    /// leaves the cursor at `cursor`. Only memory can run out, E11.
     pub(crate) fn splice(
         &mut self,
         first: usize,
@@ -166,8 +173,8 @@ impl Session {
         self.change(Single::Splice { at, count, put }, cursor)
     }
 
-    /// Makes a change, as a step that leaves the cursor at a place. The memory that its undo and
-    /// its redo take is asked for here.
+    /// Makes a change, as a step that leaves the cursor at a pulse, from 1, or 0. The memory that
+    /// its undo and its redo take is asked for here, so E11 can come, and nothing has changed then.
     pub(crate) fn change(&mut self, single: Single, cursor: usize) -> Result<(), Refusal>
         requires fits { Fits self.old.state (One single) }
         requires cursor { cursor ≤ length (turned self.old.state (One single)).0.pulses }

@@ -1,4 +1,7 @@
 //! Marks, and times that are moved.
+//!
+//! A mark is a time in microseconds, or `None` if it is not set. Letters count from 0; `Letters`
+//! has for each whether its mark is meant.
 
 ghost use Rattle.std.specs.Prelude.{◌≡◌, ◌≤◌, ◌^◌, ◌↔◌, IsTrue, map};
 ghost use Rattle.std.specs.List.{AllByRecursion};
@@ -20,7 +23,7 @@ pub(crate) fn moved_time(time: u64, by: i64) -> u64
     }
 }
 
-/// A mark moved by `by`, in microseconds, if it is named.
+/// A mark moved by `by`, in microseconds, if `named` says so and it is set; else as it is.
 fn moved_if(mark: Option<u64>, named: bool, by: i64) -> Option<u64>
     requires { IsMark (2 ^ 40) mark }
     ensures { result ≡ moved_if by named mark }
@@ -31,7 +34,7 @@ fn moved_if(mark: Option<u64>, named: bool, by: i64) -> Option<u64>
     }
 }
 
-/// Moves the marks of the letters named by `by`, in microseconds.
+/// Moves the marks of the letters that are true in `letters` by `by`, in microseconds.
 pub(crate) fn move_marks(marks: &mut Marks, letters: &Letters, by: i64)
     requires { AllByRecursion (IsMark (2 ^ 40)) marks.old }
     ensures { marks.new ≡ marks_moved by letters.now marks.old }
@@ -51,7 +54,7 @@ fn stands(mark: Option<u64>, low: u64, high: u64) -> bool
     }
 }
 
-/// The letters whose marks are from `low` to `high`, in microseconds.
+/// For each letter whether its mark is set and from `low` to `high`, in microseconds.
 pub(crate) fn letters_from(marks: &Marks, low: u64, high: u64) -> Letters
     ensures { result ≡ map (stands low high) marks.now }
 {

@@ -1,4 +1,7 @@
 //! The present state, with its frames.
+//!
+//! Pulses count from 1 here, and times are in microseconds. The index holds the frames; a look is
+//! one read of a pulse to keep it.
 
 ghost use Rattle.std.specs.Prelude.{◌≡◌, ◌<◌, ◌≤◌, ◌+◌, ◌-◌, ◌*◌, ◌^◌, length, map, ◌↔◌, IsTrue};
 ghost use Rattle.std.specs.Prelude.{IfOk, Some, slice_get};
@@ -40,7 +43,7 @@ impl Model for Present {
 }
 
 impl Present {
-    /// A recording in a format, with no mark set.
+    /// A recording in a format, with no mark set. It fails only if memory runs out.
     pub(crate) fn open(
         alloc: Global,
         recording: Recording,
@@ -59,7 +62,8 @@ impl Present {
         })
     }
 
-    /// How many bytes to ask for at first, for all of that text.
+    /// How many bytes to ask for at first for the text of the track's dump, with some for a
+    /// journal: a pulse takes at most 36.
     pub(crate) fn text_room(&self) -> usize
         ensures { result ≡ 36 * length self.now.state.pulses + 4096 }
     {
@@ -100,7 +104,8 @@ impl Present {
         track.pulse(number - 1)
     }
 
-    /// Whether a pulse rises at or before `b` and falls at or after `a`, in microseconds.
+    /// Whether a pulse rises at or before `b` and falls at or after `a`, in microseconds. The last
+    /// that rises by `b` is the only one to look at, as the others fall earlier.
     pub(crate) fn is_touched(&self, a: u64, b: u64) -> bool
         requires { a < b }
         ensures { result ≡ is_touched a b self.now.state }
@@ -119,7 +124,7 @@ impl Present {
         self.format
     }
 
-    /// The mark of a letter, from 0.
+    /// The mark of a letter, from 0: a time in microseconds, or `None`.
     pub(crate) fn mark(&self, letter: usize) -> Option<u64>
         requires { letter < 26 }
         ensures { slice_get self.now.state.marks letter ≡ Some result }
@@ -135,7 +140,8 @@ impl Present {
         letters_from(&self.marks, low, high)
     }
 
-    /// Whether a mark can be set to a time, in microseconds, or to none.
+    /// Whether a mark can be set to a time, in microseconds: it has to be within the length. A mark
+    /// can always be cleared, by `None`.
     pub(crate) fn may_mark(&self, time: Option<u64>) -> bool
         ensures { IsTrue result ↔ IsMark self.now.state.micros time }
     {
@@ -152,7 +158,7 @@ impl Present {
         &self.index
     }
 
-    /// How many looks at pulses its index has counted.
+    /// How many looks at pulses its index of frames has counted so far.
     pub(crate) fn looks(&self) -> u64
         ensures { result ≡ self.now.index.looks }
     {
