@@ -1,4 +1,7 @@
 //! Values on other codes of one byte. They are skipped, with the newline after them.
+//!
+//! `code` is that of the wire that is read; a value on another code says nothing of it. Places are
+//! those of bytes in `source`, from 0.
 
 ghost use Rattle.std.specs.Prelude.{◌≡◌, ◌≤◌, ◌<◌, ◌+◌, ◌∷◌, ◌↔◌, [], true, false, length, drop};
 ghost use Rattle.std.specs.Prelude.{◌⊎◌, ℕ, map, slice_index, IfSome};
@@ -37,7 +40,7 @@ fn is_apart(source: &[u8], start: usize, code: &[u8]) -> bool
     source[start + 2] == b'\n'
 }
 
-/// A bit for each byte that is not above a space.
+/// A bit for each byte that is not above a space, white space among them: bit k for byte k.
 #[inline(always)]
 fn spaces(bytes: u8x16) -> u64
     ensures { result ≡ mask_l (map is_low bytes) }
@@ -81,7 +84,7 @@ fn dark_end(source: &[u8], from: usize) -> usize
     at
 }
 
-/// Whether a vector, a real or a text begins with a byte.
+/// Whether a vector, a real or a text begins with this byte.
 #[inline(always)]
 fn begins_value(byte: u8) -> bool
     ensures kind { result ≡ takes_code (kind_of_byte byte) }
@@ -91,7 +94,7 @@ fn begins_value(byte: u8) -> bool
 }
 
 /// The place after the vector, the real or the text at a place, if another code of one byte and a
-/// newline are after it. Its bytes are not looked at.
+/// newline are after it. Its bytes are not looked at. `None` if something else is there.
 #[inline(always)]
 fn value_apart(source: &[u8], start: usize, code: &[u8]) -> Option<usize>
     requires { start < length source.now }
@@ -114,8 +117,8 @@ fn value_apart(source: &[u8], start: usize, code: &[u8]) -> Option<usize>
     Some(space + 3)
 }
 
-/// The place after the value at a place, if it gives the wire no level and a newline is after it:
-/// a 0 or a 1, or else a vector, a real or a text.
+/// The place after the value at a place, if it gives the wire no level and a newline is after it: a
+/// 0 or a 1, or else a vector, a real or a text. `None` if something else is there.
 #[inline(always)]
 pub fn end_apart(source: &[u8], start: usize, code: &[u8]) -> Option<usize>
     requires room { start + 3 ≤ length source.now }

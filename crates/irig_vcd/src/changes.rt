@@ -1,4 +1,8 @@
 //! The changes of a wire.
+//!
+//! `code` is that of the wire that is read. A clock is a time of the dump, in its unit. The trace
+//! follows the level of the wire and keeps its edges. `journals` has the places of the journals so
+//! far, and `pending` what is open after the last token: a value without its code, or a comment.
 
 ghost use Rattle.std.specs.Prelude.{◌≡◌, ◌≤◌, ◌^◌, ◌∷◌, [], Option, None, Err, length, IfOk, OnOk};
 ghost use Rattle.irig_vcd.specs.Code.Token.{kind_view, word_of};
@@ -29,7 +33,7 @@ fn is_hash(kind: Kind) -> bool
     matches!(kind, Kind::Hash)
 }
 
-/// What is after the first byte.
+/// What is after the first byte of a word.
 fn digits_of(word: &[u8]) -> &[u8]
     ensures { result.now ≡ rest_of word.now }
 {
@@ -39,8 +43,9 @@ fn digits_of(word: &[u8]) -> &[u8]
     }
 }
 
-/// Takes a token with those that go with it, and gives the time then. A function of its own for the
-/// machine too: the loop over the tokens that are read in one step keeps its registers.
+/// Takes a token with those that go with it, and gives the time then: a token of a time sets it,
+/// and a value of the wire goes into the trace. A function of its own for the machine too: the loop
+/// over the tokens that are read in one step keeps its registers.
 #[inline(never)]
 fn take(
     token: Token<'_>,
@@ -71,7 +76,8 @@ fn take(
     Ok(clock)
 }
 
-/// Takes the tokens that what is open wants.
+/// Takes the first tokens, if something is open before them: the code of a value, or the rest of a
+/// comment.
 fn resume(
     tokens: &mut Tokens,
     unit: Unit,
@@ -104,8 +110,8 @@ pub struct Body {
     pub journals: Journals,
 }
 
-/// Follows the tokens of a part of the changes, and gives the time then. A function of its own for
-/// the machine too: what it is called from would take its registers.
+/// Follows the tokens of a part of the changes, from a time on, and gives the time then. A function
+/// of its own for the machine too: what it is called from would take its registers.
 #[inline(never)]
 pub fn follow(
     tokens: &mut Tokens,
@@ -130,7 +136,8 @@ pub fn follow(
     }
 }
 
-/// Follows the tokens that are left, and gives the time then. If something is open, none is left.
+/// Follows the tokens that are left, and gives the time then. First come those that are taken in
+/// one step, then one of any kind, and so on. If something is still open, no token is left.
 #[inline(always)]
 fn follow_on(
     tokens: &mut Tokens,
@@ -167,7 +174,8 @@ fn follow_on(
     }
 }
 
-/// Reads what is after the declarations.
+/// Reads what is after the declarations, up to the end of the dump: the last time, the edges of the
+/// wire, and the places of the journals.
 pub fn changes(
     alloc: Global,
     tokens: &mut Tokens,

@@ -1,4 +1,8 @@
 //! A dump that comes in parts.
+//!
+//! A window is the part of the dump, in microseconds, that is kept. Bytes are held until they are
+//! read: until at least `wanted` of them are there, so that the same bytes are not read again for
+//! each small part. The unit is that of the dump's times.
 
 ghost use Rattle.std.specs.Prelude.{◌≡◌, ◌≤◌, ◌<◌, ◌+◌, ◌*◌, ◌++◌, ◌^◌, ◌⊎◌, ◌↔◌, [], ℕ, List};
 ghost use Rattle.std.specs.Prelude.{Option, Some, None, Ok, Err, IfOk, IfErr, IfSome, IsTrue, OnOk};
@@ -43,8 +47,8 @@ impl Model for DumpReader {
 }
 
 impl DumpReader {
-    /// A reader that has read nothing of a dump, for the wire of a name, or for the one wire of one
-    /// bit.
+    /// A reader that has read nothing of a dump, for the wire of a name, or without a name for the
+    /// one wire of one bit. It fails only if memory runs out.
     pub fn new(alloc: Global, wire: Option<&[u8]>) -> Result<DumpReader, AllocError>
         ensures read { IfOk result (HasRead (name_of wire.entry) []) }
         ensures whole { IfOk result (λ r. r.reading.trace.window ≡ None) }
@@ -53,7 +57,8 @@ impl DumpReader {
         DumpReader::of_window(alloc, wire, None)
     }
 
-    /// A reader that has read nothing of a dump, and keeps only a window of it.
+    /// A reader that has read nothing of a dump, and keeps only a window of it; without one it
+    /// keeps all. It fails only if memory runs out.
     pub fn of_window(
         alloc: Global,
         wire: Option<&[u8]>,
@@ -78,7 +83,7 @@ impl DumpReader {
         })
     }
 
-    /// Whether that many bytes more are within 2^48.
+    /// Whether that many bytes more are within 2^48, which a dump in parts may have.
     pub fn has_room(&self, count: usize) -> bool
         ensures { IsTrue result ↔ (bytes_read self.now + count ≤ 2 ^ 48) }
     {
@@ -141,7 +146,7 @@ impl DumpReader {
     }
 }
 
-/// Holds the next part of the dump, and reads what is held if it is enough.
+/// Holds the next part of the dump, and reads what is held if it is enough: `wanted` bytes.
 fn put_part(progress: &mut Progress, part: &[u8]) -> Result<(), VcdFault>
     requires reader { IsReader progress.old }
     requires short { bytes_read progress.old + length part.now ≤ 2 ^ 48 }
@@ -169,8 +174,9 @@ fn put_part(progress: &mut Progress, part: &[u8]) -> Result<(), VcdFault>
     read_held(progress)
 }
 
-/// Reads the bytes that are held up to the last white space, and lets them go. It reads nothing
-/// while the declarations are not whole.
+/// Reads the bytes that are held up to the last white space, and lets them go, as no word goes on
+/// after it. It reads nothing while the declarations are not whole: `read_to` has an inner error
+/// then, which more bytes may mend.
 fn read_held(progress: &mut Progress) -> Result<(), VcdFault>
     requires reader { IsReader progress.old }
     ensures reader { OnOk result (IsReader progress.new) }
@@ -202,7 +208,8 @@ fn read_held(progress: &mut Progress) -> Result<(), VcdFault>
     }
 }
 
-/// Reads all bytes that are held, which are the last ones of the dump, and returns the unit.
+/// Reads all bytes that are held, which are the last ones of the dump, and returns the unit. Now it
+/// is a fault if the declarations are not whole.
 fn read_rest(progress: &mut Progress) -> Result<Unit, VcdFault>
     requires reader { IsReader progress.old }
     ensures window { progress.new.reading.trace.window ≡ progress.old.reading.trace.window }
@@ -270,7 +277,7 @@ fn finish(
     }
 }
 
-/// A copy of a wire's name.
+/// A copy of a wire's name, if there is one. It fails only if memory runs out.
 fn copied(alloc: Global, wire: Option<&[u8]>) -> Result<Option<Vec<u8>>, AllocError>
     ensures { IfOk result (λ name. bytes_of name ≡ name_of wire.entry) }
 {

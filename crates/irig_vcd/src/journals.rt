@@ -1,4 +1,8 @@
 //! The journals of a dump, by their places.
+//!
+//! A journal is a comment whose first word is `irig-journal-1`. `Pending` says what is open after
+//! the last token: `Comment` is a comment without its first word, `Rest` one with it, and where it
+//! begins if it is a journal.
 
 ghost use Rattle.std.specs.Prelude.{◌≡◌, ◌≤◌, ◌++◌, ◌∷◌, [], ℕ, List, None, Some, IfErr, IfOk};
 ghost use Rattle.std.specs.Prelude.{IfSome, codes, length, map, vec_len};
@@ -24,7 +28,8 @@ pub struct Place {
 }
 
 impl Place {
-    /// The bytes at it that a part has, which comes after that many bytes.
+    /// The bytes at this place that a part of the dump has, which comes after `gone` bytes. There
+    /// may be none.
     pub fn within<'a>(self, part: &'a [u8], gone: usize) -> &'a [u8]
         ensures bytes { result.now ≡ part_at (Some (self.start, self.end)) gone part.now }
         ensures short { length result.now ≤ length part.now }
@@ -53,7 +58,7 @@ impl Journals {
         }
     }
 
-    /// One more journal.
+    /// Notes one more journal. Only the place of the first is kept.
     fn put(&mut self, place: Place)
         ensures { (all : List Comment) (c : Comment)
             → place.start ≡ c.first.offset → place.end ≡ c.end
@@ -66,7 +71,8 @@ impl Journals {
     }
 
     /// Goes past the `$end` of a comment whose first word was read, and keeps its place if it is a
-    /// journal. `journal` is where that begins, in bytes of the dump from 0.
+    /// journal. `journal` is where that begins, in bytes of the dump from 0. Returns what is open
+    /// then: the comment, if its `$end` is not among the tokens.
     pub fn take_rest(&mut self, journal: Option<usize>, tokens: &mut Tokens) -> Pending
         ensures read { (code : List ℕ) (unit : ℕ) (s : Scan) → Keeps s self.old (pending.Rest journal)
             → Reaches code unit s tokens.old None tokens.new self.new result }
@@ -82,7 +88,8 @@ impl Journals {
         Pending::Nothing
     }
 
-    /// Passes a comment, from its first word on, and notes where a journal is.
+    /// Passes a comment, from its first word on, and notes where a journal is. Returns what is open
+    /// then: the comment, if its `$end` is not among the tokens.
     pub fn take_comment(&mut self, tokens: &mut Tokens) -> Pending
         ensures read { (code : List ℕ) (unit : ℕ) (s : Scan) → Keeps s self.old pending.Comment
             → Reaches code unit s tokens.old None tokens.new self.new result }
@@ -97,8 +104,8 @@ impl Journals {
         self.take_rest(journal_at(first), tokens)
     }
 
-    /// The place of the first journal so far, if there is one. If it is open by what is pending, it
-    /// goes up to `top`.
+    /// The place of the first journal so far, if there is one. If it is still open, by what is
+    /// pending, it goes up to `top`, in bytes of the dump.
     pub fn so_far(self, pending: Pending, top: usize) -> Option<Place>
         ensures { place_view result ≡ so_far (place_view self.first) pending top }
     {
@@ -111,7 +118,7 @@ impl Journals {
         }
     }
 
-    /// The bytes that were gathered of the first journal, if there is one. A second one is a fault,
+    /// `bytes`, which were gathered of the first journal, if there is one. A second one is a fault,
     /// at line 1.
     pub fn one(self, bytes: Vec<u8>) -> Result<Option<Vec<u8>>, VcdFault>
         ensures one { (all : List Comment) (dump : List ℕ) → Holds all self
@@ -149,7 +156,7 @@ impl Journals {
     }
 }
 
-/// Where a journal begins, if this is the first word of one.
+/// Where a journal begins, in bytes of the dump from 0, if this is the first word of one.
 fn journal_at(first: Token<'_>) -> Option<usize>
     ensures { Begins result (word_of first.entry) }
 {

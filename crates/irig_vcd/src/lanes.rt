@@ -1,4 +1,8 @@
 //! Digits, sixteen at a time.
+//!
+//! Two neighbours a and b are one word a + 2^k b. That times base 2^k + 1 has base a + b in its
+//! upper half, which the shift leaves. So digits become numbers of two, four and eight digits.
+//! The first of sixteen digits is in the lowest byte.
 
 ghost use Rattle.std.specs.Prelude.{◌≡◌, ◌≤◌, ◌<◌, ◌+◌, ◌-◌, ◌*◌, ◌^◌, ◌++◌, ℕ, length, drop, map};
 ghost use Rattle.std.specs.Prelude.{replicate, slice_index};
@@ -14,7 +18,7 @@ const KEEP: [u8; 32] = [
     255, 255, 255, 255, 255, 255, 255,
 ];
 
-/// The numbers of two digits that sixteen digits make.
+/// The numbers of two digits that sixteen digits make. 2561 is 10 * 2^8 + 1.
 #[inline(always)]
 fn twos(digits: u8x16) -> u16x8
     requires digits { AllBelowBase 10 digits }
@@ -24,7 +28,7 @@ fn twos(digits: u8x16) -> u16x8
     (u16x8::from_le_bytes(digits) * u16x8::splat(2561)) >> u16x8::splat(8)
 }
 
-/// The numbers of four digits that eight of two make.
+/// The numbers of four digits that eight of two make. 6553601 is 100 * 2^16 + 1.
 #[inline(always)]
 fn fours(twos: u16x8) -> u32x4
     requires digits { AllBelowBase 100 twos }
@@ -34,7 +38,8 @@ fn fours(twos: u16x8) -> u32x4
     (u32x4::from_le_bytes(twos.to_le_bytes()) * u32x4::splat(6553601)) >> u32x4::splat(16)
 }
 
-/// The number of eight digits that two of four make, in one word.
+/// The number of eight digits that two of four make, in one word. 42949672960001 is 10000 * 2^32 +
+/// 1.
 #[inline(always)]
 fn eight(pair: u64) -> u64
     ensures { (a b : ℕ) → pair ≡ a + 2 ^ 32 * b → a < 10000 → b < 10000 → result ≡ 10000 * a + b }
@@ -64,7 +69,7 @@ pub fn sixteen(digits: u8x16) -> u64
     parts[0] * 100_000_000 + parts[1]
 }
 
-/// A bit for each byte that is no digit.
+/// A bit for each byte that is no digit. Bit k is for byte k.
 #[inline(always)]
 fn no_digits(bytes: u8x16) -> u64
     ensures { result ≡ mask_l (map shows_none bytes) }
@@ -74,7 +79,7 @@ fn no_digits(bytes: u8x16) -> u64
         .to_bitmask()
 }
 
-/// This many of the last lanes, and 0 for the others.
+/// The last `count` lanes, with 0 in the others.
 #[inline(always)]
 fn last_lanes(lanes: u8x16, count: usize) -> u8x16
     requires { count ≤ 16 }
@@ -99,9 +104,10 @@ fn digits_count(source: &[u8], from: usize) -> usize
 }
 
 /// Where the digits from a place on end, and the number that they spell; the place itself and 0 if
-/// they are more than 15.
+/// there is none, or more than 15.
 ///
-/// It reads the sixteen bytes from the place on, and the sixteen up to the end of the digits.
+/// It reads the sixteen bytes from the place on, to count the digits, and the sixteen up to their
+/// end, so that they are the last lanes.
 #[inline(always)]
 pub fn lanes_end(source: &[u8], from: usize) -> (usize, u64)
     requires back { 16 ≤ from }

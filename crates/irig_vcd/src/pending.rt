@@ -5,7 +5,7 @@ ghost use Rattle.irig_vcd.specs.{Code.Pending.Means, Scan.IsClosed, Scan.Open, S
 use crate::fault::VcdFault;
 
 /// A value without its code: its place in the dump, in bytes from 0, and the level that it gives
-/// the wire of its code.
+/// the wire of its code: `Ok(None)` is none, an error a value that does not belong there.
 #[derive(Clone, Copy)]
 pub struct Value {
     pub offset: usize,
@@ -22,7 +22,7 @@ pub enum Pending {
     Rest(Option<usize>),
 }
 
-/// What is at fault if a dump ends here.
+/// Whether a dump may end here: nothing may be open. Else what is at fault.
 pub fn closed(pending: Pending) -> Result<(), VcdFault>
     ensures { (now : Open) → Means pending now → IsClosed result (left_open now) }
 {

@@ -19,6 +19,10 @@ use std::alloc::AllocError;
 
 /// What was read of a dump, the bytes of its first journal so far, and the bytes that are held: the
 /// declarations so far, or the last word if no white space is after it.
+///
+/// `wire` is the name that was asked for. `unit` and `code` are what the declarations say; there is
+/// no unit until they are whole. `gone` counts the bytes that were read and are no longer held.
+/// `wanted` is how many bytes are to be held before they are read.
 #[derive(Drop)]
 pub struct Progress {
     pub wire: Option<Vec<u8>>,
@@ -32,8 +36,9 @@ pub struct Progress {
 }
 
 impl Progress {
-    /// Reads the bytes that are held, up to a place. If the declarations are not whole it reads
-    /// nothing, and returns what is at fault if no more comes.
+    /// Reads the bytes that are held, up to a place, and returns the unit. If the declarations are
+    /// not whole it reads nothing; the inner error is what is at fault if no more comes. The outer
+    /// error is a fault whatever comes.
     pub fn read_to(&mut self, whole: usize) -> Result<Result<Unit, VcdFault>, VcdFault>
         requires within { whole ≤ vec_len self.old.held }
         requires ready { IsReady self.old.unit self.old.reading }
@@ -89,8 +94,8 @@ impl Progress {
         }
     }
 
-    /// Gathers the bytes of the first journal among those that are held, up to a place. They are
-    /// read, and not yet gathered.
+    /// Gathers the bytes of the first journal among those that are held, up to a place: those were
+    /// read, and not yet gathered. It fails only if memory runs out.
     pub fn gather(&mut self, whole: usize) -> Result<(), AllocError>
         requires within { whole ≤ vec_len self.old.held }
         requires short { self.old.gone + vec_len self.old.held ≤ 2 ^ 48 }
@@ -122,7 +127,8 @@ impl Progress {
         }
     }
 
-    /// Lets bytes at the front go, which are read. It wants twice the others before it reads again.
+    /// Lets the first `count` bytes go, which are read. It wants twice the others before it reads
+    /// again.
     pub fn let_go(&mut self, count: usize)
         requires within { count ≤ vec_len self.old.held }
         requires short { self.old.gone + vec_len self.old.held ≤ 2 ^ 48 }
@@ -161,8 +167,9 @@ fn drop_front(bytes: &mut Vec<u8>, count: usize)
     bytes.truncate(left);
 }
 
-/// Reads the declarations and what is after them, and returns the unit. If the declarations are not
-/// whole it reads nothing, and returns what is at fault if no more comes.
+/// Reads the declarations and what is after them in a part, keeps the code, and returns the unit.
+/// If the declarations are not whole it reads nothing; the inner error is what is at fault if no
+/// more comes. The outer error is a fault whatever comes.
 fn begin(
     wire: Option<&[u8]>,
     code: &mut Vec<u8>,
@@ -196,7 +203,7 @@ fn begin(
     }
 }
 
-/// Reads what is after the declarations in a part, after that many bytes.
+/// Reads what is after the declarations in a part, which comes after `gone` bytes of the dump.
 fn go_on(
     unit: Unit,
     code: &[u8],

@@ -1,4 +1,8 @@
 //! Pulses that are read in one step: a rise and a fall, each a time line and a level line.
+//!
+//! `code` is that of the wire that is read, of one byte. A clock is a time of the dump; its `whole`
+//! is in microseconds here. A stretch goes up to its `limit` in microseconds: its edges are kept,
+//! or none is in the window that is read. `tokens.at` is the place of the next byte.
 
 ghost use Rattle.std.specs.Prelude.{◌≡◌, ◌≤◌, ◌<◌, ◌+◌, ◌^◌, ◌∷◌, [], true, false, length};
 ghost use Rattle.std.specs.Prelude.{slice_index, IfSome, IfOk, OnErr};
@@ -23,7 +27,8 @@ pub struct Edge {
     pub end: usize,
 }
 
-/// Whether a newline, a value, a code and a newline are at a place.
+/// Whether a newline, a value, a code and a newline are at a place. The four bytes are compared as
+/// one number.
 #[inline(always)]
 fn is_line(source: &[u8], at: usize, value: u8, code: u8) -> bool
     requires { at + 4 ≤ length source.now }
@@ -38,7 +43,8 @@ fn is_line(source: &[u8], at: usize, value: u8, code: u8) -> bool
     stands == line
 }
 
-/// The edge at a place, to this level and of this code.
+/// The edge at a place, to this level and of this code. `None` if its two lines are not there: a
+/// time, and the value with this code.
 #[inline(always)]
 fn edge_at(source: &[u8], at: usize, high: bool, code: u8, unit: Unit) -> Option<Edge>
     requires back { 16 ≤ at }
@@ -65,7 +71,7 @@ fn edge_at(source: &[u8], at: usize, high: bool, code: u8, unit: Unit) -> Option
 }
 
 /// The rise and the fall at a place, each in a later microsecond than what is before it, and none
-/// after a limit.
+/// after a limit; `after` and `limit` are microseconds. `None` if something else is there.
 #[inline(always)]
 fn pulse_at(
     source: &[u8],
@@ -97,7 +103,8 @@ fn pulse_at(
 }
 
 /// Takes the pulses here, after a time, and returns the time of the last fall. It stops at what is
-/// no pulse, and at an edge in the microsecond of the one before it.
+/// no pulse, and at an edge in the microsecond of the one before it. It reads sixteen bytes at a
+/// time from before a place, so nothing in the first sixteen. It fails only if memory runs out.
 #[inline(always)]
 fn pulses_in(
     tokens: &mut Tokens,

@@ -1,4 +1,6 @@
 //! What was read after the declarations.
+//!
+//! `code` is that of the wire that is read, and `unit` that of the dump's times.
 
 ghost use Rattle.std.specs.Prelude.{◌≡◌, ◌≤◌, ◌^◌, ℕ, List, None, Err, IfOk, OnOk};
 ghost use Rattle.irig_vcd.specs.{Code.Journals.Holds, Code.Reached.IsOn, Code.Scanned.HasScanned};
@@ -42,8 +44,8 @@ impl Reading {
         }
     }
 
-    /// Reads tokens of the changes. What is read in the end stays the same, whatever comes after
-    /// them. A fault is one whatever comes after them.
+    /// Reads tokens of the changes, after those that were read before. They may be those of a part:
+    /// what is open after the last is kept. A fault is one whatever comes after them.
     pub fn read(&mut self, tokens: &mut Tokens, unit: Unit, code: &[u8]) -> Result<(), VcdFault>
         requires time { IsOn unit self.old.trace self.old.clock }
         ensures time { OnOk result (IsOn unit self.new.trace self.new.clock) }
@@ -63,7 +65,9 @@ impl Reading {
         Ok(())
     }
 
-    /// What was read, if nothing comes after it.
+    /// What was read, if nothing comes after it: the length in microseconds, which is that of the
+    /// window if there is one; the edges; and the places of the journals. It is a fault if
+    /// something is open, as a comment without its end.
     pub fn finish(self, unit: Unit) -> Result<Body, VcdFault>
         requires time { IsOn unit self.trace self.clock }
         ensures exact { (s : Scan) → StandsAt unit s self

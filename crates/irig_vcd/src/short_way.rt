@@ -1,4 +1,8 @@
 //! The tokens of a wire's changes that are taken in one step.
+//!
+//! A clock is a time of the dump, in its unit. The trace follows the level of the wire and keeps
+//! its edges. A code is plain if it has 1 to 18 printable bytes. All else is left to the way for
+//! any token, which is slower.
 
 ghost use Rattle.std.specs.Prelude.{◌≡◌, ◌↔◌, ◌≤◌, ◌<◌, List, Option, true, length, slice_index};
 ghost use Rattle.std.specs.Prelude.{IfOk, OnErr};
@@ -20,7 +24,7 @@ use crate::unit::Unit;
 use crate::variable::is_code;
 use std::alloc::AllocError;
 
-/// Whether a code is of a few printable bytes.
+/// Whether a code is of 1 to 18 printable bytes.
 pub fn is_plain(code: &[u8]) -> bool
     ensures some { result ≡ true → 0 < length code.now }
     ensures few { result ≡ true → length code.now ≤ 18 }
@@ -29,7 +33,8 @@ pub fn is_plain(code: &[u8]) -> bool
     !code.is_empty() && code.len() <= LONGEST_CODE && is_code(code)
 }
 
-/// Whether pulses are taken in one step: in units of a microsecond or less, on a code of one byte.
+/// Whether pulses are taken in one step: in units of a microsecond or less, on a plain code of one
+/// byte.
 pub fn is_quick(is_plain: bool, unit: Unit, code: &[u8]) -> bool
     ensures plain { result ≡ true → is_plain ≡ true }
     ensures unit { result ≡ true → unit ≤ 9 }
@@ -38,7 +43,8 @@ pub fn is_quick(is_plain: bool, unit: Unit, code: &[u8]) -> bool
     is_plain && unit.divides_microsecond() && code.len() == 1
 }
 
-/// Takes the tokens here that are taken in one step, and gives the time then.
+/// Takes the tokens here that are taken in one step, up to the first that is not, and gives the
+/// time then.
 #[inline(always)]
 pub fn follow_short(
     is_plain: bool,
@@ -89,7 +95,8 @@ fn has_sign(source: &[u8], at: usize) -> bool
     at < source.len() && source[at] == b'#'
 }
 
-/// Takes the pulses here, if they are taken in one step, and returns the time then.
+/// Takes the pulses here, if they are taken in one step, and returns the time then. A pulse begins
+/// at a low level with the number sign of its time.
 #[inline(always)]
 fn ahead(
     is_quick: bool,

@@ -1,4 +1,8 @@
 //! A level that is given by its changes, traced.
+//!
+//! Times are in microseconds of the dump. `moved` gives the microsecond of the window that a time
+//! falls on. Several changes can be in one microsecond, so an edge is kept only when a later one
+//! comes: if the level then differs from that of the microsecond before.
 
 ghost use Rattle.std.specs.Prelude.{◌≡◌, ◌≤◌, ◌<◌, ◌+◌, ◌^◌, true, false, ◌∷◌, [], ◌++◌, ℕ, List};
 ghost use Rattle.std.specs.Prelude.{◌↔◌, OnOk, OnErr, IfOk, IfSome, length, take};
@@ -48,7 +52,8 @@ impl Trace {
         }
     }
 
-    /// Continues to a time.
+    /// Continues to a time. If that is a later microsecond of the window, an edge is kept at the
+    /// last time if the level changed there. It fails only if memory runs out.
     fn advance(&mut self, time: u64) -> Result<(), AllocError>
         requires { self.old.time ≤ time }
         ensures ok { OnOk result
@@ -70,7 +75,8 @@ impl Trace {
         Ok(())
     }
 
-    /// Takes the next change: the level from a time in microseconds on.
+    /// Takes the next change: the level from a time in microseconds on. It fails only if memory
+    /// runs out.
     pub fn put(&mut self, time: u64, high: bool) -> Result<(), AllocError>
         requires { self.old.time ≤ time }
         ensures ok { OnOk result
@@ -95,7 +101,10 @@ impl Trace {
         !self.now
     }
 
-    /// Up to where pulses are taken in one step from here on, if the level is low.
+    /// Up to where pulses are taken in one step from here on, if the level is low. They are not in
+    /// the window before its begin or from its end on. Within it they are kept if a rise waits for
+    /// its fall, which is at the last time. Else it is `None`: the next change is to be taken in
+    /// the usual way.
     #[inline(always)]
     pub fn stretch(&self) -> Option<Stretch>
         requires { self.now.now ≡ false }
@@ -121,7 +130,7 @@ impl Trace {
         None
     }
 
-    /// Whether two edges more are kept.
+    /// Whether two edges more can be kept.
     #[inline(always)]
     pub fn has_room(&self) -> bool
         ensures { result ≡ true ↔ (length self.entry.now.edges + 2 ≤ edges_kept) }
@@ -129,7 +138,8 @@ impl Trace {
         self.edges.has_room()
     }
 
-    /// Takes a rise and a fall on a stretch, at times in microseconds.
+    /// Takes a rise and a fall on a stretch, at times in microseconds. If edges are kept, these are
+    /// the fall at the last time and this rise: this fall is kept with the next rise.
     #[inline(always)]
     pub fn put_pulse(&mut self, rise: u64, fall: u64, stretch: Stretch) -> Result<(), AllocError>
         requires here { LiesOn stretch self.old }
@@ -155,7 +165,8 @@ impl Trace {
         Ok(())
     }
 
-    /// The edges of the recording of the window, of a dump that ends at a time.
+    /// The edges of the recording of the window, of a dump that ends at a time. If the level is
+    /// high just before the end, its pulse ends there. It fails only if memory runs out.
     pub fn finish(mut self, end: u64) -> Result<Edges, AllocError>
         requires { self.time ≤ end }
         ensures edges { IfOk result
@@ -170,7 +181,7 @@ impl Trace {
     }
 }
 
-/// Up to a limit no edge is in the window.
+/// The stretch up to a limit, of which no edge is in the window.
 fn apart(limit: u64) -> Stretch
     ensures limit { result.limit ≡ limit }
     ensures apart { result.is_kept ≡ false }
@@ -189,8 +200,8 @@ pub fn differ(level: bool, other: bool) -> bool
     level != other
 }
 
-/// Adds an edge, if there is one, after the others. If there is one too many already, it adds none
-/// and asks for no memory.
+/// Adds an edge after the others, if `is_edge` says that there is one. If there is one too many
+/// already, it adds none and asks for no memory. It fails only if memory runs out.
 fn keep(edges: &mut Edges, is_edge: bool, edge: u64) -> Result<(), AllocError>
     ensures ok { OnOk result
         ((all : List ℕ) → edges.old ≡ take edges_kept all

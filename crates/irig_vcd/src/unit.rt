@@ -1,4 +1,6 @@
 //! The unit of time of a dump.
+//!
+//! A time is a number of units. Its whole part is in microseconds, or in units if these are longer.
 
 ghost use Rattle.std.specs.Prelude.{◌≡◌, ◌≤◌, ◌-◌, ◌==◌, nat_le};
 ghost use Rattle.irig_vcd.specs.Code.Time.{factor_of, limit_of};
@@ -65,7 +67,8 @@ impl Unit {
         9u8.saturating_sub(self.exponent)
     }
 
-    /// The largest whole part of a time that is within 2^40 microseconds.
+    /// The largest whole part of a time that is within 2^40 microseconds: that number over
+    /// `factor`, rounded down.
     #[tactic(auto, unfolding(crate::specs::Code::Time::limit_of))]
     pub fn limit(self) -> u64
         ensures { result ≡ limit_of self }
@@ -83,7 +86,7 @@ impl Unit {
         }
     }
 
-    /// How many microseconds one of the whole part of a time counts.
+    /// How many microseconds one of the whole part of a time is.
     #[tactic(auto, unfolding(crate::specs::Code::Time::factor_of))]
     pub fn factor(self) -> u64
         ensures { result ≡ factor_of self }

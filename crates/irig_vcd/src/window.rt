@@ -1,4 +1,6 @@
 //! A window of a dump: the part of it that is kept.
+//!
+//! Times are in microseconds.
 
 ghost use Rattle.std.specs.Prelude.{◌≡◌};
 ghost use Rattle.irig_vcd.specs.Window.{moved};
