@@ -1,4 +1,8 @@
 //! Edges that are kept as pulses.
+//!
+//! Two edges are a pulse: a rise and a fall. If the last edge is a rise, it waits in `rise`, and
+//! `is_open` is true. A recording has at most 2^22 pulses, so 2^23 edges; one edge more is kept, to
+//! know that there are too many.
 
 ghost use Rattle.std.specs.Prelude.{◌≡◌, ◌≤◌, ◌<◌, ◌+◌, ◌^◌, ◌↔◌, ◌∷◌, [], ◌++◌, true, false, not};
 ghost use Rattle.std.specs.Prelude.{◌*◌, length, IsTrue, OnErr, OnOk};
@@ -47,7 +51,7 @@ impl Edges {
         }
     }
 
-    /// Whether the last edge is a rise.
+    /// Whether the last edge is a rise, which waits for its fall.
     pub fn is_open(&self) -> bool
         ensures { result ≡ not (is_even_long self.now) }
     {
@@ -61,7 +65,7 @@ impl Edges {
         self.is_open && self.pulses.gap_at() == PULSES_LIMIT
     }
 
-    /// Whether two edges more are kept.
+    /// Whether two edges more can be added, so that at most 2^23 + 1 are kept.
     #[inline(always)]
     pub fn has_room(&self) -> bool
         ensures { result ≡ true ↔ (length self.now + 2 ≤ edges_kept) }
@@ -69,7 +73,7 @@ impl Edges {
         self.pulses.gap_at() < PULSES_LIMIT
     }
 
-    /// Adds an edge after the others. Only a fall takes memory.
+    /// Adds an edge after the others. Only a fall takes memory. It fails only if memory runs out.
     pub fn push(&mut self, edge: u64) -> Result<(), AllocError>
         requires { length self.old ≤ 2 ^ 23 }
         ensures { OnOk result (self.new ≡ self.old ++ edge ∷ []) }
@@ -85,7 +89,8 @@ impl Edges {
         Ok(())
     }
 
-    /// Adds a fall and the next rise after the others.
+    /// Adds a fall and the next rise after the others, the last of which is a rise. It fails only
+    /// if memory runs out.
     #[inline(always)]
     pub fn close_and_open(&mut self, fall: u64, rise: u64) -> Result<(), AllocError>
         requires risen { is_even_long self.old ≡ false }
@@ -98,7 +103,8 @@ impl Edges {
         Ok(())
     }
 
-    /// The pulses of the edges, none of which is copied. The place is after them all.
+    /// The pulses of the edges, none of which is copied. The last edge is a fall. The place of the
+    /// buffer is after them all.
     pub fn into_pulses(self) -> Gap<Pulse>
         requires { is_even_long self ≡ true }
         ensures edges { edges_of result.items ≡ self }
@@ -109,7 +115,7 @@ impl Edges {
     }
 }
 
-/// Adds a pulse after the others.
+/// Adds a pulse after the others. If memory runs out, nothing changes.
 #[inline(always)]
 fn put(pulses: &mut Gap<Pulse>, pulse: Pulse) -> Result<(), AllocError>
     requires few { length pulses.old.items ≤ 2 ^ 22 }
@@ -128,7 +134,7 @@ fn put(pulses: &mut Gap<Pulse>, pulse: Pulse) -> Result<(), AllocError>
 }
 
 /// Makes a full block twice as large, and adds the room of a first block. It never has more room
-/// than the most pulses and a first block.
+/// than the most pulses and a first block. If memory runs out, nothing changes.
 #[inline(never)]
 fn grow(pulses: &mut Gap<Pulse>) -> Result<(), AllocError>
     requires few { length pulses.old.items ≤ 2 ^ 22 }

@@ -1,4 +1,10 @@
 //! The lines of a pulse, kept for the next one.
+//!
+//! The four lines are `#RISE`, `1!`, `#FALL` and `0!`. Most pulses come soon after the one before,
+//! so their times have the same digits but for the last four. These digits are written over the old
+//! ones, and all else is kept.
+//! The lines of an edge end with four bytes, a newline, the level, the code and a newline; the last
+//! four digits of its time come just before these.
 
 ghost use Rattle.std.specs.Prelude.{◌≡◌, ◌↔◌, ◌≤◌, ◌<◌, ◌+◌, ◌-◌, ◌/◌, ◌%◌, ◌^◌, ◌++◌, ◌∷◌, true};
 ghost use Rattle.std.specs.Prelude.{false, OnOk, length, take, drop, vec_capacity, vec_len, IsOk};
@@ -49,7 +55,9 @@ impl KeptPulse {
         self.catch_up_to(rise) && self.is_near(fall)
     }
 
-    /// Makes new lines, with both edges at a time in microseconds. They are made in `line`.
+    /// Makes new lines, with both edges at a time in microseconds. They are made in `line`: a time
+    /// ends before byte 21, and the bytes 21 to 24 are a newline, the level, the code and a
+    /// newline. So the lines of an edge are those from the start of the time to byte 24.
     pub fn renew(&mut self, line: &mut [u8], time: u64)
         requires some { 10000 ≤ time }
         requires few { time < 10 ^ 15 }
@@ -68,7 +76,9 @@ impl KeptPulse {
         self.base = time - time % 10000;
     }
 
-    /// Writes the lines of a pulse whose times, in microseconds, have the digits that are kept.
+    /// Writes the lines of a pulse whose times, in microseconds, have the digits that are kept. A
+    /// fixed number of bytes is written, which is fast, and those too many are removed. It fails
+    /// only if memory runs out.
     #[inline(always)]
     pub fn put(&mut self, text: &mut Vec<u8>, rise: u64, fall: u64) -> Result<(), AllocError>
         requires holds { HoldsPulse self.old }
@@ -90,7 +100,7 @@ impl KeptPulse {
         Ok(())
     }
 
-    /// Whether a time, in microseconds, has the digits that are kept.
+    /// Whether a time, in microseconds, has the digits that are kept in front of its last four.
     #[inline(always)]
     fn is_near(&self, time: u64) -> bool
         ensures { result ≡ true ↔ IsNear self.now time }
@@ -98,8 +108,8 @@ impl KeptPulse {
         self.base <= time && time - self.base < 10000
     }
 
-    /// Counts up if that gives the kept digits to a time, in microseconds. Returns whether the time
-    /// has them then.
+    /// Counts up by one the digits in front of the last four, if that gives them those of a time,
+    /// in microseconds. Returns whether the time has the digits that are kept then.
     #[inline(always)]
     fn catch_up_to(&mut self, time: u64) -> bool
         requires holds { HoldsPulse self.old }
@@ -116,7 +126,8 @@ impl KeptPulse {
         past < 20000 && self.count_up()
     }
 
-    /// Counts up by one the digits in front of the last four, if that changes only one digit.
+    /// Counts up by one the digits in front of the last four, in both times, if that changes only
+    /// one digit: one that is not 9. Returns whether it did.
     #[inline(always)]
     fn count_up(&mut self) -> bool
         requires holds { HoldsPulse self.old }
@@ -138,7 +149,7 @@ impl KeptPulse {
     }
 }
 
-/// Copies 24 bytes of a line from a place on.
+/// Copies the 24 bytes of a line from `start` on to the place `at` of a buffer.
 fn put_part(bytes: &mut [u8], at: usize, line: &[u8], start: usize)
     requires room { at + 24 ≤ length bytes.old }
     requires some { start + 24 ≤ length line.now }
@@ -148,7 +159,7 @@ fn put_part(bytes: &mut [u8], at: usize, line: &[u8], start: usize)
     bytes[at..at + 24].copy_from_slice(&line[start..start + 24]);
 }
 
-/// Writes the four digits of a number below 10,000.
+/// Writes the four digits of a number below 10,000 at a place of a buffer.
 #[inline(always)]
 fn put_four(bytes: &mut [u8], at: usize, number: u64)
     requires few { number < 10000 }
@@ -160,7 +171,7 @@ fn put_four(bytes: &mut [u8], at: usize, number: u64)
     put_two(bytes, at + 2, number % 100);
 }
 
-/// Writes the two digits of a number below 100.
+/// Writes the two digits of a number below 100 at a place of a buffer.
 #[inline(always)]
 fn put_two(bytes: &mut [u8], at: usize, number: u64)
     requires few { number < 100 }
@@ -174,7 +185,7 @@ fn put_two(bytes: &mut [u8], at: usize, number: u64)
     bytes[at + 1] = ones;
 }
 
-/// The two digits of a number below 100.
+/// The two digits of a number below 100, as bytes of a text: tens and ones.
 #[inline(always)]
 fn pair(number: usize) -> (u8, u8)
     requires { number < 100 }

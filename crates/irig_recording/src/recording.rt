@@ -40,9 +40,9 @@ impl Model for Recording {
 }
 
 impl Recording {
-    /// The recording of a length and edges, both in microseconds, if they make one. The edges have
-    /// to rise, to be even in number, at most 2^23, none of them above the length, and the length
-    /// at most 2^40.
+    /// The recording of a length and edges, both in microseconds. `None` unless they make one: the
+    /// edges have to rise, to be even in number, at most 2^23, none of them above the length, and
+    /// the length at most 2^40. It fails only if memory runs out.
     pub fn new(alloc: Global, length: u64, edges: &[u64]) -> Result<Option<Recording>, AllocError>
         ensures accepted { IfOk result (λ r. IsSome r ↔ IsRecording length edges.now) }
         ensures view { IfOk result (λ r. IfSome r (λ made.
@@ -97,7 +97,7 @@ impl Recording {
     }
 }
 
-/// The pulses of edges.
+/// The pulses of an even number of edges. It fails only if memory runs out.
 fn pulses_of(alloc: Global, edges: &[u64]) -> Result<Gap<Pulse>, AllocError>
     requires few { length edges.now ≤ 2 ^ 23 }
     requires even { is_even_long edges.now ≡ true }
@@ -113,7 +113,7 @@ fn pulses_of(alloc: Global, edges: &[u64]) -> Result<Gap<Pulse>, AllocError>
     Ok(kept.into_pulses())
 }
 
-/// Whether these are the length and the edges of a recording.
+/// Whether these are the length and the edges of a recording, both in microseconds.
 fn is_recording(length: u64, edges: &[u64]) -> bool
     ensures { IsTrue result ↔ IsRecording length edges.now }
 {
@@ -129,7 +129,8 @@ fn is_recording(length: u64, edges: &[u64]) -> bool
     is_rising(length, edges)
 }
 
-/// Whether each edge is above the one before it, and none above the length.
+/// Whether each edge is above the one before it, and none above the length. `low` is the least time
+/// that the next edge may have.
 fn is_rising(length: u64, edges: &[u64]) -> bool
     requires { length ≤ 2 ^ 40 }
     ensures { IsTrue result ↔ (RisesFrom 0 edges.now × UpTo length edges.now) }

@@ -1,4 +1,7 @@
 //! A recording is written.
+//!
+//! Each function adds to `text`, and fails only if memory runs out. A line of a time is `#` and its
+//! microseconds; a line of a level is `1!` or `0!`.
 
 ghost use Rattle.std.specs.Prelude.{◌≡◌, ◌≤◌, ◌<◌, ◌^◌, ◌+◌, ◌/◌, true, false, ◌++◌, ◌∷◌, OnOk};
 ghost use Rattle.std.specs.Prelude.{IfOk, length, drop, decimal, vec_capacity, vec_len, IsOk};
@@ -15,7 +18,8 @@ use itoa::write_digits;
 use std::alloc::{AllocError, Global};
 use std::marker::Model;
 
-/// Writes the text of a dump, edge by edge, after the bytes of a text that the caller has.
+/// Writes the text of a dump, edge by edge, after the bytes of a text that the caller has. `last`
+/// is the last time that was written, in microseconds; lines are made in `line`, or in `pulse`.
 #[derive(Drop)]
 pub struct TextWriter {
     line: [u8; 48],
@@ -59,7 +63,8 @@ impl TextWriter {
         put_header(text, high)
     }
 
-    /// Writes the lines of an edge, in microseconds, from which on the level is high or low.
+    /// Writes the lines of an edge, in microseconds, from which on the level is high or low. An
+    /// edge at 0 is part of the header, so it has no lines.
     #[inline(always)]
     pub fn put_edge(&mut self, text: &mut Vec<u8>, edge: u64, high: bool) -> Result<(), AllocError>
         ensures text { OnOk result (text.new.items ≡ text.old.items ++ lines_at high edge) }
@@ -99,7 +104,7 @@ impl TextWriter {
         self.pulse.put(text, rise, fall)
     }
 
-    /// Writes the line of the length, in microseconds, unless an edge is there.
+    /// Writes the line of the length, in microseconds, unless the last edge is there.
     pub fn finish(&self, text: &mut Vec<u8>, length: u64) -> Result<(), AllocError>
         ensures text { OnOk result
             (text.new.items ≡ text.old.items ++ length_line self.now.last length) }
@@ -125,7 +130,7 @@ pub fn text(alloc: Global, recording: &Recording) -> Result<Vec<u8>, AllocError>
     Ok(text)
 }
 
-/// Writes the text of a recording.
+/// Writes the text of a recording: the header, its pulses, and the length.
 fn put_text(text: &mut Vec<u8>, recording: &Recording) -> Result<(), AllocError>
     ensures { OnOk result (text.new.items ≡ text.old.items ++ file_text recording.now) }
 {
@@ -139,7 +144,8 @@ fn put_text(text: &mut Vec<u8>, recording: &Recording) -> Result<(), AllocError>
     writer.finish(text, recording.length())
 }
 
-/// Whether two times of 5 to 15 digits have the same ones in front of the last four.
+/// Whether two times, in microseconds, have 5 to 15 digits and the same ones in front of the last
+/// four: then their lines fit into those that are kept.
 fn share_front(rise: u64, fall: u64) -> bool
     ensures same { result ≡ true → rise / 10000 ≡ fall / 10000 }
     ensures some { result ≡ true → 10000 ≤ rise }
@@ -155,7 +161,7 @@ fn begins_high(pulses: &Gap<Pulse>) -> bool
     0 < pulses.len() && pulses.get(0).rise == 0
 }
 
-/// Writes the lines before the first edge above 0.
+/// Writes the lines before the first edge above 0; `high` says whether the level is high at 0.
 #[tactic(auto, unfolding(crate::specs::FileText::head_text))]
 fn put_header(text: &mut Vec<u8>, high: bool) -> Result<(), AllocError>
     ensures text { OnOk result (text.new.items ≡ text.old.items ++ header_text high) }
@@ -172,8 +178,8 @@ fn put_header(text: &mut Vec<u8>, high: bool) -> Result<(), AllocError>
     Ok(())
 }
 
-/// Writes the two lines of an edge, by a buffer in which the time ends at 21. A fixed number of
-/// bytes is written, which is fast. Those too many are removed.
+/// Writes the two lines of an edge, by a buffer in which the time ends at byte 21 and the level
+/// comes after it. A fixed number of bytes is written, which is fast. Those too many are removed.
 #[inline(always)]
 fn put_lines(text: &mut Vec<u8>, line: &mut [u8], edge: u64, high: bool) -> Result<(), AllocError>
     requires room { 48 ≤ length line.old }
@@ -192,7 +198,8 @@ fn put_lines(text: &mut Vec<u8>, line: &mut [u8], edge: u64, high: bool) -> Resu
     Ok(())
 }
 
-/// Writes a number sign and the digits of a time so that they end at 21. Returns where they start.
+/// Writes a number sign and the digits of a time into a buffer, so that they end at byte 21.
+/// Returns where they start.
 pub(crate) fn put_digits(line: &mut [u8], time: u64) -> usize
     requires room { 21 ≤ length line.old }
     ensures within { result ≤ length line.new }
