@@ -40,7 +40,7 @@ impl<T, A: Allocator> Model for Deed<T, A> {
     ghost also_owns = { λ d. deed_owns T.row (A.dealloc_token d.alloc) d.at d.len };
 }
 
-/// A block of `len` empty places.
+/// A block of `len` empty places. `AllocError` if memory runs out.
 pub(crate) fn allocate<T, A: Allocator>(
     alloc: &A,
     len: usize,
@@ -73,7 +73,8 @@ pub(crate) fn deallocate<T, A: Allocator>(alloc: &A, len: usize, cells: Cells<T>
 }
 
 /// Makes a block of `old` places one of `len`, which keeps the items in its first `full` places. It
-/// can stay where it is. If there is no memory, it is as long as before. No other item is kept.
+/// can stay where it is. If memory runs out, the error has the block as long as before. No other
+/// item is kept.
 pub(crate) fn enlarge<T, A: Allocator>(
     alloc: &A,
     full: usize,
@@ -129,7 +130,8 @@ impl<T> Cells<T> {
         unsafe { self.start.add(index).write(item) }
     }
 
-    /// Moves the `count` items from the place `from` on to the place `to` and those after it.
+    /// Moves the `count` items from the place `from` on to the place `to` and those after it. The
+    /// two runs do not overlap.
     pub(crate) fn move_run(&mut self, from: usize, to: usize, count: usize)
         requires inside { (from + count ≤ length self.old.slots)
             × (to + count ≤ length self.old.slots) }

@@ -2,6 +2,10 @@
 //!
 //! The places of the block left of `gap` hold the items before the place, and those from `after` on
 //! hold the rest. Nothing is claimed of the places between.
+//!
+//! *The place* of the list is where items come and go; *places* of the block hold one item each.
+//! `capacity` is how many of these the block has, and the deed is the right to give it back; there
+//! is none if the places take no memory.
 
 ghost use Rattle.std.specs.Prelude.{◌≡◌, ◌+◌, ◌-◌, ◌^◌, ◌<◌, ◌≤◌, ◌⊎◌, true, false, length, []};
 ghost use Rattle.std.specs.Prelude.{slice_get, slice_set, insert, remove, Some};
@@ -65,7 +69,7 @@ impl<T: Copy> Gap<T> {
         self.gap + (self.capacity - self.after)
     }
 
-    /// Whether there is no room.
+    /// Whether there is no room: the next item needs a growth.
     pub fn is_full(&self) -> bool
         ensures full { result ≡ true → length self.now.items ≡ self.now.capacity }
         ensures room { result ≡ false → length self.now.items < self.now.capacity }
@@ -163,7 +167,8 @@ impl<T: Copy> Gap<T> {
         Some(*self.cells.get(first))
     }
 
-    /// The same items with the capacity `wanted`, or with that of before if there is no memory.
+    /// The same items with the capacity `wanted`, or with that of before if memory runs out. It is
+    /// for a list that has no item right of the place.
     pub(crate) fn lengthened(self, wanted: usize) -> Gap<T>
         requires longer { self.capacity < wanted }
         requires end { self.place ≡ length self.items }
@@ -190,6 +195,7 @@ impl<T: Copy> Gap<T> {
 }
 
 impl<T: Copy> Drop for Gap<T> {
+    // Gives the block back. The items are copies, so nothing else is dropped.
     fn drop(self) {
         let Gap {
             cells,
@@ -203,7 +209,7 @@ impl<T: Copy> Drop for Gap<T> {
     }
 }
 
-/// The slot of the item at `index`, both from 0.
+/// The place in the block of the item at `index`, both from 0.
 fn slot_of(index: usize, gap: usize, after: usize) -> usize
     requires { gap ≤ index → after + (index - gap) < 2 ^ 64 }
     ensures left { index < gap → result ≡ index }

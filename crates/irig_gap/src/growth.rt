@@ -1,4 +1,8 @@
 //! The capacity of a gap buffer grows: where its block is, or in another one.
+//!
+//! *The place* of a gap buffer is where items come and go; *places* of its block hold one item
+//! each. Those left of `gap` hold the items left of it, those from `after` on the others. On an
+//! error nothing has changed.
 
 ghost use Rattle.std.specs.Prelude.{◌≡◌, ◌+◌, ◌-◌, ◌/◌, ◌^◌, ◌<◌, ◌≤◌, length, max, min, OnOk};
 ghost use Rattle.std.specs.Prelude.{OnErr, map, Some};
@@ -60,7 +64,7 @@ impl<T: Copy> Gap<T> {
         }
     }
 
-    /// Makes the capacity `wanted`, in a block of its own.
+    /// Makes the capacity `wanted`, in another block, and gives the old one back.
     fn relocate(&mut self, wanted: usize) -> Result<(), AllocError>
         requires { self.old.capacity < wanted }
         ensures ok { OnOk result (self.new ≡ gap_view self.old.items self.old.place wanted) }

@@ -1,4 +1,8 @@
 //! The place of a gap buffer moves, by one item or in runs that are no longer than the gap.
+//!
+//! *The place* of the list is where items come and go; *places* of its block hold one item each.
+//! Those left of `gap` hold the items left of the place, those from `after` on the others; between
+//! them is the gap. To move the place, items are copied over the gap.
 
 ghost use Rattle.std.specs.Prelude.{◌≡◌, ◌+◌, ◌-◌, ◌<◌, ◌≤◌, length};
 ghost use Rattle.irig_gap.specs.Items.{gap_view};
@@ -41,7 +45,8 @@ impl<T: Copy> Gap<T> {
         }
     }
 
-    /// Moves the place over as many items on its left as the gap is wide, or down to `place`.
+    /// Moves the place over as many items on its left as the gap is wide, or down to `place` if
+    /// that is nearer: so the copy does not overlap what it copies.
     fn leap_left(&mut self, place: usize)
         requires { place < self.old.place }
         ensures view { self.new ≡ gap_view self.old.items self.new.place self.old.capacity }
@@ -60,7 +65,8 @@ impl<T: Copy> Gap<T> {
         self.cells.move_run(self.gap, self.after, count);
     }
 
-    /// Moves the place over as many items on its right as the gap is wide, or up to `place`.
+    /// Moves the place over as many items on its right as the gap is wide, or up to `place` if that
+    /// is nearer: so the copy does not overlap what it copies.
     fn leap_right(&mut self, place: usize)
         requires { (self.old.place < place) × (place ≤ length self.old.items) }
         ensures view { self.new ≡ gap_view self.old.items self.new.place self.old.capacity }
