@@ -1,4 +1,7 @@
 //! A new file next to its target, under a name that is free.
+//!
+//! The target is the name that the text is to have. A stem is what the name of a new file begins
+//! with; a number is after it. A hidden file is its owner's alone.
 
 ghost use Rattle.std.specs.Prelude.{◌≡◌, ◌≢◌, ◌↔◌, [], string_bytes, IfOk, IfErr, MatchOption};
 ghost use Rattle.std.specs.Prelude.{OnOk, IsErrOf, IsTrue};
@@ -13,7 +16,8 @@ use crate::name::is_name;
 use crate::new_text::NAMES;
 use std::alloc::AllocError;
 
-/// Makes a new file, under the first name that is free and is not the target's.
+/// Makes a new file, under the first name that is free and is not the target's, and leaves that
+/// name in `name`. `NamesTaken` if 10,000 are taken; nothing has changed after an error.
 pub(crate) fn make_beside<F: Folder>(
     folder: &mut F,
     dir: &F::Dir,
@@ -42,7 +46,8 @@ pub(crate) fn make_beside<F: Folder>(
     Err(PutFault::NamesTaken)
 }
 
-/// Makes a new file, under the name with a number, if that is free and is not the target's.
+/// Makes a new file, under the name with a number, if that is free and is not the target's. `None`
+/// if not: the next number is to be tried.
 fn make_at<F: Folder>(
     folder: &mut F,
     dir: &F::Dir,
@@ -75,7 +80,8 @@ fn make_at<F: Folder>(
 }
 
 /// Writes the name of a new file: the stem, and how many others were tried before it. Returns
-/// whether it is one, and not the target's own.
+/// whether it is a single name in a folder, and not the target's own. It fails only if memory runs
+/// out.
 fn put_name(name: &mut String, target: &str, stem: &str, number: u32) -> Result<bool, AllocError>
     ensures name { OnOk result (string_bytes name.new ≡ name_after stem.now number) }
     ensures apart { IfOk result (λ apart. IsTrue apart

@@ -27,12 +27,14 @@ pub enum PutFault<X> {
 impl<X> From<AllocError> for PutFault<X> {
     ghost from_gives = { λ _ e. e ≡ Memory };
 
+    // Memory ran out before a call was made.
     fn from(_: AllocError) -> Self {
         PutFault::Memory
     }
 }
 
-/// What a fault leaves, after the new file was to be removed. `None`: memory ran out.
+/// What a fault leaves, after the new file was to be removed: the removal may have failed, too. A
+/// fault of `None` is that memory ran out.
 pub(crate) fn fault_after<T: Drop, X>(fault: Option<X>, removal: Result<T, X>) -> PutFault<X>
     ensures { result ≡ left_by fault removal }
 {

@@ -1,4 +1,6 @@
 //! Single system calls on the names of open folders.
+//!
+//! A ghost item is for contracts alone: it is nothing in the program.
 
 ghost use Rattle.std.specs.Prelude.{◌≡◌, ◌≤◌, ◌⊎◌, ℕ, List, Option, OnOk, OnErr, MatchResult, Bool};
 ghost use Rattle.std.specs.Prelude.{IsTrue, MatchOption};
@@ -112,7 +114,7 @@ pub trait Folder {
             (place dir.now to.now)) }
         ensures time { IsTrue is_told → Elapses (disk self.old) (disk self.new) };
 
-    /// Frees a name.
+    /// Frees a name: no file has it then.
     fn remove(&mut self, dir: &Self::Dir, name: &str) -> Result<Self::NameRemoved, Self::Fault>
         ensures ok { IsTrue is_told → OnOk result
             (Removed (disk self.old) (disk self.new) (place dir.now name.now)) }

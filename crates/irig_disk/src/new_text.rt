@@ -1,4 +1,8 @@
 //! A text of a target, in parts, written whole.
+//!
+//! The target is the name that the text is to have. A stem is what the name of a new file begins
+//! with; a number is after it. A hidden file is its owner's alone. The new file is `beside` the
+//! target until it takes that name. To sync is to ask the system to keep something over a crash.
 
 ghost use Rattle.std.specs.Prelude.{◌≡◌, ◌++◌, ◌+◌, ◌-◌, ◌^◌, ℕ, List, [], length, min, take, IfOk};
 ghost use Rattle.std.specs.Prelude.{IfErr, OnOk, OnErr, IsErrOf, IsTrue};
@@ -67,7 +71,8 @@ impl<'n, F: Folder> NewText<'n, F> {
         }
     }
 
-    /// Writes a part, and counts its bytes, up to 2^64 - 1 in all. After a fault, give the text up.
+    /// Writes a part, and counts its bytes, up to 2^64 - 1 in all. After a fault, which may have
+    /// written some of it, give the text up.
     pub fn append(&mut self, folder: &mut F, part: &[u8]) -> Result<F::Appended, F::Fault>
         ensures dir { self.new.dir.now ≡ self.old.dir.now }
         ensures beside { self.new.beside.now ≡ self.old.beside.now }
@@ -92,7 +97,8 @@ impl<'n, F: Folder> NewText<'n, F> {
         Ok(appended)
     }
 
-    /// Gives the text its mode and its name, and keeps both.
+    /// Gives the text its mode and its name, and keeps both. If that fails before it has the name,
+    /// the new file is removed.
     pub fn finish(self, folder: &mut F) -> Result<Kept, PutFault<F::Fault>>
         requires { IsName self.target.now }
         ensures ok { IsTrue F.is_told → WhileWriting F.disk folder.old (F.place self.entry.dir.now self.entry.beside.now)
@@ -118,7 +124,7 @@ impl<'n, F: Folder> NewText<'n, F> {
         }
     }
 
-    /// Removes the new file.
+    /// Removes the new file, whose text is not wanted. The target stays as it was.
     pub fn give_up(self, folder: &mut F) -> Result<F::NameRemoved, F::Fault>
         ensures ok { IsTrue F.is_told → (mode : ℕ) → WhileWriting F.disk folder.old
             (F.place self.entry.dir.now self.entry.beside.now) (F.place self.entry.dir.now self.entry.target.now) (F.number self.entry.file) mode
@@ -142,7 +148,7 @@ impl<'n, F: Folder> NewText<'n, F> {
     }
 }
 
-/// Gives a text its mode and its name, or removes its file.
+/// Gives a text its mode and its name, or removes its file if that fails.
 fn place_or_clear<F: Folder>(folder: &mut F, new: &NewText<'_, F>) -> Result<(), PutFault<F::Fault>>
     ensures ok { IsTrue F.is_told → WhileWriting F.disk folder.old (F.place new.now.dir.now new.now.beside.now) (F.place new.now.dir.now new.now.target.now)
         (F.number new.now.file) (first_mode F.usual_mode new.now.mode) (λ start text.
@@ -163,7 +169,7 @@ fn place_or_clear<F: Folder>(folder: &mut F, new: &NewText<'_, F>) -> Result<(),
     }
 }
 
-/// Gives a new file the mode, syncs it and renames it.
+/// Gives a new file the mode, syncs what it holds, and gives it the target's name.
 fn place<F: Folder>(folder: &mut F, new: &NewText<'_, F>) -> Result<F::Renamed, F::Fault>
     ensures ok { IsTrue F.is_told → WhileWriting F.disk folder.old (F.place new.now.dir.now new.now.beside.now) (F.place new.now.dir.now new.now.target.now)
         (F.number new.now.file) (first_mode F.usual_mode new.now.mode) (λ start text.
@@ -180,7 +186,8 @@ fn place<F: Folder>(folder: &mut F, new: &NewText<'_, F>) -> Result<F::Renamed, 
     }
 }
 
-/// Syncs a new file and renames it.
+/// Syncs what a new file holds, so that no crash leaves the target a part of it, and gives it the
+/// target's name.
 fn rename_synced<F: Folder>(
     folder: &mut F,
     file: &F::File,
@@ -201,7 +208,7 @@ fn rename_synced<F: Folder>(
     }
 }
 
-/// Gives a new file the mode, if there is one.
+/// Gives a new file the mode, if there is one to give.
 fn give_mode<F: Folder>(folder: &mut F, file: &F::File, mode: Option<u32>) -> Result<(), F::Fault>
     ensures ok { IsTrue F.is_told → (beside : List ℕ) (target : List ℕ) → WhileWriting F.disk folder.old
         beside target (F.number file.now) (first_mode F.usual_mode mode) (λ start text.
@@ -220,7 +227,8 @@ fn give_mode<F: Folder>(folder: &mut F, file: &F::File, mode: Option<u32>) -> Re
     }
 }
 
-/// Keeps the names of a text that has its place, with a count of its bytes.
+/// Syncs the names of the folder, so that each crash leaves the new text. `count` is how many bytes
+/// it has. `NotKept`: the text is there, but a crash can bring the old one back.
 fn keep<F: Folder>(folder: &mut F, dir: &F::Dir, count: u64) -> Result<Kept, PutFault<F::Fault>>
     ensures ok { IsTrue F.is_told → WhilePlaced F.disk folder.old (F.place dir.now) (λ start target text. OnOk result
         (IsKept start (F.disk folder.new) target text)) }
@@ -236,7 +244,8 @@ fn keep<F: Folder>(folder: &mut F, dir: &F::Dir, count: u64) -> Result<Kept, Put
     }
 }
 
-/// Removes the new file of a text that did not come to its place, after a fault.
+/// Removes the new file of a text that did not get its name, after a fault. The answer says what is
+/// left: that fault, and one of the removal if there was one.
 fn clear<F: Folder>(
     folder: &mut F,
     dir: &F::Dir,

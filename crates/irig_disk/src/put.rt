@@ -1,4 +1,8 @@
 //! A text written whole, in one call.
+//!
+//! A new file gets the text; then it takes the target's name. A block is memory in which parts of
+//! the text wait to be written together. `None` instead of the fault of a call says that memory ran
+//! out, or that the text has more than 2^64 - 1 bytes.
 
 ghost use Rattle.std.specs.Prelude.{◌≡◌, ◌<◌, ◌≤◌, ◌++◌, ◌+◌, ◌^◌, ℕ, List, [], false, true};
 ghost use Rattle.std.specs.Prelude.{length, IfOk, IfErr, IfSome, OnOk, OnErr, OnSome, IsOk, IsSome};
@@ -49,8 +53,8 @@ pub fn put_text<F: Folder, T: Text>(
     put_begun(folder, begun, text, block)
 }
 
-/// Writes the rest of a text, if its new file was made, and keeps the file, or removes it after a
-/// fault.
+/// Writes the text to the new file, if it was made, and gives that the target's name, or removes it
+/// after a fault.
 fn put_begun<F: Folder, T: Text>(
     folder: &mut F,
     begun: Result<NewText<'_, F>, PutFault<F::Fault>>,
@@ -77,8 +81,7 @@ fn put_begun<F: Folder, T: Text>(
     }
 }
 
-/// Keeps the new file of a text that was written, or removes it after a fault. `None` is a fault
-/// of no call.
+/// Gives the new file of a text that was written the target's name, or removes it after a fault.
 fn finish_or_give_up<F: Folder>(
     folder: &mut F,
     new: NewText<'_, F>,
@@ -103,7 +106,7 @@ fn finish_or_give_up<F: Folder>(
     }
 }
 
-/// Writes all of a text. `None` is a fault of no call.
+/// Writes all of a text to the new file. `None` is a fault of no call.
 fn append_all<F: Folder, T: Text>(
     folder: &mut F,
     new: &mut NewText<'_, F>,
@@ -131,8 +134,8 @@ fn append_all<F: Folder, T: Text>(
     }
 }
 
-/// Writes the next block of a text, and returns whether it was the last one. `None` is a fault of
-/// no call.
+/// Writes the next block of a text to the new file, and returns whether it was the last one. `None`
+/// is a fault of no call.
 fn append_next<F: Folder, T: Text>(
     folder: &mut F,
     new: &mut NewText<'_, F>,
@@ -162,7 +165,8 @@ fn append_next<F: Folder, T: Text>(
     }
 }
 
-/// Writes a block of a text, and passes on whether it is the last one. The fault is that of a call.
+/// Writes a block of a text to the new file, and passes on `ended`, whether it is the last one. The
+/// fault is that of a call.
 fn append_block<F: Folder>(
     folder: &mut F,
     new: &mut NewText<'_, F>,

@@ -1,4 +1,8 @@
 //! A folder of the system: each method is one call, and only it makes the answer of that call.
+//!
+//! A runtime makes the calls of the system. Each answer is a type of its own, so that a call that
+//! was not made has none. Paths are built in `one` and `other`, whose memory is there before. The
+//! contracts say nothing of what the disk holds.
 
 ghost use Rattle.std.specs.Prelude.{◌≡◌, ◌≤◌, ◌↔◌, IfErr, IfOk, IsOk, IsSome, IsTrue, OnOk, false};
 ghost use Rattle.std.specs.Fs.{asks_create_new, asks_write};
@@ -41,7 +45,7 @@ impl<'a, R: Files> SystemFolder<'a, R> {
         })
     }
 
-    /// The runtime.
+    /// The runtime, which makes the calls.
     pub fn runtime(&self) -> &'a R
         ensures { result.now ≡ self.now.runtime.now }
     {
@@ -67,7 +71,7 @@ impl<F: Drop> SystemDir<F> {
         })
     }
 
-    /// Opens the folder at a path.
+    /// Opens the folder at a path, instead of the one before.
     pub fn open<R: Files<File = F>>(&mut self, runtime: &R, path: &str) -> Result<(), SystemFault>
         ensures { OnOk result (IsSome self.new.file) }
     {
@@ -82,7 +86,8 @@ impl<F: Drop> SystemDir<F> {
     }
 }
 
-/// Writes the path of a name in a folder.
+/// Writes the path of a name in a folder; of the folder itself if the name is empty. It fails only
+/// if memory runs out.
 fn put_path(path: &mut PathBuf, folder: &str, name: &str) -> Result<(), SystemFault> {
     path.clear();
     let Ok(()) = path.push(folder) else {
@@ -132,6 +137,7 @@ impl<R: Files> Folder for SystemFolder<'_, R> {
 
     ghost only_now = { λ _ _ _ left. absurd left };
 
+    // Makes a new file under a name if it is free; `None`: it is taken.
     fn make(
         &mut self,
         dir: &SystemDir<R::File>,
@@ -146,6 +152,7 @@ impl<R: Files> Folder for SystemFolder<'_, R> {
         }
     }
 
+    // Writes bytes at the end of a file. If it fails, some may be written.
     fn append(
         &mut self,
         file: &mut SystemFile<R::File>,
@@ -154,6 +161,7 @@ impl<R: Files> Folder for SystemFolder<'_, R> {
         append_all(file, bytes)
     }
 
+    // Gives a file a mode.
     fn take_mode(
         &mut self,
         file: &SystemFile<R::File>,
@@ -165,6 +173,7 @@ impl<R: Files> Folder for SystemFolder<'_, R> {
         }
     }
 
+    // Asks the system to keep what a file holds over a crash.
     fn sync_file(&mut self, file: &SystemFile<R::File>) -> Result<FileSynced, SystemFault> {
         match file.0.sync_all() {
             Ok(()) => Ok(FileSynced(())),
@@ -172,6 +181,7 @@ impl<R: Files> Folder for SystemFolder<'_, R> {
         }
     }
 
+    // Gives a file of a folder another name, instead of the file that had it.
     fn rename(
         &mut self,
         dir: &SystemDir<R::File>,
@@ -186,6 +196,7 @@ impl<R: Files> Folder for SystemFolder<'_, R> {
         }
     }
 
+    // Frees a name in a folder.
     fn remove(&mut self, dir: &SystemDir<R::File>, name: &str) -> Result<NameRemoved, SystemFault> {
         put_path(&mut self.one, dir.path.as_str(), name)?;
         match fs::remove_file(self.runtime, self.one.as_str()) {
@@ -194,6 +205,7 @@ impl<R: Files> Folder for SystemFolder<'_, R> {
         }
     }
 
+    // Asks the system to keep the names of a folder over a crash. The folder has to be open.
     fn sync_names(&mut self, dir: &SystemDir<R::File>) -> Result<NamesSynced, SystemFault> {
         let Some(folder) = &dir.file else {
             return Err(SystemFault(io::Error::from(ErrorKind::NotFound)));
@@ -263,8 +275,8 @@ fn names_synced(outcome: io::Result<()>) -> Result<NamesSynced, SystemFault>
     }
 }
 
-/// Writes all of the bytes. It is a function for its clause: of this folder those of `Folder` say
-/// nothing.
+/// Writes all of the bytes at the end of a file. It is a function for its clause: of this folder
+/// those of `Folder` say nothing.
 fn append_all<F: Write + Drop>(
     file: &mut SystemFile<F>,
     bytes: &[u8],
