@@ -1,4 +1,8 @@
 //! Which folders in memory there are, and which files in them are no regular ones.
+//!
+//! A place is what a name leads to: the front of its folder, and the name after it. The number of a
+//! file is how many calls were done before it was made. Each list is looked through from its first
+//! item on.
 
 ghost use Rattle.std.specs.Prelude.{◌≡◌, is_none, option_copied};
 ghost use Rattle.irig_folders.specs.{Tree.front_in, Tree.other_in, TreeFiles.output_in};
@@ -31,7 +35,8 @@ pub struct Layout {
     pub limit: u64,
 }
 
-/// What the places of names in a folder begin with, by a path of it.
+/// What the places of names in a folder begin with, by a path of it. `None` if it is no path of a
+/// folder.
 pub fn front_at<'f>(folders: &'f [FolderPath], path: &[u8]) -> Option<&'f str>
     ensures { option_copied result ≡ front_in folders.now path.now }
 {
@@ -49,7 +54,7 @@ pub fn is_regular(others: &[Other], number: usize) -> bool
     other_at(others, number).is_none()
 }
 
-/// A file that is no regular one, by its number.
+/// A file that is no regular one, by its number. `None` if the file is regular.
 pub fn other_at<'o>(others: &'o [Other], number: usize) -> Option<&'o Other>
     ensures { option_copied result ≡ other_in others.now number }
 {
@@ -60,7 +65,7 @@ pub fn other_at<'o>(others: &'o [Other], number: usize) -> Option<&'o Other>
     other_at(rest, number)
 }
 
-/// The number of the file that the program's answers go to, if they go to one.
+/// The number of the file that the program's answers go to. `None` if they go to none of them.
 pub fn output_at(others: &[Other]) -> Option<usize>
     ensures { result ≡ output_in others.now }
 {

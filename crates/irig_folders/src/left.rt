@@ -1,4 +1,8 @@
 //! What a crash may leave of a folder in memory, for tests.
+//!
+//! A log of calls has the newest first, and begins with an empty folder. The number of a file is
+//! how many calls were done before it was made. `calls` is a log, and `older` what it has before
+//! its newest call.
 
 ghost use Rattle.std.specs.Prelude.{◌≡◌, ◌++◌, IfOk, IsTrue};
 ghost use Rattle.irig_disk.specs.Held.{Held};
@@ -7,7 +11,8 @@ ghost use Rattle.irig_folders.specs.Log.{holds_in, may_hold_in};
 use crate::call::Call;
 use std::alloc::{AllocError, Global};
 
-/// The bytes that a file holds.
+/// The bytes that a file holds: all that calls added to it since it was made. It fails only if
+/// memory runs out.
 pub fn bytes_of(alloc: Global, calls: &[Call], number: usize) -> Result<Vec<u8>, AllocError>
     ensures { IfOk result (λ bytes. bytes.items ≡ (holds_in calls.now number).bytes) }
 {
@@ -24,7 +29,7 @@ pub fn bytes_of(alloc: Global, calls: &[Call], number: usize) -> Result<Vec<u8>,
     }
 }
 
-/// Bytes with those of a part after them.
+/// Bytes with those of a part after them. It fails only if memory runs out.
 fn with_part(mut bytes: Vec<u8>, part: &[u8]) -> Result<Vec<u8>, AllocError>
     ensures { IfOk result (λ all. all.items ≡ bytes.items ++ part.now) }
 {
@@ -32,7 +37,7 @@ fn with_part(mut bytes: Vec<u8>, part: &[u8]) -> Result<Vec<u8>, AllocError>
     Ok(bytes)
 }
 
-/// The mode of a file.
+/// The mode of a file: the last one that it was given. 0 if there is no such file.
 pub fn mode_of(calls: &[Call], number: usize) -> u32
     ensures { result ≡ (holds_in calls.now number).mode }
 {
@@ -46,7 +51,7 @@ pub fn mode_of(calls: &[Call], number: usize) -> u32
     }
 }
 
-/// Whether a crash leaves a file as it is seen.
+/// Whether a crash leaves a file as it is seen: it was not changed since its last sync.
 pub fn is_kept(calls: &[Call], number: usize) -> bool
     ensures kept { IsTrue result → (h : Held) → may_hold_in calls.now number h
         → h ≡ holds_in calls.now number }

@@ -1,5 +1,9 @@
 //! A folder in memory, for tests. It is the log of the calls that were done on it, the newest
 //! first.
+//!
+//! The number of a file is how many calls were done before it was made. `older` is what a log has
+//! before its newest call. A call that was to fail does nothing and answers `Planned`; each call
+//! can also fail as memory runs out, which is `NoMemory`.
 
 ghost use Rattle.std.specs.Prelude.{◌≡◌, ◌↔◌, ◌≤◌, ◌<◌, ◌∷◌, ◌++◌, ◌+◌, ◌-◌, ◌^◌, [], List, false, true};
 ghost use Rattle.std.specs.Prelude.{None, OnOk, OnErr, IfOk, IfErr, IfSome, IsTrue, MatchOption, min};
@@ -39,7 +43,7 @@ pub struct Memory {
     fails_to: u64,
 }
 
-/// The number of the file that a name leads to.
+/// The number of the file that a name leads to. `None` if there is none.
 pub fn file_at(calls: &[Call], name: &[u8]) -> Option<usize>
     ensures { result ≡ leads_in calls.now name.now }
 {
@@ -60,7 +64,8 @@ fn is_made(call: &Call, name: &[u8]) -> bool
     }
 }
 
-/// The name that led, before a call that does not make it, to the file of a name. `None`: no file.
+/// The name that led, before a call that does not make it, to the file that this name leads to
+/// after it. That is the old name after a rename; `None` if the call took this name away.
 fn name_before<'n>(call: &'n Call, name: &'n [u8]) -> Option<&'n [u8]>
     ensures { (older : List Call) → makes call.now name.now ≡ false → MatchOption result
         (leads_in (call.now ∷ older) name.now ≡ None)
@@ -73,7 +78,7 @@ fn name_before<'n>(call: &'n Call, name: &'n [u8]) -> Option<&'n [u8]>
     }
 }
 
-/// Adds a call to a log.
+/// Adds a call to a log, as the newest.
 fn add(calls: &mut Vec<Call>, call: Call) -> Result<(), MemoryFault>
     ensures ok { OnOk result (calls.new.items ≡ call ∷ calls.old.items) }
     ensures err { OnErr result (calls.new.items ≡ calls.old.items) }
@@ -106,7 +111,8 @@ impl Memory {
         &self.calls
     }
 
-    /// Lets the calls from one on fail, up to but not including another, counted from here from 0.
+    /// Lets the calls from number `from` on fail, up to number `to`, which is not included. The
+    /// calls count from here, from 0.
     pub fn fail(&mut self, from: u64, to: u64)
         ensures calls { self.new.calls ≡ self.old.calls }
         ensures done { self.new.done ≡ 0 }
@@ -134,7 +140,7 @@ impl Memory {
 }
 
 impl Memory {
-    /// Adds a new file.
+    /// Adds a new file with a mode to the log. Its name has to be free.
     fn add_file(&mut self, name: &str, mode: u32) -> Result<MemoryFile, MemoryFault>
         ensures ok { leads_in self.old.calls.items name.now ≡ None → IfOk result
             (λ file. Made (disk_of self.old.calls.items) (disk_of self.new.calls.items)
@@ -152,7 +158,8 @@ impl Memory {
 }
 
 impl Memory {
-    /// Makes a new file under a name if it is free; a hidden one is its owner's alone.
+    /// Makes a new file under a name if it is free; a hidden one is its owner's alone. `None`: the
+    /// name is taken.
     pub fn make_new(&mut self, name: &str, hidden: bool) -> Result<Option<MemoryFile>, MemoryFault>
         ensures done { MatchResult result (λ made. MatchOption made
             (IsTaken (disk_of self.old.calls.items) (disk_of self.new.calls.items) name.now)
@@ -224,6 +231,7 @@ impl Folder for Memory {
 
     ghost only_now = { λ folder. log_only_now folder.calls.items };
 
+    // Makes a new file under a name if it is free; `None`: it is taken.
     fn make(
         &mut self,
         _: &(),
@@ -233,6 +241,7 @@ impl Folder for Memory {
         self.make_new(name, hidden)
     }
 
+    // Adds bytes at the end of a file. If the call is to fail, half of them are written.
     fn append(&mut self, file: &mut MemoryFile, bytes: &[u8]) -> Result<(), MemoryFault> {
         if self.is_planned() {
             let part = bytes[..bytes.len() / 2].to_vec(self.alloc)?;
@@ -243,6 +252,7 @@ impl Folder for Memory {
         add(&mut self.calls, Call::Append(file.number, all))
     }
 
+    // Gives a file a mode.
     fn take_mode(&mut self, file: &MemoryFile, mode: u32) -> Result<(), MemoryFault> {
         if self.is_planned() {
             return Err(MemoryFault::Planned);
@@ -250,6 +260,7 @@ impl Folder for Memory {
         add(&mut self.calls, Call::TakeMode(file.number, mode))
     }
 
+    // Keeps what a file holds: after it, a crash leaves that.
     fn sync_file(&mut self, file: &MemoryFile) -> Result<(), MemoryFault> {
         if self.is_planned() {
             return Err(MemoryFault::Planned);
@@ -257,6 +268,7 @@ impl Folder for Memory {
         add(&mut self.calls, Call::SyncFile(file.number))
     }
 
+    // Gives a file another name, instead of the file that had it. `NoSuchName`: none has the first.
     fn rename(&mut self, _: &(), from: &str, to: &str) -> Result<(), MemoryFault> {
         if self.is_planned() {
             return Err(MemoryFault::Planned);
@@ -269,6 +281,7 @@ impl Folder for Memory {
         add(&mut self.calls, Call::Rename(old_name, new_name))
     }
 
+    // Frees a name. `NoSuchName`: no file has it.
     fn remove(&mut self, _: &(), name: &str) -> Result<(), MemoryFault> {
         if self.is_planned() {
             return Err(MemoryFault::Planned);
@@ -280,6 +293,7 @@ impl Folder for Memory {
         add(&mut self.calls, Call::Remove(gone))
     }
 
+    // Keeps all names, as there is one folder: after it, a crash leaves each as it is seen.
     fn sync_names(&mut self, _: &()) -> Result<(), MemoryFault> {
         self.sync_front("")
     }

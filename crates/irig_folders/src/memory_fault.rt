@@ -19,6 +19,7 @@ pub enum MemoryFault {
 impl From<AllocError> for MemoryFault {
     ghost from_gives = { λ _ fault. fault ≡ NoMemory };
 
+    // Memory runs out as a fault of the folder.
     fn from(_: AllocError) -> Self {
         MemoryFault::NoMemory
     }
@@ -27,6 +28,7 @@ impl From<AllocError> for MemoryFault {
 impl<T: Drop> From<AllocFailed<T>> for MemoryFault {
     ghost from_gives = { λ _ fault. fault ≡ NoMemory };
 
+    // The same, of a call that gives back what it could not store, which is dropped.
     fn from(_: AllocFailed<T>) -> Self {
         MemoryFault::NoMemory
     }

@@ -1,4 +1,7 @@
 //! The files of one folder in memory, for tests. It is the folder `.`, and has no links.
+//!
+//! A file is known by its number; its id is 0 and that number. The answers of the program go to no
+//! file here.
 
 ghost use Rattle.std.specs.Prelude.{◌≡◌, None, ⊤};
 ghost use Rattle.std.proofs.Common.{ap};
@@ -24,10 +27,12 @@ use std::path::PathBuf;
 pub struct Nothing;
 
 impl Write for Nothing {
+    // Fails: nothing is written.
     fn write(&mut self, _: &[u8]) -> io::Result<usize> {
         Err(io::Error::from(ErrorKind::Other))
     }
 
+    // Nothing waits to be written.
     fn flush(&mut self) -> io::Result<()> {
         Ok(())
     }
@@ -44,14 +49,17 @@ impl PlainCalls for Memory {
 
     ghost may_write = { λ _ _. ⊤ };
 
+    // What the answers go to: nothing takes them.
     fn open_output(&self, _: &str) -> Nothing {
         Nothing
     }
 
+    // What is no regular file, open to be written: it takes no byte.
     fn open_other(&self, _: &str) -> Result<Nothing, MemoryFault> {
         Ok(Nothing)
     }
 
+    // Opens the file at a path to be described. `NoSuchName`: none is there.
     fn open_seen(&self, path: &str) -> Result<SeenFile, MemoryFault> {
         match file_at(self.calls(), path.as_bytes()) {
             Some(number) => Ok(SeenFile { number }),
@@ -59,6 +67,7 @@ impl PlainCalls for Memory {
         }
     }
 
+    // What an open file is: a regular one, with its mode.
     fn seen(&self, file: &SeenFile) -> Result<Described, MemoryFault> {
         Ok(Described {
             is_file: true,
@@ -85,6 +94,8 @@ impl FileSystem for Memory {
 
     ghost ids_differ = { λ _ one other same. ap (λ id. id.1) same };
 
+    // Reads the dump in a file. The outer error is that it cannot be read, is too long, or memory
+    // runs out; the inner one is a fault of the dump.
     fn read(
         &self,
         alloc: Global,
@@ -100,6 +111,7 @@ impl FileSystem for Memory {
         read_whole(alloc, bytes.as_slice(), wire)
     }
 
+    // As `read`, but only a window of the dump.
     fn read_window(
         &self,
         alloc: Global,
@@ -116,6 +128,7 @@ impl FileSystem for Memory {
         read_window(alloc, bytes.as_slice(), wire, window)
     }
 
+    // What a path leads to; `None` if nothing is there. A path that is no single name is no file.
     fn describe(&self, path: &str) -> Result<Option<Described>, MemoryFault> {
         if !is_name(path) {
             return Ok(Some(Described {
@@ -134,14 +147,17 @@ impl FileSystem for Memory {
         }
     }
 
+    // The file that the answers go to: none.
     fn output(&self) -> Result<Option<(u64, u64)>, MemoryFault> {
         Ok(None)
     }
 
+    // The text of the link at a path: no link is here.
     fn read_link(&self, _: &str) -> Result<Option<PathBuf>, MemoryFault> {
         Ok(None)
     }
 
+    // Opens the folder at a path: only `.` is one.
     fn open_folder(&self, _: &mut (), path: &str) -> Result<(), MemoryFault> {
         if path == "." {
             Ok(())

@@ -1,5 +1,9 @@
 //! Folders in memory, with links and with files that are no regular ones, for tests. They are the
 //! log of the calls on all their places, and what their paths lead to.
+//!
+//! A place is what a name leads to: the front of its folder, and the name after it. The number of a
+//! file is how many calls were done before it was made. A call that was to fail answers `Planned`;
+//! each call can also fail as memory runs out.
 
 ghost use Rattle.std.specs.Prelude.{◌++◌, string_bytes, true};
 ghost use Rattle.std.proofs.lemmas.List.{append_cancel_left};
@@ -44,7 +48,7 @@ pub struct TreeDir {
 }
 
 impl Tree {
-    /// Folders with no file.
+    /// Folders with no file. A path may follow `limit` links.
     pub fn new(alloc: Global, limit: u64) -> Tree {
         Tree {
             memory: Memory::new(alloc),
@@ -66,17 +70,19 @@ impl Tree {
         Ok(())
     }
 
-    /// Adds a file that is no regular one: a link, if it has a text.
+    /// Adds a file that is no regular one: a link, if it has a text. `NoSuchName`: its place is
+    /// taken.
     pub fn add_other(&mut self, place: &str, text: Option<String>) -> Result<(), MemoryFault> {
         self.add_in_place(place, text, false)
     }
 
-    /// Adds the file that the program's answers go to.
+    /// Adds the file that the program's answers go to. `NoSuchName`: its place is taken.
     pub fn add_output(&mut self, place: &str) -> Result<(), MemoryFault> {
         self.add_in_place(place, None, true)
     }
 
-    /// Adds a file that is written in place.
+    /// Adds a file that is written in place, not by a new one, and keeps its name. `NoSuchName`:
+    /// its place is taken.
     fn add_in_place(
         &mut self,
         place: &str,
@@ -95,7 +101,8 @@ impl Tree {
         self.memory.sync_front("")
     }
 
-    /// Adds a regular file, which each crash leaves.
+    /// Adds a regular file with bytes and a mode, all of which each crash leaves. `NoSuchName`: its
+    /// place is taken.
     pub fn add_file(&mut self, place: &str, bytes: &[u8], mode: u32) -> Result<(), MemoryFault> {
         let Some(mut file) = self.memory.make_new(place, false)? else {
             return Err(MemoryFault::NoSuchName);
@@ -142,6 +149,8 @@ impl Folder for Tree {
 
     ghost only_now = { λ t. log_only_now t.memory.calls.items };
 
+    // Makes a new file under a name in a folder if it is free; `None`: it is taken. It fails if the
+    // number of the new file is kept for one that is no regular one.
     fn make(
         &mut self,
         dir: &TreeDir,
@@ -155,18 +164,22 @@ impl Folder for Tree {
         self.memory.make_new(place.as_str(), hidden)
     }
 
+    // Adds bytes at the end of a file.
     fn append(&mut self, file: &mut MemoryFile, bytes: &[u8]) -> Result<(), MemoryFault> {
         self.memory.append(file, bytes)
     }
 
+    // Gives a file a mode.
     fn take_mode(&mut self, file: &MemoryFile, mode: u32) -> Result<(), MemoryFault> {
         self.memory.take_mode(file, mode)
     }
 
+    // Keeps what a file holds: after it, a crash leaves that.
     fn sync_file(&mut self, file: &MemoryFile) -> Result<(), MemoryFault> {
         self.memory.sync_file(file)
     }
 
+    // Gives a file of a folder another name, instead of the file that had it.
     fn rename(&mut self, dir: &TreeDir, from: &str, to: &str) -> Result<(), MemoryFault> {
         let old_place = both(self.alloc, dir.front.as_str(), from)?;
         let new_place = both(self.alloc, dir.front.as_str(), to)?;
@@ -174,11 +187,13 @@ impl Folder for Tree {
             .rename(&(), old_place.as_str(), new_place.as_str())
     }
 
+    // Frees a name in a folder.
     fn remove(&mut self, dir: &TreeDir, name: &str) -> Result<(), MemoryFault> {
         let place = both(self.alloc, dir.front.as_str(), name)?;
         self.memory.remove(&(), place.as_str())
     }
 
+    // Keeps the names in a folder: after it, a crash leaves each as it is seen.
     fn sync_names(&mut self, dir: &TreeDir) -> Result<(), MemoryFault> {
         self.memory.sync_front(dir.front.as_str())
     }

@@ -1,4 +1,7 @@
 //! Where paths lead in folders in memory.
+//!
+//! A place is what a name leads to: the front of its folder, and the name after it. What fails with
+//! `AllocError` fails only if memory runs out.
 
 ghost use Rattle.std.specs.Prelude.{◌≡◌, ◌++◌, IfOk, IsErrOf, None, option_copied, option_map};
 ghost use Rattle.std.specs.Prelude.{string_bytes};
@@ -17,7 +20,8 @@ use irig_files::folder_of;
 use std::alloc::{AllocError, Global};
 use std::path::{Path, PathBuf};
 
-/// The place of a path, whatever is there; none if there is no such folder or no name.
+/// The place of a path, whatever is there. `None` if there is no such folder, or the path has no
+/// name at its end.
 pub fn place_at(tree: &Tree, path: &str) -> Result<Option<String>, AllocError>
     ensures { IfOk result (λ place. option_map string_bytes place
         ≡ place_in tree.now.layout.folders.items path.now) }
@@ -49,7 +53,7 @@ pub fn path_of(alloc: Global, text: &str) -> Result<PathBuf, AllocError>
     Ok(PathBuf::from(text))
 }
 
-/// The text of a link.
+/// The text of a file that is a link. `None` if it is no link.
 fn text_in(other: Option<&Other>) -> Option<&str>
     ensures { option_copied result ≡ text_of (option_copied other.entry) }
 {
@@ -64,7 +68,7 @@ fn text_in(other: Option<&Other>) -> Option<&str>
     }
 }
 
-/// The text of the link at a path.
+/// The text of the link at a path. `None` if no link is there.
 pub fn link_text<'t>(tree: &'t Tree, path: &str) -> Result<Option<&'t str>, AllocError>
     ensures { IfOk result (λ text. option_copied text ≡ text_at tree.now.layout.folders.items
         (over tree.now.layout (leads_in tree.now.memory.calls.items)) path.now) }
@@ -78,7 +82,7 @@ pub fn link_text<'t>(tree: &'t Tree, path: &str) -> Result<Option<&'t str>, Allo
     Ok(text_in(other_at(&tree.layout.others, file)))
 }
 
-/// Where at most this many links lead from a path.
+/// The path to which links lead from a path, at most this many of them. `None` if they are more.
 pub fn end_at(tree: &Tree, path: PathBuf, links: u64) -> Result<Option<PathBuf>, AllocError>
     ensures { IfOk result (λ end. option_map path_buf_bytes end ≡ end_of
         (text_at tree.now.layout.folders.items
@@ -95,7 +99,7 @@ pub fn end_at(tree: &Tree, path: PathBuf, links: u64) -> Result<Option<PathBuf>,
     }
 }
 
-/// Where the text of a link at a path leads.
+/// The path to which the text of a link at a path leads: from the folder of the link on.
 fn next_path(mut path: PathBuf, text: &str) -> Result<PathBuf, AllocError>
     ensures { IfOk result (λ next. path_buf_bytes next ≡ followed (path_buf_bytes path) text.now) }
 {
@@ -104,7 +108,8 @@ fn next_path(mut path: PathBuf, text: &str) -> Result<PathBuf, AllocError>
     Ok(path)
 }
 
-/// The file that a path leads to; none if nothing is there. It fails if the path leads nowhere.
+/// The number of the file that a path leads to, over links; `None` if nothing is there.
+/// `NoSuchName` if the path leads nowhere: over too many links, or to no folder.
 pub fn find(tree: &Tree, path: &str) -> Result<Option<usize>, MemoryFault>
     ensures found { IfOk result (λ found. IsFound tree.now.layout
         (leads_in tree.now.memory.calls.items) path.now found) }

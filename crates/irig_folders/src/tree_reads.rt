@@ -12,7 +12,7 @@ use crate::tree_paths::find;
 use irig_files::DumpFileFault;
 use std::alloc::Global;
 
-/// The bytes of the file that a path leads to.
+/// The bytes of the file that a path leads to. `CannotBeRead` if none is there.
 pub fn bytes_at(tree: &Tree, alloc: Global, path: &str) -> Result<Vec<u8>, DumpFileFault>
     ensures held { IfOk result (λ bytes. held_at tree.now.layout
         tree.now.memory.calls.items path.now ≡ Some bytes.items) }
@@ -27,7 +27,7 @@ pub fn bytes_at(tree: &Tree, alloc: Global, path: &str) -> Result<Vec<u8>, DumpF
     }
 }
 
-/// The bytes of a file. Only memory can be missing.
+/// The bytes of a file, by its number. It fails only if memory runs out.
 fn held_bytes(tree: &Tree, alloc: Global, file: usize) -> Result<Vec<u8>, DumpFileFault>
     ensures held { IfOk result
         (λ bytes. bytes.items ≡ (holds_in tree.now.memory.calls.items file).bytes) }
@@ -39,7 +39,8 @@ fn held_bytes(tree: &Tree, alloc: Global, file: usize) -> Result<Vec<u8>, DumpFi
     }
 }
 
-/// What is read of bytes in memory: no read of them fails.
+/// What is read of bytes in memory. `CannotBeRead`, which cannot come of these, is answered as
+/// memory that ran out.
 pub fn read_of<T: Drop>(read: Result<T, DumpFileFault>) -> Result<T, DumpFileFault>
     ensures ok { IfOk result (λ value. read ≡ Ok value) }
     ensures long { IsErrOf result TooLong → IsErrOf read TooLong }

@@ -1,4 +1,7 @@
 //! The single calls on paths of folders in memory, for tests.
+//!
+//! A file is known by its number; its id is 0 and that number. `blind` names a call that is to
+//! fail.
 
 ghost use Rattle.std.specs.Prelude.{◌≡◌, ◌≢◌, ◌↔◌, IfOk, IsTrue, None, Some, false, true};
 ghost use Rattle.std.specs.Prelude.{is_none, option_copied, option_map};
@@ -27,10 +30,12 @@ use std::path::PathBuf;
 pub struct Pipe;
 
 impl Write for Pipe {
+    // Takes all bytes.
     fn write(&mut self, bytes: &[u8]) -> io::Result<usize> {
         Ok(bytes.len())
     }
 
+    // Nothing waits to be written.
     fn flush(&mut self) -> io::Result<()> {
         Ok(())
     }
@@ -47,10 +52,12 @@ impl PlainCalls for Tree {
 
     ghost may_write = { λ t i. IsWritable (holds_in t.memory.calls.items i).mode };
 
+    // What the answers go to, open to be written.
     fn open_output(&self, _: &str) -> Pipe {
         Pipe
     }
 
+    // What is no regular file, open to be written.
     fn open_other(&self, _: &str) -> Result<Pipe, MemoryFault> {
         match self.blind {
             Some(Plain::OpenOther) => Err(MemoryFault::Planned),
@@ -58,6 +65,7 @@ impl PlainCalls for Tree {
         }
     }
 
+    // Opens the file at a path as if to write it. It fails if none is there or it must not be.
     fn open_seen(&self, path: &str) -> Result<SeenFile, MemoryFault> {
         if self.blind == Some(Plain::OpenSeen) {
             return Err(MemoryFault::Planned);
@@ -70,6 +78,7 @@ impl PlainCalls for Tree {
         }
     }
 
+    // What an open file is.
     fn seen(&self, file: &SeenFile) -> Result<Described, MemoryFault> {
         match self.blind {
             Some(Plain::Seen) => Err(MemoryFault::Planned),
@@ -78,7 +87,7 @@ impl PlainCalls for Tree {
     }
 }
 
-/// Whether its owner may write a file of this mode.
+/// Whether its owner may write a file of this mode: bit 0200 (octal) is set.
 fn is_writable(mode: u32) -> bool
     ensures { IsTrue result ↔ IsWritable mode }
 {
@@ -98,7 +107,8 @@ fn described(tree: &Tree, file: usize) -> Described
     }
 }
 
-/// What a file is, by a path that leads to it: the one that the answers go to is a regular one.
+/// What a file is, by a path that leads to it: the one that the answers go to counts as a regular
+/// one here, as on a system.
 fn shown(tree: &Tree, file: usize) -> Described
     ensures regular { result.is_file ≡ true → output_in tree.now.layout.others.items ≢ Some file
         → is_none (other_in tree.now.layout.others.items file) ≡ true }
@@ -113,7 +123,7 @@ fn shown(tree: &Tree, file: usize) -> Described
     seen
 }
 
-/// The numbers of the file that the answers go to, if they go to one.
+/// The id of the file that the answers go to, if they go to one.
 fn output_id(tree: &Tree) -> Option<(u64, u64)>
     ensures { result ≡ option_map (λ file. (0, file)) (output_in tree.now.layout.others.items) }
 {
@@ -123,7 +133,8 @@ fn output_id(tree: &Tree) -> Option<(u64, u64)>
     }
 }
 
-/// The text of the link at a path, if links lead somewhere from there.
+/// The text of the link at a path; `None` if no link is there. `NoSuchName` if links lead nowhere
+/// from there.
 fn read_text<'t>(tree: &'t Tree, path: &str) -> Result<Option<&'t str>, MemoryFault>
     ensures { IfOk result (λ text. option_copied text ≡ link_at tree.now.layout
         (over tree.now.layout (leads_in tree.now.memory.calls.items)) path.now) }
@@ -154,6 +165,7 @@ impl FileSystem for Tree {
 
     ghost ids_differ = { λ _ one other same. ap (λ id. id.1) same };
 
+    // Reads the dump in a file. The outer error is of the file, the inner one of the dump.
     fn read(
         &self,
         alloc: Global,
@@ -164,6 +176,7 @@ impl FileSystem for Tree {
         read_of(read_whole(alloc, bytes.as_slice(), wire))
     }
 
+    // As `read`, but only a window of the dump.
     fn read_window(
         &self,
         alloc: Global,
@@ -175,6 +188,7 @@ impl FileSystem for Tree {
         read_of(read_window(alloc, bytes.as_slice(), wire, window))
     }
 
+    // What a path leads to; `None` if nothing is there.
     fn describe(&self, path: &str) -> Result<Option<Described>, MemoryFault> {
         if self.blind == Some(Plain::Describe) {
             return Err(MemoryFault::Planned);
@@ -186,6 +200,7 @@ impl FileSystem for Tree {
         }
     }
 
+    // The id of the file that the answers go to; `None` if they go to none.
     fn output(&self) -> Result<Option<(u64, u64)>, MemoryFault> {
         match self.blind {
             Some(Plain::Output) => Err(MemoryFault::Planned),
@@ -193,6 +208,7 @@ impl FileSystem for Tree {
         }
     }
 
+    // The text of the link at a path, as a path; `None` if no link is there.
     fn read_link(&self, path: &str) -> Result<Option<PathBuf>, MemoryFault> {
         if self.blind == Some(Plain::ReadLink) {
             return Err(MemoryFault::Planned);
@@ -203,6 +219,7 @@ impl FileSystem for Tree {
         }
     }
 
+    // Opens the folder at a path. `NoSuchName`: none is there.
     fn open_folder(&self, dir: &mut TreeDir, path: &str) -> Result<(), MemoryFault> {
         if self.blind == Some(Plain::OpenFolder) {
             return Err(MemoryFault::Planned);
