@@ -16,7 +16,8 @@ pub enum Change {
 }
 
 impl Change {
-    /// How many lines it has.
+    /// How many lines it has in the text of a journal: a group has one more than its changes
+    /// together.
     pub(crate) fn lines(&self) -> usize
         requires { length (change_lines self.now) < 2 ^ 63 }
         ensures { result ≡ length (change_lines self.now) }

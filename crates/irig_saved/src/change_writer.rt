@@ -1,4 +1,7 @@
 //! Writes lines of changes.
+//!
+//! Each function adds to `text`, and fails only if memory runs out. Pulses count from 1, letters
+//! from 0; times are in microseconds.
 
 ghost use Rattle.std.specs.Prelude.{◌≡◌, ◌++◌, ◌<◌, ◌∷◌, [], OnOk, codes, decimal};
 ghost use Rattle.std.specs.Fmt.{signed_decimal};
@@ -17,7 +20,7 @@ use irig_track::Pulse;
 use itoa::Buffer;
 use std::alloc::AllocError;
 
-/// The first line of a change, which is all of it but for a splice.
+/// Writes the first line of a change, which is all of it but for a splice.
 pub fn put_single(text: &mut Vec<u8>, single: &Single) -> Result<(), AllocError>
     ensures { OnOk result (text.new.items
         ≡ text.old.items ++ (single_line single.now ++ 10 ∷ [])) }
@@ -31,7 +34,7 @@ pub fn put_single(text: &mut Vec<u8>, single: &Single) -> Result<(), AllocError>
     }
 }
 
-/// The first line of a splice: the first pulse that goes, from 1, how many go, and how many come.
+/// Writes the first line of a splice: the first pulse that goes, how many go, and how many come.
 fn put_splice(text: &mut Vec<u8>, at: u64, count: u64, put: u64) -> Result<(), AllocError>
     ensures { OnOk result (text.new.items
         ≡ text.old.items ++ (numbered (codes "splice") (at ∷ count ∷ put ∷ []) ++ 10 ∷ [])) }
@@ -39,7 +42,7 @@ fn put_splice(text: &mut Vec<u8>, at: u64, count: u64, put: u64) -> Result<(), A
     put_numbered(text, b"splice", &[at, count, put])
 }
 
-/// The line of a pulse that a splice inserts.
+/// Writes the line of a pulse that a splice inserts: rise and fall.
 pub fn put_pulse(text: &mut Vec<u8>, pulse: Pulse) -> Result<(), AllocError>
     ensures { OnOk result (text.new.items ≡ text.old.items ++ (pulse_line pulse ++ 10 ∷ [])) }
 {
@@ -48,7 +51,7 @@ pub fn put_pulse(text: &mut Vec<u8>, pulse: Pulse) -> Result<(), AllocError>
     put_numbered(text, rise, &[pulse.fall])
 }
 
-/// The line of a toggle from `a` to `b`, in microseconds.
+/// Writes the line of a toggle from `a` to `b`.
 fn put_toggle(text: &mut Vec<u8>, a: u64, b: u64) -> Result<(), AllocError>
     ensures { OnOk result (text.new.items
         ≡ text.old.items ++ (single_line (Toggle a b) ++ 10 ∷ [])) }
@@ -56,8 +59,8 @@ fn put_toggle(text: &mut Vec<u8>, a: u64, b: u64) -> Result<(), AllocError>
     put_numbered(text, b"toggle", &[a, b])
 }
 
-/// The line of a shift of the pulses `i` to `j`, from 1, by this many microseconds, with the marks
-/// of the given letters.
+/// Writes the line of a shift of the pulses `i` to `j` by `by`, with the marks of the letters that
+/// are true.
 fn put_shift(text: &mut Vec<u8>, i: u64, j: u64, by: i64, marks: &Letters) -> Result<(), AllocError>
     ensures { OnOk result (text.new.items
         ≡ text.old.items ++ (single_line (Shift i j by marks.now) ++ 10 ∷ [])) }
@@ -68,7 +71,7 @@ fn put_shift(text: &mut Vec<u8>, i: u64, j: u64, by: i64, marks: &Letters) -> Re
     Ok(())
 }
 
-/// The line of a shift up to its distance.
+/// Writes the line of a shift up to its distance.
 fn put_shifted(text: &mut Vec<u8>, i: u64, j: u64, by: i64) -> Result<(), AllocError>
     ensures { OnOk result (text.new.items ≡ text.old.items
         ++ line (codes "shift") (decimal i ∷ decimal j ∷ signed_decimal by ∷ [])) }
@@ -79,7 +82,7 @@ fn put_shifted(text: &mut Vec<u8>, i: u64, j: u64, by: i64) -> Result<(), AllocE
     put_word(text, buffer.format(by).as_bytes())
 }
 
-/// A space and the letters of the marks that move, or `-` if none does.
+/// Writes a space and the letters of the marks that move, or `-` if none does.
 fn put_moved(text: &mut Vec<u8>, marks: &Letters) -> Result<(), AllocError>
     ensures { OnOk result (text.new.items ≡ text.old.items ++ 32 ∷ moved_word marks.now) }
 {
@@ -97,7 +100,7 @@ fn put_moved(text: &mut Vec<u8>, marks: &Letters) -> Result<(), AllocError>
     put_word(text, &letters[..count])
 }
 
-/// The line that sets a format.
+/// Writes the line that sets a format.
 fn put_set_format(text: &mut Vec<u8>, kind: Kind, expression: u8) -> Result<(), AllocError>
     ensures { OnOk result (text.new.items
         ≡ text.old.items ++ (single_line (SetFormat kind expression) ++ 10 ∷ [])) }
@@ -105,7 +108,7 @@ fn put_set_format(text: &mut Vec<u8>, kind: Kind, expression: u8) -> Result<(), 
     put_formatted(text, b"setformat", kind, expression)
 }
 
-/// The line that sets the mark of a letter, from 0, to a time in microseconds, or clears it.
+/// Writes the line that sets the mark of a letter to a time, or clears it.
 fn put_set_mark(text: &mut Vec<u8>, letter: u8, time: Option<u64>) -> Result<(), AllocError>
     requires { letter < 26 }
     ensures { OnOk result (text.new.items
@@ -117,7 +120,7 @@ fn put_set_mark(text: &mut Vec<u8>, letter: u8, time: Option<u64>) -> Result<(),
     Ok(())
 }
 
-/// A space and a time in microseconds, or `-` if there is none.
+/// Writes a space and a time, or `-` if there is none.
 fn put_time(text: &mut Vec<u8>, time: Option<u64>) -> Result<(), AllocError>
     ensures { OnOk result (text.new.items ≡ text.old.items ++ 32 ∷ time_word time) }
 {

@@ -1,4 +1,6 @@
 //! The text of a journal determines the journal.
+//!
+//! What is marked "Read for .." does nothing: it only lets the proof use what a type promises.
 
 ghost use Rattle.std.specs.Prelude.{◌≡◌};
 ghost use Rattle.irig_saved.specs.{SavedText.journal_text, Ranges.IsSaved};

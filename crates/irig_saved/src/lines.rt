@@ -1,4 +1,7 @@
 //! Lines of a saved journal.
+//!
+//! Each function reads a line without its newline, and answers `None` if the line has another form.
+//! Words have one space between them. Pulses count from 1; times are in microseconds.
 
 ghost use Rattle.std.specs.Prelude.{◌≡◌, ◌<◌, ◌+◌, ◌++◌, ◌∷◌, [], ℕ, List, MatchOption, decimal};
 ghost use Rattle.std.specs.Prelude.{codes};
@@ -18,7 +21,7 @@ use crate::words::{distance, expression, moved, number, time};
 use irig_codes::{Kind, kind_named};
 use irig_track::Pulse;
 
-/// What is in a line after a word and a space.
+/// What is in a line after the word `head` and a space.
 fn behind<'a>(head: &[u8], text: &'a [u8]) -> Option<&'a [u8]>
     requires { IsWordy head.now }
     ensures { MatchOption result ((rest : List ℕ) → text.now ≡ head.now ++ 32 ∷ rest → ⊥)
@@ -30,7 +33,7 @@ fn behind<'a>(head: &[u8], text: &'a [u8]) -> Option<&'a [u8]>
     if first == head { Some(rest) } else { None }
 }
 
-/// The number in a line of a word and a number.
+/// The number in a line of the word `head` and a number.
 pub fn counted(head: &[u8], text: &[u8]) -> Option<u64>
     requires { IsWordy head.now }
     ensures { Decodes IsNumber (λ n. numbered head.now (n ∷ [])) text.now result }
@@ -41,7 +44,8 @@ pub fn counted(head: &[u8], text: &[u8]) -> Option<u64>
     number(word)
 }
 
-/// The format in a line of a word and a format.
+/// The format in a line of the word `head`, a kind and an expression, 0 to 7. The kind may not
+/// permit that.
 pub fn format(head: &[u8], text: &[u8]) -> Option<(Kind, u8)>
     requires { IsWordy head.now }
     ensures { Decodes IsFormat (λ f. line head.now (words_of_format f)) text.now result }
@@ -50,7 +54,7 @@ pub fn format(head: &[u8], text: &[u8]) -> Option<(Kind, u8)>
     Some((kind_named(name)?, expression(rest)?))
 }
 
-/// The time in the line of a mark, if it is the one of this letter.
+/// The time in the line of a mark, if it is the mark of this letter.
 pub fn mark(letter_byte: u8, text: &[u8]) -> Option<u64>
     requires { (32 < letter_byte) × (letter_byte < 127) }
     ensures { Decodes IsNumber
@@ -79,7 +83,7 @@ fn leading(text: &[u8]) -> Option<(u64, &[u8])>
     }
 }
 
-/// Two numbers with a space between them.
+/// The two numbers of a text that has them with a space between.
 fn pair(text: &[u8]) -> Option<(u64, u64)>
     ensures { Decodes AreTwo (λ t. numbered (decimal t.0) (t.1 ∷ [])) text.now result }
 {
@@ -102,7 +106,7 @@ pub fn pulse(text: &[u8]) -> Option<Pulse>
     Some(Pulse { rise, fall })
 }
 
-/// The first line of a splice: the first pulse that goes, how many go, and how many come.
+/// The first pulse that goes, how many go, and how many come, in the first line of a splice.
 pub fn splice(text: &[u8]) -> Option<(u64, u64, u64)>
     ensures { Decodes AreThree (λ t. line (codes "splice") (words_of_three t)) text.now result }
 {
@@ -118,7 +122,7 @@ pub fn splice(text: &[u8]) -> Option<(u64, u64, u64)>
     }
 }
 
-/// The change in a line, if it is no splice.
+/// The change in a line, if it is no splice and no group.
 pub fn short(text: &[u8]) -> Option<Single>
     ensures { Decodes IsShort single_line text.now result }
 {
@@ -145,7 +149,7 @@ fn toggle(text: &[u8]) -> Option<(u64, u64)>
     pair(words)
 }
 
-/// The letter and the time in the line that sets or clears a mark.
+/// The letter and the time in the line that sets a mark; the time is `None` if the line clears it.
 fn set_mark(text: &[u8]) -> Option<(Letter, Option<u64>)>
     ensures { Decodes IsMark (λ t. line (codes "setmark") (words_of_mark t)) text.now result }
 {
@@ -153,7 +157,8 @@ fn set_mark(text: &[u8]) -> Option<(Letter, Option<u64>)>
     Some((Letter::named(name)?, time(rest)?))
 }
 
-/// The pulses that move, by how much, and the marks that move with them, in the line of a shift.
+/// The first and the last pulse that move, by how much, and the marks that move with them, in the
+/// line of a shift.
 fn shift(text: &[u8]) -> Option<(u64, u64, i64, Letters)>
     ensures { Decodes IsShift (λ t. line (codes "shift") (words_of_shift t)) text.now result }
 {
@@ -170,7 +175,7 @@ fn shift(text: &[u8]) -> Option<(u64, u64, i64, Letters)>
     Some((i, j, by, marks))
 }
 
-/// A distance and the marks that move by it.
+/// A distance and the marks that move by it, at the end of a line.
 fn move_in(text: &[u8]) -> Option<(i64, Letters)>
     ensures { Decodes IsMove
         (λ t. line (signed_decimal t.0) (moved_word t.1 ∷ [])) text.now result }

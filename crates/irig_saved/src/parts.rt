@@ -1,4 +1,8 @@
 //! Parts of a saved journal: each is read from the head of a text, and gives the rest.
+//!
+//! `Stop::At` has the rest of the text from the line on that does not belong there; `Stop::Memory`
+//! says that memory ran out. No memory is asked for by a count in the text alone, but for each line
+//! that was read.
 
 ghost use Rattle.std.specs.Prelude.{◌≡◌, ◌<◌, ◌+◌, ◌∷◌, [], codes, length};
 ghost use Rattle.irig_saved.specs.Ranges.{IsNumber, IsSingle, IsChange, IsStep, AreSteps};
@@ -22,7 +26,7 @@ use crate::steps::Steps;
 use crate::stop::Stop;
 use std::alloc::Global;
 
-/// This many lines of pulses.
+/// Reads this many lines of pulses.
 pub fn pulses(alloc: Global, count: u64, text: &[u8]) -> Result<(Pulses, &[u8]), Stop<'_>>
     ensures { Parses (ArePulses count) pulse_lines (λ _. 0 < count) text.now result }
 {
@@ -43,7 +47,7 @@ pub fn pulses(alloc: Global, count: u64, text: &[u8]) -> Result<(Pulses, &[u8]),
     Ok((pulses, rest))
 }
 
-/// One change. Only the pulses of a splice take memory.
+/// Reads one change that is no group. Only the pulses of a splice take memory.
 pub fn single(alloc: Global, text: &[u8]) -> Result<(Single, &[u8]), Stop<'_>>
     ensures { Parses IsSingle single_lines BeginsSplice text.now result }
 {
@@ -62,7 +66,7 @@ pub fn single(alloc: Global, text: &[u8]) -> Result<(Single, &[u8]), Stop<'_>>
     }
 }
 
-/// This many changes.
+/// Reads this many changes, none of them a group.
 pub fn singles(alloc: Global, count: u64, text: &[u8]) -> Result<(Singles, &[u8]), Stop<'_>>
     ensures { Parses (AreSingles count) singles_lines Any text.now result }
 {
@@ -81,7 +85,7 @@ pub fn singles(alloc: Global, count: u64, text: &[u8]) -> Result<(Singles, &[u8]
     Ok((singles, rest))
 }
 
-/// A change, or a group of them.
+/// Reads a change, or a group of them: a line with their number, and then the changes.
 pub fn change(alloc: Global, text: &[u8]) -> Result<(Change, &[u8]), Stop<'_>>
     ensures { Parses IsChange change_lines Any text.now result }
 {
@@ -100,7 +104,7 @@ pub fn change(alloc: Global, text: &[u8]) -> Result<(Change, &[u8]), Stop<'_>>
     }
 }
 
-/// A cursor and a change.
+/// Reads a step: a line with the cursor that it leads to, and a change.
 pub fn step(alloc: Global, text: &[u8]) -> Result<(SavedStep, &[u8]), Stop<'_>>
     ensures { Parses IsStep step_lines BeginsStep text.now result }
 {
@@ -116,7 +120,7 @@ pub fn step(alloc: Global, text: &[u8]) -> Result<(SavedStep, &[u8]), Stop<'_>>
     }
 }
 
-/// This many steps.
+/// Reads this many steps.
 pub fn steps(alloc: Global, count: u64, text: &[u8]) -> Result<(Steps, &[u8]), Stop<'_>>
     ensures { Parses (ManySteps count) steps_lines (BeginsSome count) text.now result }
 {
@@ -135,7 +139,7 @@ pub fn steps(alloc: Global, count: u64, text: &[u8]) -> Result<(Steps, &[u8]), S
     Ok((steps, rest))
 }
 
-/// A word, how many steps there are, and the steps.
+/// Reads a line of the word `head` and how many steps there are, and then the steps.
 pub fn counted_steps<'a>(
     alloc: Global,
     head: &[u8],
@@ -153,7 +157,7 @@ pub fn counted_steps<'a>(
     steps(alloc, count, next)
 }
 
-/// The marks whose lines are at the head of a text, a to z.
+/// Reads the marks whose lines are at the head of a text, a to z. A mark without a line is `None`.
 pub fn marks(text: &[u8]) -> (Marks, &[u8])
     ensures { (length result.0 ≡ 26) × Leads 97 result.0 text.now result.1.now }
 {
@@ -167,7 +171,8 @@ pub fn marks(text: &[u8]) -> (Marks, &[u8])
     (marks, rest)
 }
 
-/// The time of the mark of this letter, if its line is at the head of a text.
+/// Reads the time of the mark of this letter, if its line is at the head of a text. Else it is
+/// `None`, and nothing was read.
 fn marked(letter_byte: u8, text: &[u8]) -> (Option<u64>, &[u8])
     requires { (32 < letter_byte) × (letter_byte < 127) }
     ensures { Leads letter_byte (result.0 ∷ []) text.now result.1.now }

@@ -36,7 +36,7 @@ impl<'s> PulseLines<'s> {
         }
     }
 
-    /// A line for each pulse that a change inserts.
+    /// A line for each pulse that a change inserts; none if it is no splice.
     pub(crate) fn of(single: &'s Single) -> PulseLines<'s>
         ensures { result ≡ text_of (pulse_lines (put_of single.now)) }
     {
@@ -49,8 +49,9 @@ impl<'s> PulseLines<'s> {
         }
     }
 
-    /// Adds lines to a block until it has `enough` bytes. Returns whether no line is left, and the
-    /// block has fewer.
+    /// Adds lines to a block until it has `enough` bytes or none is left. Returns whether no line
+    /// is left and the block has fewer; so `false` means that the block is full. It fails only if
+    /// memory runs out.
     pub(crate) fn fill(&mut self, block: &mut Vec<u8>, enough: usize) -> Result<bool, AllocError>
         ensures bytes { OnOk result (block.new.items ++ self.new ≡ block.old.items ++ self.old) }
         ensures end { IfOk result (λ ended. ended ≡ true → self.new ≡ []) }

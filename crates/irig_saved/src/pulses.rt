@@ -1,4 +1,6 @@
 //! Pulses in a list that can be exchanged with those of a track.
+//!
+//! What is marked "Read for .." does nothing: it only lets the proof use what a type promises.
 
 ghost use Rattle.std.specs.Prelude.{◌≡◌, ◌≤◌, ◌<◌, ◌+◌, ◌*◌, ◌++◌, ◌∷◌, [], OnOk, OnErr, Some};
 ghost use Rattle.std.specs.Prelude.{length, slice_get};
@@ -40,7 +42,8 @@ impl Pulses {
         }
     }
 
-    /// The pulses of a buffer. It has places for at most half as many more, and one.
+    /// The pulses of a buffer, which has places for at most half as many more, and one. Its place
+    /// goes after them all, so that `push` adds there.
     pub fn of(mut items: Gap<Pulse>) -> Pulses
         requires tight { 2 * items.capacity ≤ 3 * length items.items + 2 }
         ensures { result ≡ items.items }
@@ -64,7 +67,7 @@ impl Pulses {
         self.items.get(index)
     }
 
-    /// Adds a pulse after the last.
+    /// Adds a pulse after the last. If memory runs out, nothing changes.
     pub fn push(&mut self, pulse: Pulse) -> Result<(), AllocError>
         ensures pushed { OnOk result (self.new ≡ self.old ++ pulse ∷ []) }
         ensures unchanged { OnErr result (self.new ≡ self.old) }
@@ -82,8 +85,9 @@ impl Pulses {
         &self.items
     }
 
-    /// Replaces the `count` pulses of a track from `at` on, from 0, by these, and keeps those. This
-    /// takes no memory: `taken` has the places for them, and then those for the way back.
+    /// Replaces the `count` pulses of a track from `at` on, from 0, by these, and keeps those that
+    /// went. This takes no memory: `taken` is empty, with places for them, and has the places of
+    /// these then. The Span says which pulses of the track changed.
     pub fn exchange(
         &mut self,
         track: &mut Track,
@@ -108,7 +112,7 @@ impl Pulses {
         ensures spanned { IsSpan result.at result.old result.new track.old.pulses
             track.new.pulses }
     {
-        // What was read has its places.
+        // Read for its places alone.
         let _held = self.items.len();
         let span = track.splice(at, count, &mut self.items, taken);
         mem::swap(&mut self.items, taken);

@@ -1,4 +1,7 @@
 //! Reads a saved journal.
+//!
+//! A journal has a line that names it, its format, its cursor, its marks, and the steps back and
+//! forward. A step is a change and the cursor of the state that it leads to.
 
 ghost use Rattle.std.specs.Prelude.{◌≡◌, ◌==◌, ◌<◌, ◌≤◌, ◌+◌, ◌-◌, ◌^◌, ◌++◌, ◌∷◌, [], ℕ, List};
 ghost use Rattle.std.specs.Prelude.{length, take, codes, count_by, MatchOption, MatchResult, IfOk};
@@ -59,7 +62,8 @@ fn line_at(text: &[u8], rest: &[u8]) -> usize
     1 + text[..before].iter().filter(|byte| **byte == b'\n').count()
 }
 
-/// A journal from the head of a text, and what is after it.
+/// Reads a journal from the head of a text, and what is after it. `Stop` says at which line the
+/// text begins no journal, or that memory ran out.
 fn saved(alloc: Global, text: &[u8]) -> Result<(Saved, &[u8]), Stop<'_>>
     ensures { Parses IsSaved saved_lines ReachesSteps text.now result }
 {
@@ -87,8 +91,8 @@ fn saved(alloc: Global, text: &[u8]) -> Result<(Saved, &[u8]), Stop<'_>>
     Ok((saved, rest))
 }
 
-/// The format and the cursor in the first lines of a text, and what is after them. An error has
-/// the rest from the first line with which the text begins no journal.
+/// The format (a kind and an expression) and the cursor in the first lines of a text, and what is
+/// after them. An error has the rest from the first line with which the text begins no journal.
 fn head(text: &[u8]) -> Result<((Kind, u8), u64, &[u8]), &[u8]>
     ensures { MatchResult result
         (λ r. IsFormat r.0 × IsNumber r.1 × (text.now ≡ head_text r.0 r.1 r.2.now))
@@ -106,7 +110,7 @@ fn head(text: &[u8]) -> Result<((Kind, u8), u64, &[u8]), &[u8]>
     }
 }
 
-/// What is after the line that names the journal.
+/// What is after the line that names the journal. `None` if the text does not begin with it.
 fn named(text: &[u8]) -> Option<&[u8]>
     ensures { MatchOption result
         ((more : List ℕ) → text.now ≡ codes "irig-journal-1" ++ 10 ∷ more → ⊥)
@@ -122,7 +126,8 @@ fn named(text: &[u8]) -> Option<&[u8]>
     }
 }
 
-/// The format in the first line of a text, and what is after it.
+/// The format in the first line of a text, and what is after it. `None` if it is no line of a
+/// format.
 fn format_line(text: &[u8]) -> Option<((Kind, u8), &[u8])>
     ensures { FirstLine IsFormat (λ f. line (codes "format") (words_of_format f))
         text.now result }
@@ -136,7 +141,8 @@ fn format_line(text: &[u8]) -> Option<((Kind, u8), &[u8])>
     }
 }
 
-/// The cursor in the first line of a text, and what is after it.
+/// The cursor in the first line of a text, and what is after it. `None` if it is no line of a
+/// cursor.
 fn cursor_line(text: &[u8]) -> Option<(u64, &[u8])>
     ensures { FirstLine IsNumber (λ n. numbered (codes "cursor") (n ∷ [])) text.now result }
 {

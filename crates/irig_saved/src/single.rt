@@ -42,7 +42,7 @@ pub enum Single {
 }
 
 impl Single {
-    /// How many lines it has.
+    /// How many lines it has in the text of a journal: a splice has one more for each pulse.
     pub(crate) fn lines(&self) -> usize
         requires { length (single_lines self.now) < 2 ^ 63 }
         ensures { result ≡ length (single_lines self.now) }

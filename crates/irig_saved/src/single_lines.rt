@@ -47,8 +47,9 @@ impl<'s> SingleLines<'s> {
         }
     }
 
-    /// Adds lines to a block until it has `enough` bytes. Returns whether no line is left, and the
-    /// block has fewer.
+    /// Adds lines to a block until it has `enough` bytes or none is left; the first line in any
+    /// case. Returns whether no line is left and the block has fewer; so `false` means that the
+    /// block is full. It fails only if memory runs out.
     pub fn fill(&mut self, block: &mut Vec<u8>, enough: usize) -> Result<bool, AllocError>
         ensures bytes { OnOk result (block.new.items ++ self.new ≡ block.old.items ++ self.old) }
         ensures end { IfOk result (λ ended. ended ≡ true → self.new ≡ []) }

@@ -39,7 +39,7 @@ impl Singles {
         self.items.as_slice()
     }
 
-    /// Adds a change after the last.
+    /// Adds a change after the last. If memory runs out, nothing changes.
     pub fn push(&mut self, single: Single) -> Result<(), AllocError>
         ensures pushed { OnOk result (self.new ≡ self.old ++ single ∷ []) }
         ensures unchanged { OnErr result (self.new ≡ self.old) }
@@ -55,7 +55,7 @@ impl Singles {
         self.items
     }
 
-    /// How many lines they have.
+    /// How many lines they have in the text of a journal.
     pub(crate) fn lines(&self) -> usize
         requires { length (singles_lines self.now) < 2 ^ 63 }
         ensures { result ≡ length (singles_lines self.now) }

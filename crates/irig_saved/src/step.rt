@@ -15,7 +15,7 @@ pub struct SavedStep {
 }
 
 impl SavedStep {
-    /// How many lines it has.
+    /// How many lines it has in the text of a journal: one for its cursor, and those of its change.
     pub fn lines(&self) -> usize
         requires { length (step_lines self.now) < 2 ^ 63 }
         ensures { result ≡ length (step_lines self.now) }

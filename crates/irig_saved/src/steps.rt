@@ -47,7 +47,7 @@ impl Steps {
         self.items.as_slice()
     }
 
-    /// Adds a step after the last.
+    /// Adds a step after the last. If memory runs out, nothing changes.
     pub fn push(&mut self, step: SavedStep) -> Result<(), AllocError>
         ensures pushed { OnOk result (self.new ≡ self.old ++ step ∷ []) }
         ensures unchanged { OnErr result (self.new ≡ self.old) }
@@ -56,7 +56,7 @@ impl Steps {
         Ok(())
     }
 
-    /// Removes the last step; None if there is none.
+    /// Removes the last step and returns it; `None` if there is none.
     pub fn pop(&mut self) -> Option<SavedStep>
         ensures { MatchOption result ((self.old ≡ []) × (self.new ≡ []))
             (λ step. self.old ≡ self.new ++ step ∷ []) }
@@ -64,14 +64,14 @@ impl Steps {
         self.items.pop()
     }
 
-    /// Reverses the steps.
+    /// Puts the steps in the opposite order.
     pub fn reverse(&mut self)
         ensures { self.new ≡ reverse self.old }
     {
         self.items.reverse();
     }
 
-    /// How many lines they have.
+    /// How many lines they have in the text of a journal.
     pub fn lines(&self) -> usize
         requires { length (steps_lines self.now) < 2 ^ 63 }
         ensures { result ≡ length (steps_lines self.now) }

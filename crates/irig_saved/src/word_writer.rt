@@ -1,4 +1,6 @@
 //! Writes words of a line.
+//!
+//! Each function adds to `text`, and fails only if memory runs out.
 
 ghost use Rattle.std.specs.Prelude.{◌≡◌, ◌+◌, ◌++◌, ◌<◌, ◌∷◌, [], OnOk, map, decimal};
 ghost use Rattle.irig_codes.specs.Words.{kind_word};
@@ -8,7 +10,7 @@ use irig_codes::{Kind, kind_word};
 use itoa::Buffer;
 use std::alloc::AllocError;
 
-/// A space and a word.
+/// Writes a space and a word.
 pub(crate) fn put_word(text: &mut Vec<u8>, word: &[u8]) -> Result<(), AllocError>
     ensures { OnOk result (text.new.items ≡ text.old.items ++ 32 ∷ word.now) }
 {
@@ -17,7 +19,7 @@ pub(crate) fn put_word(text: &mut Vec<u8>, word: &[u8]) -> Result<(), AllocError
     Ok(())
 }
 
-/// A space and a number in decimal.
+/// Writes a space and a number in decimal.
 pub(crate) fn put_number(text: &mut Vec<u8>, number: u64) -> Result<(), AllocError>
     ensures { OnOk result (text.new.items ≡ text.old.items ++ 32 ∷ decimal number) }
 {
@@ -25,7 +27,7 @@ pub(crate) fn put_number(text: &mut Vec<u8>, number: u64) -> Result<(), AllocErr
     put_word(text, buffer.format(number).as_bytes())
 }
 
-/// Numbers, each after a space.
+/// Writes numbers, each after a space.
 pub(crate) fn put_numbers(text: &mut Vec<u8>, numbers: &[u64]) -> Result<(), AllocError>
     ensures { OnOk result (text.new.items ≡ text.old.items ++ behind (map decimal numbers.now)) }
 {
@@ -35,7 +37,7 @@ pub(crate) fn put_numbers(text: &mut Vec<u8>, numbers: &[u64]) -> Result<(), All
     Ok(())
 }
 
-/// A line that begins with a word and has numbers after it.
+/// Writes a line that begins with a word and has numbers after it.
 pub(crate) fn put_numbered(
     text: &mut Vec<u8>,
     head: &[u8],
@@ -50,7 +52,8 @@ pub(crate) fn put_numbered(
     Ok(())
 }
 
-/// A word that begins a line, and the letter of a mark, from 0.
+/// Writes a word that begins a line, and after a space the letter at a place, from 0. The line does
+/// not end.
 pub(crate) fn put_lettered(text: &mut Vec<u8>, head: &[u8], letter: u8) -> Result<(), AllocError>
     requires { letter < 26 }
     ensures { OnOk result (text.new.items
@@ -60,7 +63,7 @@ pub(crate) fn put_lettered(text: &mut Vec<u8>, head: &[u8], letter: u8) -> Resul
     put_word(text, &[b'a' + letter])
 }
 
-/// A line that begins with a word and names a format.
+/// Writes a line that begins with a word and names a format: its kind and its expression.
 pub(crate) fn put_formatted(
     text: &mut Vec<u8>,
     head: &[u8],

@@ -1,4 +1,7 @@
 //! Words of a saved journal.
+//!
+//! Each function answers `None` for any other word. A number is written again and compared, as
+//! `parse` also takes a sign and leading zeros.
 
 ghost use Rattle.std.specs.Prelude.{◌≡◌, ◌≤◌, decimal, length};
 ghost use Rattle.std.specs.Fmt.{signed_decimal};
@@ -9,7 +12,7 @@ ghost use Rattle.irig_saved.specs.Reading.{Decodes, AreLetters};
 use crate::letter::Letters;
 use itoa::Buffer;
 
-/// The number that a word is in decimal, without a sign or leading zeros.
+/// The number below 2^64 that a word is in decimal, without a sign or leading zeros.
 pub fn number(word: &[u8]) -> Option<u64>
     ensures { Decodes IsNumber (λ n. decimal n) word.now result }
 {
@@ -27,7 +30,7 @@ pub fn number(word: &[u8]) -> Option<u64>
     }
 }
 
-/// The distance that a word is: a number with a minus if it is below 0.
+/// The distance that a word is, in microseconds: a number with a minus if it is below 0.
 pub fn distance(word: &[u8]) -> Option<i64>
     ensures { Decodes IsDistance (λ d. signed_decimal d) word.now result }
 {
@@ -53,7 +56,7 @@ pub fn expression(word: &[u8]) -> Option<u8>
     if value <= 7 { Some(value as u8) } else { None }
 }
 
-/// The time that a word is, or none, which is `-`.
+/// The time in microseconds that a word is, or no time if it is `-`.
 pub fn time(word: &[u8]) -> Option<Option<u64>>
     ensures { Decodes IsTime time_word word.now result }
 {
@@ -66,7 +69,7 @@ pub fn time(word: &[u8]) -> Option<Option<u64>>
     Some(Some(time))
 }
 
-/// The marks whose letters a word has in order; `-` if there are none.
+/// The marks whose letters a word has, in rising order and each once; none if it is `-`.
 pub fn moved(word: &[u8]) -> Option<Letters>
     ensures { Decodes AreLetters moved_word word.now result }
 {

@@ -1,4 +1,7 @@
 //! Writes lines of a saved journal: those at its head, and those before changes.
+//!
+//! Each function adds to `text`, and fails only if memory runs out. A cursor is the number of a
+//! pulse, from 1, or 0 before the first.
 
 ghost use Rattle.std.specs.Prelude.{◌≡◌, ◌++◌, ◌+◌, ◌<◌, ◌∷◌, [], OnOk, codes, decimal};
 ghost use Rattle.irig_codes.specs.Words.{kind_word};
@@ -10,8 +13,8 @@ use crate::word_writer::{put_formatted, put_lettered, put_number, put_numbered};
 use irig_codes::{Format, Kind};
 use std::alloc::AllocError;
 
-/// The lines before the steps, and the one that counts the steps of the past. The cursor counts
-/// from 1, and is 0 if there is no pulse; a mark is a time in microseconds.
+/// Writes the lines before the steps, and the one that counts the steps of the past, `past`. A mark
+/// is a time in microseconds.
 pub fn put_head(
     text: &mut Vec<u8>,
     format: Format,
@@ -30,8 +33,8 @@ pub fn put_head(
     put_past(text, past)
 }
 
-/// The lines of a step before those of its changes: the cursor of the state that it leads to, from
-/// 1, or 0 if there is no pulse; and of a group how many changes it has.
+/// Writes the lines of a step before those of its changes: the cursor of the state that it leads
+/// to, and of a group how many changes it has.
 pub fn put_step(
     text: &mut Vec<u8>,
     cursor: u64,
@@ -48,7 +51,7 @@ pub fn put_step(
     Ok(())
 }
 
-/// The line before the steps of the future: how many there are.
+/// Writes the line before the steps of the future: how many there are.
 pub fn put_future(text: &mut Vec<u8>, count: u64) -> Result<(), AllocError>
     ensures { OnOk result (text.new.items
         ≡ text.old.items ++ count_text (codes "future") count) }
@@ -56,7 +59,7 @@ pub fn put_future(text: &mut Vec<u8>, count: u64) -> Result<(), AllocError>
     put_numbered(text, b"future", &[count])
 }
 
-/// The line that names a saved journal, as `docs/FORMATS.md` says under "The saved journal".
+/// Writes the line that names a saved journal, as `docs/FORMATS.md` says under "The saved journal".
 fn put_name(text: &mut Vec<u8>) -> Result<(), AllocError>
     ensures { OnOk result (text.new.items
         ≡ text.old.items ++ (codes "irig-journal-1" ++ 10 ∷ [])) }
@@ -64,7 +67,7 @@ fn put_name(text: &mut Vec<u8>) -> Result<(), AllocError>
     put_numbered(text, b"irig-journal-1", &[])
 }
 
-/// The line of the format.
+/// Writes the line of the format.
 fn put_format(text: &mut Vec<u8>, kind: Kind, expression: u8) -> Result<(), AllocError>
     ensures { OnOk result (text.new.items ≡ text.old.items
         ++ (line (codes "format") (kind_word kind ∷ decimal expression ∷ []) ++ 10 ∷ [])) }
@@ -72,7 +75,7 @@ fn put_format(text: &mut Vec<u8>, kind: Kind, expression: u8) -> Result<(), Allo
     put_formatted(text, b"format", kind, expression)
 }
 
-/// The line of the cursor, from 1; 0 if there is no pulse.
+/// Writes the line of the cursor.
 fn put_cursor(text: &mut Vec<u8>, cursor: u64) -> Result<(), AllocError>
     ensures { OnOk result (text.new.items
         ≡ text.old.items ++ (numbered (codes "cursor") (cursor ∷ []) ++ 10 ∷ [])) }
@@ -80,7 +83,7 @@ fn put_cursor(text: &mut Vec<u8>, cursor: u64) -> Result<(), AllocError>
     put_numbered(text, b"cursor", &[cursor])
 }
 
-/// A line for each mark that is set, a to z. A mark is a time in microseconds.
+/// Writes a line for each mark that is set, a to z. A mark is a time in microseconds.
 fn put_marks(text: &mut Vec<u8>, marks: &Marks) -> Result<(), AllocError>
     ensures { OnOk result (text.new.items
         ≡ text.old.items ++ text_of (mark_lines 97 marks.now)) }
@@ -91,7 +94,7 @@ fn put_marks(text: &mut Vec<u8>, marks: &Marks) -> Result<(), AllocError>
     Ok(())
 }
 
-/// The line of a mark, if it is set. A letter counts from 0.
+/// Writes the line of a mark, if it is set. A letter counts from 0; the time is in microseconds.
 fn put_mark(text: &mut Vec<u8>, letter: u8, time: Option<u64>) -> Result<(), AllocError>
     requires { letter < 26 }
     ensures { OnOk result (text.new.items
@@ -106,7 +109,7 @@ fn put_mark(text: &mut Vec<u8>, letter: u8, time: Option<u64>) -> Result<(), All
     Ok(())
 }
 
-/// The line before the steps of the past: how many there are.
+/// Writes the line before the steps of the past: how many there are.
 fn put_past(text: &mut Vec<u8>, count: u64) -> Result<(), AllocError>
     ensures { OnOk result (text.new.items
         ≡ text.old.items ++ (numbered (codes "past") (count ∷ []) ++ 10 ∷ [])) }
@@ -114,8 +117,7 @@ fn put_past(text: &mut Vec<u8>, count: u64) -> Result<(), AllocError>
     put_numbered(text, b"past", &[count])
 }
 
-/// The first line of a step: the cursor of the state that it leads to, from 1; 0 if there is no
-/// pulse.
+/// Writes the first line of a step: the cursor of the state that it leads to.
 fn put_at(text: &mut Vec<u8>, cursor: u64) -> Result<(), AllocError>
     ensures { OnOk result (text.new.items
         ≡ text.old.items ++ (numbered (codes "at") (cursor ∷ []) ++ 10 ∷ [])) }
@@ -123,7 +125,7 @@ fn put_at(text: &mut Vec<u8>, cursor: u64) -> Result<(), AllocError>
     put_numbered(text, b"at", &[cursor])
 }
 
-/// The line before the changes of a group: how many there are.
+/// Writes the line before the changes of a group: how many there are.
 fn put_group(text: &mut Vec<u8>, count: u64) -> Result<(), AllocError>
     ensures { OnOk result (text.new.items
         ≡ text.old.items ++ (numbered (codes "group") (count ∷ []) ++ 10 ∷ [])) }
