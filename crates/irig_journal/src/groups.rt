@@ -1,4 +1,10 @@
 //! Groups: several edits that one undo reverses.
+//!
+//! The past has the steps that can be undone, the future those that can be redone. The nearest step
+//! of a side is the one that is undone or redone next, the farthest the last one. A list of the
+//! past begins with the farthest, which is the oldest. To turn a step is to make its change, and to
+//! leave the change that leads back in it. A floor is the begin of the open group: an undo does not
+//! go below it. `known` does nothing: it only lets the proof use what holds of the state.
 
 ghost use Rattle.std.specs.Prelude.{◌≡◌, ◌↔◌, ◌<◌, ◌≤◌, ◌⊎◌, ◌∷◌, ◌^◌, [], ℕ, IsErr, IsErrOf};
 ghost use Rattle.std.specs.Prelude.{IsNone, IsSome, IfSome, OnErr, OnOk, None, Some, drop, length};
@@ -20,7 +26,7 @@ use crate::{JournalFault, Reversible};
 
 impl<R: Reversible> Journal<R> {
     /// Opens a group at the present, whose cursor this is. It takes no memory, and the only error
-    /// is `GroupOpen`.
+    /// is `GroupOpen`: there is one already.
     pub fn begin(&mut self, cursor: usize) -> Result<(), JournalFault>
         ensures grouped { OnOk result ((s : R.Content) →
             begun (grouped_of R.turned R.delta s cursor self.old)
@@ -144,8 +150,8 @@ impl<R: Reversible> Journal<R> {
     }
 }
 
-/// Makes one step of those after the `at` farthest, if they are more than one. It leads to where
-/// the farthest of them leads. It takes no memory.
+/// Makes one step of those after the first `at` of the list, if they are more than one. It leads to
+/// where the first of them leads: before the group. It takes no memory.
 fn end_beyond(entries: &mut Vec<Entry>, at: usize)
     requires within { at ≤ vec_len entries.old }
     requires few { counts_of entries.old.items < 2 ^ 64 }
@@ -160,7 +166,8 @@ fn end_beyond(entries: &mut Vec<Entry>, at: usize)
     }
 }
 
-/// Undoes the steps after the `at` farthest, one after another. It takes no memory.
+/// Undoes the newest steps until `at` are left in the past; they are in the future then. It takes
+/// no memory. Their cursors are not used.
 fn turn_beyond<R: Reversible>(
     past: &mut Side<R::Change>,
     future: &mut Side<R::Change>,

@@ -1,4 +1,10 @@
 //! Steps turned, and moved from one side of the present to the other. Nothing here takes memory.
+//!
+//! The past has the steps that can be undone, the future those that can be redone. The nearest step
+//! of a side is the one that is undone or redone next, the farthest the last one. To turn a change
+//! is to make it to the state, and to leave the change that leads back. Each side has its places
+//! before, so `unwrap` finds no error. `known` does nothing: it only lets the proof use what holds
+//! of the state.
 
 ghost use Rattle.std.specs.Prelude.{◌≡◌, ◌+◌, ◌<◌, ◌≤◌, ◌∷◌, [], reverse, vec_capacity, vec_len};
 ghost use Rattle.irig_journal.specs.History.{step, stepped_back};
@@ -11,8 +17,8 @@ use crate::Reversible;
 use crate::side::Side;
 use std::mem;
 
-/// Turns a change that has its room, and adds it as the nearest step of the past. The future loses
-/// its steps.
+/// Turns a change that has its room, and adds what leads back as the nearest step of the past.
+/// `before` is the cursor of the state before the change. The future loses its steps.
 pub(crate) fn turn_new<R: Reversible>(
     past: &mut Side<R::Change>,
     future: &mut Side<R::Change>,
@@ -46,7 +52,9 @@ pub(crate) fn turn_new<R: Reversible>(
     future.clear();
 }
 
-/// Turns the nearest step of one side, and moves it to the other.
+/// Turns the nearest step of one side, and moves it to the other: from the past it is an undo, from
+/// the future a redo. `cursor` becomes that of the state it leads to, and the step gets the former
+/// one.
 pub(crate) fn turn_nearest<R: Reversible>(
     from: &mut Side<R::Change>,
     to: &mut Side<R::Change>,
@@ -78,7 +86,8 @@ pub(crate) fn turn_nearest<R: Reversible>(
     to.entries.push(nearest).unwrap();
 }
 
-/// Turns the nearest changes of one list, one after another, and moves each to the other.
+/// Turns the nearest `count` changes of one list, one after another, and moves each to the other. A
+/// list ends with the nearest.
 fn turn_changes<R: Reversible>(
     from: &mut Vec<R::Change>,
     to: &mut Vec<R::Change>,

@@ -1,4 +1,8 @@
 //! Room for a step and for its way to the other side: places on both sides, and in the state.
+//!
+//! The past has the steps that can be undone, the future those that can be redone. A place is room
+//! in a list for one item. Each side has a place for every step of both, as a step can move to the
+//! other side. An error is that memory ran out.
 
 ghost use Rattle.std.specs.Prelude.{◌≡◌, ◌⊎◌, ◌+◌, ◌<◌, ◌≤◌, OnErr, OnOk, vec_capacity, vec_len};
 ghost use Rattle.irig_journal.specs.Held.{Alone};
@@ -42,7 +46,8 @@ pub(crate) fn reserve_change<R: Reversible>(
 }
 
 /// Makes a place in the past for a step of one change more, and places in the future for all that
-/// the past has then: the future is empty by then. The steps stay, also on an error.
+/// the past has then: the new step drops the steps of the future, and undos may move all of the
+/// past there. The steps stay, also on an error.
 fn reserve_step<C>(past: &mut Side<C>, future: &mut Side<C>) -> Result<(), AllocError>
     requires { AreSides past.old future.old }
     ensures past { IsSameSide past.old past.new }
@@ -57,8 +62,8 @@ fn reserve_step<C>(past: &mut Side<C>, future: &mut Side<C>) -> Result<(), Alloc
     reserve_one(&mut past.entries, &mut future.entries)
 }
 
-/// Makes a place in one list for an item more, and places in the other for all that the first has
-/// then. The items stay, also on an error.
+/// Makes a place in one list for an item more, and places in the other, which will be empty then,
+/// for all that the first has then. The items stay, also on an error.
 fn reserve_one<T>(list: &mut Vec<T>, other: &mut Vec<T>) -> Result<(), AllocError>
     ensures list { (list.new.items ≡ list.old.items) × (vec_len list.new ≡ vec_len list.old) }
     ensures other { (other.new.items ≡ other.old.items) × (vec_len other.new ≡ vec_len other.old) }
@@ -78,7 +83,8 @@ fn reserve_one<T>(list: &mut Vec<T>, other: &mut Vec<T>) -> Result<(), AllocErro
 }
 
 /// Makes a place in each of two lists for a group of `count` steps of the first, next to the steps
-/// of both. It takes memory only for a group of none. The steps stay, also on an error.
+/// of both. A group takes the place of one of its steps, so memory is taken only for a group of
+/// none. The steps stay, also on an error.
 pub(crate) fn reserve_group(
     past: &mut Vec<Entry>,
     future: &mut Vec<Entry>,

@@ -28,7 +28,8 @@ impl<C> Side<C> {
         }
     }
 
-    /// Adds a step of one change, the nearest. It takes no memory.
+    /// Adds a step of one change as the nearest, with the cursor of the state that it leads to. It
+    /// takes no memory: both lists have a place, so `unwrap` finds no error.
     pub(crate) fn push(&mut self, change: C, cursor: usize)
         requires whole { IsWhole self.old }
         requires places { (vec_len self.old.changes < vec_capacity self.old.changes)
@@ -50,7 +51,7 @@ impl<C> Side<C> {
 }
 
 impl<C: Drop> Side<C> {
-    /// Drops all steps, and keeps their places.
+    /// Drops all steps, and keeps the memory for as many.
     pub(crate) fn clear(&mut self)
         ensures steps { steps_on self.new ≡ [] }
         ensures whole { IsWhole self.new }

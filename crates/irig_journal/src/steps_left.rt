@@ -1,4 +1,9 @@
 //! The steps of one side of a journal, one after another.
+//!
+//! The lists of a side end with the nearest step. Its changes are in one list, and in another each
+//! step has their number and its cursor (`Entry`).
+//!
+//! What is marked "Read for .." does nothing: it only lets the proof use what a type promises.
 
 ghost use Rattle.std.specs.Prelude.{◌≡◌, ◌≤◌, ◌∷◌, [], IfSome, MatchOption, false, length};
 ghost use Rattle.std.specs.List.{sum_by};
@@ -36,7 +41,7 @@ impl<'j, C> StepsLeft<'j, C> {
         self.entries.len()
     }
 
-    /// The next step, if one is left.
+    /// The next step, if one is left: the first of the list if `from_oldest`, else the last.
     pub fn next(&mut self) -> Option<Step<'j, C>>
         ensures next { MatchOption result (self.old ≡ []) (λ s. self.old ≡ held_of s ∷ self.new) }
         ensures alone { IfSome result (λ s. s.is_group ≡ false → length s.changes.now ≡ 1) }
@@ -50,7 +55,7 @@ impl<'j, C> StepsLeft<'j, C> {
     }
 }
 
-/// The first entry or the last one, if there is one, and the others.
+/// The first entry, or the last one if not `first`, and the others. `None` if there is none.
 fn entry_at_end(entries: &[Entry], first: bool) -> Option<(&Entry, &[Entry])>
     ensures { MatchOption result (entries.now ≡ [])
         (λ p. entries.now ≡ with_end first (p.0.now ∷ []) p.1.now) }
@@ -62,7 +67,7 @@ fn entry_at_end(entries: &[Entry], first: bool) -> Option<(&Entry, &[Entry])>
     }
 }
 
-/// The first `count` changes or the last ones, and the others.
+/// The first `count` changes, or the last ones if not `first`, and the others.
 fn changes_at_end<C>(changes: &[C], count: usize, first: bool) -> (&[C], &[C])
     requires { count ≤ length changes.now }
     ensures parts { changes.now ≡ with_end first result.0.now result.1.now }
@@ -75,7 +80,7 @@ fn changes_at_end<C>(changes: &[C], count: usize, first: bool) -> (&[C], &[C])
     (last, left)
 }
 
-/// The step with these changes.
+/// The step of an entry, with these changes.
 fn step_with<'j, C>(entry: Entry, changes: &'j [C]) -> Step<'j, C>
     ensures { (result.changes.now ≡ changes.now) × (result.is_group ≡ is_group entry.size)
         × (result.cursor ≡ entry.cursor) }
@@ -87,7 +92,7 @@ fn step_with<'j, C>(entry: Entry, changes: &'j [C]) -> Step<'j, C>
     }
 }
 
-/// How much the changes of steps hold, all together.
+/// How much the changes of steps hold, all together, in units of the state's own.
 pub(crate) fn weight_of_all<R: Reversible>(mut steps: StepsLeft<'_, R::Change>) -> u128
     ensures { result ≡ sum_by (λ h. R.weighs (R.delta h.parts)) steps.entry }
 {
