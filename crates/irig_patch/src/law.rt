@@ -1,4 +1,7 @@
 //! What holds of patches as scripts.
+//!
+//! A patch is what `irig_diff` prints: for each stretch in which two recordings differ, a line that
+//! inverts the level there. E5 is more than 2^22 pulses, E11 is out of memory.
 
 ghost use Rattle.irig_patch.specs.Commented.{CommentsJoin, CommentsMake, CommentsStop};
 ghost use Rattle.irig_patch.specs.Commented.{CommentsWrite};
@@ -8,7 +11,7 @@ ghost use Rattle.irig_patch.specs.Scripts.{AsLong, PatchesMake, PatchesStop, Pat
 /// Does nothing. Its contract: the text of a patch is a script that makes the one recording of the
 /// other.
 ///
-/// It is run on a session of the recording before, whose length no edge of the one after is above.
+/// It is run on a session of the recording before. No edge of the one after is above its length.
 /// If no line is refused, it leaves a session with the edges of the recording after, with one step
 /// for each stretch. A line is refused by E5 or E11 alone. With `write` after it, the text that is
 /// written is the dump of these edges. So it is if what `irig_diff` prints is run on the file

@@ -1,4 +1,9 @@
 //! A patch between two recordings, made on a session.
+//!
+//! A recording is a length and edges, in microseconds. A stretch is a time from `rise` to `fall` in
+//! which the levels of two recordings differ. E5 is more than 2^22 pulses, E11 is out of memory.
+//!
+//! What is marked "Read for .." does nothing: it only lets the proof use what a type promises.
 
 ghost use Rattle.std.specs.Prelude.{◌≡◌, ◌+◌, ◌≤◌, ◌^◌, IfErr, OnOk, length};
 ghost use Rattle.irig_recording.specs.Recording.{RisesFrom, UpTo};
@@ -11,8 +16,9 @@ ghost use Rattle.irig_patch.specs.Patched.{AreStretches, Patches, StopsPatch, ma
 use irig_difference::{Differences, Recording};
 use irig_edit::{Refusal, Session};
 
-/// Makes the edges of the recording after of those before, on a session of it, with as few inverts
-/// as do. Each is a step that can be undone. A refusal leaves the steps made so far.
+/// On a session of the recording `before`, makes the edges of the recording `after`, with as few
+/// inverts of the level as suffice. Each is a step that can be undone. A refusal leaves the steps
+/// made so far.
 ///
 /// E5 if there would be more than 2^22 pulses on the way, or E11.
 pub fn patch(session: &mut Session, before: &Recording, after: &Recording) -> Result<(), Refusal>
@@ -33,7 +39,8 @@ pub fn patch(session: &mut Session, before: &Recording, after: &Recording) -> Re
     invert_all(session, &mut Differences::between(before, after))
 }
 
-/// Inverts the level in each of the stretches that are left.
+/// Inverts the level in each of the stretches that are left, each as a step. It stops at the first
+/// that is refused.
 fn invert_all(session: &mut Session, left: &mut Differences<'_>) -> Result<(), Refusal>
     requires track { RisesFrom 0 (edges_of session.old.state.pulses) }
     requires left { AreStretches session.old.state.micros left.old }
