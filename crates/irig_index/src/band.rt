@@ -1,12 +1,15 @@
 //! What a pulse means, straight from its width and the interval of the format. A loop over
 //! pulses asks for the interval once.
+//!
+//! Width and interval are in microseconds. The interval is the time from one rise to the next.
 
 ghost use Rattle.std.specs.Prelude.{◌≡◌, true, unwrap_or};
 ghost use Rattle.irig_codes.specs.declared.width.Element.TheVariants.{Zero};
 ghost use Rattle.irig_codes.specs.{Reading.counts, Width.HasTwentieths, Width.class_in};
 ghost use Rattle.irig_index.specs.Marker.{is_digit, is_position};
 
-/// Whether a width is that of a position identifier.
+/// Whether a width is that of a position identifier: from 13 twentieths of the interval to below
+/// 19. A width below wraps, so one comparison tests both bounds.
 #[inline(always)]
 pub fn is_position(interval: u64, width: u64) -> bool
     requires { HasTwentieths interval }
@@ -16,7 +19,8 @@ pub fn is_position(interval: u64, width: u64) -> bool
     width.wrapping_sub(13 * twentieth) < 6 * twentieth
 }
 
-/// Whether a width is that of a digit.
+/// Whether a width is that of a digit, a Zero or a One: from 1 twentieth of the interval to below
+/// 13.
 #[inline(always)]
 pub fn is_digit(interval: u64, width: u64) -> bool
     requires { HasTwentieths interval }
@@ -27,7 +31,7 @@ pub fn is_digit(interval: u64, width: u64) -> bool
     width.wrapping_sub(twentieth) < 12 * twentieth
 }
 
-/// Whether a digit of this width is One.
+/// Whether a digit of this width is One, not Zero.
 #[inline(always)]
 pub fn is_one(interval: u64, width: u64) -> bool
     requires interval { HasTwentieths interval }

@@ -1,4 +1,17 @@
 //! What is made of the markers of a part of a track: their records, or their number.
+//!
+//! A marker is the pulse with which a frame begins: a position identifier in step after another
+//! one. Pulses count from 0. A place is the number of a pulse; a marker after place k is pulse k +
+//! 1, and pulse k is the position identifier before it. A record has a marker and the verdict on
+//! its frame.
+//!
+//! A lens shows the pulses of a track and counts each look at one; `looks` gets the same count. The
+//! records right of the gap count their markers from the back of `pulses`, which is how many pulses
+//! the track had.
+//!
+//! What is marked "Read for .." does nothing: it only lets the proof use what a type promises.
+//!
+//! The edit of a `Span`: from pulse `at` on, `old` pulses became `new`, and all others stay.
 
 ghost use Rattle.std.specs.Prelude.{◌≡◌, ℕ, ◌+◌, ◌-◌, ◌*◌, ◌^◌, ◌<◌, ◌≤◌, ◌++◌, length, take, drop};
 ghost use Rattle.std.specs.Prelude.{max, min, OnOk, IsOk};
@@ -19,7 +32,7 @@ use irig_gap::Gap;
 use irig_track::{Lens, Span};
 use std::alloc::AllocError;
 
-/// Counts the markers of the lens's track.
+/// How many markers the lens's track has. Adds the looks that it takes to `looks`.
 pub fn count_markers(lens: &mut Lens<'_>, looks: &mut u64, format: Format) -> usize
     ensures count { result ≡ length (frames format lens.old.track.pulses) }
     ensures looked { Looked lens.old lens.new looks.old looks.new
@@ -36,7 +49,7 @@ pub fn count_markers(lens: &mut Lens<'_>, looks: &mut u64, format: Format) -> us
 }
 
 /// Puts the records of the markers after the places `from` to `to`, that one not included, left of
-/// the gap. If there is room for them it does not grow.
+/// the gap. If there is room for them it does not grow; else it fails if memory runs out.
 pub fn fill(
     records: &mut Gap<Stored>,
     lens: &mut Lens<'_>,
@@ -93,8 +106,9 @@ pub fn refill(
     fill(records, lens, looks, format, from, to).unwrap();
 }
 
-/// Checks the frame of the last marker up to the pulse `from` again, unless that frame ends there.
-/// Returns whether the next record is of a marker up to `last`.
+/// Checks the frame of the last marker up to the pulse `from` again, unless that frame ends there:
+/// the pulses after `from` have changed. Returns whether the next record is of a marker up to
+/// `last`.
 pub fn retell_up_to(
     records: &mut Gap<Stored>,
     pulses: usize,
@@ -125,7 +139,7 @@ pub fn retell_up_to(
 }
 
 /// Checks the frame of the last of the first `count` markers again, unless that marker is one up to
-/// `settled`.
+/// `settled`: such a frame ends before what has changed.
 fn retell(
     records: &mut Gap<Stored>,
     pulses: usize,
@@ -160,7 +174,8 @@ fn retell(
     set_record(records, pulses, count - 1, Stored::new(marker, verdict));
 }
 
-/// Up to which place a repair seeks markers: that of the pulse after the edit, or of the last one.
+/// Up to which place a repair seeks markers: that of the first pulse after the edit, or of the last
+/// pulse.
 pub fn last_place(lens: &Lens<'_>, edit: Span) -> usize
     requires { edit.at + edit.new ≤ length lens.now.track.pulses }
     ensures least { result ≡ min (length lens.now.track.pulses - 1) (edit.at + edit.new) }
@@ -192,8 +207,8 @@ pub fn next_marked(
     }
 }
 
-/// The place from which on the next marker is sought, none later than `to`: none is between the
-/// pulses that a verdict looked at.
+/// The place from which on the next marker is sought, none later than `to`. A verdict on the frame
+/// of `marker` has looked at the pulses up to there, and none of them is a marker.
 fn next_place(marker: usize, verdict: Verdict, to: usize) -> usize
     requires { marker ≤ to }
     ensures order { marker ≤ result }

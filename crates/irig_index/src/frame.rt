@@ -1,4 +1,11 @@
 //! The verdict on a frame.
+//!
+//! A marker is the pulse with which a frame begins: a position identifier in step after another
+//! one. An interval is in microseconds, from one rise to the next. A lens shows the pulses of a
+//! track and counts each look at one.
+//!
+//! A verdict is `Read`, with the fields and the note of a sound frame, or `Broken`, with the least
+//! element that fails, 1 to 99, and why.
 
 ghost use Rattle.std.specs.Prelude.{◌≡◌, ℕ, ◌+◌, ◌-◌, ◌==◌, ◌<◌, ◌≤◌, [], true, false};
 ghost use Rattle.std.specs.Prelude.{if◌then◌else◌, slice_get, unwrap_or, Some, MatchOption, List};
@@ -21,7 +28,8 @@ use irig_track::{Lens, Pulse};
 /// How many elements a frame has.
 pub const ELEMENTS: usize = 100;
 
-/// The verdict on the frame of the marker `first`, at place `at` from 0. 99 looks at most.
+/// The verdict on the frame of the marker `first`, which is pulse `at`, from 0. It takes 99 looks
+/// at most, which `looks` counts, too.
 pub fn verdict(
     lens: &mut Lens<'_>,
     looks: &mut u64,
@@ -42,7 +50,8 @@ pub fn verdict(
     verdict
 }
 
-/// How many looks a verdict took.
+/// How many looks a verdict took: one for each pulse after the marker up to the one that fails. If
+/// the track ended there, that one is not there to be looked at.
 pub fn looks_of(verdict: Verdict) -> u64
     ensures { result ≡ looks_of verdict }
 {
@@ -53,7 +62,8 @@ pub fn looks_of(verdict: Verdict) -> u64
     }
 }
 
-/// As `verdict`, with the looks counted by the lens alone: the verdict shows how many they are.
+/// As `verdict`, with the looks counted by the lens alone: the verdict shows how many they are. The
+/// marker is element 0, and each pulse after it has to be in step and of a class that may be there.
 fn check(lens: &mut Lens<'_>, format: Format, at: usize, first: Pulse) -> Verdict
     requires track { IsTrack lens.old.track.micros lens.old.track.pulses }
     requires first { slice_get lens.old.track.pulses at ≡ Some first }
@@ -100,9 +110,9 @@ fn read(format: Format, gathered: Gathering) -> Verdict
     Verdict::Read(fields, note)
 }
 
-/// Whether an element of this width is One, or None if it must not be there. If no digit is left
-/// before the next position identifier only that one may be there, and else only a digit. Also how
-/// many digits are left after it.
+/// Whether an element of this width is One, and how many digits are left after it before the next
+/// position identifier. `None` if it must not be there: if no digit is left only a position
+/// identifier may be, and else only a digit.
 #[inline(always)]
 fn told(interval: u64, width: u64, digits: u64) -> Option<(bool, u64)>
     requires { HasTwentieths interval }

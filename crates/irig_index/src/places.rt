@@ -1,4 +1,8 @@
 //! Records by their place among all, whichever side of the gap they are on.
+//!
+//! Records are in rising order of their markers, which are numbers of pulses from 0. Those left of
+//! the gap count from the front of the track; those right of it count from its back, so `pulses`,
+//! how many it has, gives their numbers.
 
 ghost use Rattle.std.specs.Prelude.{◌≡◌, ℕ, ◌+◌, ◌<◌, ◌≤◌, false, length, take, drop, slice_set};
 ghost use Rattle.irig_index.specs.Sides.{shown, EndsUpTo, BeginsAfter};
@@ -7,7 +11,8 @@ use crate::sides::{begins_up_to, ends_after, record_at, turned};
 use crate::stored::Stored;
 use irig_gap::Gap;
 
-/// How many records are of markers up to `last`, if they rise.
+/// How many records are of markers up to pulse `last`, if they rise. It is a search by halves that
+/// begins at the gap.
 pub fn count_up_to(records: &Gap<Stored>, pulses: usize, last: usize) -> usize
     ensures within { result ≤ length records.now.items }
     ensures before { EndsUpTo last (take result (shown pulses records.now)) }
@@ -26,7 +31,8 @@ pub fn count_up_to(records: &Gap<Stored>, pulses: usize, last: usize) -> usize
     low
 }
 
-/// How many records are of markers up to `last` at least. The gap is often there.
+/// A number of records that are of markers up to `last`: all those left of the gap, or 0. The gap
+/// is often where the search ends.
 fn least_up_to(records: &Gap<Stored>, pulses: usize, last: usize) -> usize
     ensures within { result ≤ records.now.place }
     ensures before { EndsUpTo last (take result (shown pulses records.now)) }
@@ -38,7 +44,7 @@ fn least_up_to(records: &Gap<Stored>, pulses: usize, last: usize) -> usize
     }
 }
 
-/// How many records are of markers up to `last` at most.
+/// A number that the records of markers up to `last` do not exceed: those left of the gap, or all.
 fn most_up_to(records: &Gap<Stored>, pulses: usize, last: usize) -> usize
     ensures from { records.now.place ≤ result }
     ensures within { result ≤ length records.now.items }
@@ -60,7 +66,7 @@ pub fn is_up_to(records: &Gap<Stored>, pulses: usize, k: usize, last: usize) -> 
 }
 
 /// Writes a record over the one at place `k`, from 0. Right of the gap a marker is kept by how many
-/// pulses come after it, so the record is turned there.
+/// pulses are from it to the end, so it is turned there.
 pub fn set_record(records: &mut Gap<Stored>, pulses: usize, k: usize, found: Stored)
     requires { k < length records.old.items }
     ensures shown { shown pulses records.new ≡ slice_set (shown pulses records.old) k found }

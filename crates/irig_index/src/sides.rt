@@ -1,4 +1,10 @@
 //! The records on both sides of a gap.
+//!
+//! Records are in rising order of their markers, which are numbers of pulses from 0. Those left of
+//! the gap count from the front of the track; those right of it count from its back, so `pulses`,
+//! how many it has, gives their numbers.
+//!
+//! What is marked "Read for .." does nothing: it only lets the proof use what a type promises.
 
 ghost use Rattle.std.specs.Prelude.{◌≡◌, ℕ, ◌+◌, ◌*◌, ◌^◌, ◌<◌, ◌≤◌, ◌∷◌, ◌++◌, [], true, false};
 ghost use Rattle.std.specs.Prelude.{List, length, max, slice_get, Some, IsOk, OnOk};
@@ -11,7 +17,8 @@ use crate::stored::Stored;
 use irig_gap::Gap;
 use std::alloc::AllocError;
 
-/// The record with its number counted from the other end of this many pulses.
+/// The record with its marker's number counted from the other end of this many pulses: from the
+/// front to the back, or from the back to the front.
 pub fn turned(pulses: usize, kept: Stored) -> Stored
     ensures turned { result ≡ turned pulses kept }
     ensures fits { kept.marker < 2 ^ 64 }
@@ -164,7 +171,8 @@ fn step_right(records: &mut Gap<Stored>, pulses: usize)
     records.step_right();
 }
 
-/// Inserts a record that was found left of the gap. If it has room it does not grow.
+/// Inserts a record left of the gap. If it has room it does not grow; else it fails if memory runs
+/// out.
 pub fn put(records: &mut Gap<Stored>, found: Stored) -> Result<(), AllocError>
     ensures left { OnOk result (left_of records.new ≡ left_of records.old ++ (found ∷ [])) }
     ensures right { OnOk result (kept_right records.new ≡ kept_right records.old) }

@@ -1,4 +1,8 @@
 //! A record as an index keeps it.
+//!
+//! A marker is the number of the pulse with which a frame begins.
+//! A verdict is `Read`, with the fields and the note of a sound frame, or `Broken`, with the least
+//! element that fails, 1 to 99, and why.
 
 ghost use Rattle.std.specs.Prelude.{◌≡◌, ◌-◌, ◌^◌, ◌<◌, unwrap_or};
 ghost use Rattle.irig_index.specs.Kept.{IsNarrow, kept_of, part_of, verdict_kept};
@@ -35,7 +39,8 @@ impl Model for Stored {
 }
 
 impl Stored {
-    /// The record of a marker, by the number of its pulse, and the verdict on its frame.
+    /// The record of a marker, by the number of its pulse, and the verdict on its frame, each of
+    /// whose numbers has to fit in the bytes for it.
     pub fn new(marker: usize, verdict: Verdict) -> Stored
         requires { IsNarrow verdict }
         ensures { result ≡ record { marker = marker; verdict = verdict } }
@@ -65,7 +70,7 @@ impl Stored {
         }
     }
 
-    /// The record.
+    /// The record, with its verdict in full.
     pub fn record(self) -> Record
         ensures { result ≡ self }
     {
@@ -96,7 +101,7 @@ pub enum Kept {
     },
 }
 
-/// What is kept of a verdict.
+/// A verdict in the bytes in which it is kept.
 fn keep(verdict: Verdict) -> Kept
     requires { IsNarrow verdict }
     ensures { result ≡ kept_of verdict }
@@ -117,7 +122,7 @@ fn keep(verdict: Verdict) -> Kept
     }
 }
 
-/// The verdict that is kept.
+/// The verdict that is kept in these bytes, in full.
 fn verdict(kept: Kept) -> Verdict
     ensures { result ≡ verdict_kept kept }
 {
@@ -149,7 +154,7 @@ fn verdict(kept: Kept) -> Verdict
     }
 }
 
-/// A part of two digits, or 255 for none.
+/// A part of two digits in a byte, or 255 for `None`.
 #[inline(always)]
 fn byte(part: Option<u32>) -> u8
     requires { unwrap_or part 0 < 255 }
@@ -161,7 +166,7 @@ fn byte(part: Option<u32>) -> u8
     }
 }
 
-/// The part of two digits, if it is there.
+/// The part of two digits that a byte keeps; 255 is `None`.
 #[inline(always)]
 fn two_digits(byte: u8) -> Option<u32>
     ensures { result ≡ part_of 255 byte }
@@ -169,7 +174,7 @@ fn two_digits(byte: u8) -> Option<u32>
     if byte == 255 { None } else { Some(byte as u32) }
 }
 
-/// The straight binary seconds, if they are there.
+/// The straight binary seconds that are kept; the greatest number is `None`.
 #[inline(always)]
 fn binary(sbs: u32) -> Option<u32>
     ensures { result ≡ part_of (2 ^ 32 - 1) sbs }
@@ -177,7 +182,7 @@ fn binary(sbs: u32) -> Option<u32>
     if sbs == u32::MAX { None } else { Some(sbs) }
 }
 
-/// The control functions, if they are there.
+/// The control functions that are kept; the greatest number is `None`.
 #[inline(always)]
 fn functions(control: u64) -> Option<u64>
     ensures { result ≡ part_of (2 ^ 64 - 1) control }
