@@ -1,4 +1,8 @@
 //! The fields of a frame, and what is noted of them.
+//!
+//! An element is a position identifier, a One or a Zero. `digits` has the fifteen numbers that a
+//! frame carries in binary, one for each `Digit`: decimal digits, the straight binary seconds and
+//! the control functions.
 
 ghost use Rattle.std.specs.Prelude.{◌≡◌, List, length, ◌||◌, ◌==◌, nat_lt};
 ghost use Rattle.irig_codes.specs.declared.layout.Digit.TheVariants.{DaysUnits, DaysTens};
@@ -17,7 +21,8 @@ use crate::reading::read_digits;
 use crate::used::used;
 use crate::width::Element;
 
-/// The fields that a frame carries, and what is noted of them.
+/// The fields that a frame carries, and the first note that holds of them. The fields may be out of
+/// range: the note says so.
 ///
 /// The order of the notes is this project's own choice.
 pub fn decode(format: Format, frame: &[Element; 100]) -> (Fields, Note)
@@ -40,7 +45,8 @@ pub fn decode_ones(format: Format, ones: Ones) -> (Fields, Note)
     )
 }
 
-/// The note of what was found.
+/// The note of what was found: a wrong field comes first, then seconds of the day that disagree,
+/// then an element that is One without a meaning.
 fn note(wrong: Option<Name>, disagrees: bool, stray: Option<u8>) -> Note
     ensures { result ≡ note_of wrong disagrees stray }
 {
@@ -66,7 +72,7 @@ fn are_over(digits: &[u64; 15], units: Digit, tens: Digit) -> bool
     is_over(digits, units) || is_over(digits, tens)
 }
 
-/// Whether a digit of the day is above 9, or there is no such day.
+/// Whether a digit of the day is above 9, or the day is none from 1 to 366.
 fn is_no_day(digits: &[u64; 15], day: u32) -> bool
     ensures { result ≡ (over digits.now DaysUnits || (over digits.now DaysTens
         || (over digits.now DaysHundreds || ((day == 0) || nat_lt 366 day)))) }
@@ -77,7 +83,7 @@ fn is_no_day(digits: &[u64; 15], day: u32) -> bool
         || day > 366
 }
 
-/// The first field with a digit above 9, or out of its range.
+/// The first field with a digit above 9, or out of its range. `None` if there is none.
 fn first_wrong(digits: &[u64; 15], fields: &Fields) -> Option<Name>
     ensures { result ≡ first_wrong_field digits.now fields.now }
 {
@@ -113,7 +119,7 @@ fn disagrees(fields: &Fields) -> bool
     }
 }
 
-/// The first element, from 0, that is One and carries no bit.
+/// The first element, from 0, that is One though it carries no bit in the format.
 fn first_stray(format: Format, ones: Ones) -> Option<u8>
     ensures { (frame : List Element) → length frame ≡ 100 → ones_of frame ≡ ones
         → result ≡ stray_from 0 (slots_at format) frame }

@@ -33,7 +33,8 @@ impl Gathering {
         Gathering { bits: 0 }
     }
 
-    /// These, and one element more.
+    /// These, and one element more, which is the next one of the frame. After 100 of them the first
+    /// is bit 0.
     #[inline(always)]
     pub fn and(self, is_one: bool) -> Gathering
         ensures { (frame : List Element) (e : Element) → length frame < 100 → raised frame ≡ self
@@ -44,7 +45,7 @@ impl Gathering {
         }
     }
 
-    /// Which elements of a whole frame are One.
+    /// Which elements of a whole frame are One, if 100 were gathered.
     #[inline(always)]
     pub fn ones(self) -> Ones
         ensures { (frame : List Element) → length frame ≡ 100 → raised frame ≡ self

@@ -43,7 +43,8 @@ impl Ones {
         Ones { bits }
     }
 
-    /// A number of bits from an element on, as a number.
+    /// The number that `count` elements from element `from` on make, from 0: the first is its
+    /// lowest bit, and a One is 1.
     #[inline(always)]
     pub fn bits(self, from: u8, count: u8) -> u64
         requires within { from < 100 }
@@ -53,7 +54,8 @@ impl Ones {
         ((self.bits >> from) % (1 << count)) as u64
     }
 
-    /// The lowest element that is One and not in a mask.
+    /// The lowest element that is One and not in a mask, in which element k is bit k. `None` if
+    /// there is none.
     #[inline(always)]
     pub fn lowest_outside(self, mask: u128) -> Option<u8>
         ensures { IsLowestOutside self mask result }

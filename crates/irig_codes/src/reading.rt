@@ -1,4 +1,8 @@
 //! The fifteen numbers that a frame carries, by its elements that are One.
+//!
+//! `ones.bits(from, count)` is the number of `count` elements from element `from` on, the first as
+//! the lowest bit. Elements 9, 19, 29 and so on are position identifiers, so a longer number is
+//! read in runs of nine. What a format does not have is 0.
 
 ghost use Rattle.std.specs.Prelude.{◌≡◌, ◌<◌, ◌+◌, ◌*◌, ◌^◌, [], ◌∷◌, false};
 ghost use Rattle.irig_codes.specs.OnesDigits.{control_number, digit_in, sbs_in, control_in};
@@ -9,7 +13,7 @@ ghost use Rattle.irig_codes.specs.{Ones.bits_in, Layout.runs};
 use crate::format::{Format, Kind};
 use crate::ones::Ones;
 
-/// The units of the hundredths: formats A, B and E have none.
+/// The units of the hundredths: only format G has them.
 fn hundredths_units(kind: Kind, ones: Ones) -> u64
     ensures { result ≡ digit_in ones 1 (runs kind false Hundredths) }
 {
@@ -19,7 +23,7 @@ fn hundredths_units(kind: Kind, ones: Ones) -> u64
     }
 }
 
-/// The tens of the hundredths: formats B and E have none.
+/// The tens of the hundredths: formats A and G have them.
 fn hundredths_tens(kind: Kind, ones: Ones) -> u64
     ensures { result ≡ digit_in ones 10 (runs kind false Hundredths) }
 {
@@ -39,7 +43,7 @@ fn seconds_units(kind: Kind, ones: Ones) -> u64
     }
 }
 
-/// The units of the year, if the expression has one.
+/// The units of the year, if the format has one.
 fn year_units(kind: Kind, year: bool, ones: Ones) -> u64
     ensures { result ≡ digit_in ones 1 (runs kind year Year) }
 {
@@ -50,7 +54,7 @@ fn year_units(kind: Kind, year: bool, ones: Ones) -> u64
     }
 }
 
-/// The tens of the year, if the expression has one.
+/// The tens of the year, if the format has one.
 fn year_tens(kind: Kind, year: bool, ones: Ones) -> u64
     ensures { result ≡ digit_in ones 10 (runs kind year Year) }
 {
@@ -61,7 +65,7 @@ fn year_tens(kind: Kind, year: bool, ones: Ones) -> u64
     }
 }
 
-/// The straight binary seconds of the day, if the format has them.
+/// The straight binary seconds of the day, if they are there: 17 bits, in two runs.
 fn sbs(there: bool, ones: Ones) -> u64
     ensures { result ≡ sbs_in there ones }
 {
@@ -72,7 +76,8 @@ fn sbs(there: bool, ones: Ones) -> u64
     }
 }
 
-/// The number of nine control elements from one on, and of those after them.
+/// The number of the nine control elements from `from` on as the low bits, and `after`, the number
+/// of those after them, as the others.
 #[inline(always)]
 fn nine_at(ones: Ones, from: u8, after: u64) -> u64
     requires within { from < 100 }
@@ -83,7 +88,8 @@ fn nine_at(ones: Ones, from: u8, after: u64) -> u64
     ones.bits(from, 9) + 512 * after
 }
 
-/// The number of the control elements from 70 to 98, as E and G have them.
+/// The number of the control elements from 70 to 98, as E and G have them, without the position
+/// identifiers.
 #[inline(always)]
 fn from_70(ones: Ones) -> u64
     ensures value { result ≡ control_number ones (70 ∷ 80 ∷ 90 ∷ []) }
@@ -92,7 +98,8 @@ fn from_70(ones: Ones) -> u64
     nine_at(ones, 70, nine_at(ones, 80, nine_at(ones, 90, 0)))
 }
 
-/// The control elements as one number, if the format has them.
+/// The control elements as one number, if they are there, the first one as the lowest bit. Their
+/// first element and their count depend on the kind and the year.
 fn control(kind: Kind, there: bool, year: bool, ones: Ones) -> u64
     ensures { result ≡ control_in kind there year ones }
 {
@@ -108,7 +115,9 @@ fn control(kind: Kind, there: bool, year: bool, ones: Ones) -> u64
     }
 }
 
-/// The numbers that a frame carries, in their order.
+/// The numbers that a frame carries: units and tens of the hundredths, the seconds, the minutes and
+/// the hours; units, tens and hundreds of the day; units and tens of the year; straight binary
+/// seconds; control functions.
 pub fn read_digits(format: Format, ones: Ones) -> [u64; 15]
     ensures { result ≡ digits_in format ones }
 {

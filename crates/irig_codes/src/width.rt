@@ -24,7 +24,8 @@ pub fn class(format: Format, width: u64) -> Option<Element>
     class_in(format.interval(), width)
 }
 
-/// As `class`, by the interval of the format: a loop over pulses asks for that once.
+/// As `class`, by the interval of the format in microseconds: a loop over pulses asks for that
+/// once. A width below a twentieth of it, or from nineteen on, is bad.
 #[inline(always)]
 pub fn class_in(interval: u64, width: u64) -> Option<Element>
     requires { HasTwentieths interval }
@@ -53,7 +54,7 @@ pub fn in_step(format: Format, distance: u64) -> bool
     step_in(format.interval(), distance)
 }
 
-/// As `in_step`, by the interval of the format.
+/// As `in_step`, by the interval of the format in microseconds: from nine to eleven tenths of it.
 #[inline(always)]
 pub fn step_in(interval: u64, distance: u64) -> bool
     requires { HasTwentieths interval }

@@ -49,7 +49,8 @@ fn is_kind(word: &[u8], kind: Kind) -> bool
 }
 
 /// The word of a pulse's element, or `bad` if its width has none: eight bytes that end with the
-/// word, and its place in them. So a line is written with one copy of a known length.
+/// word, and the place in them at which it begins. So a line is written with one copy of a known
+/// length.
 pub fn class_word(class: Option<Element>) -> ([u8; 8], usize)
     ensures word { drop result.1 result.0 ≡ class_word class }
     ensures short { result.1 ≤ 8 }
