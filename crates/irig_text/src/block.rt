@@ -12,7 +12,8 @@ pub const ENOUGH: usize = 65_536;
 /// How many bytes more a block has room for: no part that is added last has more.
 const LAST: usize = 2048;
 
-/// A block with no bytes. It has room for all parts that are added until it has `ENOUGH` bytes.
+/// A block with no bytes. It has room for all parts that are added until it has `ENOUGH` bytes. It
+/// fails only if memory runs out.
 pub fn new_block(alloc: Global) -> Result<Vec<u8>, AllocError>
     ensures empty { IfOk result (λ block. block.items ≡ []) }
     ensures room { IfOk result (λ block. ENOUGH + 2048 ≤ vec_capacity block) }

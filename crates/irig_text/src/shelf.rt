@@ -1,4 +1,6 @@
 //! Where texts are written.
+//!
+//! A ghost item is for contracts alone: it is nothing in the program.
 
 ghost use Rattle.std.specs.Prelude.{◌≡◌, ◌∷◌, [], length, IfOk, OnOk, OnErr};
 ghost use Rattle.irig_text.specs.Shelved.{Shelved, Puts};

@@ -9,9 +9,10 @@ pub trait Text {
     /// The bytes that are still to come.
     ghost rest: { Self → List ℕ };
 
-    /// Adds the next parts to a block until it has `enough` bytes, or the text ends. Returns
-    /// whether the text has ended. It asks for memory only if the block has no room for a part.
-    /// After a fault the text is given up.
+    /// Adds the next parts to a block until it has `enough` bytes in all, or the text ends. Returns
+    /// whether the text has ended; if not, the block has at least `enough`. It asks for memory only
+    /// if the block has no room for a part, and fails only if there is none; the text is given up
+    /// then.
     fn fill(&mut self, block: &mut Vec<u8>, enough: usize) -> Result<bool, AllocError>
         ensures bytes { OnOk result
             (block.new.items ++ rest self.new ≡ block.old.items ++ rest self.old) }
