@@ -1,4 +1,5 @@
-//! Days and years, by the day numbers of jiff.
+//! Days and years, by the day numbers of jiff: how many days a day comes after the first one of its
+//! calendar.
 
 ghost use Rattle.std.specs.Prelude.{◌≡◌, ◌+◌, ◌≤◌, ◌<◌, IfSome};
 ghost use Rattle.irig_moment.specs.Calendar.{new_year_of, year_of, place_of, ordinal_day_of};
@@ -10,7 +11,7 @@ use jiff_core::civil::{Date, days_in_month, days_in_year};
 /// The last year of a moment; the first is 1.
 const LAST_YEAR: u32 = 9_998;
 
-/// The number of 1 January of a year.
+/// The day number of 1 January of a year.
 fn new_year(year: u32) -> u32
     requires low { 1 ≤ year }
     requires high { year ≤ 9999 }
@@ -19,7 +20,8 @@ fn new_year(year: u32) -> u32
     date(year as i16, 1, 1).to_plain().days_since_min()
 }
 
-/// The number of a day by its place in the year, if the years 1 to 9998 have such a day.
+/// The day number of a day by its place in the year, from 1. `None` if the years 1 to 9998 have no
+/// such day.
 pub fn ordinal_day(year: u32, day: u32) -> Option<u32>
     ensures value { result ≡ ordinal_day_of year day }
     ensures range { IfSome result IsDay }
@@ -33,7 +35,8 @@ pub fn ordinal_day(year: u32, day: u32) -> Option<u32>
     Some(new_year(year) + (day - 1))
 }
 
-/// The number of a day by month and day, if the years 1 to 9998 have such a day.
+/// The day number of a day by month and day, both from 1. `None` if the years 1 to 9998 have no
+/// such day.
 pub fn civil_day(year: u32, month: u32, day: u32) -> Option<u32>
     ensures value { result ≡ civil_day_of year month day }
     ensures range { IfSome result IsDay }
@@ -48,7 +51,7 @@ pub fn civil_day(year: u32, month: u32, day: u32) -> Option<u32>
     Some(date.to_plain().days_since_min())
 }
 
-/// The year of a day, and the place of the day in it, from 1.
+/// The year of a day number, and the place of the day in that year, from 1.
 pub fn year_and_place(day: u32) -> (u32, u32)
     requires from { new_year_of 1 ≤ day }
     requires before { day < new_year_of 9999 + 365 }

@@ -1,4 +1,7 @@
 //! The fields of frames that are generated.
+//!
+//! A day is a number of days after the first one of jiff's calendar. A field that the format does
+//! not carry is `None`.
 
 ghost use Rattle.std.specs.Prelude.{◌≡◌, ◌+◌, ◌%◌, ◌^◌, ◌≤◌, ◌<◌, IsTrue};
 ghost use Rattle.irig_codes.specs.{Format.control_count_of, Fields.fits_in};
@@ -7,7 +10,8 @@ ghost use Rattle.irig_moment.specs.{Calendar.new_year_of, Generated.period_of, G
 use crate::calendar::year_and_place;
 use irig_codes::{Fields, Format};
 
-/// The frame period in hundredths of a second.
+/// How long a frame of the format takes, in hundredths of a second. The format itself counts
+/// microseconds.
 pub fn period(format: Format) -> u32
     ensures value { result ≡ period_of format }
     ensures least { 1 ≤ result }
@@ -16,7 +20,8 @@ pub fn period(format: Format) -> u32
     (format.frame_period() / 10_000) as u32
 }
 
-/// The fields of a day and the hundredths of a second since its midnight.
+/// The fields of the frame that begins at a day and a time, in hundredths of a second since its
+/// midnight. The year is modulo 100. The lowest bit of `control` is the first control element.
 pub fn fields_at(format: Format, day: u32, time: u32, control: u64) -> Fields
     requires from { new_year_of 1 ≤ day }
     requires before { day < new_year_of 9999 + 365 }

@@ -1,4 +1,7 @@
 //! Moments: a day and a time of day, to hundredths of a second.
+//!
+//! A day is a number of days after the first one of jiff's calendar; a day has 8,640,000 hundredths
+//! of a second.
 
 ghost use Rattle.std.specs.Prelude.{◌≡◌, ◌<◌, ◌^◌, IsTrue, IfSome};
 ghost use Rattle.irig_codes.specs.{Format.control_count_of, Fields.fits_in};
@@ -30,7 +33,8 @@ impl Model for Moment {
 }
 
 impl Moment {
-    /// The moment of a text, as `YYYY-DDDThh:mm:ss[.ff]` or `YYYY-MM-DDThh:mm:ss[.ff]`.
+    /// The moment that a text says as `YYYY-DDDThh:mm:ss[.ff]` or `YYYY-MM-DDThh:mm:ss[.ff]`.
+    /// `None` if it has another form, or there is no such day or time.
     pub fn parse(text: &[u8]) -> Option<Moment>
         ensures { result ≡ moment_of text.now }
     {
@@ -47,7 +51,7 @@ impl Moment {
         }
     }
 
-    /// The moment of a day and the hundredths of a second since its midnight.
+    /// The moment of a day and the hundredths of a second since its midnight, if both are there.
     fn of(day: Option<u32>, hundredths: Option<u32>) -> Option<Moment>
         requires days { IfSome day IsDay }
         requires times { IfSome hundredths (λ time. time < 8640000) }
@@ -59,14 +63,16 @@ impl Moment {
         }
     }
 
-    /// Whether a frame of the format begins at the moment. One begins at each full minute.
+    /// Whether a frame of the format begins at the moment. One begins at each full minute, and then
+    /// one each frame period.
     pub fn starts(&self, format: Format) -> bool
         ensures { result ≡ starts_in format self.now }
     {
         self.hundredths % 6_000 % period(format) == 0
     }
 
-    /// The fields of frame k from the moment on, from 0: the moment plus k frame periods.
+    /// The fields of frame `k`, from 0, if frame 0 begins at the moment: those of the moment plus
+    /// `k` frame periods, which may be on the next day.
     ///
     /// The year is modulo 100; the lowest bit of `control` is the first control element.
     pub fn fields(&self, format: Format, k: u64, control: u64) -> Fields

@@ -1,4 +1,7 @@
 //! Numbers in a text of fixed form.
+//!
+//! Places in a text count from 0. Numbers are read only from texts of a form, so each byte that is
+//! read is a digit.
 
 ghost use Rattle.std.specs.Prelude.{◌≡◌, ◌+◌, ◌≤◌, ◌<◌, length, IsTrue, IfSome};
 ghost use Rattle.irig_moment.specs.Calendar.{IsDay};
@@ -34,7 +37,7 @@ fn fits_form(form: u8, byte: u8) -> bool
     }
 }
 
-/// The number of up to four digits of a text, from a place on.
+/// The number of the `count` decimal digits from a place on, at most four.
 pub fn number(text: &[u8], place: usize, count: usize) -> u32
     requires few { count ≤ 4 }
     requires there { place + count ≤ length text.now }
@@ -47,7 +50,8 @@ pub fn number(text: &[u8], place: usize, count: usize) -> u32
     value
 }
 
-/// The number of the day of a text that begins with `YYYY-DDD`, if there is such a day.
+/// The day number, as jiff counts days, of a text that begins with `YYYY-DDD`. `None` if there is
+/// no such day.
 pub fn ordinal_date(text: &[u8]) -> Option<u32>
     requires { 8 ≤ length text.now }
     ensures value { result ≡ ordinal_date text.now }
@@ -56,7 +60,8 @@ pub fn ordinal_date(text: &[u8]) -> Option<u32>
     ordinal_day(number(text, 0, 4), number(text, 5, 3))
 }
 
-/// The number of the day of a text that begins with `YYYY-MM-DD`, if there is such a day.
+/// The day number, as jiff counts days, of a text that begins with `YYYY-MM-DD`. `None` if there is
+/// no such day.
 pub fn civil_date(text: &[u8]) -> Option<u32>
     requires { 10 ≤ length text.now }
     ensures value { result ≡ civil_date text.now }
@@ -65,7 +70,7 @@ pub fn civil_date(text: &[u8]) -> Option<u32>
     civil_day(number(text, 0, 4), number(text, 5, 2), number(text, 8, 2))
 }
 
-/// The hundredths of a second from midnight to a time, if there is such a time.
+/// The hundredths of a second from midnight to a time of day. `None` if there is no such time.
 fn hundredths(hours: u32, minutes: u32, seconds: u32, hundredths: u32) -> Option<u32>
     ensures value { result ≡ hundredths_of hours minutes seconds hundredths }
     ensures range { IfSome result (λ time. time < 8640000) }
@@ -76,7 +81,8 @@ fn hundredths(hours: u32, minutes: u32, seconds: u32, hundredths: u32) -> Option
     Some(360_000 * hours + 6_000 * minutes + 100 * seconds + hundredths)
 }
 
-/// The hundredths of a second to the time `hh:mm:ss` at a place of a text, if there is such a time.
+/// The hundredths of a second from midnight to the time `hh:mm:ss` at a place of a text. `None` if
+/// there is no such time.
 pub fn time(text: &[u8], place: usize) -> Option<u32>
     requires { place + 8 ≤ length text.now }
     ensures value { result ≡ time_at text.now place }
@@ -91,8 +97,8 @@ pub fn time(text: &[u8], place: usize) -> Option<u32>
     )
 }
 
-/// The hundredths of a second to the time `hh:mm:ss.ff` at a place of a text, if there is such a
-/// time.
+/// The hundredths of a second from midnight to the time `hh:mm:ss.ff` at a place of a text. `None`
+/// if there is no such time.
 pub fn fine_time(text: &[u8], place: usize) -> Option<u32>
     requires { place + 11 ≤ length text.now }
     ensures value { result ≡ fine_time_at text.now place }
