@@ -1,6 +1,11 @@
 //! The edits of a track: splice, shift and toggle, each with the test that it may be made.
 //!
 //! None of them takes memory or can fail: the test and the room come before.
+//!
+//! Times are in microseconds. The limits: pulses do not touch and lie within the length, and there
+//! are at most 2^22. The place of a gap buffer is where items come and go.
+//!
+//! What is marked "Read for .." does nothing: it only lets the proof use what a type promises.
 
 ghost use Rattle.std.specs.Prelude.{◌≡◌, ◌+◌, ◌-◌, ◌^◌, ◌<◌, ◌≤◌, ◌↔◌, ℕ, length, take, drop, []};
 ghost use Rattle.std.specs.Prelude.{IsTrue};
@@ -21,8 +26,8 @@ use irig_gap::Gap;
 use irig_recording::Pulse;
 
 impl Track {
-    /// Whether a splice leaves a track within the limits: false too if the pulses that would
-    /// go are not there. `at` counts from 0.
+    /// Whether replacing `count` pulses from `at` on, from 0, by those of `put` leaves a track
+    /// within the limits. It is false, too, if the pulses that would go are not there.
     pub fn can_splice(&self, at: usize, count: usize, put: &Gap<Pulse>) -> bool
         ensures { IsTrue result ↔ CanSplice self.now.micros at count put.now.items self.now.pulses }
     {
@@ -37,7 +42,8 @@ impl Track {
     }
 
     /// Replaces the `count` pulses from `at` on by the pulses of `put`. The replaced ones go to
-    /// `taken`, whose place is then after them. `at` counts from 0.
+    /// `taken`, whose place is then after them. `at` counts from 0. The Span has `at`, and how many
+    /// went and came.
     pub fn splice(
         &mut self,
         at: usize,
@@ -74,8 +80,9 @@ impl Track {
         }
     }
 
-    /// Whether moving the pulses `i` to `j` by `by` microseconds leaves a track within the
-    /// limits: false too if one of them is not there. Pulses count from 0.
+    /// Whether moving the pulses `i` to `j`, both included and from 0, by `by` leaves a track
+    /// within the limits. It is false, too, if one of them is not there. It compares sums, as these
+    /// numbers cannot go below 0.
     pub fn can_shift(&self, i: usize, j: usize, by: i64) -> bool
         ensures { IsTrue result ↔ CanShift self.now.micros i j by self.now.pulses }
     {
@@ -88,7 +95,8 @@ impl Track {
         self.free_from(i) + back <= first && last < self.free_to(j + 1) + back
     }
 
-    /// Moves the pulses `i` to `j`, both included and from 0, by `by` microseconds.
+    /// Moves the pulses `i` to `j`, both included and from 0, by `by` microseconds. Below 0 they
+    /// come earlier. The Span has them all.
     pub fn shift(&mut self, i: usize, j: usize, by: i64) -> Span
         requires { CanShift self.old.micros i j by self.old.pulses }
         ensures pulses { self.new.pulses ≡ shifted i j by self.old.pulses }
@@ -110,8 +118,9 @@ impl Track {
         }
     }
 
-    /// Whether toggling the edges `a` and `b`, in microseconds, leaves a track within the
-    /// limits: false too unless `a` is before `b` and `b` within the length.
+    /// Whether toggling the edges `a` and `b`, in microseconds, leaves a track within the limits.
+    /// It is false, too, unless `a` is before `b` and `b` within the length. Only if no edge is at
+    /// either of them is there a pulse more afterwards.
     pub fn can_toggle(&self, a: u64, b: u64) -> bool
         ensures { IsTrue result ↔ CanToggle self.now.micros a b self.now.pulses }
     {
@@ -154,7 +163,8 @@ impl Track {
         }
     }
 
-    /// The least time, in microseconds, at which a pulse may rise that comes before pulse `at`.
+    /// The least time, in microseconds, at which a pulse may rise that is put in just before pulse
+    /// `at`, from 0: one after the fall before it.
     fn free_from(&self, at: usize) -> u64
         requires { at ≤ length self.now.pulses }
         ensures time { result ≡ following 0 (edges_of (take at self.now.pulses)) }
@@ -167,7 +177,8 @@ impl Track {
         }
     }
 
-    /// The time, in microseconds, before which a pulse has to fall that comes before pulse `at`.
+    /// The time, in microseconds, before which a pulse has to fall that is put in just before pulse
+    /// `at`, from 0: that pulse's rise, or one after the length.
     fn free_to(&self, at: usize) -> u64
         requires { at ≤ length self.now.pulses }
         ensures time { result ≡

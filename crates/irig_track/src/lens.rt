@@ -69,8 +69,8 @@ impl<'a> Lens<'a> {
         self.track.pulse(index)
     }
 
-    /// How many pulses rise at or before `time`, in microseconds. Their number has at least as many
-    /// binary digits as looks are made.
+    /// How many pulses rise at or before `time`, in microseconds: a search that halves the rest at
+    /// each look. It makes no more looks than the number of pulses has binary digits.
     #[inline(always)]
     pub fn find(&mut self, time: u64) -> usize
         ensures count { result ≡ risen_by time self.old.track.pulses }

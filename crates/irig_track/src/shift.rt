@@ -1,4 +1,6 @@
 //! Moves pulses in time.
+//!
+//! What is marked "Read for .." does nothing: it only lets the proof use what a type promises.
 
 ghost use Rattle.std.specs.Prelude.{◌≡◌, ◌+◌, ◌-◌, ◌^◌, ◌<◌, ◌≤◌, length, map};
 ghost use Rattle.irig_gap.specs.Items.{gap_view};
@@ -25,7 +27,8 @@ pub(crate) fn back_of(by: i64) -> u64
     if by < 0 { by.unsigned_abs() } else { 0 }
 }
 
-/// Moves `count` pulses from `at` on by `on` microseconds, and then back by `off`.
+/// Moves `count` pulses from `at` on, from 0: by `on` microseconds later, and then by `off`
+/// earlier. One of the two is 0; no time comes before 0.
 pub(crate) fn move_pulses(pulses: &mut Gap<Pulse>, at: usize, count: usize, on: u64, off: u64)
     requires there { at + count ≤ length pulses.old.items }
     requires short { UpTo (2 ^ 40) (edges_of pulses.old.items) }

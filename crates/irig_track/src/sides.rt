@@ -1,4 +1,7 @@
-//! The pulses on both sides of a gap.
+//! The pulses on both sides of a gap. A gap buffer has a place, the gap, with items left and right
+//! of it; items come and go there.
+//!
+//! What is marked "Read for .." does nothing: it only lets the proof use what a type promises.
 
 ghost use Rattle.std.specs.Prelude.{◌≡◌, ◌+◌, ◌<◌, ◌≤◌, ◌++◌, ◌∷◌, [], length, slice_get, Some};
 ghost use Rattle.std.specs.Prelude.{IsSome};
@@ -8,7 +11,7 @@ ghost use Rattle.irig_recording.specs.declared.pulse.Pulse.{Pulse};
 use irig_gap::Gap;
 use irig_recording::Pulse;
 
-/// The pulse right of the gap.
+/// The first pulse right of the gap, if there is one. It stays there.
 pub(crate) fn next(pulses: &Gap<Pulse>) -> Option<Pulse>
     ensures next { result ≡ slice_get (right_of pulses.now) 0 }
     ensures inside { IsSome result → pulses.now.place < length pulses.now.items }
@@ -23,7 +26,7 @@ pub(crate) fn next(pulses: &Gap<Pulse>) -> Option<Pulse>
     }
 }
 
-/// Removes the pulse right of the gap.
+/// Removes the first pulse right of the gap.
 pub(crate) fn take_next(pulses: &mut Gap<Pulse>)
     requires { pulses.old.place < length pulses.old.items }
     ensures took { (p : Pulse) →
@@ -35,7 +38,7 @@ pub(crate) fn take_next(pulses: &mut Gap<Pulse>)
     pulses.take_right();
 }
 
-/// Adds a pulse left of the gap.
+/// Adds a pulse just left of the gap, by its times in microseconds. There is room for it.
 pub(crate) fn put_last(pulses: &mut Gap<Pulse>, rise: u64, fall: u64)
     requires { length pulses.old.items < pulses.old.capacity }
     ensures wrote { Wrote (pulse rise fall) pulses.old pulses.new }

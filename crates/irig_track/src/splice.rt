@@ -1,4 +1,8 @@
 //! Replaces pulses of a gap buffer by those of another.
+//!
+//! A gap buffer has a place, the gap, where items come and go. Pulses count from 0.
+//!
+//! What is marked "Read for .." does nothing: it only lets the proof use what a type promises.
 
 ghost use Rattle.std.specs.Prelude.{◌≡◌, ◌+◌, ◌<◌, ◌≤◌, ◌++◌, [], length};
 ghost use Rattle.irig_gap.specs.Items.{gap_view};
@@ -7,8 +11,8 @@ ghost use Rattle.irig_track.specs.Splices.{spliced, piece};
 use irig_gap::Gap;
 use irig_recording::Pulse;
 
-/// Replaces the `count` pulses from `at` on by those of `put`. The replaced ones go to `taken`.
-/// If as many come as go, no other pulse moves.
+/// Replaces the `count` pulses from `at` on by all those of `put`, which is empty then. The
+/// replaced ones go to `taken`, which is empty before. If as many come as go, no other pulse moves.
 pub(crate) fn replace(
     pulses: &mut Gap<Pulse>,
     at: usize,
@@ -41,8 +45,8 @@ pub(crate) fn replace(
     }
 }
 
-/// Replaces the `count` pulses from `at` on by the first pulses right of the gap of `put`, each in
-/// its place. The replaced ones go to `taken`.
+/// As `replace`, if as many come as go: each of the `count` pulses is replaced in its place, so the
+/// gap stays where it is.
 fn exchange(
     pulses: &mut Gap<Pulse>,
     at: usize,

@@ -7,7 +7,9 @@ ghost use Rattle.irig_track.specs.Edges.{edges_of};
 use irig_gap::Gap;
 use irig_recording::Pulse;
 
-/// Whether the pulses rise in order from `start` on, and end before `high`.
+/// Whether the pulses fit from `start` up to `high`, which is not included, all in microseconds:
+/// they rise in order, each after the fall before it, and end before `high`. If there is no pulse,
+/// whether `start` is not above `high`.
 pub(crate) fn stands(put: &Gap<Pulse>, start: u64, high: u64) -> bool
     ensures { IsTrue result ↔ RisesFrom start (edges_of put.now.items ++ high ∷ []) }
 {

@@ -2,6 +2,8 @@
 //!
 //! After the first time there is an odd number of edges: pulses left of the gap, a rise that waits
 //! for its fall, and pulses right of the gap.
+//!
+//! To toggle a time: an edge there goes, or if there was none one comes. Times are in microseconds.
 
 ghost use Rattle.std.specs.Prelude.{◌≡◌, ◌+◌, ◌-◌, ◌<◌, ◌≤◌, ◌++◌, ◌∷◌, [], length};
 ghost use Rattle.irig_recording.specs.Recording.{RisesFrom};
@@ -13,7 +15,9 @@ use crate::sides::{next, put_last, take_next};
 use irig_gap::Gap;
 use irig_recording::Pulse;
 
-/// Toggles `a`, and returns the rise that waits.
+/// Toggles `a`, and returns the rise that waits for its fall. If the next pulse rises at `a` or
+/// before it, it loses an edge at `a` or is cut there; else `a` itself is the rise. No pulse left
+/// of the gap reaches `a`.
 fn begin(pulses: &mut Gap<Pulse>, a: u64) -> u64
     requires rises { RisesFrom 0 (edges_of pulses.old.items) }
     requires left { Under a (edges_of (left_of pulses.old)) }
@@ -38,7 +42,8 @@ fn begin(pulses: &mut Gap<Pulse>, a: u64) -> u64
     }
 }
 
-/// Continues to the last pulse that rises before `b`, and returns the rise that waits there.
+/// Goes on to the last pulse that rises before `b`, and returns the rise that waits there. One edge
+/// more is before them, so each rise on the way becomes a fall and each fall a rise.
 fn go_on(pulses: &mut Gap<Pulse>, start: u64, b: u64) -> u64
     requires rises { RisesFrom 0 (waiting pulses.old start) }
     requires left { Under b (edges_of (left_of pulses.old)) }
@@ -60,7 +65,8 @@ fn go_on(pulses: &mut Gap<Pulse>, start: u64, b: u64) -> u64
     rise
 }
 
-/// Toggles `b`.
+/// Toggles `b`: it ends the pulse of the rise that waits, so that each rise has its fall again. If
+/// an edge is at `b`, it goes.
 fn finish(pulses: &mut Gap<Pulse>, rise: u64, b: u64)
     requires rises { RisesFrom 0 (waiting pulses.old rise) }
     requires left { Under b (edges_of (left_of pulses.old)) }
@@ -83,7 +89,8 @@ fn finish(pulses: &mut Gap<Pulse>, rise: u64, b: u64)
     }
 }
 
-/// Toggles `a` and `b`, whose pulses are right of the gap.
+/// Toggles `a` and `b`. The pulses that reach `a` or come later are right of the gap; in the end
+/// those that rise after `b` are.
 pub(crate) fn toggle_right(pulses: &mut Gap<Pulse>, a: u64, b: u64)
     requires order { a < b }
     requires rises { RisesFrom 0 (edges_of pulses.old.items) }

@@ -1,4 +1,6 @@
 //! A length and pulses in order.
+//!
+//! What is marked "Read for .." does nothing: it only lets the proof use what a type promises.
 
 ghost use Rattle.std.specs.Prelude.{◌≡◌, ◌+◌, ◌-◌, ◌^◌, ◌/◌, ◌<◌, ◌≤◌, length, slice_get, Some};
 ghost use Rattle.std.specs.Prelude.{true, max, IfOk, OnOk, OnErr};
@@ -55,7 +57,7 @@ impl Track {
         Ok(Track { micros, pulses })
     }
 
-    /// The recording with the track's length and edges.
+    /// The recording with the track's length and edges: a copy. It fails only if memory runs out.
     pub fn recording(&self, alloc: Global) -> Result<Recording, AllocError>
         ensures exact { IfOk result (λ r.
             r ≡ recording_view self.now.micros (edges_of self.now.pulses)) }
@@ -65,7 +67,8 @@ impl Track {
         Ok(Recording::new(alloc, self.micros, edges.as_slice())?.unwrap())
     }
 
-    /// The times at which the level rises and falls in turn.
+    /// The times at which the level rises and falls in turn, in microseconds. It fails only if
+    /// memory runs out.
     fn edges(&self, alloc: Global) -> Result<Vec<u64>, AllocError>
         ensures exact { IfOk result (λ edges. edges.items ≡ edges_of self.now.pulses) }
         ensures refused { OnErr result (0 < length self.now.pulses) }
@@ -80,7 +83,7 @@ impl Track {
     }
 
     /// The text of the recording with the track's length and edges, as `irig_recording::text`
-    /// writes it.
+    /// writes it: a dump. It fails only if memory runs out.
     pub fn text(&self, alloc: Global) -> Result<Vec<u8>, AllocError>
         ensures { IfOk result (λ text. text.items
             ≡ file_text (recording_view self.now.micros (edges_of self.now.pulses))) }
@@ -96,7 +99,8 @@ impl Track {
         0 < self.pulses.len() && self.pulses.get(0).rise == 0
     }
 
-    /// Makes the spare at least `more`: that many further pulses then fit without a growth.
+    /// Makes room for at least `more` further pulses, which then fit without a growth. If memory
+    /// runs out, nothing changes.
     pub fn reserve(&mut self, more: usize) -> Result<(), AllocError>
         ensures stays { (self.new.micros ≡ self.old.micros) × (self.new.pulses ≡ self.old.pulses) }
         ensures room { OnOk result (more ≤ self.new.spare) }
@@ -154,7 +158,8 @@ impl Track {
         self.lens().find(time)
     }
 
-    /// How many pulses end before `time`, in microseconds.
+    /// How many pulses end before `time`, in microseconds. So it is also the number, from 0, of the
+    /// first that reaches it. Only the last that rises by then can.
     pub(crate) fn first_reaching(&self, time: u64) -> usize
         ensures { result ≡ ended_before time self.now.pulses }
     {
@@ -166,7 +171,8 @@ impl Track {
         }
     }
 
-    /// Whether a pulse rises or falls at `time`, in microseconds.
+    /// Whether a pulse rises or falls at `time`, in microseconds. Only the last that rises by then
+    /// can have an edge there.
     pub(crate) fn is_edge_at(&self, time: u64) -> bool
         ensures { result ≡ is_edge time self.now.pulses }
     {

@@ -1,4 +1,7 @@
 //! The text of a track, in parts.
+//!
+//! The text is a dump: header lines, two lines for each edge, and one for the length if no edge is
+//! there. The writer writes them, and has the last time that it wrote.
 
 ghost use Rattle.std.specs.Prelude.{◌≡◌, ◌≤◌, ◌<◌, ◌++◌, drop, length, vec_len, IfOk, IsSome};
 ghost use Rattle.irig_recording.specs.{FileText.file_text, Recording.recording_view};
@@ -12,7 +15,7 @@ use std::alloc::AllocError;
 use std::marker::Model;
 
 impl Track {
-    /// The text of the recording with the track's length and edges, in parts. It takes no memory.
+    /// The text of the dump of the track, in parts, from its first byte. It takes no memory.
     pub fn text_parts(&self) -> TrackText<'_>
         ensures { result ≡ file_text (recording_view self.now.micros (edges_of self.now.pulses)) }
     {
@@ -55,6 +58,8 @@ impl<'t> Model for TrackText<'t> {
 impl Text for TrackText<'_> {
     ghost rest = { λ t. t };
 
+    // Writes the next parts until the block has `enough` bytes. Returns whether the text has ended.
+    // It fails only if memory runs out.
     fn fill(&mut self, block: &mut Vec<u8>, enough: usize) -> Result<bool, AllocError> {
         match put_next(&mut self.writer, block, self.track, self.next, enough)? {
             Some(first) => {
