@@ -1,4 +1,9 @@
 //! What a guarded repair leaves of the times of a recording.
+//!
+//! A repair is safe if the guard lets it through, as it changes no more than it may. A frame is
+//! still there if one with the same fields begins at the same time. A frame that reads well is
+//! believed if a neighbour supports its time. By counting, the pulses next to a believed frame have
+//! times, too: one interval of the format after another.
 
 ghost use Rattle.irig_keeping.specs.Kept.{CountedTimesStay, TimesStay, ToldTimesStay};
 
