@@ -13,7 +13,9 @@ use std::marker::Model;
 #[derive(Drop)]
 pub struct MemoryShelf {
     alloc: Global,
+    // The number, from 1, of the write that is to fail.
     fail: Option<u64>,
+    // How many writes were asked for, and how many of them failed.
     puts: u64,
     failures: u64,
     texts: Vec<Vec<u8>>,
@@ -60,6 +62,8 @@ impl Shelf for MemoryShelf {
 
     ghost since_then = { λ _ _ _ _ _. tt };
 
+    // Keeps a copy of the text and returns how many bytes it has. An error keeps nothing: memory
+    // ran out, or this is the write that is to fail.
     fn put<T: Text>(&mut self, text: &mut T) -> Result<u64, ShelfFault>
         ensures count { IfOk result (λ count. count ≡ length (T.rest text.old)) }
         ensures ok { OnOk result

@@ -1,4 +1,6 @@
-//! Commands as calls of the session: addresses and times are taken as it is before them.
+//! Commands as calls of the session: addresses and times are taken as it is before them. Pulses
+//! count from 1 here; the number 0 stands for one that is not there, and the session refuses it.
+//! Times are in microseconds. A refused edit changes nothing.
 
 ghost use Rattle.std.specs.Prelude.{◌≡◌};
 ghost use Rattle.irig_lines.specs.declared.command.Command.{Command};
@@ -22,7 +24,7 @@ fn reply_to(outcome: Result<(), Refusal>) -> Reply
     }
 }
 
-/// Moves the cursor to a pulse, and lists it.
+/// Moves the cursor to a pulse, and lists that one alone.
 pub fn show(session: &mut Session, address: Address) -> Reply
     ensures { Obeys (Command.Show address) session.old result session.new }
 {
@@ -33,7 +35,8 @@ pub fn show(session: &mut Session, address: Address) -> Reply
     }
 }
 
-/// Lists pulses.
+/// Lists the pulses of a range. Refused if it has a pulse that is not there, or ends before it
+/// begins.
 pub fn list(session: &Session, range: Range) -> Reply
     ensures { Obeys (Command.List range) session.now result session.now }
 {
@@ -45,7 +48,7 @@ pub fn list(session: &Session, range: Range) -> Reply
     }
 }
 
-/// Removes pulses.
+/// Removes the pulses of a range.
 pub fn delete(session: &mut Session, range: Range) -> Reply
     ensures { Obeys (Command.Delete range) session.old result session.new }
 {
@@ -53,7 +56,7 @@ pub fn delete(session: &mut Session, range: Range) -> Reply
     reply_to(session.delete(i, j))
 }
 
-/// Moves pulses.
+/// Moves the pulses of a range by this many microseconds: later, or earlier if it is below zero.
 pub fn shift(session: &mut Session, range: Range, by: i64) -> Reply
     ensures { Obeys (Command.Shift range by) session.old result session.new }
 {
@@ -61,7 +64,7 @@ pub fn shift(session: &mut Session, range: Range, by: i64) -> Reply
     reply_to(session.shift(i, j, by))
 }
 
-/// Makes one pulse of several.
+/// Makes one pulse of those of a range; of one address, that pulse and the next are joined.
 pub fn join(session: &mut Session, range: Range) -> Reply
     ensures { Obeys (Command.Join range) session.old result session.new }
 {
@@ -69,7 +72,7 @@ pub fn join(session: &mut Session, range: Range) -> Reply
     reply_to(session.join(i, j))
 }
 
-/// Makes the level low inside of a pulse.
+/// Makes the level low between two times inside of a pulse, so that it becomes two.
 pub fn split(session: &mut Session, address: Address, from: Time, to: Time) -> Reply
     ensures { Obeys (Command.Split address from to) session.old result session.new }
 {
@@ -102,7 +105,8 @@ pub fn invert(session: &mut Session, from: Time, to: Time) -> Reply
     reply_to(session.invert(a, b))
 }
 
-/// Generates frames.
+/// Generates this many frames from a time on. The first has the moment `from`; the lowest bit of
+/// `control` is the first control function.
 pub fn regen(session: &mut Session, start: Time, frames: u64, from: Moment, control: u64) -> Reply
     ensures { Obeys (Command.Regen start frames from control) session.old result session.new }
 {
@@ -110,7 +114,7 @@ pub fn regen(session: &mut Session, start: Time, frames: u64, from: Moment, cont
     reply_to(session.regen(start, frames, from, control))
 }
 
-/// Reads frames in another format.
+/// Reads frames in another format. Refused if the kind of time code has no such expression.
 pub fn set_format(session: &mut Session, kind: Kind, expression: u8) -> Reply
     ensures { Obeys (Command.Format kind expression) session.old result session.new }
 {
@@ -120,7 +124,7 @@ pub fn set_format(session: &mut Session, kind: Kind, expression: u8) -> Reply
     }
 }
 
-/// Sets a mark.
+/// Sets a mark to a time.
 pub fn mark(session: &mut Session, letter: Letter, at: Time) -> Reply
     ensures { Obeys (Command.Mark letter at) session.old result session.new }
 {

@@ -1,4 +1,5 @@
-//! The run of a script.
+//! The run of a script. `line` is the bytes of a line that have come so far, and `status` says
+//! whether a line was refused.
 
 ghost use Rattle.std.specs.Prelude.{◌≡◌, ◌<◌, ◌≤◌, ◌^◌, ◌++◌, ◌∷◌, [], ℕ, List, Option, IfOk};
 ghost use Rattle.std.specs.Prelude.{IfErr, OnErr, length, take};
@@ -66,7 +67,8 @@ pub fn run<R: Read, W: Write, N: Witness, S: Shelf>(
     Err(RunFault::TooManyReads)
 }
 
-/// Reads a part of a script and obeys it, and returns whether the script has ended.
+/// Reads a part of a script and obeys it. Returns whether the script has ended: there was nothing
+/// left to read, or a line was `quit`.
 fn obey_read<R: Read, W: Write, N: Witness, S: Shelf>(
     script: &mut R,
     buffer: &mut [u8; READ_LIMIT],
@@ -97,7 +99,8 @@ fn obey_read<R: Read, W: Write, N: Witness, S: Shelf>(
     Ok(ended)
 }
 
-/// One read of a script. An error of the system goes no further than this.
+/// One read of a script into the buffer. Returns how many bytes it gave, 0 at the end. Each error
+/// of the system is `ReadFailed`.
 fn read_part<R: Read>(script: &mut R, buffer: &mut [u8; READ_LIMIT]) -> Result<usize, RunFault>
     ensures bound { ReadsAtMost result buffer.new }
     ensures bytes { ReadConsumes (R.remaining script.old) (R.remaining script.new) result
@@ -154,7 +157,8 @@ fn obey_part<W: Write, N: Witness, S: Shelf>(
     Ok(false)
 }
 
-/// Obeys a byte that comes after the front of a line, and returns whether the script ends with it.
+/// Obeys a byte that comes after the front of a line: a newline ends the line, which is obeyed and
+/// answered. Returns whether the script ends with it, which only `quit` does.
 fn obey_byte<W: Write, N: Witness, S: Shelf>(
     line: &mut Line,
     byte: u8,

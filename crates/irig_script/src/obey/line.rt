@@ -11,6 +11,7 @@ const LINE_LIMIT: usize = 1000;
 pub struct Line {
     bytes: [u8; LINE_LIMIT],
     len: usize,
+    // Whether more bytes came, which are not kept.
     long: bool,
     ghost fits: { len ≤ 1000 },
 }

@@ -1,4 +1,5 @@
-//! What is replied to a line of a script, and done for it.
+//! What is replied to a line of a script, and done for it. Each function below `obey` is called
+//! only with the commands of its purpose, so its last case never comes.
 
 ghost use Rattle.std.specs.Prelude.{◌≡◌, ◌≢◌, length};
 ghost use Rattle.irig_script.specs.Obey.Obeying.{Obeys};

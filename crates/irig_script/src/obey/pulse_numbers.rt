@@ -17,7 +17,8 @@ fn mark(session: &Session, letter: &Letter) -> Option<u64>
     session.mark_time(letter.byte())
 }
 
-/// The number that an address counts from, if there is one.
+/// The number, from 1, that an address counts from; `None` if that is a mark which is not set. A
+/// mark stands for the last pulse that rises at or before it, 0 if none does.
 fn base(session: &Session, base: &Base) -> Option<u64>
     ensures { result ≡ base_of base.now (present_in session.now) }
 {
@@ -83,7 +84,8 @@ pub fn ends(session: &Session, range: &Range) -> (usize, usize)
     }
 }
 
-/// The first and the last pulse that are joined, from 1; 0 if there is none.
+/// The first and the last pulse that are joined, from 1; 0 if there is none. One address joins its
+/// pulse and the next.
 pub fn join_ends(session: &Session, range: &Range) -> (usize, usize)
     ensures { result ≡ (
       first_of range.now (present_in session.now),
@@ -96,7 +98,8 @@ pub fn join_ends(session: &Session, range: &Range) -> (usize, usize)
     }
 }
 
-/// A time in microseconds; that of a mark which is not set is beyond every length.
+/// A time in microseconds; that of a mark which is not set is beyond every length, so it is
+/// refused.
 pub fn time(session: &Session, time: &Time) -> u64
     ensures { result ≡ time_of time.now (present_in session.now) }
 {

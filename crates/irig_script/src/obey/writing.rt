@@ -12,7 +12,8 @@ use irig_text::{Shelf, Text};
 
 /// Writes the text of the track. It takes no memory.
 ///
-/// It is a call of its own, so that no other line pays for the place of a text in parts.
+/// It is a call of its own, so that no other line pays for the room that a text in parts has on the
+/// stack.
 #[inline(never)]
 pub fn write_dump<S: Shelf>(session: &Session, shelf: &mut S) -> Reply
     ensures answer { Writes (dump_text session.now) result }
@@ -23,7 +24,8 @@ pub fn write_dump<S: Shelf>(session: &Session, shelf: &mut S) -> Reply
     write(&mut session.text_parts(), shelf)
 }
 
-/// Writes the text of the track with its journal. It takes no memory.
+/// Writes the text of the track with its journal. It takes no memory, and is a call of its own for
+/// the same reason.
 #[inline(never)]
 pub fn write_saved<S: Shelf>(session: &Session, shelf: &mut S) -> Reply
     ensures answer { Writes (saved_text (work_in session.now)) result }
@@ -34,7 +36,7 @@ pub fn write_saved<S: Shelf>(session: &Session, shelf: &mut S) -> Reply
     write(&mut session.saved_parts(), shelf)
 }
 
-/// Writes a text to the shelf.
+/// Writes a text to the shelf. The reply has how many bytes it was.
 fn write<T: Text, S: Shelf>(text: &mut T, shelf: &mut S) -> Reply
     ensures answer { Writes (T.rest text.old) result }
     ensures put { Puts (S.known shelf.old) (S.known shelf.new)

@@ -11,7 +11,8 @@ use irig_edit::Session;
 use irig_print::{PrintFault, Row, put_all};
 use std::io::Write;
 
-/// Prints counts, format and cursor.
+/// Prints the line: counts, format, cursor (a pulse, from 1), and how many steps can be undone and
+/// redone.
 pub fn print_info<W: Write>(session: &Session, out: &mut W) -> Result<(), PrintFault>
     ensures { Prints (W.contents out.old) (W.contents out.new) (info_text session.now) result }
 {
@@ -24,7 +25,8 @@ pub fn print_info<W: Write>(session: &Session, out: &mut W) -> Result<(), PrintF
     put_all(out, row.text())
 }
 
-/// Writes the length of the track, its pulses, its frames and their format.
+/// Writes the length of the track in microseconds, how many pulses and frames it has, and their
+/// format.
 fn put_track(row: &mut Row, session: &Session)
     requires { row.old ≡ [] }
     ensures text { row.new ≡ codes "length " ++ decimal session.now.state.micros

@@ -27,7 +27,7 @@ pub fn print_marks<W: Write>(session: &Session, out: &mut W) -> Result<(), Print
     block.flush(out)
 }
 
-/// Writes the line of a mark into the row; nothing if it is not set.
+/// Writes the line of a mark into the row, with its time in microseconds; nothing if it is not set.
 fn put_mark(row: &mut Row, letter: Letter, time: Option<u64>)
     ensures { row.new ≡ mark_line letter time }
 {

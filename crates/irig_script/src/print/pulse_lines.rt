@@ -48,7 +48,8 @@ fn print_many<W: Write>(
     print_in_blocks(session, before, count, &mut [0; BLOCK], out)
 }
 
-/// Prints a line for each of this many pulses after the first `before`, a block at a time.
+/// Prints a line for each of this many pulses after the first `before`, as far as the track has
+/// them. What has room in `block` goes out at a time.
 fn print_in_blocks<W: Write>(
     session: &Session,
     before: usize,

@@ -50,8 +50,8 @@ impl Reply {
     }
 }
 
-/// Prints what a reply does as the session is: a line by one write, if the output takes
-/// it, and a listing in blocks.
+/// Prints what a reply asks for, by what the session has now: a line by one write, if the output
+/// takes it, and a listing in blocks.
 pub fn print<W: Write>(reply: Reply, session: &Session, out: &mut W) -> Result<(), PrintFault>
     ensures { Prints (W.contents out.old) (W.contents out.new)
         (reply_text session.now reply) result }

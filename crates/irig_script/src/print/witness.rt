@@ -7,7 +7,7 @@ ghost use Rattle.irig_text.specs.Shelved.{GrowsBy};
 use irig_text::Shelf;
 use std::io::Write;
 
-/// It sees an output and a shelf at one moment.
+/// It sees an output and a shelf at one moment: after each line was obeyed, before it is answered.
 pub trait Witness {
     /// What it saw, in order, if it shows it.
     ghost seen: { Self → Option (List Sight) };
