@@ -1,4 +1,6 @@
-//! Lines that are aligned with a track.
+//! Lines that are aligned with a track. The recorder's time of a line is the number in one of its
+//! columns. A frame is believed if another one near it supports its time: moments have their times
+//! from believed frames alone.
 
 ghost use Rattle.std.specs.Prelude.{◌≡◌, ◌≤◌, ◌<◌, ◌^◌, ℕ, List, Option, IfOk, IfSome};
 ghost use Rattle.std.specs.Io.KnownBytes.{Consumes};
@@ -21,7 +23,9 @@ use irig_track::Track;
 use std::alloc::Global;
 use std::io::{Read, Write};
 
-/// Prints lines with the times that a recording gives them.
+/// Reads lines to their end and prints each with its time before it: the time of year that a
+/// recording has at the line's recorder's time. Returns whether the column of each line has a
+/// number, and which frames are believed. What was printed before an error stays.
 pub fn align<R: Read, W: Write>(
     alloc: Global,
     recording: Recording,
@@ -44,7 +48,7 @@ pub fn align<R: Read, W: Write>(
     align_named(alloc, recording, lines, out, format, settings, name)
 }
 
-/// Prints lines with the times that a recording gives them, if the column has a number.
+/// As `align`, if the number of the column is known: `settings.column`.
 fn align_numbered<R: Read, W: Write>(
     alloc: Global,
     recording: Recording,
@@ -66,7 +70,8 @@ fn align_numbered<R: Read, W: Write>(
     align_track(alloc, &track, b"", lines, out, format, settings)
 }
 
-/// Prints lines with the times that a recording gives them, if the header names the column.
+/// As `align`, if the column is the one with this name in the last line of the header. What was
+/// read to find it is handed on, since it cannot be read again.
 fn align_named<R: Read, W: Write>(
     alloc: Global,
     recording: Recording,
@@ -99,7 +104,8 @@ fn align_named<R: Read, W: Write>(
     align_track(alloc, &track, before, lines, out, format, &settings)
 }
 
-/// Prints lines with the times that a track gives them, first those that were read already.
+/// As `align` on a track, if the bytes `before` were read of the lines already. `held` says of each
+/// frame whether it is believed; that is found first, for the whole track.
 fn align_track<R: Read, W: Write>(
     alloc: Global,
     track: &Track,
@@ -132,6 +138,7 @@ fn align_track<R: Read, W: Write>(
     let Ok(known) = known_of(alloc, &mut lens, &mut records, &held, format, settings) else {
         return Err(RunFault::OutOfMemory);
     };
+    // If no frame is believed, no line has a time, and nothing asks for the day.
     let settings = Settings {
         first_day: day.unwrap_or(0),
         ..*settings

@@ -16,7 +16,8 @@ pub fn column(comma: Option<u8>, k: usize, line: &[u8]) -> &[u8]
     }
 }
 
-/// Column `k`, if white space parts them.
+/// Column `k` of a line, from 0, if white space parts them. White space before the first column is
+/// not one.
 fn word(k: usize, line: &[u8]) -> &[u8]
     ensures { result.now ≡ word_at k line.now }
 {
@@ -30,7 +31,7 @@ fn word(k: usize, line: &[u8]) -> &[u8]
     word
 }
 
-/// Column `k`, if a byte parts them.
+/// Column `k` of a line, from 0, if a byte parts them.
 fn part(comma: u8, k: usize, line: &[u8]) -> &[u8]
     ensures { result.now ≡ part_at comma k line.now }
 {
@@ -43,7 +44,8 @@ fn part(comma: u8, k: usize, line: &[u8]) -> &[u8]
     part
 }
 
-/// What is after the first column of a line.
+/// What is after the first column of a line, and after the byte that parts it from the next one.
+/// White space that parts them is still there.
 pub fn passed(comma: Option<u8>, line: &[u8]) -> &[u8]
     ensures { result.now ≡ passed comma line.now }
 {
@@ -53,7 +55,7 @@ pub fn passed(comma: Option<u8>, line: &[u8]) -> &[u8]
     }
 }
 
-/// What is after the first column, if white space parts them.
+/// What is after the first column, if white space parts them: the white space is still there.
 fn after_word(line: &[u8]) -> &[u8]
     ensures { result.now ≡ passed None line.now }
 {
@@ -62,7 +64,7 @@ fn after_word(line: &[u8]) -> &[u8]
     left
 }
 
-/// What is after the first column, if a byte parts them.
+/// What is after the first column and the byte after it, if a byte parts them.
 fn after_part(comma: u8, line: &[u8]) -> &[u8]
     ensures { result.now ≡ passed (Some comma) line.now }
 {
@@ -70,7 +72,7 @@ fn after_part(comma: u8, line: &[u8]) -> &[u8]
     rest(text)
 }
 
-/// All but the first byte.
+/// All but the first byte; nothing, if there is none.
 fn rest(text: &[u8]) -> &[u8]
     ensures { result.now ≡ rest_of text.now }
 {

@@ -7,8 +7,9 @@ use crate::settings::Settings;
 use irig_times::Time;
 use jiff_core::civil::days_in_month;
 
-/// The year of a time: that of its field in the century, or else that of the first frame; a day
-/// before the one of the first frame is in the year after.
+/// The year of a time. If frames carry one, of two digits, it is in the century of the settings.
+/// Else it is the year of the first believed frame, `settings.year`, or the next one if the day is
+/// before that frame's: a track is taken to be shorter than a year. `None` if neither is known.
 pub fn year_in(settings: &Settings<'_>, time: &Time) -> Option<u32>
     requires century { settings.now.century ≤ 99 }
     requires year { IfSome settings.now.year (λ y. y ≤ 9998) }
@@ -21,7 +22,8 @@ pub fn year_in(settings: &Settings<'_>, time: &Time) -> Option<u32>
     }
 }
 
-/// The year of a day, if frames carry no year.
+/// The year of a day (from 1), if frames carry no year: that of the first believed frame, or the
+/// next one if the day is before the day of that frame.
 fn counted_on(settings: &Settings<'_>, days: u32) -> Option<u32>
     requires year { IfSome settings.now.year (λ y. y ≤ 9998) }
     ensures value { result ≡ counted_on settings.now days }
@@ -39,7 +41,8 @@ fn counted_on(settings: &Settings<'_>, days: u32) -> Option<u32>
     }
 }
 
-/// The month and the day of it of a day in a year, if the year is known and has such a day.
+/// The month and the day in it, both from 1, of a day of a year (`days`, from 1). `None` if the
+/// year is not known or has no such day.
 pub fn date_in(year: Option<u32>, days: u32) -> Option<(u32, u32)>
     requires { IfSome year (λ y. y ≤ 9999) }
     ensures { result ≡ date_in year days }
@@ -50,7 +53,8 @@ pub fn date_in(year: Option<u32>, days: u32) -> Option<(u32, u32)>
     }
 }
 
-/// The month and the day of it of a day in a year that is known.
+/// The month and the day in it, both from 1, of a day (from 1) of a year that is known. `None` if
+/// the year has no such day.
 fn date_from(year: u32, days: u32) -> Option<(u32, u32)>
     requires { year ≤ 9999 }
     ensures { result ≡ date_from year days }

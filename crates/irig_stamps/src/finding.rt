@@ -38,7 +38,8 @@ struct Header {
     ended: usize,
 }
 
-/// Reads the header of the lines, and finds the column with a name in its last line.
+/// Reads the header of the lines, which is `settings.header` lines long, and finds the column with
+/// a name in its last line. What was read goes back with it: it can reach past the header.
 pub fn find<R: Read>(
     alloc: Global,
     lines: &mut R,
@@ -61,7 +62,8 @@ pub fn find<R: Read>(
     }
 }
 
-/// Reads the header of the lines, and maybe more.
+/// Reads lines until those of the header have ended, or to their end. The last read can reach past
+/// the header.
 fn read_header<R: Read>(
     alloc: Global,
     lines: &mut R,
@@ -88,7 +90,8 @@ fn read_header<R: Read>(
     Err(RunFault::TooManyReads)
 }
 
-/// Reads a part of the header, and returns whether it is whole, or ends.
+/// Reads a part and adds it to the header. Returns whether the header needs no more reads: all its
+/// lines have ended, or nothing is left to read.
 fn read_more<R: Read>(
     lines: &mut R,
     buffer: &mut [u8; READ_LIMIT],
@@ -139,7 +142,8 @@ fn newline(byte: u8) -> usize
     if byte == b'\n' { 1 } else { 0 }
 }
 
-/// The column with a name in the last line of the header that some bytes have.
+/// The column, from 0, that has a name in the last line of the header. `bytes` is what was read of
+/// the lines. `NoHeader` if that line is not there.
 fn find_in(settings: &Settings<'_>, name: &[u8], bytes: &[u8]) -> Result<usize, RunFault>
     requires { 0 < settings.now.header }
     ensures { (lines : Option (List ℕ)) (left : Option (List ℕ))
@@ -150,14 +154,16 @@ fn find_in(settings: &Settings<'_>, name: &[u8], bytes: &[u8]) -> Result<usize, 
     if ended + 1 < settings.header {
         return Err(RunFault::NoHeader);
     }
+    // A newline as the byte that parts columns: so column `k` is line `k`.
     let line = column(Some(b'\n'), (settings.header - 1) as usize, bytes);
+    // A last line without a newline is there only if it has a byte.
     if ended < settings.header && line.is_empty() {
         return Err(RunFault::NoHeader);
     }
     place_of(settings.comma, name, line)
 }
 
-/// The column of a line with a name, from 0.
+/// The column of a line with a name, from 0; an error if none has it, or two.
 fn place_of(comma: Option<u8>, name: &[u8], line: &[u8]) -> Result<usize, RunFault>
     ensures { IsPlace (has_name comma name.now line.now) 65536 result }
 {
@@ -177,8 +183,8 @@ fn place_of(comma: Option<u8>, name: &[u8], line: &[u8]) -> Result<usize, RunFau
     }
 }
 
-/// Which column has the name, if it is known which of those before one has it, and whether that one
-/// has it.
+/// The column, from 0, that has the name, of those up to `place`: `found` is the one before
+/// `place`, and `named` says whether `place` has it. `TwoColumns` if both have.
 fn one_more(found: Option<usize>, place: usize, named: bool) -> Result<Option<usize>, RunFault>
     ensures { (has : ℕ → Bool) → named ≡ has place → IsSoFar has place found
         → IsNext has (place + 1) result }

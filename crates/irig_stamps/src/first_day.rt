@@ -1,4 +1,7 @@
-//! The day of the first frame that is believed, and how many frames are not.
+//! The day of the first frame that is believed, and how many frames are not. Each record is a frame
+//! of the track, and `held` says of each, at the same place, whether it is believed: whether
+//! another frame near it supports its time. `timed` gives the fields of a frame that has a time: it
+//! is fine and ends within its minute.
 
 ghost use Rattle.std.specs.Prelude.{◌≡◌, ◌≤◌, ◌<◌, Some, slice_get, length};
 ghost use Rattle.irig_index.specs.declared.record.Record.{Record};
@@ -8,7 +11,7 @@ ghost use Rattle.irig_stamps.specs.Dates.{doubt_of, doubted, first_day, if_held}
 use irig_codes::{Fields, Format};
 use irig_times::{FrameLens, timed};
 
-/// The day in its year of the first frame that is believed, if one is.
+/// The day of the year, from 1, of the first frame that is believed; `None` if none is.
 pub fn first_day(records: &mut FrameLens<'_>, held: &[bool], format: Format) -> Option<u32>
     ensures day { result ≡ first_day format held.now 0 records.old.records }
     ensures same { records.new.records ≡ records.old.records }
@@ -22,7 +25,7 @@ pub fn first_day(records: &mut FrameLens<'_>, held: &[bool], format: Format) -> 
     None
 }
 
-/// Whether the frame of the record at a place is believed, if there is one.
+/// Whether the frame of the record at a place is believed; `None` if there is no such record.
 pub fn held_at(held: &[bool], place: usize) -> Option<bool>
     ensures { result ≡ slice_get held.now place }
 {
@@ -33,7 +36,7 @@ pub fn held_at(held: &[bool], place: usize) -> Option<bool>
     }
 }
 
-/// The fields of the frame of the record at a place, if it is believed.
+/// The fields of the frame of the record at a place; `None` if it is not believed.
 fn held_fields(
     records: &mut FrameLens<'_>,
     held: &[bool],
@@ -64,7 +67,7 @@ pub fn doubted(records: &mut FrameLens<'_>, held: &[bool], format: Format) -> us
     count
 }
 
-/// One, if the frame of the record at a place has a time and is not believed.
+/// 1 if the frame of the record at a place has a time and is not believed, else 0.
 fn doubt_of(records: &mut FrameLens<'_>, held: &[bool], format: Format, place: usize) -> usize
     requires { place < length records.old.records }
     ensures doubt { (r : Record) → slice_get records.old.records place ≡ Some r

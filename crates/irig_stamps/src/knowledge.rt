@@ -1,4 +1,5 @@
-//! What is known of the times of a track.
+//! What is known of the times of a track. A part is pulses in a row whose times are known from one
+//! frame.
 
 ghost use Rattle.std.specs.Prelude.{◌≡◌, ◌≤◌, IfOk, IfSome, is_some, length};
 ghost use Rattle.irig_index.specs.Frames.{frames};
@@ -14,13 +15,14 @@ use std::alloc::{AllocError, Global};
 /// What is known of the times of a track.
 #[derive(Drop)]
 pub struct Known {
-    /// The pulses that have a time.
+    /// The pulses that have a time, in parts, in the order of the track.
     pub parts: Vec<Part>,
-    /// Why others have none, if a word for it is asked for.
+    /// Why others have none; `None` if no word for it is asked for.
     pub whys: Option<Whys>,
 }
 
-/// What is known of the times of a track: of each record `held` says whether its frame is believed.
+/// What is known of the times of a track. A record is a frame of the track, and `held` says of each
+/// whether it is believed. Only memory can run out.
 pub fn known_of(
     alloc: Global,
     pulses: &mut Lens<'_>,
@@ -41,7 +43,7 @@ pub fn known_of(
     Ok(Known { parts, whys })
 }
 
-/// Why moments have no time, if that is asked for.
+/// Why moments have no time; `None` if `settings.why` does not ask for it.
 fn whys_of(
     alloc: Global,
     pulses: &mut Lens<'_>,

@@ -11,12 +11,13 @@ pub struct Lines {
     pub line: Vec<u8>,
     /// How many lines have ended; 2^64 - 1 stands for all greater counts.
     pub count: u64,
-    /// Whether the column of each of them has a number, but for the header.
+    /// Whether each line that has ended has a number in its column, those of the header not
+    /// counted.
     pub all: bool,
 }
 
 impl Lines {
-    /// Before the first line.
+    /// Nothing is read yet: before the first line.
     pub fn new(alloc: Global) -> Lines
         ensures line { result.line.items ≡ [] }
         ensures count { result.count ≡ 0 }

@@ -1,4 +1,6 @@
-//! The decimal number in a column.
+//! The decimal number in a column. The result is the column's number times 10^`places`, as a whole
+//! number: rounded up if `up`, else down. Each function returns `None` if the text is no number,
+//! and 2^120 for each greater one.
 
 ghost use Rattle.std.specs.Prelude.{◌≡◌, ◌^◌, ℕ, List, min, option_map, false, true};
 ghost use Rattle.irig_stamps.specs.Columns.{before, onward};
@@ -12,8 +14,8 @@ use crate::picos::Picos;
 use crate::point::{digits, point_after, to_the_left, to_the_right};
 
 /// The number in a column, if it is one: maybe a sign, digits, maybe a point and digits, and maybe
-/// an exponent. It is in units of which 10^`places` make one of the column, rounded down; 2^120 if
-/// it is greater.
+/// an exponent, with white space round it. It is in units of which 10^`places` make one of the
+/// column, rounded down; 2^120 if it is greater.
 pub fn number(places: usize, text: &[u8]) -> Option<Picos>
     ensures { result ≡ option_map capped (number_in places text.now) }
 {
@@ -32,7 +34,7 @@ fn signed(places: usize, text: &[u8]) -> Option<Picos>
     }
 }
 
-/// The number after a minus.
+/// The number after a minus. Its size is rounded up, so the number is rounded down.
 fn negative(places: usize, text: &[u8]) -> Option<Picos>
     ensures { result ≡ option_map capped (below (size_in true places text.now)) }
 {
@@ -46,7 +48,7 @@ fn positive(places: usize, text: &[u8]) -> Option<Picos>
     above(size_in(false, places, text))
 }
 
-/// A number this far above zero.
+/// A number this far above zero, if there is a size.
 fn above(size: Option<u128>) -> Option<Picos>
     ensures { result ≡ above size }
 {
@@ -59,7 +61,7 @@ fn above(size: Option<u128>) -> Option<Picos>
     }
 }
 
-/// A number this far below zero.
+/// A number this far below zero, if there is a size.
 fn below(size: Option<u128>) -> Option<Picos>
     ensures { result ≡ below size }
 {
@@ -83,7 +85,7 @@ pub fn whole(text: &[u8]) -> Option<u128>
     Some(digits(0, whole))
 }
 
-/// The number without a sign, rounded down, or up.
+/// The size of a number without a sign.
 fn size_in(up: bool, places: usize, text: &[u8]) -> Option<u128>
     ensures { result ≡ option_map (λ v. min v (2 ^ 120)) (size_in up places text.now) }
 {
@@ -94,7 +96,7 @@ fn size_in(up: bool, places: usize, text: &[u8]) -> Option<u128>
     with_fraction(up, places, whole, rest)
 }
 
-/// The number with these digits before its point, and what is after them.
+/// The size of a number with these digits before its point. `rest` is what is after them.
 fn with_fraction(up: bool, places: usize, whole: &[u8], rest: &[u8]) -> Option<u128>
     ensures { result ≡ option_map (λ v. min v (2 ^ 120))
         (with_fraction up places whole.now rest.now) }
@@ -112,7 +114,8 @@ fn with_fraction(up: bool, places: usize, whole: &[u8], rest: &[u8]) -> Option<u
     }
 }
 
-/// The number with these digits before its point and after it, and what is after them.
+/// The size of a number with these digits before its point and after it. `rest` is what is after
+/// both: an exponent, white space or nothing.
 fn with_exponent(
     up: bool,
     places: usize,
@@ -130,7 +133,7 @@ fn with_exponent(
     }
 }
 
-/// The number with these digits and the exponent after its e.
+/// The size of a number with these digits. `rest` is what is after the e of its exponent.
 fn after_e(up: bool, places: usize, whole: &[u8], fraction: &[u8], rest: &[u8]) -> Option<u128>
     ensures { result ≡ option_map (λ v. min v (2 ^ 120))
         (after_e up places whole.now fraction.now rest.now) }
@@ -142,7 +145,8 @@ fn after_e(up: bool, places: usize, whole: &[u8], fraction: &[u8], rest: &[u8]) 
     }
 }
 
-/// The number with these digits and an exponent, from its digits on.
+/// The size of a number with these digits. `rest` begins with the digits of its exponent, which
+/// moves the point to the left if it has a minus, else to the right.
 fn powered(
     up: bool,
     left: bool,
@@ -167,7 +171,7 @@ fn powered(
     }
 }
 
-/// A value, if only white space is left.
+/// A value, if only white space is left; else `None`.
 fn if_blank(text: &[u8], value: u128) -> Option<u128>
     ensures { result ≡ if_blank text.now value }
 {

@@ -1,11 +1,11 @@
 //! How lines were aligned.
 
-/// Which frames of a track are believed.
+/// Which frames of a track are believed: those whose time another frame near them supports.
 #[derive(Clone, Copy)]
 pub struct Standing {
-    /// Whether one is.
+    /// Whether at least one is believed.
     pub timed: bool,
-    /// How many have a time, and are not.
+    /// How many have a time, and are not believed.
     pub doubted: usize,
 }
 

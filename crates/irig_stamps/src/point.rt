@@ -1,4 +1,6 @@
-//! The point of a decimal number, moved.
+//! The point of a decimal number, moved. `whole` is the digits before the point and `fraction`
+//! those after it, as ASCII. The result is a whole number: what is after the moved point is
+//! dropped, or rounds it up by one if `up`.
 
 ghost use Rattle.std.specs.Prelude.{◌≡◌, ◌≤◌, ◌^◌, ◌+◌, ◌*◌, ◌-◌, ◌∷◌, ℕ, suc, List, min};
 ghost use Rattle.std.specs.Prelude.{drop, false, true, ◌&&◌, ◌||◌};
@@ -9,13 +11,13 @@ use crate::cutting::{Until, cut};
 /// No greater number is returned: 2^120.
 const MOST: u128 = 1_329_227_995_784_915_872_903_807_060_280_344_576;
 
-/// The number with a point that is moved to the right by an exponent.
+/// The number times 10^(`places` + `power`); 2^120 if it is greater.
 pub fn to_the_right(up: bool, places: usize, power: u128, whole: &[u8], fraction: &[u8]) -> u128
     requires { power ≤ 2 ^ 120 }
     ensures { (e : ℕ) → power ≡ min e (2 ^ 120)
         → result ≡ min (rounded up (places + e) 0 whole.now fraction.now) (2 ^ 120) }
 {
-    // After as many zeros, each number but 0 is greater than the most.
+    // Moved this far, each number but 0 is greater than the most: further the point is not moved.
     let enough = fraction.len() as u128 + 37;
     point_after(
         up,
@@ -25,7 +27,7 @@ pub fn to_the_right(up: bool, places: usize, power: u128, whole: &[u8], fraction
     )
 }
 
-/// The number with a point that is moved to the left by an exponent.
+/// The number times 10^`places`, divided by 10^`power`; 2^120 if it is greater.
 pub fn to_the_left(up: bool, places: usize, power: u128, whole: &[u8], fraction: &[u8]) -> u128
     requires { power ≤ 2 ^ 120 }
     ensures { (e : ℕ) → power ≡ min e (2 ^ 120)
@@ -39,7 +41,7 @@ pub fn to_the_left(up: bool, places: usize, power: u128, whole: &[u8], fraction:
     }
 }
 
-/// The number with a point that is moved to the right.
+/// The number times 10^`right`; 2^120 if it is greater.
 pub fn point_after(up: bool, right: usize, whole: &[u8], fraction: &[u8]) -> u128
     ensures { result ≡ min (rounded up right 0 whole.now fraction.now) (2 ^ 120) }
 {
@@ -48,7 +50,7 @@ pub fn point_after(up: bool, right: usize, whole: &[u8], fraction: &[u8]) -> u12
     with_one(more, value)
 }
 
-/// The number with a point that is moved to the left.
+/// The number divided by 10^`left`; 2^120 if it is greater.
 fn point_before(up: bool, left: u128, whole: &[u8], fraction: &[u8]) -> u128
     ensures { result ≡ min (rounded up 0 left whole.now fraction.now) (2 ^ 120) }
 {
@@ -58,14 +60,15 @@ fn point_before(up: bool, left: u128, whole: &[u8], fraction: &[u8]) -> u128
     with_one(more, value)
 }
 
-/// Whether a number is rounded up, with these digits after its point.
+/// Whether a number is rounded up, if these digits and the others are after its point: if `up` says
+/// so and one of them is not 0.
 fn exceeds(up: bool, digits: &[u8], others: &[u8]) -> bool
     ensures { result ≡ (up && (has_weight digits.now || has_weight others.now)) }
 {
     up && (has_weight(digits) || has_weight(others))
 }
 
-/// One more, or not.
+/// One more, at most 2^120; or the value as it is.
 fn with_one(more: bool, value: u128) -> u128
     requires { value ≤ 2 ^ 120 }
     ensures { result ≡ min (with_one more value) (2 ^ 120) }
@@ -73,7 +76,7 @@ fn with_one(more: bool, value: u128) -> u128
     if more { MOST.min(value + 1) } else { value }
 }
 
-/// What is after some digits.
+/// What is after the first `count` digits.
 fn after(count: usize, digits: &[u8]) -> &[u8]
     ensures { result.now ≡ drop count digits.now }
 {
@@ -88,7 +91,7 @@ fn has_weight(digits: &[u8]) -> bool
     !left.is_empty()
 }
 
-/// One more digit.
+/// A value with one more digit after it; 2^120 if it is greater.
 fn more(value: u128, digit: u8) -> u128
     requires { value ≤ 2 ^ 120 }
     ensures value { result ≡ min (10 * value + (digit - 48)) (2 ^ 120) }
@@ -101,7 +104,7 @@ fn more(value: u128, digit: u8) -> u128
     }
 }
 
-/// The number that more digits make; 2^120 if it is greater.
+/// A value with more digits after it; 2^120 if it is greater.
 pub fn digits(value: u128, digits: &[u8]) -> u128
     requires { value ≤ 2 ^ 120 }
     ensures { result ≡ min (digits_after value digits.now) (2 ^ 120) }
@@ -113,7 +116,8 @@ pub fn digits(value: u128, digits: &[u8]) -> u128
     value
 }
 
-/// The number that as many digits of a fraction make; 2^120 if it is greater.
+/// A value with the first `places` digits of a fraction after it, zeros if it has fewer; 2^120 if
+/// it is greater.
 fn padded(value: u128, places: usize, fraction: &[u8]) -> u128
     requires { value ≤ 2 ^ 120 }
     ensures { result ≡ min (digits_after value (padded places fraction.now)) (2 ^ 120) }
@@ -128,7 +132,7 @@ fn padded(value: u128, places: usize, fraction: &[u8]) -> u128
     value
 }
 
-/// The first digit of a fraction, and those after it; zeros follow the last.
+/// The first digit of a fraction, and those after it. After the last one come zeros without end.
 fn first(fraction: &[u8]) -> (u8, &[u8])
     ensures { (n : ℕ) → padded (suc n) fraction.now ≡ result.0 ∷ padded n result.1.now }
 {

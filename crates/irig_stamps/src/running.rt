@@ -1,4 +1,5 @@
-//! The run over a text of lines.
+//! The run over a text of lines. `state` is how far they were read, and `text` is what comes out
+//! for them and is not printed yet.
 
 ghost use Rattle.std.specs.Prelude.{◌≡◌, ◌≤◌, ◌<◌, ◌^◌, [], ℕ, List, Option, true, false, OnOk, IfOk};
 ghost use Rattle.std.specs.Prelude.{IfSome};
@@ -19,8 +20,9 @@ use irig_track::Lens;
 use std::alloc::Global;
 use std::io::{Read, Write};
 
-/// Takes what was read of the lines before, reads them to their end, and prints each with its time
-/// before it. Returns whether the column of each has a number, but for the header.
+/// Takes `before`, the bytes of the lines that were read already, reads the rest to its end, and
+/// prints each line with its time before it. Returns whether the column of each has a number, but
+/// for the header.
 pub fn run<R: Read, W: Write>(
     alloc: Global,
     before: &[u8],
@@ -52,7 +54,8 @@ pub fn run<R: Read, W: Write>(
     }
 }
 
-/// Reads the rest of the lines, and prints what comes out for it.
+/// Reads the rest of the lines, and prints what comes out for it. Returns whether the column of
+/// each line, also of those before, has a number, but for the header.
 fn run_on<R: Read, W: Write>(
     lines: &mut R,
     out: &mut W,
@@ -96,7 +99,8 @@ fn run_on<R: Read, W: Write>(
     Err(RunFault::TooManyReads)
 }
 
-/// Reads a part of the lines and prints what comes out for it, and returns whether it was the last.
+/// Reads a part of the lines and prints what comes out for it. Returns whether nothing was left to
+/// read: then the line without a newline is ended, if there is one.
 fn run_read<R: Read, W: Write>(
     lines: &mut R,
     out: &mut W,
@@ -140,7 +144,7 @@ fn run_read<R: Read, W: Write>(
     )
 }
 
-/// Takes a part of the lines and prints what comes out for it. Returns that it was not the last.
+/// Takes a part of the lines and prints what comes out for it. Returns `false`: more can follow.
 fn put_part<W: Write>(
     out: &mut W,
     state: &mut Lines,
@@ -172,7 +176,8 @@ fn put_part<W: Write>(
     }
 }
 
-/// Ends the last line, which no newline ends, and prints what comes out for it.
+/// Ends the last line, if bytes came after the last newline, and prints what comes out for it.
+/// Returns `true`: all lines were read.
 fn end<W: Write>(
     out: &mut W,
     state: &mut Lines,
@@ -206,7 +211,7 @@ fn end<W: Write>(
     }
 }
 
-/// Prints a text and makes it empty. Returns what it is given.
+/// Prints a text and makes it empty. Returns `ended`, as it was given, if the output took the text.
 fn print<W: Write>(out: &mut W, text: &mut Vec<u8>, ended: bool) -> Result<bool, RunFault>
     ensures printed { PrintsAll (W.contents out.old) (W.contents out.new) text.old.items result }
     ensures empty { OnOk result (text.new.items ≡ []) }
@@ -219,7 +224,8 @@ fn print<W: Write>(out: &mut W, text: &mut Vec<u8>, ended: bool) -> Result<bool,
     Ok(ended)
 }
 
-/// Prints what comes out for the lines before one that was not taken, if it is whole. Returns why
+/// After a line that is too long, prints the text, what comes out for the `count` lines that have
+/// ended. If memory ran out, prints nothing: the text can end in the middle of a line. Returns why
 /// the run is broken off.
 fn stop<W: Write>(out: &mut W, text: &[u8], count: u64, fault: TakeFault) -> RunFault
     ensures { Stops (W.contents out.old) (W.contents out.new) text.now count fault result }

@@ -16,9 +16,10 @@ pub enum Form {
 pub struct Settings<'a> {
     /// 10^`places` picoseconds are a unit of the recorder's time.
     pub places: usize,
-    /// The recorder's time at the start of the track, in picoseconds from its zero.
+    /// The recorder's time at the start of the track, without its sign, in picoseconds from its
+    /// zero.
     pub offset: u128,
-    /// Whether the track starts before the recorder's zero.
+    /// Whether the track starts before the recorder's zero: `offset` is then below it.
     pub early: bool,
     /// The column of the recorder's time, from 0.
     pub column: usize,
@@ -30,11 +31,11 @@ pub struct Settings<'a> {
     pub header: u64,
     /// The name of the column of times, for the last line of the header.
     pub name: &'a [u8],
-    /// The century of years of two digits.
+    /// The century of years of two digits: 20 for 2000 to 2099.
     pub century: u32,
     /// The year of the first frame that is believed, if frames carry no year.
     pub year: Option<u32>,
-    /// The day of that frame in its year. `align` finds it.
+    /// The day of that frame in its year, from 1. `align` finds it.
     pub first_day: u32,
     /// Whether each fine frame is believed, and not only those that another one supports.
     pub alone: bool,

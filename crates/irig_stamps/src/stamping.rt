@@ -1,4 +1,5 @@
-//! A line with its time before it.
+//! A line with its time before it. `count` is how many lines are before it; `known` is which pulses
+//! have a time.
 
 ghost use Rattle.std.specs.Prelude.{◌≡◌, ◌↔◌, ◌<◌, ◌≤◌, ◌^◌, ◌-◌, ◌++◌, ◌∷◌, [], ℕ, List, Some, min, Option};
 ghost use Rattle.std.specs.Prelude.{IfOk, IfSome, OnOk, is_some, option_map, unwrap_or};
@@ -21,13 +22,14 @@ use irig_times::{Part, Time, Why, Whys, time_by, why_at};
 use irig_track::Lens;
 use std::alloc::AllocError;
 
-/// No time is as late, in picoseconds after the start of a track: 2^62.
+/// A moment so late, in picoseconds after the start of a track, has no time: 2^62.
 const LATE: u128 = 4_611_686_018_427_387_904;
 
 /// After the end of each track, in picoseconds after its start: 2^62.
 const END: u64 = 4_611_686_018_427_387_904;
 
-/// What is added to the start of the track and what is taken off, for a recorder's time.
+/// A recorder's time is a moment after the start of the track: the first number less the second, in
+/// picoseconds. Both the time and the offset can be below zero.
 fn span(settings: &Settings<'_>, picos: Picos) -> (u128, u128)
     requires { settings.now.offset ≤ 2 ^ 119 }
     ensures added { result.0 ≡ min (added settings.now picos) (2 ^ 128 - 1) }
@@ -41,7 +43,8 @@ fn span(settings: &Settings<'_>, picos: Picos) -> (u128, u128)
     }
 }
 
-/// The time of year of a recorder's time; 2^120 picoseconds stand for all that are further.
+/// The time of year at a recorder's time; `None` if there is none, or it is before the track
+/// starts. A time of 2^120 picoseconds stands for all that are further, and has none.
 fn time_of(
     pulses: &mut Lens<'_>,
     parts: &[Part],
@@ -57,7 +60,7 @@ fn time_of(
         ↔ IsTimeOf format pulses.old.track.pulses settings.now v x }
     ensures pulses { pulses.new.track ≡ pulses.old.track }
 {
-    // Read for its bounds alone.
+    // The count is not used: what the call promises bounds the track.
     let _count = pulses.len();
     let (added, taken) = span(settings, picos);
     if added < taken {
@@ -85,7 +88,7 @@ fn why_of(
         → IsWhyOf format pulses.old.track.pulses settings.now v result }
     ensures pulses { pulses.new.track ≡ pulses.old.track }
 {
-    // Read for its bounds alone.
+    // The count is not used: what the call promises bounds the track.
     let _count = pulses.len();
     let (added, taken) = span(settings, picos);
     if added < taken {
@@ -93,6 +96,7 @@ fn why_of(
     }
     let since = added - taken;
     if since >= LATE {
+        // All moments after the end have one reason.
         return why_at(pulses, whys, format, END);
     }
     why_at(pulses, whys, format, since as u64)
@@ -141,7 +145,7 @@ enum Told<'a> {
     Word(&'a [u8]),
 }
 
-/// What is known of a recorder's time.
+/// What is known of a recorder's time; a hyphen if the column has no number.
 fn told_of<'a>(
     pulses: &mut Lens<'_>,
     known: &Known,
@@ -177,7 +181,8 @@ fn put_told(text: &mut Vec<u8>, settings: &Settings<'_>, told: Told<'_>) -> Resu
     }
 }
 
-/// Adds a line to a text, with the separator before it.
+/// Adds a separator, a line and a newline to a text. The separator is a tab if white space parts
+/// columns.
 fn put_line(text: &mut Vec<u8>, comma: Option<u8>, line: &[u8]) -> Result<(), AllocError>
     ensures { OnOk result
         (text.new.items ≡ text.old.items ++ (unwrap_or comma 9 ∷ line.now ++ 10 ∷ [])) }
@@ -187,7 +192,8 @@ fn put_line(text: &mut Vec<u8>, comma: Option<u8>, line: &[u8]) -> Result<(), Al
     text.extend_from_slice(b"\n")
 }
 
-/// What is in the column of times in a line of the header, if `count` lines are before it.
+/// What is in the column of times in a line of the header that `count` lines are before: the
+/// column's name in the last line, else a hyphen.
 fn header_word<'a>(settings: &Settings<'a>, count: u64) -> &'a [u8]
     requires { count < settings.now.header }
     ensures { header_word settings.now count ≡ Some result.now }
@@ -200,7 +206,8 @@ fn header_word<'a>(settings: &Settings<'a>, count: u64) -> &'a [u8]
     }
 }
 
-/// Adds a line to a text with its time before it. Returns whether its column has a number.
+/// Adds a line to a text with its time before it. Returns whether the column of the recorder's time
+/// has a number.
 fn stamp(
     text: &mut Vec<u8>,
     pulses: &mut Lens<'_>,
@@ -228,8 +235,8 @@ fn stamp(
     Ok(number.is_some())
 }
 
-/// Adds to a text what comes out for a line, if `count` are before it. Returns whether its column
-/// has a number, or it is one of the header.
+/// Adds to a text what comes out for a line that `count` lines are before. Returns whether its
+/// column has a number; a line of the header needs none.
 pub fn line_out(
     text: &mut Vec<u8>,
     pulses: &mut Lens<'_>,

@@ -1,4 +1,6 @@
-//! A table of the frames of a track that have a time.
+//! A table of the frames of a track that have a time. Each record is a frame of the track, and
+//! `held` says of each, at the same place, whether it is believed: whether another frame near it
+//! supports its time.
 
 ghost use Rattle.std.specs.Prelude.{◌≡◌, ◌≤◌, ◌<◌, ◌++◌, ℕ, List, Some, slice_get, length, IfOk};
 ghost use Rattle.std.specs.Prelude.{IfSome, OnOk, Option};
@@ -44,7 +46,7 @@ pub fn list<W: Write>(
     list_track(alloc, &track, out, format, settings)
 }
 
-/// Prints the table of a track.
+/// As `list`, on a track.
 fn list_track<W: Write>(
     alloc: Global,
     track: &Track,
@@ -83,7 +85,7 @@ fn list_track<W: Write>(
     }
 }
 
-/// The table of the frames of some records.
+/// The text of the table, a row for each record whose frame has a time.
 fn table(
     alloc: Global,
     pulses: &mut Lens<'_>,
@@ -133,7 +135,7 @@ fn put_frame(
     put_start(text, settings, held_at(held, place), start)
 }
 
-/// Adds the row of a frame, if there is one.
+/// Adds the row of a frame; nothing if there is no start, since the frame has no time.
 fn put_start(
     text: &mut Vec<u8>,
     settings: &Settings<'_>,
@@ -150,7 +152,7 @@ fn put_start(
     }
 }
 
-/// Adds the row of a frame.
+/// Adds the row of a frame: the microsecond of its rise, its time, and the answer below.
 fn put_row(
     text: &mut Vec<u8>,
     settings: &Settings<'_>,
@@ -171,7 +173,8 @@ fn put_row(
     text.extend_from_slice(b"\n")
 }
 
-/// Whether the next frame follows one; or that it is not believed.
+/// `yes` if a frame is believed and the next one follows it one period later, `no` if it is
+/// believed and none does, and `unsupported` if it is not believed.
 fn answer<'a>(held: Option<bool>, is_followed: bool) -> &'a [u8]
     ensures { result.now ≡ answer_of held is_followed }
 {

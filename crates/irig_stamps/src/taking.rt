@@ -58,7 +58,8 @@ fn push_byte(lines: &mut Lines, byte: u8) -> Result<(), TakeFault>
     }
 }
 
-/// Ends the line so far.
+/// Ends the line so far: adds what comes out for it to the text, counts it, and makes it empty. If
+/// memory runs out, the line stays, and the text can have a part of what comes out.
 pub fn end_line(
     lines: &mut Lines,
     text: &mut Vec<u8>,
@@ -85,7 +86,7 @@ pub fn end_line(
     Ok(())
 }
 
-/// Takes some bytes.
+/// Takes some bytes, of the middle of a line or of many lines.
 pub fn take_part(
     lines: &mut Lines,
     text: &mut Vec<u8>,

@@ -12,10 +12,10 @@ use crate::settings::{Form, Settings};
 use irig_times::Time;
 use std::alloc::AllocError;
 
-/// The most digits of the seconds of a day.
+/// The most digits of a number of 64 bits.
 const ROOM: usize = 20;
 
-/// The decimal digit of a number that counts units.
+/// The decimal digit of a number, in ASCII, whose unit is 1, 10, 100 and so on.
 fn digit(unit: u64, number: u64) -> u8
     requires { 0 < unit }
     ensures { result ≡ digit_at unit number }
@@ -39,7 +39,7 @@ pub fn put_word(
     }
 }
 
-/// Adds a time in its form.
+/// Adds a time in the form of the settings.
 fn put_time(text: &mut Vec<u8>, settings: &Settings<'_>, time: &Time) -> Result<(), AllocError>
     requires century { settings.now.century ≤ 99 }
     requires year { IfSome settings.now.year (λ y. y ≤ 9998) }
@@ -94,7 +94,7 @@ fn put_calendar(text: &mut Vec<u8>, year: Option<u32>, time: &Time) -> Result<()
     }
 }
 
-/// Adds the seconds of the day, with six decimals.
+/// Adds the seconds since midnight, with six decimals.
 fn put_seconds(text: &mut Vec<u8>, time: &Time) -> Result<(), AllocError>
     ensures { OnOk result (text.new.items ≡ text.old.items ++ seconds_text time.now) }
 {
@@ -102,14 +102,14 @@ fn put_seconds(text: &mut Vec<u8>, time: &Time) -> Result<(), AllocError>
     text.extend_from_slice(&fraction(time.micros))
 }
 
-/// The whole seconds since midnight.
+/// The whole seconds since midnight. `micros` counts from the start of the minute.
 fn day_seconds(time: &Time) -> u64
     ensures { result ≡ day_seconds time.now }
 {
     3600 * time.hours as u64 + 60 * time.minutes as u64 + time.micros / 1_000_000
 }
 
-/// Adds a number in decimal.
+/// Adds a whole number in decimal.
 pub fn put_number(text: &mut Vec<u8>, number: u64) -> Result<(), AllocError>
     ensures { OnOk result (text.new.items ≡ text.old.items ++ decimal number) }
 {
@@ -118,7 +118,7 @@ pub fn put_number(text: &mut Vec<u8>, number: u64) -> Result<(), AllocError>
     text.extend_from_slice(&digits[start..])
 }
 
-/// A day of the year, as `DDD`.
+/// A day of the year, from 1, as `DDD`.
 fn day(days: u32) -> [u8; 3]
     ensures { result ≡ day_text days }
 {
@@ -142,7 +142,7 @@ fn date(month: u32, day: u32) -> [u8; 5]
     ]
 }
 
-/// The time of a day, as `Thh:mm:ss.ffffff`.
+/// The time of a day, as `Thh:mm:ss.ffffff`. `micros` counts from the start of the minute.
 fn clock(time: &Time) -> [u8; 16]
     ensures { result ≡ clock_text time.now }
 {
@@ -166,7 +166,7 @@ fn clock(time: &Time) -> [u8; 16]
     ]
 }
 
-/// The microseconds of a second, as `.ffffff`.
+/// The part of a second that some microseconds have, as `.ffffff`.
 fn fraction(micros: u64) -> [u8; 7]
     ensures { result ≡ fraction_text micros }
 {
