@@ -1,4 +1,5 @@
-//! Addresses, ranges and times of a script, read.
+//! Addresses, ranges and times of a script, read. A text that is none is a `BadLine`. Pulses count
+//! from 1, and times are in microseconds.
 
 ghost use Rattle.std.specs.Prelude.{◌≡◌, ◌<◌};
 ghost use Rattle.irig_saved.specs.Letters.{letter_word};
@@ -31,7 +32,7 @@ pub fn time(word: &[u8]) -> Result<Time, BadLine>
     }
 }
 
-/// What an address counts from.
+/// What an address counts from: the text before its offset. No text is the cursor.
 fn base(text: &[u8]) -> Result<Base, BadLine>
     ensures { Finds (IsBase text.now) result }
 {
@@ -43,7 +44,7 @@ fn base(text: &[u8]) -> Result<Base, BadLine>
     }
 }
 
-/// The offset of an address.
+/// The offset of an address: the text from its sign on. No text is 0, and a sign alone is 1.
 fn offset(text: &[u8]) -> Result<i64, BadLine>
     ensures { Finds (IsOffset text.now) result }
 {
@@ -69,7 +70,7 @@ pub fn address(text: &[u8]) -> Result<Address, BadLine>
     })
 }
 
-/// The address of what it counts from.
+/// An address without an offset.
 fn at(base: Base) -> Address
     ensures { result ≡ at base }
 {
@@ -87,7 +88,7 @@ pub fn address_or_cursor(text: &[u8]) -> Result<Address, BadLine>
     }
 }
 
-/// A range.
+/// A range: two addresses with a comma between them, or one; that of the cursor if there is none.
 pub fn range(text: &[u8]) -> Result<Range, BadLine>
     ensures { Finds (IsRange text.now) result }
 {
@@ -101,7 +102,8 @@ pub fn range(text: &[u8]) -> Result<Range, BadLine>
     }
 }
 
-/// What is before a comma and after it; a comma alone is between the first and the last.
+/// The addresses before a comma and after it; a comma alone is between the first pulse and the
+/// last.
 fn pair(first: &[u8], second: &[u8]) -> Result<(Address, Address), BadLine>
     ensures { Finds (λ p. IsPair first.now second.now p.0 p.1) result }
 {

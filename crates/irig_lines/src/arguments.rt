@@ -1,4 +1,5 @@
-//! The arguments of a line: times, moments, control functions and words that are known.
+//! The arguments of a line: times, moments, control functions and words that are known. A text that
+//! is none is a `BadLine`.
 
 ghost use Rattle.std.specs.Prelude.{◌≡◌, Some};
 ghost use Rattle.irig_moment.specs.Written.{moment_of};
@@ -32,7 +33,8 @@ pub fn moment(word: &[u8]) -> Result<Moment, BadLine>
     }
 }
 
-/// The control functions at the end of a line; 0 if there are none.
+/// The control functions at the end of a line, as a number whose lowest bit is the first; 0 if
+/// there are none.
 pub fn controls(text: &[u8]) -> Result<u64, BadLine>
     ensures { Finds (AreControls (words_of text.now)) result }
 {

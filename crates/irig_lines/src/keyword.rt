@@ -65,7 +65,7 @@ static WORDS: [(&[u8], Keyword); 24] = [
     (b"quit", Keyword::Quit),
 ];
 
-/// The word that a text is.
+/// The word that a text is; `Unknown` if it is not a valid word.
 pub fn keyword_of(text: &[u8]) -> Keyword
     ensures { result ≡ keyword_of text.now }
 {

@@ -1,4 +1,4 @@
-//! Numbers of a script.
+//! Numbers of a script. A text that is none is a `BadLine`.
 
 ghost use Rattle.std.specs.Prelude.{◌≡◌, ◌<◌, ◌^◌, IfOk};
 ghost use Rattle.irig_lines.specs.Findings.{Finds};
@@ -39,7 +39,7 @@ fn is_digit(byte: u8) -> bool
     matches!(byte, b'0'..=b'9')
 }
 
-/// The distance that a word is: a number with an optional sign.
+/// The distance in microseconds that a word is: a number with an optional sign.
 pub fn distance(word: &[u8]) -> Result<i64, BadLine>
     ensures { Finds (IsDistance word.now) result }
 {
@@ -49,7 +49,7 @@ pub fn distance(word: &[u8]) -> Result<i64, BadLine>
     }
 }
 
-/// A number after a sign.
+/// A number after a sign: below zero after a minus.
 pub fn signed(sign: u8, number: u64) -> i64
     requires { number < 2 ^ 63 }
     ensures sign { IsSigned sign result }
@@ -62,7 +62,7 @@ pub fn signed(sign: u8, number: u64) -> i64
     }
 }
 
-/// The control functions that a word of 1 to 12 hexadecimal digits is.
+/// The control functions that a word of 1 to 12 hexadecimal digits is: the lowest bit is the first.
 pub fn control(word: &[u8]) -> Result<u64, BadLine>
     ensures { Finds (IsControl word.now) result }
 {

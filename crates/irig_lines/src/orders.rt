@@ -1,4 +1,6 @@
-//! What a word asks for with a range and arguments.
+//! What a word asks for with a range and arguments. `front` is the text before the word, which is a
+//! range, an address or nothing, and `arguments` is the text after it. `BadLine` if one of them is
+//! not valid for the word.
 
 ghost use Rattle.std.specs.Prelude.{◌≡◌, [], OnOk, OnErr};
 ghost use Rattle.irig_lines.specs.{Findings.Finds, Addresses.IsRange, Commands.Asks};
@@ -11,7 +13,7 @@ use crate::numbers::{distance, number};
 use crate::range::Range;
 use crate::words::{no_word, one_word, split_word, two_words};
 
-/// Nothing, if there is no range.
+/// `Ok` if there is no range before the word.
 pub fn no_range(front: &[u8]) -> Result<(), BadLine>
     ensures ok { OnOk result (front.now ≡ []) }
     ensures err { OnErr result (front.now ≡ [] → ⊥) }
@@ -144,7 +146,7 @@ pub fn regen(front: &[u8], arguments: &[u8]) -> Result<Command, BadLine>
     frames(arguments)
 }
 
-/// A range, if there is no argument.
+/// The range before a word that takes no argument.
 fn ranged(front: &[u8], arguments: &[u8]) -> Result<Range, BadLine>
     ensures { Finds (λ r. IsRange front.now r × (words_of arguments.now ≡ [])) result }
 {
@@ -152,7 +154,8 @@ fn ranged(front: &[u8], arguments: &[u8]) -> Result<Range, BadLine>
     range(front)
 }
 
-/// What the arguments of `regen` ask for.
+/// What the arguments of `regen` ask for: a time, how many frames, the moment of the first one, and
+/// maybe control functions.
 fn frames(arguments: &[u8]) -> Result<Command, BadLine>
     ensures { Finds (Asks Keyword.Regen [] (words_of arguments.now)) result }
 {

@@ -29,7 +29,7 @@ pub fn parse_line(line: &[u8]) -> Result<Command, BadLine>
     }
 }
 
-/// Whether there is nothing, or a comment.
+/// Whether a text is empty, or a comment.
 fn is_nothing(text: &[u8]) -> bool
     ensures { result ≡ is_nothing text.now }
 {
@@ -45,8 +45,8 @@ fn in_text(text: &[u8]) -> Result<Command, BadLine>
     asked(range, keyword_of(word), arguments)
 }
 
-/// The front of a text up to where a range ends, and what is after it: a text that is a range
-/// and what may follow it is cut between them.
+/// Cuts a text into a range and what is after it: before the first white space or small letter. A
+/// letter after an apostrophe does not count, since it is the name of a mark.
 fn split_range(text: &[u8]) -> (&[u8], &[u8])
     ensures whole { text.now ≡ result.0.now ++ result.1.now }
     ensures cut { (range : List ℕ) → (rest : List ℕ) → (r : Range) → text.now ≡ range ++ rest
@@ -62,14 +62,14 @@ fn split_range(text: &[u8]) -> (&[u8], &[u8])
     (&text[..at], &text[at..])
 }
 
-/// Whether a byte ends a range, after an apostrophe or not.
+/// Whether a byte ends a range. `quoted` says that an apostrophe is before it.
 fn ends_range(quoted: bool, byte: u8) -> bool
     ensures { result ≡ (is_space byte || (not quoted && is_letter byte)) }
 {
     is_space(byte) || !quoted && byte.is_ascii_lowercase()
 }
 
-/// What a range, a word and arguments ask for.
+/// What a range (`front`), a word and the arguments after it ask for.
 fn asked(front: &[u8], word: Keyword, arguments: &[u8]) -> Result<Command, BadLine>
     ensures { Finds (Asks word front.now (words_of arguments.now)) result }
 {
@@ -106,7 +106,7 @@ fn asked_alone(front: &[u8], word: Keyword, arguments: &[u8]) -> Result<Command,
     Ok(alone(word))
 }
 
-/// What a word asks for that is alone in a line.
+/// What a word asks for that is alone in a line: one of those below, `quit` being the last.
 fn alone(word: Keyword) -> Command
     requires { IsAlone word }
     ensures { Asks word [] [] result }

@@ -1,4 +1,4 @@
-//! The words of a line.
+//! The words of a line. A text with other words than asked for is a `BadLine`.
 
 ghost use Rattle.std.specs.Prelude.{◌≡◌, ℕ, List, [], ◌∷◌, IfOk, OnOk, OnErr};
 ghost use Rattle.irig_lines.specs.Words.{words_of, word_and, before, onward};
@@ -17,7 +17,7 @@ pub fn split_word(text: &[u8]) -> (&[u8], &[u8])
     cut(text, Until::Blank)
 }
 
-/// Nothing, if there is no word.
+/// `Ok` if a text has no word.
 pub fn no_word(text: &[u8]) -> Result<(), BadLine>
     ensures ok { OnOk result (words_of text.now ≡ []) }
     ensures err { OnErr result (words_of text.now ≡ [] → ⊥) }
