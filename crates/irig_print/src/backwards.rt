@@ -1,4 +1,5 @@
-//! Texts that are written in front of others, from the last to the first.
+//! Texts that are written in front of others, from the last to the first. `end` is the place after
+//! the last byte that is written.
 
 ghost use Rattle.std.specs.Prelude.{◌≡◌, ◌≤◌, ◌+◌, ◌++◌, ◌∷◌, length, drop, decimal};
 

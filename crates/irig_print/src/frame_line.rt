@@ -83,7 +83,7 @@ fn put_clock(row: &mut Row, fields: &Fields)
     row.put_padded(2, fields.seconds);
 }
 
-/// Writes the day and the time of day.
+/// Writes the day of the year, with three digits, and the time of day.
 pub fn put_time(row: &mut Row, fields: &Fields)
     requires room { length row.old ≤ 80 }
     ensures text { row.new ≡ row.old ++ time_text fields.now }
@@ -95,7 +95,7 @@ pub fn put_time(row: &mut Row, fields: &Fields)
     put_hundredths(row, fields.hundredths);
 }
 
-/// Writes the parts that some expressions carry.
+/// Writes the parts that only some expressions carry: year, seconds of the day, control functions.
 fn put_parts(row: &mut Row, fields: &Fields)
     requires room { length row.old ≤ 140 }
     ensures text { row.new ≡ row.old ++ parts_text fields.now }
@@ -115,7 +115,8 @@ fn put_parts(row: &mut Row, fields: &Fields)
     }
 }
 
-/// Writes what is reported of a frame.
+/// Writes what is reported of a frame: the element, from 0, at which it is broken and why, or its
+/// time with what is noted of it.
 pub fn put_verdict(row: &mut Row, verdict: &Verdict)
     requires room { length row.old ≤ 80 }
     ensures text { row.new ≡ row.old ++ verdict_text verdict.now }

@@ -12,7 +12,8 @@ use irig_recording::Pulse;
 /// letters with a newline.
 pub const LINE_ROOM: usize = 72;
 
-/// Writes the line of a pulse with its number so that it ends at `end`, and gives where it starts.
+/// Writes the line of a pulse so that it ends at `end`, and gives where it starts: its number, its
+/// rise and its fall in microseconds, and the word of the element that its width means.
 pub fn write_pulse(bytes: &mut [u8], end: usize, format: Format, number: u64, pulse: Pulse) -> usize
     requires { (72 ≤ end) × (end ≤ length bytes.old) }
     ensures start { (end ≤ result + 72) × (result ≤ length bytes.old) }
@@ -28,6 +29,8 @@ pub fn write_pulse(bytes: &mut [u8], end: usize, format: Format, number: u64, pu
 }
 
 /// Writes the word of a class and a newline so that they end at `end`, and gives where they start.
+/// All eight bytes of `letters` are written; the word is those from `start` on, and what comes
+/// before it in the line is written over the others.
 #[inline(always)]
 fn write_class(bytes: &mut [u8], end: usize, class: Option<Element>) -> usize
     requires { (9 ≤ end) × (end ≤ length bytes.old) }

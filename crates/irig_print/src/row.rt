@@ -62,7 +62,7 @@ impl Row {
         self.len = 0;
     }
 
-    /// Writes bytes at the end.
+    /// Writes bytes at the end. There has to be room for them: a line has at most 256 bytes.
     pub fn put(&mut self, text: &[u8])
         requires room { length self.old + length text.now ≤ 256 }
         ensures text { self.new ≡ self.old ++ text.now }
@@ -83,7 +83,8 @@ impl Row {
         self.put(&digits[start..]);
     }
 
-    /// Writes a number in decimal, with zeros in front if it has fewer digits than `width`.
+    /// Writes a number in decimal, with zeros in front if it has fewer digits than `width`, which
+    /// is at most 3.
     pub fn put_padded(&mut self, width: usize, number: u32)
         requires narrow { width ≤ 3 }
         requires room { length self.old ≤ 246 }
@@ -116,7 +117,7 @@ impl Row {
     }
 }
 
-/// The byte of a hexadecimal digit.
+/// The byte of a hexadecimal digit: 48 is `0`, and 87 is ten before `a`.
 fn glyph(digit: u64) -> u8
     requires { digit < 16 }
     ensures { result ≡ digit_glyph false digit }
