@@ -34,14 +34,14 @@ impl<'a> Changes<'a> {
         ensures places { AreChanges (shown_frames before.now) (shown_frames after.now) result }
         ensures few { length result < 2 ^ 32 }
     {
-        // Read for their laws alone.
+        // The counts are not used: what the calls promise of the frames is.
         let _counts = (before.len(), after.len());
         Changes {
             sides: SidesLeft::between(before, after),
         }
     }
 
-    /// The next frame that differs, on both sides.
+    /// The next frame that differs, on both sides; `None` if none is left.
     pub fn next(&mut self) -> Option<Sides>
         ensures { MatchOption result ((self.old ≡ []) × (self.new ≡ []))
             (λ s. self.old ≡ s ∷ self.new) }

@@ -19,7 +19,9 @@ use std::marker::Model;
 /// frame. The last line has the numbers of frames.
 #[derive(Drop)]
 pub struct CommentedPatch<'a> {
+    // Whether the note with the two lengths was written.
     is_told: bool,
+    // The lengths of the two recordings, in microseconds.
     before: u64,
     after: u64,
     left: LinesLeft<'a>,
@@ -35,8 +37,8 @@ impl<'a> Model for CommentedPatch<'a> {
 }
 
 impl<'a> CommentedPatch<'a> {
-    /// The patch that makes the one recording of the other, with comments. Both frames are of one
-    /// format.
+    /// The patch that makes the recording after of the one before, with comments. Both frames are
+    /// of one format.
     pub fn between(before: &'a Framed, after: &'a Framed) -> CommentedPatch<'a>
         requires { before.now.format ≡ after.now.format }
         ensures text { result ≡ commented_text before.now after.now }
@@ -50,7 +52,7 @@ impl<'a> CommentedPatch<'a> {
         // Nothing is written of two recordings that are the same, and of no others.
         ensures same { result ≡ [] ↔ before.now.recording ≡ after.now.recording }
     {
-        // Read for their laws alone.
+        // The counts are not used: what the calls promise of the frames is.
         let _counts = (before.len(), after.len());
         CommentedPatch {
             is_told: false,
@@ -64,6 +66,7 @@ impl<'a> CommentedPatch<'a> {
 impl Text for CommentedPatch<'_> {
     ghost rest = { λ p. p };
 
+    // Writes the next lines, until the block has `enough` bytes. Returns whether none is left.
     fn fill(&mut self, block: &mut Vec<u8>, enough: usize) -> Result<bool, AllocError> {
         if !self.is_told {
             put_note(block, self.before, self.after)?;

@@ -1,4 +1,4 @@
-//! The comment on the frames at one place.
+//! The comment on the frames at one place. A place is when a frame's marker rises, in microseconds.
 
 ghost use Rattle.std.specs.Prelude.{◌≡◌, ◌++◌, OnOk};
 ghost use Rattle.irig_comments.specs.Comments.{after_text, before_text, comment_text, whole_text};
@@ -20,7 +20,7 @@ pub(crate) fn put_comment(block: &mut Vec<u8>, sides: &Sides) -> Result<(), Allo
     block.extend_from_slice(b"\n")
 }
 
-/// Writes the frame before.
+/// Writes the frame before, or that there is none.
 fn put_before(block: &mut Vec<u8>, before: &Option<Shown>) -> Result<(), AllocError>
     ensures { OnOk result (block.new.items ≡ block.old.items ++ before_text before.now) }
 {

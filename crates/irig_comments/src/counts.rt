@@ -25,7 +25,7 @@ pub struct Counts {
 }
 
 impl Counts {
-    /// The numbers of two recordings.
+    /// Counts the frames of two recordings, and those that differ.
     pub fn between(before: &Framed, after: &Framed) -> Counts
         ensures { result ≡ counts_between before.now after.now }
     {

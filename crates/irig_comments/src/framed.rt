@@ -40,7 +40,7 @@ impl Framed {
         let track = Track::new(recording)?;
         let recording = track.recording(alloc)?;
         let index = Index::build(alloc, &mut track.lens(), format)?;
-        // Read for its law alone.
+        // The count is not used: what the call promises of the track is.
         let _count = track.len();
         Ok(Framed {
             recording,
@@ -64,12 +64,12 @@ impl Framed {
         ensures order { FramesRise 0 (shown_frames self.now) }
         ensures framed { IsFramed self.now }
     {
-        // Read for its law alone.
+        // The count is not used: what the call promises of the track is.
         let _count = self.track.len();
         self.index.len()
     }
 
-    /// The frame at a place of their list, from 0, if there is one.
+    /// The frame with this index in their list, from 0; `None` if there is none.
     pub(crate) fn shown(&self, place: usize) -> Option<Shown>
         ensures value { result ≡ slice_get (shown_frames self.now) place }
         ensures few { IfSome result (λ s. place < 2 ^ 31) }

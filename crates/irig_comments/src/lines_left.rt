@@ -57,7 +57,7 @@ impl<'a> LinesLeft<'a> {
         }
     }
 
-    /// Writes the next line. Returns whether none is left.
+    /// Writes the next line, if one is left. Returns whether none is left after it.
     pub fn put_next(&mut self, block: &mut Vec<u8>) -> Result<bool, AllocError>
         ensures bytes { OnOk result (block.new.items ++ self.new ≡ block.old.items ++ self.old) }
         ensures end { IfOk result (λ ended. ended ≡ true → self.new ≡ []) }
@@ -78,7 +78,8 @@ impl<'a> LinesLeft<'a> {
     }
 }
 
-/// The next change, if no stretch comes before it.
+/// The next change, if its comment comes next: no stretch is left, or the next one ends at or after
+/// the place of the frame.
 fn first_change(change: &Option<Sides>, stretch: &Option<Pulse>) -> Option<Sides>
     ensures { result ≡ first_change change.now stretch.now }
 {
@@ -95,7 +96,8 @@ fn first_change(change: &Option<Sides>, stretch: &Option<Pulse>) -> Option<Sides
     }
 }
 
-/// The last line, if the recordings differ: in their lengths, or in the first stretch.
+/// The last line; `None` if the recordings are the same, in their lengths and in all stretches,
+/// since nothing is written then.
 fn last_of(before: &Framed, after: &Framed, stretch: &Option<Pulse>) -> Option<Counts>
     ensures { result ≡ last_if before.now after.now stretch.now }
 {
@@ -106,7 +108,7 @@ fn last_of(before: &Framed, after: &Framed, stretch: &Option<Pulse>) -> Option<C
     }
 }
 
-/// Writes the last line, unless it was written. None is left then.
+/// Writes the last line, if there is one and it was not written. Returns `true`: none is left.
 fn put_last(block: &mut Vec<u8>, last: &mut Option<Counts>) -> Result<bool, AllocError>
     ensures bytes { OnOk result
         (block.new.items ++ last_left last.new ≡ block.old.items ++ last_left last.old) }

@@ -1,4 +1,5 @@
-//! The frames of two recordings at one place.
+//! The frames of two recordings at one place. A place is when the marker of a frame rises, in
+//! microseconds.
 
 ghost use Rattle.std.specs.Prelude.{◌≡◌, ◌↔◌, ◌==◌, IsTrue};
 ghost use Rattle.irig_comments.specs.Same.{cause_number, name_number, same_fields, same_note};
@@ -31,7 +32,7 @@ impl Sides {
         }
     }
 
-    /// Their place: when the markers rise, in microseconds.
+    /// Their place: when the markers rise, in microseconds, both at once if there are two.
     pub(crate) fn place(&self) -> u64
         ensures { result ≡ place self.now }
     {
@@ -125,7 +126,7 @@ fn is_same_note(one: &Note, other: &Note) -> bool
     }
 }
 
-/// The number of a field.
+/// A number for each field, so that two fields can be compared.
 fn number_of(name: Name) -> u8
     ensures { result ≡ name_number name }
 {
