@@ -55,7 +55,8 @@ impl<'a> Differences<'a> {
         }
     }
 
-    /// The next stretch.
+    /// The next stretch, from the microsecond at which the levels begin to differ to the one at
+    /// which they are the same again; `None` if none is left.
     pub fn next(&mut self) -> Option<Pulse>
         ensures { MatchOption result ((self.old ≡ []) × (self.new ≡ []))
             (λ stretch. self.old ≡ stretch ∷ self.new) }
@@ -66,7 +67,8 @@ impl<'a> Differences<'a> {
     }
 }
 
-/// Takes the first edge that only one of two rising lists has.
+/// Takes the first edge that only one of two rising lists has, in microseconds. An edge that both
+/// have changes nothing in whether they differ.
 fn next_edge(before: &mut EdgesLeft<'_>, after: &mut EdgesLeft<'_>) -> Option<u64>
     requires before { RisesFrom 0 before.old }
     requires after { RisesFrom 0 after.old }

@@ -8,7 +8,8 @@ use irig_gap::Gap;
 use irig_recording::Pulse;
 use std::marker::Model;
 
-/// The edges of pulses that are still to come. The pulses are left of their buffer's place.
+/// The edges of pulses that are still to come, in microseconds. A `Gap` keeps its items left and
+/// right of a place; here all pulses are left of it.
 #[derive(Drop)]
 pub struct EdgesLeft<'a> {
     pulses: &'a Gap<Pulse>,
@@ -43,7 +44,7 @@ impl<'a> EdgesLeft<'a> {
         }
     }
 
-    /// The next edge.
+    /// The next edge, if one is left.
     #[inline(always)]
     pub fn first(&self) -> Option<u64>
         ensures { result ≡ slice_get self.now 0 }
@@ -55,13 +56,13 @@ impl<'a> EdgesLeft<'a> {
         Some(if self.is_high { next.fall } else { next.rise })
     }
 
-    /// Goes past the next edge.
+    /// Goes past the next edge, which has to be there.
     #[inline(always)]
     pub fn pass(&mut self)
         requires { 0 < length self.old }
         ensures { self.new ≡ drop 1 self.old }
     {
-        // Read for its bound alone.
+        // The count is not used: what the call promises bounds the pulses.
         let _count = self.pulses.gap_at();
         if self.is_high {
             self.past += 1;
@@ -71,7 +72,8 @@ impl<'a> EdgesLeft<'a> {
         }
     }
 
-    /// Goes past the pulses that both begin with, if both are between pulses.
+    /// Goes past the pulses that both begin with, two edges at a time, if the next edge of both is
+    /// a rise.
     pub fn pass_common(&mut self, other: &mut EdgesLeft<'_>)
         ensures { PassCommon self.old self.new other.old other.new }
     {
@@ -84,7 +86,8 @@ impl<'a> EdgesLeft<'a> {
     }
 }
 
-/// How many of the same pulses two buffers have, from these places on and left of their own ones.
+/// How many of the same pulses two buffers have, from the places `i` and `j` on. Both are left of
+/// their buffer's own place.
 fn common(before: &Gap<Pulse>, i: usize, after: &Gap<Pulse>, j: usize) -> usize
     requires before { i ≤ before.now.place }
     requires after { j ≤ after.now.place }

@@ -17,7 +17,9 @@ const ROOM: usize = 21;
 /// one stretch in which they differ. If their lengths differ, a comment before them has both.
 #[derive(Drop)]
 pub struct PatchText<'a> {
+    // Whether the comment with the two lengths was written.
     is_told: bool,
+    // The two lengths, in microseconds.
     before: u64,
     after: u64,
     left: Differences<'a>,
@@ -33,7 +35,7 @@ impl<'a> Model for PatchText<'a> {
 }
 
 impl<'a> PatchText<'a> {
-    /// The patch that makes the one recording of the other.
+    /// The patch that makes the recording after of the one before.
     pub fn between(before: &'a Recording, after: &'a Recording) -> PatchText<'a>
         ensures text { result ≡ patch_text before.now after.now }
         // Nothing is written of two recordings that are the same, and of no others.
@@ -51,6 +53,7 @@ impl<'a> PatchText<'a> {
 impl Text for PatchText<'_> {
     ghost rest = { λ p. p };
 
+    // Writes the next lines, until the block has `enough` bytes. Returns whether none is left.
     fn fill(&mut self, block: &mut Vec<u8>, enough: usize) -> Result<bool, AllocError> {
         if !self.is_told {
             put_note(block, self.before, self.after)?;
@@ -60,7 +63,7 @@ impl Text for PatchText<'_> {
     }
 }
 
-/// Writes the comment with two lengths, unless they are the same.
+/// Writes the comment with two lengths in microseconds, unless they are the same.
 pub fn put_note(block: &mut Vec<u8>, before: u64, after: u64) -> Result<(), AllocError>
     ensures { OnOk result (block.new.items ≡ block.old.items ++ length_note before after) }
 {
