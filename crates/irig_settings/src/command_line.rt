@@ -1,4 +1,5 @@
-//! The command line, read by `clap`.
+//! The command line, read by `clap`. Its matches are what `clap` found in its words. Only memory
+//! can run out for a `Command` or an `Arg`.
 
 ghost use Rattle.std.specs.Prelude.{◌≡◌, IfErr, IfOk, None, false, codes, map, string_bytes};
 ghost use Rattle.clap.specs.Words.{Rule, app_of, found_of, new_app, rule_of, with_rule};
@@ -13,8 +14,10 @@ use clap::{Arg, ArgMatches, Command, Error};
 use irig_words::{format_named, matches_of, needed_arg, option_arg};
 use std::alloc::{AllocError, Global};
 
+/// The letters that `--format` takes.
 static LETTERS: [&str; 4] = ["A", "B", "E", "G"];
 
+/// The digits that `--expression` takes; some formats permit fewer.
 static DIGITS: [&str; 8] = ["0", "1", "2", "3", "4", "5", "6", "7"];
 
 /// What the words of a command line ask for, the program's name being the first.
@@ -34,7 +37,7 @@ pub fn not_text(alloc: Global) -> Error
     irig_words::not_text(command(alloc))
 }
 
-/// What the matches ask for.
+/// What the matches of a command line that `clap` accepts ask for.
 fn chosen_of<'a>(matches: &ArgMatches<'a>) -> Result<Settings<'a>, UsageFault>
     ensures { Chooses (found_of matches.now) result }
 {
@@ -43,6 +46,7 @@ fn chosen_of<'a>(matches: &ArgMatches<'a>) -> Result<Settings<'a>, UsageFault>
         Err(_) => return Err(UsageFault::BadExpression),
     };
     let Some(track) = matches.get_str("TRACK") else {
+        // `clap` accepts no line without the track, so this does not come.
         return Err(UsageFault::Words(AllocError.into()));
     };
     Ok(Settings {
@@ -75,7 +79,7 @@ fn command<'a>(alloc: Global) -> Result<Command<'a>, AllocError>
         .arg(track_arg(alloc))
 }
 
-/// Its options that say how the track is read.
+/// The command with all options that say how the track is read.
 fn reading<'a>(alloc: Global) -> Result<Command<'a>, AllocError>
     ensures { IfOk result (λ c. IsReading (app_of c)) }
 {
@@ -91,7 +95,7 @@ fn reading<'a>(alloc: Global) -> Result<Command<'a>, AllocError>
     ))
 }
 
-/// The first two of them: the wire and the letter of the format.
+/// The command with the first two options: the wire, and the letter of the format.
 fn lettered<'a>(alloc: Global) -> Result<Command<'a>, AllocError>
     ensures { IfOk result (λ c. (format : Rule) × IsChoice (codes "format") letters format
         × (app_of c ≡ with_rule
