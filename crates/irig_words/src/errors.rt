@@ -8,8 +8,9 @@ use clap::error::ErrorKind;
 use clap::{ArgMatches, Command, Error};
 use std::alloc::AllocError;
 
-/// The matches of the words of a command line, the program's name being the first, if the command
-/// takes them. None of its arguments has a rule on another.
+/// The matches of the words of a command line, the program's name being the first: what `clap`
+/// found in them. An error says which mistake they have, has the help that was asked for, or says
+/// that memory ran out. None of the command's arguments has a rule on another.
 pub fn matches_of<'a>(command: Command<'a>, words: &'a [String]) -> Result<ArgMatches<'a>, Error>
     requires { is_simple_and_free (app_of command) ≡ true }
     ensures parsed { IfOk result
@@ -20,7 +21,8 @@ pub fn matches_of<'a>(command: Command<'a>, words: &'a [String]) -> Result<ArgMa
     command.try_get_matches_from(words)
 }
 
-/// What `clap` says of an argument that is not UTF-8, by a command or the lack of memory for it.
+/// What `clap` says of an argument that is not UTF-8. `command` is the program's own, or it says
+/// that memory ran out for it: then that is what is said.
 pub fn not_text(command: Result<Command<'_>, AllocError>) -> Error
     ensures { IsMistake result }
 {

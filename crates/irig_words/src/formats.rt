@@ -34,7 +34,7 @@ pub fn format_named(letter: Option<&str>, number: Option<&str>) -> Result<Format
     }
 }
 
-/// The bytes of an option, or others if it is not given.
+/// The bytes of an option's value, or `other` if it is not given.
 pub fn text_or<'a>(value: Option<&'a str>, other: &'a str) -> &'a [u8]
     ensures { result.now ≡ text_or value.entry other.entry.now }
 {

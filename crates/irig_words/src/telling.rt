@@ -1,4 +1,5 @@
-//! What a program says of itself, and the statuses with which it ends.
+//! What a program says of itself, and the statuses with which it ends. `rt` prints on standard
+//! error. Status 2 is a mistake in the command line.
 
 ghost use Rattle.std.specs.Prelude.{◌≡◌};
 ghost use Rattle.std.specs.Process.{exit_status};
@@ -29,7 +30,7 @@ pub struct Program<'a> {
 }
 
 impl<'a> Program<'a> {
-    /// Says why the program ends with a status.
+    /// Says on standard error why the program ends with a status, and returns the status.
     pub fn tell<R: Eprint, T: Display>(&self, rt: &R, status: u8, why: &T) -> ExitCode
         ensures { exit_status result ≡ status }
     {
@@ -38,7 +39,8 @@ impl<'a> Program<'a> {
         ExitCode::from(status)
     }
 
-    /// Says of a path why the program ends with a status.
+    /// Says on standard error why the program ends with a status, with the path that it is about,
+    /// and returns the status.
     pub fn tell_of<R: Eprint, T: Display>(
         &self,
         rt: &R,
@@ -53,8 +55,8 @@ impl<'a> Program<'a> {
         ExitCode::from(status)
     }
 
-    /// Says why there are no words, by the command that would take them or the lack of memory for
-    /// it.
+    /// Says why the words of the command line could not be read: one of them is not UTF-8, or the
+    /// system gave none. `command` is the program's own, or it says that memory ran out for it.
     pub fn tell_no_words<R: Eprint>(
         &self,
         rt: &R,
@@ -112,7 +114,7 @@ impl<'a> Program<'a> {
     }
 }
 
-/// Says which mistake the words have.
+/// Says which mistake the words have, in the words of `clap`.
 fn tell_mistake<R: Eprint>(rt: &R, error: &Error) -> ExitCode
     ensures { exit_status result ≡ 2 }
 {
