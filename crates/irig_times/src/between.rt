@@ -1,4 +1,8 @@
-//! The pulses between two frames that have a time.
+//! The pulses between two frames that have a time. A part is pulses in a row, as elements of one
+//! frame whose time is known. Pulses and elements count from 0. `from` and `to` are two believed
+//! frames, `to` the next after `from` of those that have a time; `missing` is what frames have to
+//! be between them by their times. A frame is believed if another one near it supports its time.
+//! Pulses are in step if each rises one interval after the one before.
 
 ghost use Rattle.std.specs.Prelude.{◌≡◌, ◌≤◌, ◌<◌, ◌+◌, ◌-◌, ◌^◌, IfSome, min, slice_get};
 ghost use Rattle.irig_codes.specs.Format.{frame_period_of};
@@ -16,7 +20,7 @@ use crate::time::Time;
 use irig_codes::Format;
 use irig_track::Lens;
 
-/// The first pulses after a part.
+/// The first `count` pulses after a part, as the first elements of a frame of this time.
 pub fn head_of(part: &Part, count: usize, time: Time) -> Part
     requires { part.now.number + part.now.count < 2 ^ 32 }
     ensures { result ≡ head_of part.now count time }
@@ -29,7 +33,7 @@ pub fn head_of(part: &Part, count: usize, time: Time) -> Part
     }
 }
 
-/// The last pulses before a part.
+/// The last `count` pulses before a part, as the last elements of a frame of this time.
 pub fn tail_of(part: &Part, count: usize, time: Time) -> Part
     requires { (count ≤ part.now.number) × (count ≤ 100) }
     ensures { result ≡ tail_of part.now count time }
@@ -80,8 +84,8 @@ fn sides(
     sides_by(from, to, head, tail, missing, in_step)
 }
 
-/// The parts between two, of some pulses after the first and some before the second, if no pulse is
-/// of both.
+/// The parts of the first `head` pulses after a part and the last `tail` before another, or none if
+/// a pulse would be of both. If the two sides meet out of step, one pulse has no time.
 fn sides_by(
     from: &Part,
     to: &Part,
@@ -106,7 +110,8 @@ fn sides_by(
     ))
 }
 
-/// Whether two sides that do not meet in step are all that one or two missing frames have.
+/// Whether two sides that do not meet in step are together all pulses of one or two missing frames:
+/// the recorder slipped where they meet, so the time must not go on there.
 fn is_seam(in_step: bool, gap: usize, head: usize, tail: usize) -> bool
     requires { (head ≤ 100) × (tail ≤ 100) }
     ensures { result ≡ is_seam in_step gap head tail }
@@ -114,7 +119,7 @@ fn is_seam(in_step: bool, gap: usize, head: usize, tail: usize) -> bool
     !in_step && head + tail == gap && (gap == 100 || gap == 200)
 }
 
-/// How many pulses of the first side have a time.
+/// How many pulses of the first side have a time: its last one has none at a slip.
 fn head_left(seam: bool, head: usize) -> usize
     ensures left { result ≡ head_left seam head }
     ensures few { result ≤ head }
@@ -122,7 +127,8 @@ fn head_left(seam: bool, head: usize) -> usize
     if seam { head.saturating_sub(1) } else { head }
 }
 
-/// How many pulses of the second side have a time.
+/// How many pulses of the second side have a time: its first one has none at a slip, if the first
+/// side has no pulse.
 fn tail_left(seam: bool, head: usize, tail: usize) -> usize
     ensures left { result ≡ tail_left seam head tail }
     ensures few { result ≤ tail }
@@ -148,7 +154,8 @@ fn kept(is_one: bool, count: usize, other: usize) -> usize
     }
 }
 
-/// The frames that are missing between two parts, whose frames begin with their first pulses.
+/// The frames that are missing between two, whose times must be as many periods apart as their
+/// markers, to the nearest period; else `None`. `century` is 20 for 2000 to 2099.
 pub fn missing_by(
     pulses: &mut Lens<'_>,
     format: Format,
@@ -177,7 +184,8 @@ pub fn missing_by(
     }
 }
 
-/// The parts between two, if some pulses after the first and some before the second are in step.
+/// The parts between two, if `after` pulses after the first are in step and `before` ones before
+/// the second.
 pub fn sides_at(
     pulses: &mut Lens<'_>,
     format: Format,
@@ -206,7 +214,8 @@ pub fn min(one: usize, other: usize) -> usize
     if one <= other { one } else { other }
 }
 
-/// What is counted between a frame and the one before it, if both are believed, or before the first.
+/// What is counted between a frame and the one before it (`from`): `None` if one of them is not
+/// believed, which is a part without pulses. Without a frame before it, what is counted before it.
 pub fn sides_before(
     pulses: &mut Lens<'_>,
     format: Format,

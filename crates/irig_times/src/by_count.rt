@@ -1,4 +1,4 @@
-//! The time of a microsecond by the pulses whose time is known.
+//! The time of a microsecond by the pulses whose time is known. Pulses and elements count from 0.
 
 ghost use Rattle.std.specs.Prelude.{◌≡◌, ◌↔◌, ◌<◌, ◌≤◌, ◌+◌, ◌*◌, ◌^◌, ℕ, IsTrue, length, Some};
 ghost use Rattle.irig_track.specs.Looks.{LookedThrough};
@@ -15,8 +15,8 @@ use irig_track::Lens;
 /// The picoseconds of a microsecond.
 const PICOS: u64 = 1_000_000;
 
-/// The time of year some picoseconds after the start of a track, if the pulses before and after it
-/// have a time, one interval apart.
+/// The time of year some picoseconds after the start of a track. `None` unless the pulse before it
+/// and the next one have times, one interval apart: between them the time goes evenly.
 ///
 /// The years of two digits are of this century: 20 for 2000 to 2099.
 pub fn time_by(
@@ -50,7 +50,8 @@ pub fn time_by(
     Some(shared(format, &place, picos - PICOS * from, to - from))
 }
 
-/// Whether the pulse after that of a number has the time one interval later.
+/// Whether the pulse after the one of a number, which is `place` in its frame, has the time one
+/// interval later: as the next element, or as the first of a frame one period later.
 fn goes_on(parts: &[Part], format: Format, century: u32, number: usize, place: &Place) -> bool
     requires parts { (n : ℕ) × AreParts format 0 n parts.now }
     requires century { century ≤ 99 }
@@ -69,8 +70,8 @@ fn goes_on(parts: &[Part], format: Format, century: u32, number: usize, place: &
     }
 }
 
-/// The time when some picoseconds of the interval of an element are over, which is `whole`
-/// microseconds long.
+/// The time when `part` picoseconds of the interval of an element are over, which is recorded as
+/// `whole` microseconds long.
 fn shared(format: Format, place: &Place, part: u64, whole: u64) -> Time
     requires order { part < 1000000 * whole }
     requires small { whole ≤ 2 ^ 41 }
@@ -84,7 +85,8 @@ fn shared(format: Format, place: &Place, part: u64, whole: u64) -> Time
     later_by(&place.time, place.element as u64 * interval + over)
 }
 
-/// How much of an interval is over, if these microseconds and picoseconds of `whole` are.
+/// How many microseconds of a nominal interval are over, if these microseconds and picoseconds of
+/// the recorded one are, which is `whole` microseconds long. Rounded down.
 fn share(interval: u64, micros: u64, picos: u64, whole: u64) -> u64
     requires interval { interval ≤ 100000 }
     requires picos { picos < 1000000 }

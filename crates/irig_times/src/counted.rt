@@ -1,4 +1,7 @@
-//! All pulses of a track that have a time.
+//! All pulses of a track that have a time. A part is pulses in a row, as elements of one frame
+//! whose time is known. A frame that has a time and is not believed is a part without pulses. A
+//! frame is believed if another one near it supports its time. Pulses next to it are counted if
+//! they are in step with it: as elements of the frame before it or after it.
 
 ghost use Rattle.std.specs.Prelude.{[], ◌≡◌, ◌≤◌, ◌<◌, ◌++◌, ◌∷◌, IfOk, None, OnOk, Some, length};
 ghost use Rattle.irig_index.specs.Frames.{frames};
@@ -17,7 +20,8 @@ use irig_codes::Format;
 use irig_track::Lens;
 use std::alloc::{AllocError, Global};
 
-/// All pulses of a track that have a time: of each record `held` says whether its frame is believed.
+/// All pulses of a track that have a time, as parts in order: of each record, which is a frame of
+/// the track, `held` says whether it is believed.
 ///
 /// The years of two digits are of this century: 20 for 2000 to 2099.
 pub fn timed_parts(
@@ -40,7 +44,8 @@ pub fn timed_parts(
     counted_parts(alloc, pulses, &whole, format, century)
 }
 
-/// The frames of a track that are believed, and the pulses that are counted from them.
+/// The pulses of the frames that are believed, and those that are counted next to them. `whole` is
+/// all frames that have a time.
 fn counted_parts(
     alloc: Global,
     pulses: &mut Lens<'_>,
@@ -54,7 +59,7 @@ fn counted_parts(
         ≡ filled format century pulses.old.track.pulses None whole.now) }
     ensures pulses { pulses.new.track ≡ pulses.old.track }
 {
-    // Read for its bound alone.
+    // The count is not used: what the call promises bounds the pulses.
     let _count = pulses.len();
     let mut list = Vec::new(alloc);
     let mut before = None;
@@ -80,7 +85,9 @@ fn part_at(parts: &[Part], place: usize) -> Option<Part>
     }
 }
 
-/// Adds what is known of a frame to a list, and what is counted before it.
+/// Adds to a list what is counted before a frame, and what the frame keeps of its own pulses: only
+/// a part of them if the time jumps before it or after it. `before` and `next` are the frames
+/// before it and after it.
 fn put_frame(
     list: &mut Vec<Part>,
     pulses: &mut Lens<'_>,
@@ -110,7 +117,7 @@ fn put_frame(
     Ok(())
 }
 
-/// What is counted before a frame, if the time does not jump there.
+/// What is counted before a frame; nothing if the time jumps there.
 fn sides_without(
     pulses: &mut Lens<'_>,
     format: Format,

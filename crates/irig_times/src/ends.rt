@@ -1,4 +1,4 @@
-//! The pulses at the two ends of a track that have a time.
+//! The pulses at the two ends of a track that have a time. A pulse says an element by its width.
 
 ghost use Rattle.std.specs.Prelude.{◌≡◌, ◌≤◌, ◌<◌, ◌+◌, ◌-◌, ◌^◌, IfSome, length, min, slice_get};
 ghost use Rattle.irig_codes.specs.Format.{frame_period_of};
@@ -16,7 +16,8 @@ use crate::time::Time;
 use irig_codes::{Element, Fields, Format, Kind, class, encode, fits};
 use irig_track::Lens;
 
-/// The fields of a frame of a time; those that are no part of it are 0.
+/// The fields of a frame of a time. Control functions and seconds of the day are no part of a time:
+/// they are 0 if the format has them.
 pub fn fields_at(format: Format, time: &Time) -> Fields
     requires { time.now.micros < 2 ^ 32 }
     ensures { result ≡ fields_at format time.now }
@@ -33,14 +34,15 @@ pub fn fields_at(format: Format, time: &Time) -> Fields
     }
 }
 
-/// A part of the fields, if it is there.
+/// A value, if the format has a place for it; else `None`.
 fn part(there: bool, value: u32) -> Option<u32>
     ensures { result ≡ part there value }
 {
     if there { Some(value) } else { None }
 }
 
-/// How many elements carry the day, the hour, the minute, the second and its tenths and hundredths.
+/// How many elements, from the first on, carry the day, the hour, the minute, the second and its
+/// tenths and hundredths.
 pub fn time_elements(format: Format) -> usize
     ensures { result ≡ time_elements format.kind }
 {
@@ -52,7 +54,7 @@ pub fn time_elements(format: Format) -> usize
     }
 }
 
-/// Whether a class is not the one that is wanted.
+/// Whether a class is there and not the one that is wanted.
 fn is_other(class: Option<Element>, wanted: Element) -> bool
     ensures { result ≡ is_other class wanted }
 {
@@ -77,7 +79,8 @@ pub fn is_identifier(element: Element) -> bool
     }
 }
 
-/// Whether the pulse of a number says that an element is another one than that of a frame.
+/// Whether the pulse of a number is as wide as another element than the wanted one. Only the
+/// elements of the time and position identifiers are compared; a width of no element says nothing.
 pub fn contradicts(
     pulses: &mut Lens<'_>,
     format: Format,
@@ -102,7 +105,7 @@ pub fn contradicts(
     }
 }
 
-/// How many pulses of a part say another time than its frame.
+/// How many pulses of a part contradict the elements of its frame.
 fn contradictions(
     pulses: &mut Lens<'_>,
     format: Format,
@@ -137,7 +140,8 @@ fn more(count: usize, is_so: bool) -> usize
     if is_so { count + 1 } else { count }
 }
 
-/// Whether a part says no other time than its own: none of its pulses does.
+/// Whether a part can have its time: a frame of that time is there, ends with its minute, and no
+/// pulse of the part contradicts it.
 fn is_borne_out(pulses: &mut Lens<'_>, format: Format, part: &Part) -> bool
     requires few { part.now.element + part.now.count ≤ 100 }
     requires small { (part.now.number < 2 ^ 32) × (part.now.time.micros < 2 ^ 60) }
@@ -155,7 +159,8 @@ fn is_borne_out(pulses: &mut Lens<'_>, format: Format, part: &Part) -> bool
     contradictions(pulses, format, &wanted, part) == 0
 }
 
-/// The part, with an empty one after it, if it says no other time than its own.
+/// The part, with an empty one after it, since two are asked for; `None` if it cannot have its
+/// time.
 fn alone(pulses: &mut Lens<'_>, format: Format, part: Part) -> Option<(Part, Part)>
     requires few { part.element + part.count ≤ 100 }
     requires small { (part.number < 2 ^ 31) × (part.time.micros < 2 ^ 60) }
@@ -169,7 +174,8 @@ fn alone(pulses: &mut Lens<'_>, format: Format, part: Part) -> Option<(Part, Par
     }
 }
 
-/// The pulses after the last frame that have a time, if it is believed.
+/// The pulses after the last frame that have a time, up to a hundred in step, as the frame one
+/// period later. `None` if that frame is not believed, ends the day, or a pulse says another time.
 pub fn end_after(pulses: &mut Lens<'_>, format: Format, from: Option<Part>) -> Option<(Part, Part)>
     requires { IfSome from (λ a. (a.time.micros < 2 ^ 59) × (a.number + a.count < 2 ^ 30)) }
     ensures end { result ≡ end_after format pulses.old.track.pulses from }
@@ -188,7 +194,9 @@ pub fn end_after(pulses: &mut Lens<'_>, format: Format, from: Option<Part>) -> O
     alone(pulses, format, head_of(&from, count, time))
 }
 
-/// The pulses before the first frame that have a time, if it is believed.
+/// The pulses before the first frame that have a time, up to a hundred in step, as the frame one
+/// period earlier. `None` if that frame is not believed, begins the day, or a pulse says another
+/// time.
 pub fn end_before(pulses: &mut Lens<'_>, format: Format, to: &Part) -> Option<(Part, Part)>
     requires { (to.now.time.micros < 2 ^ 59) × (to.now.number < 2 ^ 30) }
     ensures end { result ≡ end_before format pulses.old.track.pulses to.now }

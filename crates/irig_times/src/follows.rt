@@ -1,4 +1,5 @@
-//! Which time is one frame period after another.
+//! Which time is one frame period after another. Periods are in microseconds. Years are of two
+//! digits, in a century: 20 for 2000 to 2099.
 
 ghost use Rattle.std.specs.Prelude.{◌≡◌, ◌+◌, ◌*◌, ◌%◌, ◌≤◌, ◌<◌, ◌^◌, pos};
 ghost use Rattle.jiff_core.specs.Calendar.{days_in_year};
@@ -115,7 +116,8 @@ fn minute_follows(century: u32, a: &Time, b: &Time) -> bool
     }
 }
 
-/// Whether the second time is a frame period later, if the first is in a minute of this length.
+/// Whether the second time is a frame period later, if the first is in a minute of this length in
+/// microseconds.
 fn is_later_in(length: u64, century: u32, period: u64, a: &Time, b: &Time) -> bool
     requires century { century ≤ 99 }
     requires small { (length < 2 ^ 32) × (period < 2 ^ 32) }
@@ -133,7 +135,7 @@ fn is_later_in(length: u64, century: u32, period: u64, a: &Time, b: &Time) -> bo
     }
 }
 
-/// Whether the second time is a frame period later, in a minute of 60 seconds or of 61.
+/// Whether the second time is one frame period after the first, in a minute of 60 seconds or of 61.
 pub fn is_later(century: u32, period: u64, a: &Time, b: &Time) -> bool
     requires century { century ≤ 99 }
     requires small { period < 2 ^ 32 }

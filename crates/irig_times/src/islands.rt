@@ -1,4 +1,6 @@
-//! Which frames are on an island: wrong alike, between frames that agree.
+//! Which frames are on an island: wrong alike, between frames that agree. Two frames agree if their
+//! times are as many periods apart as their rises. A shore is a frame next to the island that does
+//! not agree with it.
 
 ghost use Rattle.std.specs.Prelude.{◌≡◌, ◌&&◌, List};
 ghost use Rattle.irig_safety.specs.declared.shown.Shown.{Shown};
@@ -10,7 +12,10 @@ use crate::nearest::{Nearest, Three};
 use irig_codes::Format;
 use irig_safety::{Shown, agrees};
 
-/// Whether a frame is on an island, after some frames and before some.
+/// Whether a frame is on an island: there are two shores, one before it and one after it, that
+/// agree with each other, and at most three frames are between them. `before` and `after` are the
+/// five nearest frames on each side. `near`, `next` and `far` give three of these, from the first,
+/// the second and the third on.
 pub fn is_on_island(format: Format, before: &Nearest, frame: &Shown, after: &Nearest) -> bool
     ensures { (left : List Shown) (right : List Shown) → before.now ≡ nearest left
         → after.now ≡ nearest right → result ≡ is_on_island format left frame.now right }
@@ -49,7 +54,8 @@ pub fn is_shore_before(format: Format, before: Three, frame: &Shown) -> bool
     }
 }
 
-/// The same of three frames after it.
+/// Whether the first of three frames after a frame is there and does not agree with it, and one of
+/// the other two supports that first one.
 fn is_shore_after(format: Format, frame: &Shown, after: Three) -> bool
     ensures { result ≡ is_shore_after format frame.now after.0 after.1 after.2 }
 {
@@ -72,7 +78,7 @@ fn agree(format: Format, before: Option<Shown>, after: Option<Shown>) -> bool
     }
 }
 
-/// Whether the frame before agrees with a frame, if there is one.
+/// Whether a frame before a frame is there, and agrees with it.
 pub fn agrees_from(format: Format, before: Option<Shown>, frame: &Shown) -> bool
     ensures { result ≡ agrees_from format before frame.now }
 {
@@ -82,7 +88,7 @@ pub fn agrees_from(format: Format, before: Option<Shown>, frame: &Shown) -> bool
     }
 }
 
-/// Whether a frame agrees with the frame after it, if there is one.
+/// Whether a frame after a frame is there, and agrees with it.
 pub fn agrees_to(format: Format, frame: &Shown, after: Option<Shown>) -> bool
     ensures { result ≡ agrees_to format frame.now after }
 {

@@ -1,4 +1,7 @@
-//! Where the time jumps between two frames that are in step.
+//! Where the time jumps between two frames that are in step. Two pulses are in step if the second
+//! rises one interval after the first. `from` and `to` are frames that have a time, as parts; one
+//! without pulses is not believed. A frame is believed if another one near it supports its time.
+//! Periods are in microseconds; `century` is 20 for 2000 to 2099.
 
 ghost use Rattle.std.specs.Prelude.{◌≡◌, ◌≤◌, ◌<◌, ◌+◌, ◌^◌, IfSome, MatchOption, Some};
 ghost use Rattle.irig_times.specs.Jumps.{after_jump, are_apart, are_joined, before_jump, is_jump};
@@ -21,8 +24,7 @@ use irig_track::Lens;
 /// The pulses of a frame.
 const FRAME_PULSES: usize = 100;
 
-/// Whether each pulse after a frame, up to the first one of another, rises one interval after the one
-/// before.
+/// Whether each pulse after a frame, up to the marker of another, is in step.
 fn are_joined(pulses: &mut Lens<'_>, format: Format, from: &Part, to: &Part) -> bool
     requires order { from.now.number + from.now.count ≤ to.now.number }
     requires small { to.now.number < 2 ^ 30 }
@@ -41,7 +43,8 @@ fn pulses_between(from: &Part, to: &Part) -> usize
     to.number.saturating_sub(from.number + FRAME_PULSES)
 }
 
-/// Whether there are whole hundreds of pulses, and the second time is as many periods after the first.
+/// Whether no time is lost by the count of pulses: whole hundreds of them are between two frames,
+/// and the second time is as many periods later.
 fn runs_on(format: Format, century: u32, from: &Part, to: &Part) -> bool
     requires century { century ≤ 99 }
     requires times { (from.now.time.micros < 2 ^ 59) × (to.now.time.micros < 2 ^ 59) }
@@ -61,7 +64,9 @@ fn runs_on(format: Format, century: u32, from: &Part, to: &Part) -> bool
     missing_in(century, period, count, &from.time, &to.time).is_some()
 }
 
-/// Whether the time jumps between two frames.
+/// Whether the time jumps between two frames, one the next after the other of those that have a
+/// time: pulses are all in step and the times do not fit their count, or markers are whole periods
+/// apart and the times are not as many.
 fn is_jump(pulses: &mut Lens<'_>, format: Format, century: u32, from: &Part, to: &Part) -> bool
     requires century { century ≤ 99 }
     requires times { (from.now.time.micros < 2 ^ 59) × (to.now.time.micros < 2 ^ 59) }
@@ -81,7 +86,7 @@ fn is_jump(pulses: &mut Lens<'_>, format: Format, century: u32, from: &Part, to:
     slips(format, century, &from.time, &to.time, first, last)
 }
 
-/// Whether a distance is a whole number of periods, to half an interval.
+/// Whether a distance is a whole number of periods, to half an interval, all in microseconds.
 fn is_whole_apart(period: u64, interval: u64, distance: u64) -> bool
     requires { (0 < period) × (period < 2 ^ 32) }
     ensures { result ≡ is_whole_apart period interval distance }
@@ -90,7 +95,8 @@ fn is_whole_apart(period: u64, interval: u64, distance: u64) -> bool
     2 * rest <= interval || 2 * (period - rest) <= interval
 }
 
-/// Whether two times can be those of frames that are some periods apart.
+/// Whether two times can be those of frames that are `count` periods apart. More than two are not
+/// counted over midnight, so then any times can be.
 pub fn are_apart(century: u32, period: u64, count: u64, from: &Time, to: &Time) -> bool
     requires century { century ≤ 99 }
     requires small { (period < 2 ^ 25) × (count < 2 ^ 42 + 2) }
@@ -106,7 +112,8 @@ pub fn are_apart(century: u32, period: u64, count: u64, from: &Time, to: &Time) 
     !same_day(from, to) || u128::from(day_micros(to)) == later_micros(period, count, from)
 }
 
-/// Whether the markers of two frames are whole periods apart, and their times are not that many.
+/// Whether the markers of two frames are there and whole periods apart, and their times are not
+/// that many.
 fn slips(
     format: Format,
     century: u32,
@@ -144,7 +151,8 @@ fn slips_by(format: Format, century: u32, from: &Time, to: &Time, first: Pulse, 
     !are_apart(century, period, count, from, to)
 }
 
-/// Whether pulses after the last frame, which is believed, say another time than one period later.
+/// Whether the last frame is believed, a time follows it on its day, and pulses after it say
+/// another one.
 fn is_denied_after(pulses: &mut Lens<'_>, format: Format, from: &Part) -> bool
     requires small { (from.now.time.micros < 2 ^ 59) × (from.now.number + from.now.count < 2 ^ 30) }
     ensures denied { result ≡ is_denied_after format pulses.old.track.pulses from.now }
@@ -155,7 +163,8 @@ fn is_denied_after(pulses: &mut Lens<'_>, format: Format, from: &Part) -> bool
         && end_after(pulses, format, Some(*from)).is_none()
 }
 
-/// Whether pulses before the first frame, which is believed, say another time than one period earlier.
+/// Whether the first frame is believed, a time is before it on its day, and pulses before it say
+/// another one.
 fn is_denied_before(pulses: &mut Lens<'_>, format: Format, to: &Part) -> bool
     requires small { (to.now.time.micros < 2 ^ 59) × (to.now.number < 2 ^ 30) }
     ensures denied { result ≡ is_denied_before format pulses.old.track.pulses to.now }
@@ -166,7 +175,8 @@ fn is_denied_before(pulses: &mut Lens<'_>, format: Format, to: &Part) -> bool
         && end_before(pulses, format, to).is_none()
 }
 
-/// Whether the time jumps between two frames, before the first one or after the last one.
+/// Whether the time jumps between two frames; before the first one, if there is no `from`; or after
+/// the last one, if there is no `to`.
 pub fn is_jump_between(
     pulses: &mut Lens<'_>,
     format: Format,
@@ -189,7 +199,8 @@ pub fn is_jump_between(
     }
 }
 
-/// Of a frame before a jump the marker alone.
+/// A frame before a jump: of its pulses only the marker keeps its time, since nobody knows at which
+/// element the time jumps.
 pub fn before_jump(jumps: bool, part: Part) -> Part
     ensures { result ≡ before_jump jumps part }
 {
@@ -203,7 +214,8 @@ pub fn before_jump(jumps: bool, part: Part) -> Part
     }
 }
 
-/// Of a frame after a jump the pulses after those of its time.
+/// A frame after a jump: of its pulses those after the elements of its time keep it, since the time
+/// was surely right from there on.
 pub fn after_jump(format: Format, jumps: bool, part: Part) -> Part
     requires small { (part.number < 2 ^ 32) × (part.element < 2 ^ 32) }
     ensures { result ≡ after_jump format.kind jumps part }

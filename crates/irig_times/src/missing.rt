@@ -1,4 +1,5 @@
-//! The times of frames that are missing between two others.
+//! The times of frames that are missing between two others. Periods are in microseconds. `None` if
+//! no frames can be missing there by these times. `century` is 20 for 2000 to 2099.
 
 ghost use Rattle.std.specs.Prelude.{IfSome, ◌≡◌, ◌≤◌, ◌+◌, ◌*◌, ◌^◌, ◌<◌};
 ghost use Rattle.irig_times.specs.Between.{at_micros, at_minute, day_micros, is_middle, is_whole};
@@ -52,7 +53,7 @@ fn minute_end(minutes: u32) -> u64
     if minutes == 59 { LONG_MINUTE } else { MINUTE }
 }
 
-/// Whether a frame of a time ends with its minute.
+/// Whether a frame of a time ends in its minute, or with it.
 pub fn is_whole(period: u64, time: &Time) -> bool
     requires { (period < 2 ^ 32) × (time.now.micros < 2 ^ 60) }
     ensures { result ≡ is_whole period time.now }
@@ -60,7 +61,8 @@ pub fn is_whole(period: u64, time: &Time) -> bool
     time.micros + period <= minute_end(time.minutes)
 }
 
-/// Whether a time is one period after another and one before a third.
+/// Whether a time is one period after another and one before a third, and its frame ends in its
+/// minute.
 fn is_middle(century: u32, period: u64, from: &Time, time: &Time, to: &Time) -> bool
     requires century { century ≤ 99 }
     requires small { period < 2 ^ 32 }
@@ -72,7 +74,8 @@ fn is_middle(century: u32, period: u64, from: &Time, time: &Time, to: &Time) -> 
         && is_whole(period, time)
 }
 
-/// The time of the one frame that is missing between two.
+/// The time of the one frame that is missing between two: one period after the first, in its minute
+/// or in that of the second.
 pub fn middle(century: u32, period: u64, from: &Time, to: &Time) -> Option<Time>
     requires century { century ≤ 99 }
     requires small { period < 2 ^ 32 }
@@ -94,7 +97,7 @@ pub fn middle(century: u32, period: u64, from: &Time, to: &Time) -> Option<Time>
     }
 }
 
-/// The time one period later, on the same day, in a minute of 60 seconds.
+/// The time one period later, in a minute of 60 seconds; `None` if it is on another day.
 pub fn next_time(period: u64, time: &Time) -> Option<Time>
     requires small { period < 2 ^ 32 }
     ensures time { result ≡ next_time period time.now }
@@ -115,7 +118,7 @@ pub fn next_time(period: u64, time: &Time) -> Option<Time>
     }
 }
 
-/// The time one period earlier, on the same day, in a minute of 60 seconds.
+/// The time one period earlier, in a minute of 60 seconds; `None` if it is on another day.
 pub fn time_before(period: u64, time: &Time) -> Option<Time>
     requires small { (period < 2 ^ 25) × (time.now.micros < 2 ^ 59) }
     ensures time { result ≡ time_before period time.now }
@@ -155,7 +158,8 @@ pub fn rounded(period: u64, from: u64, to: u64) -> u64
     (2 * to.saturating_sub(from) + period) / (2 * period)
 }
 
-/// The times of the frames that are missing between two, which are some periods apart.
+/// The times of the frames that are missing between two, which are `count` periods apart. `None` if
+/// none is missing or the times are not so far apart; more than one are not counted over midnight.
 pub fn missing_in(century: u32, period: u64, count: u64, from: &Time, to: &Time) -> Option<Missing>
     requires century { century ≤ 99 }
     requires small { (period < 2 ^ 25) × (count < 2 ^ 42 + 2) }
@@ -197,7 +201,7 @@ fn missing_one(time: Option<Time>) -> Option<Missing>
     }
 }
 
-/// Frames, the first and the last of these times.
+/// More than one frame, the first and the last of these times, if both end in their minutes.
 fn missing_more(period: u64, first: Option<Time>, last: Option<Time>) -> Option<Missing>
     requires small { period < 2 ^ 25 }
     requires first { IfSome first (λ t. t.micros < 2 ^ 60) }

@@ -1,4 +1,4 @@
-//! The five frames that are nearest to one.
+//! The five frames that are nearest to one. They are frames that have a time, on one side of it.
 
 ghost use Rattle.std.specs.Prelude.{◌≡◌, List, []};
 ghost use Rattle.irig_safety.specs.declared.shown.Shown.{Shown};

@@ -6,7 +6,9 @@ ghost use Rattle.irig_times.specs.PartLaws.{KeepsTimes, NeverFallsByParts, OfCal
 ghost use Rattle.irig_times.specs.Origins.{FramesAreSupported, TimesAreCounted};
 ghost use Rattle.irig_times.specs.PartLaws.{TimedPartsAreParts};
 
-/// Does nothing. Its contract is what holds of the times by the pulses that have one.
+/// Does nothing. Its contract is what holds of the times by the pulses that have one: each moment
+/// has one time at most, it is exact when such a pulse rises, and it never goes back before the
+/// next; and each of these pulses follows from a frame that is believed.
 pub fn parts_are_exact()
     ensures one { OneTimeByParts }
     ensures points { ExactAtParts }

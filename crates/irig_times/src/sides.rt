@@ -1,4 +1,7 @@
-//! What is counted between two frames: from both sides, as far as it is borne out.
+//! What is counted between two frames: from both sides, as far as it is borne out. `from` and `to`
+//! are two believed frames, as parts. A side is the pulses next to one of them, from it on or back;
+//! pulse 0 of a side is the nearest. `wanted` is the elements that the frame there should have.
+//! Pulses are in step if each rises one interval after the one before.
 
 ghost use Rattle.std.specs.Prelude.{◌≡◌, ◌≤◌, ◌<◌, ◌+◌, ◌^◌};
 ghost use Rattle.irig_times.specs.Sides.{between, borne, borne_at, confirmed, side_after};
@@ -17,7 +20,7 @@ use irig_track::Lens;
 /// The microseconds of a minute with a second 60.
 const LONG_MINUTE: u64 = 61_000_000;
 
-/// Of some pulses of a side, how many there are before the first that says another element.
+/// How many of the first `most` pulses of a side come before the first that says another element.
 fn undenied(
     pulses: &mut Lens<'_>,
     format: Format,
@@ -40,7 +43,8 @@ fn undenied(
     count
 }
 
-/// Of some pulses of a side those up to the last position identifier.
+/// How many of the first `most` pulses of a side there are up to its last position identifier that
+/// is at its place.
 fn confirmed(
     pulses: &mut Lens<'_>,
     format: Format,
@@ -63,8 +67,9 @@ fn confirmed(
     0
 }
 
-/// All pulses of a side, if none says another element; else those up to the last position
-/// identifier before the first that does.
+/// How many of the first `most` pulses of a side are kept: all, if none says another element; else
+/// those up to the last position identifier before the first that does, since what is lost can be
+/// anywhere after it.
 fn borne(
     pulses: &mut Lens<'_>,
     format: Format,
@@ -84,7 +89,8 @@ fn borne(
     confirmed(pulses, format, wanted, side, count)
 }
 
-/// How many pulses of a side the frame of this time bears out; none if no frame has this time.
+/// How many of the first `most` pulses of a side are kept, by the elements of a frame of this time;
+/// none if no frame has it.
 fn borne_at(pulses: &mut Lens<'_>, format: Format, time: &Time, side: &Side, most: usize) -> usize
     requires { (side.now.number < 2 ^ 32) × (most ≤ 100) }
     ensures count { result ≡ borne_at format pulses.old.track.pulses time.now side.now most }
@@ -102,7 +108,7 @@ fn borne_at(pulses: &mut Lens<'_>, format: Format, time: &Time, side: &Side, mos
     borne(pulses, format, &wanted, side, most)
 }
 
-/// The pulses after a frame.
+/// The side after a frame.
 fn side_after(part: &Part) -> Side
     requires { part.now.number + part.now.count < 2 ^ 32 }
     ensures { result ≡ side_after part.now }
@@ -113,7 +119,7 @@ fn side_after(part: &Part) -> Side
     }
 }
 
-/// The pulses before a frame, from the last one back.
+/// The side before a frame.
 fn side_before(part: &Part) -> Side
     ensures { result ≡ side_before part.now }
 {
@@ -123,8 +129,9 @@ fn side_before(part: &Part) -> Side
     }
 }
 
-/// The parts between two in a torn stretch, in which some pulses after the first and some before
-/// the second are in step.
+/// The parts between two frames, if intervals are lost there. `after` pulses after the first and
+/// `before` ones before the second are in step. Nothing is counted if tens of intervals are lost:
+/// each position identifier is then at the place of another.
 fn torn_sides(
     pulses: &mut Lens<'_>,
     format: Format,
@@ -149,7 +156,8 @@ fn torn_sides(
     sides_at(pulses, format, from, to, head, tail, missing)
 }
 
-/// The parts between two, if some pulses after the first and some before the second are in step.
+/// The parts between two frames, if `after` pulses after the first and `before` ones before the
+/// second are in step: fewer if intervals are lost there, which is to be torn.
 fn sides_in(
     pulses: &mut Lens<'_>,
     format: Format,
@@ -173,8 +181,8 @@ fn sides_in(
     }
 }
 
-/// The pulses between two frames that have a time: those in step with the first, and those in step
-/// with the second.
+/// The pulses between two frames that have a time: up to a hundred in step with the first, and up
+/// to a hundred in step with the second. `None` if the times of the two do not fit their distance.
 pub fn between(
     pulses: &mut Lens<'_>,
     format: Format,

@@ -1,4 +1,4 @@
-//! Where frames start.
+//! Where frames start. `century` is 20 for 2000 to 2099.
 
 ghost use Rattle.std.specs.Prelude.{◌≡◌, ◌↔◌, ◌<◌, ◌≤◌, ◌+◌, IsTrue, length, slice_get, Some};
 ghost use Rattle.irig_codes.specs.Format.{FormatView};
@@ -41,7 +41,7 @@ pub fn start_of(
     ensures pulses { pulses.new.track ≡ pulses.old.track }
     ensures same { records.new.records ≡ records.old.records }
 {
-    // Read for its bound alone.
+    // The count is not used: what the call promises bounds the records.
     let _count = records.len();
     let record = records.record(place);
     match timed(format, record.verdict) {
@@ -58,7 +58,8 @@ pub fn start_of(
     }
 }
 
-/// Where the frame of a marker starts, up to which there are `next` records.
+/// Where the frame of a marker starts, a pulse from 0. Its own record is the last of the first
+/// `next`.
 fn started(
     pulses: &mut Lens<'_>,
     records: &mut FrameLens<'_>,
@@ -80,7 +81,7 @@ fn started(
     ensures pulses { pulses.new.track ≡ pulses.old.track }
     ensures same { records.new.records ≡ records.old.records }
 {
-    // Read for its bound alone.
+    // The count is not used: what the call promises bounds the pulses.
     let _count = pulses.len();
     FrameStart {
         rise: pulses.pulse(marker).rise,
@@ -90,8 +91,7 @@ fn started(
 }
 
 /// Whether the next frame begins right after one with these fields, one frame period later. The
-/// last pulse of that is `number`, from 1, up to which there are
-/// `next` records.
+/// last pulse of that one is `number`, from 0, and its record is the last of the first `next`.
 fn is_followed(
     records: &mut FrameLens<'_>,
     format: Format,

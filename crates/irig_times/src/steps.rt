@@ -1,4 +1,5 @@
-//! Pulses that follow one another in step.
+//! Pulses that follow one another in step. Pulses count from 0. A step is from the rise of one
+//! pulse to that of the next, in microseconds.
 
 ghost use Rattle.std.specs.Prelude.{◌≡◌, ◌<◌, ◌≤◌, ◌+◌, ◌^◌, IfSome, length, option_map, slice_get};
 ghost use Rattle.irig_recording.specs.declared.pulse.Pulse.{Pulse};
@@ -22,7 +23,8 @@ pub fn pulse_at(pulses: &mut Lens<'_>, number: usize) -> Option<Pulse>
     }
 }
 
-/// Whether the pulse of a number is in step with the one before it.
+/// Whether the pulse of a number rises one interval after the one before it, to a tenth, and that
+/// step is as long as those next to it.
 fn is_in_step_at(pulses: &mut Lens<'_>, format: Format, number: usize) -> bool
     requires { number < 2 ^ 33 }
     ensures step { result ≡ is_in_step_at format pulses.old.track.pulses number }
@@ -31,7 +33,7 @@ fn is_in_step_at(pulses: &mut Lens<'_>, format: Format, number: usize) -> bool
     follows_at(pulses, format, number) && is_even_at(pulses, format, number)
 }
 
-/// Whether the pulse of a number rises one interval after the one before it.
+/// Whether the pulse of a number rises one interval after the one before it, to a tenth.
 pub fn follows_at(pulses: &mut Lens<'_>, format: Format, number: usize) -> bool
     ensures step { result ≡ follows_at format pulses.old.track.pulses number }
     ensures pulses { pulses.new.track ≡ pulses.old.track }
@@ -44,7 +46,7 @@ pub fn follows_at(pulses: &mut Lens<'_>, format: Format, number: usize) -> bool
     are_in_step(format, before, here)
 }
 
-/// Whether two pulses are there, and the second rises one interval after the first.
+/// Whether two pulses are there, and the second rises one interval after the first, to a tenth.
 fn are_in_step(format: Format, before: Option<Pulse>, here: Option<Pulse>) -> bool
     ensures { result ≡ are_in_step format before here }
 {
@@ -75,7 +77,7 @@ fn step_at(pulses: &mut Lens<'_>, number: usize) -> u64
     }
 }
 
-/// Whether a step is as long as one next to it, if that one is in step at all.
+/// Whether a step is as long as one next to it, to a tenth, if that one is in step at all.
 fn is_as_long(format: Format, step: u64, other: u64) -> bool
     requires { (step ≤ 2 ^ 40) × (other ≤ 2 ^ 40) }
     ensures { result ≡ is_as_long format step other }
@@ -87,7 +89,8 @@ fn is_as_long(format: Format, step: u64, other: u64) -> bool
     }
 }
 
-/// Whether the step to the pulse of a number is as long as those next to it.
+/// Whether the step to the pulse of a number is as long as those next to it, to a tenth, as far as
+/// these are in step.
 fn is_even_at(pulses: &mut Lens<'_>, format: Format, number: usize) -> bool
     requires { number < 2 ^ 33 }
     ensures even { result ≡ is_even_at format pulses.old.track.pulses number }
@@ -99,7 +102,8 @@ fn is_even_at(pulses: &mut Lens<'_>, format: Format, number: usize) -> bool
     is_as_long(format, step, before) && is_as_long(format, step, after)
 }
 
-/// Of some pulses from the one of a number on, how many are each in step with the one before them.
+/// How many of the `most` pulses from the one of a number on are each in step with the one before,
+/// up to the first that is not.
 pub fn ahead(pulses: &mut Lens<'_>, format: Format, number: usize, most: usize) -> usize
     requires { (number < 2 ^ 32) × (most < 2 ^ 32) }
     ensures count { result ≡ ahead format pulses.old.track.pulses number most }
@@ -116,7 +120,8 @@ pub fn ahead(pulses: &mut Lens<'_>, format: Format, number: usize, most: usize) 
     count
 }
 
-/// Whether each of some pulses from the one of a number on rises one interval after the one before it.
+/// Whether each of `many` pulses from the one of a number on rises one interval after the one
+/// before it.
 pub fn all_follow(pulses: &mut Lens<'_>, format: Format, number: usize, many: usize) -> bool
     requires { (number < 2 ^ 32) × (many < 2 ^ 32) }
     ensures follow { result ≡ all_follow format pulses.old.track.pulses number many }
@@ -132,7 +137,8 @@ pub fn all_follow(pulses: &mut Lens<'_>, format: Format, number: usize, many: us
     true
 }
 
-/// Of some pulses before the one of a number, how many are in step up to it.
+/// How many of the last pulses up to the one of a number, `most` at most, are in step, back to the
+/// first that is not. Each one counts the pulse before it.
 pub fn behind(pulses: &mut Lens<'_>, format: Format, number: usize, most: usize) -> usize
     requires { (most ≤ number) × (number < 2 ^ 32) }
     ensures count { result ≡ behind format pulses.old.track.pulses number most }

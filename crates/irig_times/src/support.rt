@@ -1,4 +1,6 @@
 //! Which frames are believed: those that another one near them supports, and that are on no island.
+//! Two frames agree if their times are as many periods apart as their rises. An island is up to
+//! three frames that are wrong alike, between two that agree with each other.
 
 ghost use Rattle.std.specs.Prelude.{◌≡◌, ◌<◌, ◌&&◌, IfOk, None, Some, [], drop, is_some, length};
 ghost use Rattle.std.specs.Prelude.{List, not, slice_get};
@@ -59,7 +61,7 @@ fn shown_at(
     ensures same { records.new.records ≡ records.old.records }
 {
     let record = records.record(place);
-    // Read for its bound alone.
+    // The count is not used: what the call promises bounds the pulses.
     let _count = pulses.len();
     match timed(format, record.verdict) {
         Some(fields) => Some(Shown {
@@ -70,7 +72,7 @@ fn shown_at(
     }
 }
 
-/// The five frames that have a time of the records from a place on that are nearest to it.
+/// The five frames nearest to the place `from` that have a time, of the records from it on.
 fn shown_after(
     pulses: &mut Lens<'_>,
     records: &mut FrameLens<'_>,
@@ -97,8 +99,8 @@ fn shown_after(
     }
 }
 
-/// The first frame that has a time of the records from a place on, if there is one, and the place
-/// after its record.
+/// The first frame that has a time of the records from a place on, and the place after its record.
+/// If there is none, no frame and the number of all records.
 fn next_shown(
     pulses: &mut Lens<'_>,
     records: &mut FrameLens<'_>,
@@ -130,7 +132,8 @@ fn is_there(frame: Option<Shown>) -> bool
     frame.is_some()
 }
 
-/// Whether a frame is believed, after others and before the records from a place on.
+/// Whether a frame is believed, after others (`before`) and before the records from the place
+/// `next` on. Those are looked at only if what comes before does not decide it.
 fn is_held(
     pulses: &mut Lens<'_>,
     records: &mut FrameLens<'_>,
@@ -182,7 +185,8 @@ fn is_believed(format: Format, before: &Nearest, frame: &Shown, after: &Nearest)
     is_supported(format, before, frame, after) && !is_on_island(format, before, frame, after)
 }
 
-/// Whether one of the frames next to a frame agrees with it, or there is none.
+/// Whether one of the two frames before a frame or the two after it agrees with it, or there is no
+/// other.
 fn is_supported(format: Format, before: &Nearest, frame: &Shown, after: &Nearest) -> bool
     ensures { result ≡ is_supported format before.now.second before.now.first after.now.first
         after.now.second frame.now }

@@ -48,7 +48,8 @@ pub fn time_in(fields: &Fields, micros: u64) -> Time
     }
 }
 
-/// The fields of a fine frame, if it ends with its minute at the latest.
+/// The fields of a fine frame that ends with its minute of 61 seconds at the latest: so it has a
+/// time.
 pub fn timed(format: Format, verdict: Verdict) -> Option<Fields>
     ensures { result ≡ timed format verdict }
 {

@@ -1,4 +1,6 @@
-//! Whether intervals are lost between two frames, and what pulses say of the elements there.
+//! Whether intervals are lost between two frames, and what pulses say of the elements there. `from`
+//! and `to` are two frames, as parts. Tenths are of an interval. An element is said by a pulse's
+//! width.
 
 ghost use Rattle.std.specs.Prelude.{◌≡◌, ◌≤◌, ◌<◌, ◌+◌, ◌*◌, ◌^◌, Some, slice_get};
 ghost use Rattle.irig_codes.specs.Format.{frame_period_of};
@@ -19,7 +21,7 @@ use irig_track::Lens;
 /// The last element of a frame.
 const LAST: usize = 99;
 
-/// Pulses next to a frame: from the one of a number on, or back.
+/// Pulses next to a frame, from the one of a number on or back: pulse 0 is the nearest.
 #[derive(Clone, Copy)]
 pub struct Side {
     /// Whether they go back.
@@ -28,7 +30,7 @@ pub struct Side {
     pub number: usize,
 }
 
-/// How long after one pulse another rises; 0 if one of them is not there.
+/// How long after one pulse another rises, in microseconds; 0 if one of them is not there.
 fn from_to(pulses: &mut Lens<'_>, one: usize, other: usize) -> u64
     ensures time { result ≡ from_to pulses.old.track.pulses one other }
     ensures low { result ≤ 2 ^ 40 }
@@ -44,7 +46,8 @@ fn from_to(pulses: &mut Lens<'_>, one: usize, other: usize) -> u64
     }
 }
 
-/// How long two frames last, each from its marker to its last element.
+/// How many microseconds two frames last together, each from its marker to its last element: 198
+/// intervals.
 fn both_last(pulses: &mut Lens<'_>, from: &Part, to: &Part) -> u64
     requires { (from.now.number < 2 ^ 32) × (to.now.number < 2 ^ 32) }
     ensures time { result ≡ both_last pulses.old.track.pulses from.now to.now }
@@ -56,7 +59,8 @@ fn both_last(pulses: &mut Lens<'_>, from: &Part, to: &Part) -> u64
     first + last
 }
 
-/// How many tenths of an interval a time has, by the mean interval of two frames that last so long.
+/// How many tenths of an interval a time has, by the mean interval of two frames that last `both`
+/// together: that many microseconds for 198 intervals. To the nearest.
 fn tenths_by(both: u64, time: u64) -> u64
     requires { (both ≤ 2 ^ 41) × (time ≤ 2 ^ 40) }
     ensures count { result ≡ tenths_by both time }
@@ -69,7 +73,8 @@ fn tenths_by(both: u64, time: u64) -> u64
     }
 }
 
-/// How many tenths of an interval one frame ends after another, as it was recorded.
+/// How many tenths of an interval the second frame is after the first, as it was recorded: the 990
+/// of the first frame, and those from its last element to the second marker.
 pub fn tenths_found(pulses: &mut Lens<'_>, from: &Part, to: &Part) -> u64
     requires { (from.now.number < 2 ^ 32) × (to.now.number < 2 ^ 32) }
     ensures count { result ≡ tenths_found pulses.old.track.pulses from.now to.now }
@@ -81,7 +86,8 @@ pub fn tenths_found(pulses: &mut Lens<'_>, from: &Part, to: &Part) -> u64
     tenths_by(both, time) + 990
 }
 
-/// How many tenths of an interval one frame ends after another, by their times.
+/// How many tenths of an interval the second frame is after the first, by the whole frame periods
+/// that are nearest to the distance: 1000 for each.
 fn tenths_told(pulses: &mut Lens<'_>, format: Format, from: &Part, to: &Part) -> u64
     ensures count { result ≡ tenths_told format pulses.old.track.pulses from.now to.now }
     ensures few { result ≤ 2 ^ 54 }
@@ -107,8 +113,9 @@ pub fn are_tens(count: u64) -> bool
     (count + 2) % 100 <= 4
 }
 
-/// Whether the stretch between two frames is torn, in which some pulses after the first and some
-/// before the second are in step.
+/// Whether intervals are lost between two frames, or are there twice: all pulses there are not in
+/// step, and the distance is not the whole periods that it is nearest to. `after` pulses after the
+/// first and `before` ones before the second are in step.
 pub fn is_torn(
     pulses: &mut Lens<'_>,
     format: Format,
@@ -123,6 +130,7 @@ pub fn is_torn(
     ensures torn { result ≡ is_torn format pulses.old.track.pulses from.now to.now after before }
     ensures pulses { pulses.new.track ≡ pulses.old.track }
 {
+    // If the two counts overlap, all pulses there are in step.
     if gap(from, to) < after + before {
         return false;
     }
@@ -131,7 +139,7 @@ pub fn is_torn(
     !are_near(found, told)
 }
 
-/// The number of a pulse of a side.
+/// The number, from 0, of pulse `place` of a side.
 fn pulse_of(side: &Side, place: usize) -> usize
     requires { (side.now.number < 2 ^ 32) × (place < 2 ^ 32) }
     ensures { result ≡ pulse_of side.now place }
@@ -143,7 +151,7 @@ fn pulse_of(side: &Side, place: usize) -> usize
     }
 }
 
-/// The element of a pulse of a side.
+/// The element of pulse `place` of a side: they go on from 0, or back from 99.
 fn element_of(side: &Side, place: usize) -> usize
     requires { place < 100 }
     ensures element { result ≡ element_of side.now place }
@@ -152,7 +160,7 @@ fn element_of(side: &Side, place: usize) -> usize
     if side.is_back { LAST - place } else { place }
 }
 
-/// Whether a pulse of a side says another element.
+/// Whether pulse `place` of a side says another element than the frame there should have.
 pub fn denies(
     pulses: &mut Lens<'_>,
     format: Format,
@@ -192,7 +200,7 @@ fn is_position(class: Option<Element>) -> bool
     }
 }
 
-/// Whether a pulse of a side is a position identifier, as it should be.
+/// Whether pulse `place` of a side is a position identifier, as it should be.
 pub fn confirms(
     pulses: &mut Lens<'_>,
     format: Format,

@@ -1,4 +1,5 @@
-//! The frames of a track that have a time, as parts.
+//! The frames of a track that have a time, as parts. A frame is believed if another one near it
+//! supports its time.
 
 ghost use Rattle.std.specs.Prelude.{◌≡◌, ◌<◌, IfOk, Some, length, slice_get};
 ghost use Rattle.irig_index.specs.{Frames.frames, declared.record.Record.Record};
@@ -11,7 +12,8 @@ use crate::time::{time_in, timed};
 use irig_codes::{Fields, Format};
 use std::alloc::{AllocError, Global};
 
-/// The frames of a track that have a time: of each record `held` says whether its frame is believed.
+/// The frames of a track that have a time, in order: of each record, which is a frame, `held` says
+/// whether it is believed.
 pub fn whole_parts(
     alloc: Global,
     records: &mut FrameLens<'_>,
@@ -32,7 +34,7 @@ pub fn whole_parts(
     Ok(list)
 }
 
-/// The frame of the record at a place, if it has a time: without pulses, if it is not believed.
+/// The frame of the record at a place, if it has a time.
 fn whole_at(
     records: &mut FrameLens<'_>,
     format: Format,

@@ -88,7 +88,7 @@ fn gaps(
         AreWhys format century pulses.old.track.pulses whole.now list.items) }
     ensures pulses { pulses.new.track ≡ pulses.old.track }
 {
-    // Read for its bound alone.
+    // The count is not used: what the call promises bounds the pulses.
     let _count = pulses.len();
     let mut list = Vec::new(alloc);
     let mut before = None;
@@ -165,7 +165,7 @@ fn why_between(pulses: &mut Lens<'_>, format: Format, century: u32, from: &Part,
     }
 }
 
-/// Whether the times of two frames are as far apart as their first pulses.
+/// Whether the times of two frames are as many periods apart as their markers, which are there.
 fn are_apart_by(pulses: &mut Lens<'_>, format: Format, century: u32, from: &Part, to: &Part) -> bool
     requires century { century ≤ 99 }
     requires times { (from.now.time.micros < 2 ^ 59) × (to.now.time.micros < 2 ^ 59) }
@@ -205,7 +205,7 @@ pub fn why_at(pulses: &mut Lens<'_>, known: &Whys, format: Format, picos: u64) -
     why_of(&known.frames, &known.gaps, format, risen - 1)
 }
 
-/// Why the pulse of a number has no time.
+/// Why the pulse of a number has no time: `whys` has one before each part, one after the last.
 fn why_of(parts: &[Part], whys: &[Why], format: Format, number: usize) -> Why
     requires known { (held : List Bool) × (century : ℕ) × (ps : List Pulse)
         × IsKnownBy format held century ps parts.now whys.now }
@@ -222,7 +222,8 @@ fn why_of(parts: &[Part], whys: &[Why], format: Format, number: usize) -> Why
     why_after(format, number, &part, whys[count - 1], later)
 }
 
-/// Why the pulse of a number has no time, after the begin of a frame.
+/// Why the pulse of a number has no time, at or after the first pulse of `frame`: `earlier` is the
+/// reason before that frame, and `later` the one after it.
 fn why_after(format: Format, number: usize, frame: &Part, earlier: Why, later: Why) -> Why
     requires small { frame.now.number ≤ number }
     ensures { result ≡ why_after format number (Some frame.now) earlier later }
@@ -237,7 +238,7 @@ fn why_after(format: Format, number: usize, frame: &Part, earlier: Why, later: W
     later
 }
 
-/// Whether the time jumps.
+/// Whether the reason is that the time jumps.
 fn is_step(why: Why) -> bool
     ensures { result ≡ is_step why }
 {
