@@ -1,4 +1,5 @@
-//! How the times and the rises of two frames go together.
+//! How the times and the rises of two frames go together. `other` is a frame that begins after
+//! `one`. Rises and distances are in microseconds.
 
 ghost use Rattle.std.specs.Prelude.{◌≡◌, ◌+◌, ◌*◌, ◌%◌, ◌==◌, ◌^◌, ◌<◌};
 ghost use Rattle.irig_safety.specs.Bearing.{agrees, allows, apart, clock_after, clock_of};
@@ -32,14 +33,14 @@ fn period(format: Format) -> u128
     u128::from(format.frame_period()) / 10_000
 }
 
-/// Whether a year of a century is the one after another.
+/// Whether the second year of a century is the one after the first: 0 comes after 99.
 fn is_next(one: u32, other: u32) -> bool
     ensures { result ≡ ((one + 1) % 100 == other) }
 {
     (u64::from(one) + 1) % 100 == u64::from(other)
 }
 
-/// Whether a year is another one or the one after it, or neither is known.
+/// Whether the second year is the first one or the one after it, or neither is known.
 fn is_near_year(one: Option<u32>, other: Option<u32>) -> bool
     ensures { result ≡ is_near_year one other }
 {
@@ -50,7 +51,7 @@ fn is_near_year(one: Option<u32>, other: Option<u32>) -> bool
     }
 }
 
-/// The hundredths of a second of a year.
+/// The hundredths of a second of a year of 365 days, or of a long one of 366.
 fn year(is_long: bool) -> u128
     ensures value { result ≡ year_of is_long }
     ensures small { result < 2 ^ 32 }
@@ -62,7 +63,8 @@ fn year(is_long: bool) -> u128
     }
 }
 
-/// By how many hundredths of a second the year of other fields begins after that of these.
+/// By how many hundredths of a second the year of other fields begins after that of these: 0 if it
+/// is the same year. Without years it is the next one if the clock would go back else.
 fn turn(one: &Fields, other: &Fields) -> u128
     ensures value { result ≡ turn_of one.now.year other.now.year one.now other.now }
     ensures small { result < 2 ^ 32 }
@@ -98,7 +100,7 @@ fn inserted(one: &Fields, other: &Fields) -> u128
     }
 }
 
-/// The time of a frame on the clock of the year of another.
+/// The time of a frame on the clock of the year of another, in hundredths of a second.
 fn clock_after(one: &Shown, other: &Shown) -> u128
     ensures value { result ≡ clock_after one.now other.now }
     ensures small { result < 2 ^ 61 }
@@ -106,7 +108,8 @@ fn clock_after(one: &Shown, other: &Shown) -> u128
     clock(&other.fields) + turn(&one.fields, &other.fields) + inserted(&one.fields, &other.fields)
 }
 
-/// How many frame periods lie between the times of two frames.
+/// How many whole frame periods the time of a frame is after that of another; 0 if it is not after
+/// it.
 pub fn periods(format: Format, one: &Shown, other: &Shown) -> u128
     ensures value { result ≡ periods format one.now other.now }
     ensures small { result < 2 ^ 61 }
@@ -115,7 +118,7 @@ pub fn periods(format: Format, one: &Shown, other: &Shown) -> u128
     clock_after(one, other).saturating_sub(clock(&one.fields)) / period
 }
 
-/// Whether a time is in second 60 of a minute, and another in that minute before it.
+/// Whether the first time is in second 60 of a minute, and the second one in that minute before it.
 fn goes_back(one: &Fields, other: &Fields) -> bool
     ensures { result ≡ goes_back one.now other.now }
 {
@@ -126,8 +129,8 @@ fn goes_back(one: &Fields, other: &Fields) -> bool
         && one.minutes == other.minutes
 }
 
-/// Whether a frame says a time that is whole frame periods after that of another, no later than in
-/// the next year.
+/// Whether the time of the second frame is whole frame periods after that of the first, no later
+/// than in the next year.
 pub fn is_later(format: Format, one: &Shown, other: &Shown) -> bool
     ensures { result ≡ is_later format one.now other.now }
 {
@@ -167,8 +170,8 @@ pub fn stray(format: Format, one: &Shown, other: &Shown) -> u128
     apart(distance(one, other), expected)
 }
 
-/// By how many two-thousandths of a microsecond it may differ: half an interval, and a thousandth of
-/// the distance.
+/// How much a frame may stray from another: half an interval, and a thousandth of the distance. It
+/// is in two-thousandths of a microsecond, so that nothing is divided.
 fn slack(format: Format, one: &Shown, other: &Shown) -> u128
     ensures value { result ≡ slack format one.now other.now }
 {
@@ -176,7 +179,7 @@ fn slack(format: Format, one: &Shown, other: &Shown) -> u128
 }
 
 /// Whether two frames are so far from each other that their distance does not say how many frame
-/// periods it is.
+/// periods it is: they may stray by half a period or more. It is in two-thousandths, too.
 pub fn is_far(format: Format, one: &Shown, other: &Shown) -> bool
     ensures { result ≡ is_far format one.now other.now }
 {
@@ -191,7 +194,8 @@ pub fn is_shown(format: Format, one: &Shown, other: &Shown) -> bool
         && 2 * stray(format, one, other) < u128::from(format.frame_period())
 }
 
-/// Whether the time of a frame leads to that of another, at the time when it begins.
+/// Whether the time of a frame leads to that of another: it is whole periods later, they are not
+/// far from each other, and the other begins when it should, as far as it may stray.
 pub fn leads(format: Format, one: &Shown, other: &Shown) -> bool
     ensures { result ≡ leads format one.now other.now }
 {
@@ -216,8 +220,8 @@ pub fn agrees(format: Format, one: &Shown, other: &Shown) -> bool
     !is_far(format, one, other) && is_shown(format, one, other)
 }
 
-/// Whether two frames stray by no more than half an interval more than two others do from each
-/// other, or those do not agree.
+/// Whether `from` and `frame` stray by no more than half an interval more than `one` and `other`
+/// do, or the distance of those two does not fit their times.
 pub fn is_within(format: Format, one: &Shown, other: &Shown, from: &Shown, frame: &Shown) -> bool
     ensures { result ≡ is_within format one.now other.now from.now frame.now }
 {

@@ -1,4 +1,6 @@
-//! When a frame begins by the clock that other frames show.
+//! When a frame begins by the clock that other frames show. The clock of two frames is how long a
+//! frame period takes in the recording, by their distance and their times. It is off if that is not
+//! the nominal period.
 
 ghost use Rattle.std.specs.Prelude.{◌≡◌, ◌<◌, ◌^◌, Some};
 ghost use Rattle.irig_safety.specs.Clocks.{is_by_clock, is_by_next, is_in_time, shows_any_clock};
@@ -20,7 +22,8 @@ pub fn shows_clock(format: Format, one: &Shown, other: &Shown) -> bool
     is_shown(format, one, other) && (40 * off <= many * frame || many == 1 && 25 * off <= 2 * frame)
 }
 
-/// Whether by the clock of two frames another one begins when it should after some frame.
+/// Whether by the clock of two frames (`one`, `other`) a frame begins when it should after `from`,
+/// to half an interval.
 fn is_in_time(format: Format, one: &Shown, other: &Shown, from: &Shown, frame: &Shown) -> bool
     ensures { result ≡ is_in_time format one.now other.now from.now frame.now }
 {
@@ -31,14 +34,16 @@ fn is_in_time(format: Format, one: &Shown, other: &Shown, from: &Shown, frame: &
         && 2 * apart(here, wanted) <= whole * u128::from(format.interval())
 }
 
-/// Whether another frame begins when it should after some frame, by the clock that two frames show.
+/// Whether a frame begins when it should after `from`, to half an interval, by the clock that two
+/// other frames show.
 pub fn is_by_clock(format: Format, one: &Shown, other: &Shown, from: &Shown, frame: &Shown) -> bool
     ensures { result ≡ is_by_clock format one.now other.now from.now frame.now }
 {
     shows_clock(format, one, other) && is_in_time(format, one, other, from, frame)
 }
 
-/// So by the clock of two frames, if one is the next after the other, and no more than two frames away.
+/// Whether a frame begins when it should after `from`, to half an interval, by the clock of two
+/// other frames that are one period apart. It has to be no more than two periods after `from`.
 pub fn is_by_next(format: Format, one: &Shown, other: &Shown, from: &Shown, frame: &Shown) -> bool
     ensures { result ≡ is_by_next format one.now other.now from.now frame.now }
 {
@@ -76,7 +81,7 @@ fn is_same_clock(format: Format, one: &Shown, other: &Shown, from: &Shown, to: &
         && is_in_time(format, one, other, from, to)
 }
 
-/// Whether the frames on both sides show the clock of the two before.
+/// Whether `before` and `after` show the clock of the two before, if there are two.
 fn is_own_from(format: Format, before2: Option<Shown>, before: &Shown, after: &Shown) -> bool
     ensures { result ≡ is_own_from format before2 before.now after.now }
 {
@@ -86,7 +91,7 @@ fn is_own_from(format: Format, before2: Option<Shown>, before: &Shown, after: &S
     }
 }
 
-/// Whether they show the clock of the two after.
+/// Whether `before` and `after` show the clock of the two after, if there are two.
 fn is_own_to(format: Format, before: &Shown, after: &Shown, after2: Option<Shown>) -> bool
     ensures { result ≡ is_own_to format before.now after.now after2 }
 {
@@ -96,7 +101,7 @@ fn is_own_to(format: Format, before: &Shown, after: &Shown, after2: Option<Shown
     }
 }
 
-/// How many microseconds that many frame periods take on the clock of two frames.
+/// How many microseconds `many` frame periods take on the clock of two frames.
 fn long_by(format: Format, one: &Shown, other: &Shown, many: u128) -> u128
     requires { many < 2 ^ 61 }
     ensures { result ≡ long_by format one.now other.now many }
@@ -109,8 +114,8 @@ fn long_by(format: Format, one: &Shown, other: &Shown, many: u128) -> u128
     }
 }
 
-/// Whether a distance is between what two clocks say, to half an interval, and they differ by six
-/// intervals at most.
+/// Whether a distance of `micros` is between what two clocks say, `one` and `other`, to half an
+/// interval, and they differ by six intervals at most.
 fn is_amidst(interval: u64, one: u128, other: u128, micros: u128) -> bool
     requires { micros < 2 ^ 64 }
     ensures { result ≡ is_amidst interval one other micros }

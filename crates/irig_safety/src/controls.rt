@@ -1,4 +1,5 @@
-//! The control functions of a frame, which its time does not decide.
+//! The control functions of a frame, which its time does not decide. Functions and elements count
+//! from 0.
 
 ghost use Rattle.std.specs.Prelude.{◌≡◌, ◌<◌, ◌≤◌};
 ghost use Rattle.irig_codes.specs.Format.{control_count_of, has_year};
@@ -30,7 +31,8 @@ fn first_function(format: Format) -> usize
     }
 }
 
-/// The element of a frame with a control function, both from 0.
+/// The element of a frame with a control function, both from 0. After nine of them comes a position
+/// identifier.
 pub fn function_element(format: Format, function: u32) -> usize
     ensures { result ≡ function_element format function }
 {

@@ -1,4 +1,6 @@
-//! Whether a pulse is on the curve on which the clock of two frames becomes that of two others.
+//! Whether a pulse is on the curve on which the clock of two frames becomes that of two others. The
+//! clock of two frames is how long a frame period takes in the recording, by their distance and
+//! their times.
 
 ghost use Rattle.std.specs.Prelude.{◌≡◌, ◌≤◌, ◌<◌, ◌*◌, ◌^◌, IsTrue};
 ghost use Rattle.irig_codes.specs.Format.{interval_of};
@@ -35,7 +37,8 @@ fn are_few(format: Format, sides: &Sides) -> bool
         && periods(format, &sides.after, &sides.after2) <= 500
 }
 
-/// How long a frame period is by the clock of the two before.
+/// How many microseconds a frame period takes by the clock of the two before, times `seen_over`: so
+/// nothing is divided.
 fn long_before(format: Format, sides: &Sides) -> u128
     requires { periods format sides.now.after sides.now.after2 ≤ 500 }
     ensures value { result ≡ long_before format sides.now }
@@ -45,7 +48,7 @@ fn long_before(format: Format, sides: &Sides) -> u128
     distance(&sides.before2, &sides.before) * many
 }
 
-/// How long it is by the clock of the two after, by the same measure.
+/// How many microseconds a frame period takes by the clock of the two after, times `seen_over`.
 fn long_after(format: Format, sides: &Sides) -> u128
     requires { periods format sides.now.before2 sides.now.before ≤ 500 }
     ensures value { result ≡ long_after format sides.now }
@@ -66,7 +69,8 @@ fn seen_over(format: Format, sides: &Sides) -> u128
     many * periods(format, &sides.after, &sides.after2)
 }
 
-/// Whether the frames on both sides are as far apart as the mean of both clocks says.
+/// Whether the frames on both sides are as far apart as the mean of both clocks says, to half an
+/// interval.
 fn is_mean(format: Format, sides: &Sides) -> bool
     requires before { periods format sides.now.before2 sides.now.before ≤ 500 }
     requires across { periods format sides.now.before sides.now.after ≤ 500 }
@@ -94,7 +98,8 @@ fn is_turning(format: Format, sides: &Sides) -> bool
         && is_mean(format, sides)
 }
 
-/// Over how many elements it does.
+/// What a bend is divided by. `all` is twice the frame periods from the middle of the two before to
+/// the middle of the two after: over these the clock changes evenly.
 fn turned_over(format: Format, sides: &Sides) -> u128
     requires before { periods format sides.now.before2 sides.now.before ≤ 500 }
     requires across { periods format sides.now.before sides.now.after ≤ 500 }
@@ -107,7 +112,8 @@ fn turned_over(format: Format, sides: &Sides) -> u128
     10_000 * (seen_over(format, sides) * all)
 }
 
-/// How far the curve is off the line, that many elements after one anchor and before another.
+/// How many microseconds the curve is off the straight line, `since` elements after one anchor and
+/// `until` before another: a parabola, since the clock changes evenly.
 fn bend(format: Format, sides: &Sides, since: u128, until: u128) -> u128
     requires before { periods format sides.now.before2 sides.now.before ≤ 500 }
     requires across { periods format sides.now.before sides.now.after ≤ 500 }
@@ -123,7 +129,7 @@ fn bend(format: Format, sides: &Sides, since: u128, until: u128) -> u128
     }
 }
 
-/// By how much both clocks differ.
+/// By how many microseconds of a frame period both clocks differ, times `seen_over`.
 fn difference(format: Format, sides: &Sides) -> u128
     requires before { periods format sides.now.before2 sides.now.before ≤ 500 }
     requires after { periods format sides.now.after sides.now.after2 ≤ 500 }
@@ -134,7 +140,8 @@ fn difference(format: Format, sides: &Sides) -> u128
     apart(long_before(format, sides), long_after(format, sides))
 }
 
-/// That many microseconds later, if the clock becomes slower; else earlier.
+/// Microseconds on the curve, as they are on the straight line: the bend later if the frame periods
+/// become longer, else earlier.
 fn straightened(format: Format, sides: &Sides, by: u128, micros: u128) -> u128
     requires before { periods format sides.now.before2 sides.now.before ≤ 500 }
     requires after { periods format sides.now.after sides.now.after2 ≤ 500 }
@@ -157,7 +164,8 @@ fn two_intervals(format: Format) -> u128
     2 * u128::from(format.interval())
 }
 
-/// Whether a time is on the curve between two anchors, to a tenth of an interval.
+/// Whether a time is on the curve between two anchors, to a tenth of an interval. A curve that
+/// bends by more than two intervals is none.
 fn is_bent(format: Format, sides: &Sides, before: &Anchor, rise: u64, after: &Anchor) -> bool
     requires { (before.now.steps ≤ 2 ^ 17) × (after.now.steps ≤ 2 ^ 17) }
     ensures { result ≡ is_bent format sides.now before.now rise after.now }

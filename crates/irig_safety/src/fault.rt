@@ -1,4 +1,5 @@
-//! Why frames are not safe.
+//! Why frames are not safe. A frame is borne out if the former frames next to it have its time
+//! there.
 
 use crate::shown::Shown;
 

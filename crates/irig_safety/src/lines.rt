@@ -1,4 +1,6 @@
-//! Whether a pulse is on the line between two whose place is known.
+//! Whether a pulse is on the line between two whose place is known. `near` is the frames next to a
+//! frame. The clock of two frames is how long a frame period takes in the recording, by their
+//! distance and their times.
 
 ghost use Rattle.std.specs.Prelude.{◌≡◌, ◌≤◌, ◌<◌, ◌+◌, ◌-◌, ◌*◌, ◌/◌, ◌^◌, IfSome, IsTrue};
 ghost use Rattle.irig_codes.specs.Format.{interval_of};
@@ -15,7 +17,8 @@ use crate::shown::Shown;
 use crate::witnesses::{Witnesses, is_own};
 use irig_codes::Format;
 
-/// A pulse whose place is known: how many elements it is away from another, and when it rises.
+/// A pulse whose place is known: how many elements it is away from another, and when it rises, in
+/// microseconds.
 #[derive(Clone, Copy)]
 pub struct Anchor {
     pub steps: u128,
@@ -30,8 +33,9 @@ fn elements(frames: u128) -> u128
     100 * frames
 }
 
-/// Whether the distance of two frames, of which one is next to a frame and the other is that, says how
-/// many elements it is: they agree, or the recording's own clock has the frame there.
+/// Whether the distance of two frames says how many elements it is, up to 500 frames: they agree,
+/// or the recording's own clock has `frame` there. One of the two is `frame`, the other is next to
+/// it.
 fn is_counted(format: Format, near: &Witnesses, frame: &Shown, one: &Shown, other: &Shown) -> bool
     ensures value { result ≡ is_counted format near.now frame.now one.now other.now }
     ensures few { IsTrue result → periods format one.now other.now ≤ 500 }
@@ -40,7 +44,8 @@ fn is_counted(format: Format, near: &Witnesses, frame: &Shown, one: &Shown, othe
         && periods(format, one, other) <= 500
 }
 
-/// The marker of the frame before a frame, as it is seen from an element of that, if it is counted.
+/// The marker of the frame before a frame as an anchor for one of its elements, from 0. `None` if
+/// there is no such frame, or its distance does not say how many elements it is.
 pub fn marker_before(
     format: Format,
     near: &Witnesses,
@@ -65,7 +70,8 @@ pub fn marker_before(
     }
 }
 
-/// The marker of the frame after a frame, as it is seen from an element of that, if it is counted.
+/// The marker of the frame after a frame as an anchor for one of its elements, from 0. `None` if
+/// there is no such frame, or its distance does not say how many elements it is.
 pub fn marker_after(
     format: Format,
     near: &Witnesses,
@@ -126,8 +132,8 @@ fn is_between(format: Format, near: &Witnesses, before: &Anchor, rise: u64, afte
         || is_on_curve(format, near, before, rise, after)
 }
 
-/// Whether that many elements are as long as they nominally are, to a tenth of an interval and a
-/// thousandth.
+/// Whether `steps` elements take as many microseconds as they nominally do, to a tenth of an
+/// interval and a thousandth.
 fn is_nominal(format: Format, steps: u128, micros: u128) -> bool
     requires { (steps ≤ 2 ^ 17) × (micros < 2 ^ 64) }
     ensures { result ≡ is_nominal format steps micros }
@@ -136,7 +142,8 @@ fn is_nominal(format: Format, steps: u128, micros: u128) -> bool
     1_000 * apart(micros, steps * interval) <= 100 * interval + micros
 }
 
-/// Whether they are by the clock of two frames, to a tenth of an interval.
+/// Whether `steps` elements take as many microseconds as by the clock of two frames, to a tenth of
+/// an interval.
 fn is_at_clock(format: Format, steps: u128, micros: u128, one: &Shown, other: &Shown) -> bool
     requires { (steps ≤ 2 ^ 17) × (micros < 2 ^ 64) }
     ensures { result ≡ is_at_clock format steps micros one.now other.now }
@@ -163,7 +170,8 @@ fn is_at_clock_of(
     }
 }
 
-/// Whether steps and microseconds fit the clock of the two nearest frames on a side.
+/// Whether steps and microseconds fit the clock of the two nearest frames: one on each side, or
+/// both on the one side that has any.
 fn is_clocked(format: Format, near: &Witnesses, steps: u128, micros: u128) -> bool
     requires { (steps ≤ 2 ^ 17) × (micros < 2 ^ 64) }
     ensures { result ≡ is_clocked format near.now steps micros }
@@ -175,7 +183,7 @@ fn is_clocked(format: Format, near: &Witnesses, steps: u128, micros: u128) -> bo
     }
 }
 
-/// By one of both.
+/// Whether steps and microseconds fit the nominal interval, or the clock of the two nearest frames.
 fn is_along(format: Format, near: &Witnesses, steps: u128, micros: u128) -> bool
     requires { (steps ≤ 2 ^ 17) × (micros < 2 ^ 64) }
     ensures { result ≡ is_along format near.now steps micros }

@@ -1,4 +1,5 @@
-//! Whether a frame that read well, and is another one now, is mended by that.
+//! Whether a frame that read well, and is another one now, is mended by that. `former` is the frame
+//! as it was, `frame` as it is now, and `near` the former frames next to it.
 
 ghost use Rattle.std.specs.Prelude.{◌≡◌, ◌↔◌, IsTrue};
 ghost use Rattle.irig_safety.specs.Mended.{HasControlOfBoth, Mends, is_mended, with_control};

@@ -23,7 +23,8 @@ pub fn moved_in(alloc: Global, old: &[Shown], new: &[Shown]) -> Result<Vec<Shown
     Ok(moved)
 }
 
-/// The place of the first frame from a place on that has the time of a frame; the end, if none has.
+/// The place in the list of the first frame from `from` on that has the time of a frame, without
+/// its year; the end, if none has.
 fn place_of(frame: &Shown, new: &[Shown], from: usize) -> usize
     requires { from ≤ length new.now }
     ensures within { result ≤ length new.now }
@@ -50,7 +51,7 @@ fn moved_to(frame: &Shown, at: Option<Shown>) -> Shown
     }
 }
 
-/// The place after the one that was found, or the one before the search if none was.
+/// Where the next search begins: after the place that was found, or where this one did if none was.
 fn rest_of(new: &[Shown], place: usize, passed: usize) -> usize
     requires { (place ≤ length new.now) × (passed ≤ length new.now) }
     ensures within { result ≤ length new.now }

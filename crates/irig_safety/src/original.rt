@@ -92,7 +92,7 @@ impl Original {
         self.frames.as_slice()
     }
 
-    /// The place of the marker of a frame, from 0; 0 if there is no such frame.
+    /// The pulse, from 0, that is the marker of the frame at a place; 0 if there is no such frame.
     pub fn marker(&self, place: usize) -> usize
         ensures { result ≡ get_or self.now.markers place 0 }
     {
@@ -109,7 +109,7 @@ impl Original {
         self.pulses.as_slice()
     }
 
-    /// When the pulse of an element rises of a frame with a marker.
+    /// When the pulse of an element of the frame with this marker rises, in microseconds; else 0.
     pub fn rise(&self, marker: usize, element: usize) -> u64
         ensures { result ≡ rise_in self.now.pulses marker element }
     {
@@ -141,7 +141,7 @@ impl Original {
         has_alike(format, false, self.pulses.as_slice(), pulse)
     }
 
-    /// Whether a pulse with a class was recorded within half an interval of a pulse.
+    /// Whether a pulse that means anything was recorded within half an interval of a pulse.
     pub fn has_any(&self, format: Format, pulse: Pulse) -> bool
         ensures { IsTrue result ↔ IsNear format true self.now.pulses pulse }
     {
@@ -168,7 +168,7 @@ fn is_rise(recorded: &[Pulse], time: u64, place: usize) -> bool
     has_rise(recorded, time, &mut at)
 }
 
-/// When a pulse rises; 0 if there is none.
+/// When a pulse rises, in microseconds; 0 if there is none.
 pub fn rise_or(pulse: Option<Pulse>) -> u64
     ensures { result ≡ rise_or pulse }
 {
@@ -222,7 +222,7 @@ fn reach_of(format: Format, any: bool) -> u64
     }
 }
 
-/// Whether a pulse has the class of another, or any.
+/// Whether a pulse means what another one does, or anything if any class will do.
 fn is_alike(format: Format, any: bool, other: Pulse, pulse: Pulse) -> bool
     ensures { IsTrue result ↔ IsAlike format any other pulse }
 {
@@ -241,7 +241,7 @@ fn is_same_class(format: Format, one: Pulse, other: Pulse) -> bool
     element(format, one) == element(format, other)
 }
 
-/// What a pulse means.
+/// What a pulse means by its width; `None` if the width is bad.
 fn element(format: Format, pulse: Pulse) -> Option<Element>
     ensures { result ≡ class_of format (pulse.fall - pulse.rise) }
 {

@@ -21,7 +21,8 @@ pub fn is_told(others: &[Shown], frame: &Shown, function: u32) -> bool
     votes(others, frame, function, false) < votes(others, frame, function, true)
 }
 
-/// How many frames have the time of a frame, and a control function as it has it, or otherwise.
+/// How many frames have the time of a frame, and a control function as it has it, if `so`; else
+/// otherwise than it has it.
 fn votes(others: &[Shown], frame: &Shown, function: u32, so: bool) -> usize
     requires { function < 64 }
     ensures { result ≡ votes so function others.now frame.now }
@@ -35,7 +36,8 @@ fn votes(others: &[Shown], frame: &Shown, function: u32, so: bool) -> usize
     many
 }
 
-/// Whether another frame has the time of a frame, and a control function as it has it, or not so.
+/// Whether another frame has the time of a frame, and a control function as it has it, if `so`;
+/// else otherwise than it has it.
 fn is_vote(other: &Shown, frame: &Shown, function: u32, so: bool) -> bool
     requires { function < 64 }
     ensures { result ≡ is_vote so function other.now frame.now }
@@ -47,7 +49,7 @@ fn is_vote(other: &Shown, frame: &Shown, function: u32, so: bool) -> bool
     if so { same } else { !same }
 }
 
-/// Whether two frames have the same time of day, day and year.
+/// Whether two frames have the same time of day, day and year, or neither has a year.
 fn is_of_time(one: &Fields, other: &Fields) -> bool
     ensures { result ≡ is_of_time one.now other.now }
 {

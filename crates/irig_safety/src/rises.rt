@@ -1,4 +1,5 @@
-//! The rises and falls of recorded pulses.
+//! The rises and falls of recorded pulses. They are asked for in rising order most of the time, so
+//! the place that is looked at first saves a search.
 
 ghost use Rattle.std.specs.Prelude.{◌≡◌, ◌<◌, ◌≤◌, ℕ, get_or, length};
 ghost use Rattle.std.specs.List.Sorted.{IsNonDecreasingBy};
@@ -19,7 +20,8 @@ pub fn has_rise(pulses: &[Pulse], time: u64, place: &mut usize) -> bool
     found
 }
 
-/// The first of some pulses that does not rise before a time. A place is looked at first.
+/// The place of the first of some pulses that does not rise before a time; how many there are, if
+/// all do. A place is looked at first.
 fn first_rise(pulses: &[Pulse], time: u64, place: usize) -> usize
     requires { IsNonDecreasingBy (λ (p : SomePulse). p.rise) pulses.now }
     ensures before { (j : ℕ) (d : SomePulse) → j < result → j < length pulses.now
@@ -45,7 +47,8 @@ pub fn has_fall(pulses: &[Pulse], time: u64, place: usize) -> bool
     first < pulses.len() && pulses[first].fall == time
 }
 
-/// The first of some pulses that does not fall before a time. A place is looked at first.
+/// The place of the first of some pulses that does not fall before a time; how many there are, if
+/// all do. A place is looked at first.
 fn first_fall(pulses: &[Pulse], time: u64, place: usize) -> usize
     requires { IsNonDecreasingBy (λ (p : SomePulse). p.fall) pulses.now }
     ensures before { (j : ℕ) (d : SomePulse) → j < result → j < length pulses.now

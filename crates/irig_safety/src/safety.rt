@@ -1,4 +1,6 @@
-//! Whether frames are safe, and why they are not.
+//! Whether frames are safe, and why they are not. `old` is the frames that read well at first and
+//! `new` those that do now, both in the order of their rises. A frame is borne out if the old ones
+//! next to it have its time there, and leads to another if it has the other's time there.
 
 ghost use Rattle.std.specs.Prelude.{◌≡◌, ◌↔◌, ◌-◌, ◌≤◌, ◌+◌, ◌∷◌, List, IsTrue, None, Option, Some};
 ghost use Rattle.std.specs.Prelude.{Err, IfErr, IfOk, Ok, OnErr, OnOk, drop, if◌then◌else◌, length};
@@ -71,7 +73,8 @@ fn check_from(format: Format, old: &[Shown], new: &[Shown]) -> Result<(), Fault>
     }
 }
 
-/// How many of the former frames are passed after one more frame, or why it is not safe.
+/// How many of the former frames are passed after one more frame, if `kept` are passed before it;
+/// or why it is not safe.
 fn passed(format: Format, old: &[Shown], kept: usize, frame: &Shown) -> Result<usize, Fault>
     requires { kept ≤ length old.now }
     ensures within { IfOk result (λ place. place ≤ length old.now) }
@@ -97,7 +100,8 @@ fn passed(format: Format, old: &[Shown], kept: usize, frame: &Shown) -> Result<u
     }
 }
 
-/// How many former frames are passed after a frame between them, or why it is not safe.
+/// How many former frames are passed after a frame that begins where none of them does: no more
+/// than before. Or why it is not safe.
 fn come(format: Format, old: &[Shown], kept: usize, frame: &Shown) -> Result<usize, Fault>
     requires { kept ≤ length old.now }
     ensures { result ≡ if is_borne format (behind (kept - 1) old.now) (behind kept old.now)
@@ -129,7 +133,7 @@ fn stays(format: Format, old: &[Shown], place: usize, former: &Shown, frame: &Sh
     mends(format, &near, former, frame)
 }
 
-/// The frames next to a place between former ones.
+/// The frames next to one that begins between former ones, `place` of which are before it.
 fn near(old: &[Shown], place: usize) -> Witnesses
     requires { place ≤ length old.now }
     ensures before2 { result.before2 ≡ behind (place - 1) old.now }
@@ -183,7 +187,8 @@ pub fn check_unspoiled(last: &[Shown], new: &[Shown]) -> Result<(), Fault>
     }
 }
 
-/// How many frames are found again after one more frame, or which is not.
+/// How many former frames are found again after one more frame, if `found` are before it; or which
+/// one is not.
 fn found_after(last: &[Shown], found: usize, frame: &Shown) -> Result<usize, Fault>
     requires { found ≤ length last.now }
     ensures within { IfOk result (λ place. place ≤ length last.now) }

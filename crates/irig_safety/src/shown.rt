@@ -11,7 +11,7 @@ pub struct Shown {
     pub fields: Fields,
 }
 
-/// Whether two frames show the same at the same time.
+/// Whether two frames have the same fields and rise at the same microsecond.
 pub fn is_same(one: &Shown, other: &Shown) -> bool
     ensures { IsTrue result ↔ (one.now ≡ other.now) }
 {

@@ -1,4 +1,7 @@
-//! Whether the frames on both sides of a frame bear out its time.
+//! Whether the frames on both sides of a frame bear out its time. A frame leads to another if it
+//! has the other's time at the place of that, and contradicts it if it has another time there. The
+//! clock of two frames is how long a frame period takes in the recording, by their distance and
+//! their times. Two frames stray by how much their distance differs from that of their times.
 
 ghost use Rattle.std.specs.Prelude.{◌≡◌, Some};
 ghost use Rattle.irig_safety.specs.Heard.{heard, is_disputed, is_overruled};
@@ -21,8 +24,8 @@ pub struct Witnesses {
     pub after2: Option<Shown>,
 }
 
-/// Whether the frame before a frame leads to it, or it leads to the one after it; if both are there and
-/// agree, to half an interval and what they stray.
+/// Whether the frame before a frame leads to it, or it leads to the one after it. If both are there
+/// and agree, it strays by no more than half an interval more than these two do.
 fn is_led(format: Format, before: Option<Shown>, after: Option<Shown>, frame: &Shown) -> bool
     ensures { result ≡ is_led format before after frame.now }
 {
@@ -34,8 +37,8 @@ fn is_led(format: Format, before: Option<Shown>, after: Option<Shown>, frame: &S
     }
 }
 
-/// Whether the first of two frames leads to a frame between them, or that one leads to the second,
-/// to half an interval and what these two stray.
+/// Whether the first of two frames leads to a frame between them, or that one leads to the second.
+/// If the two agree, it strays by no more than half an interval more than they do.
 fn is_led_by(format: Format, before: &Shown, after: &Shown, frame: &Shown) -> bool
     ensures { result ≡ is_led format (Some before.now) (Some after.now) frame.now }
 {
@@ -63,7 +66,7 @@ pub fn allows_to(format: Format, frame: &Shown, after: Option<Shown>) -> bool
     }
 }
 
-/// Whether a frame is in time by the clock of the two before it.
+/// Whether a frame begins when it should, to half an interval, by the clock of the two before it.
 fn is_timed_from(format: Format, before2: Option<Shown>, before: &Shown, frame: &Shown) -> bool
     ensures { result ≡ is_timed_from format before2 before.now frame.now }
 {
@@ -73,7 +76,7 @@ fn is_timed_from(format: Format, before2: Option<Shown>, before: &Shown, frame: 
     }
 }
 
-/// Whether a frame is in time by the clock of the two after it.
+/// Whether a frame begins when it should, to half an interval, by the clock of the two after it.
 fn is_timed_to(format: Format, frame: &Shown, after: &Shown, after2: Option<Shown>) -> bool
     ensures { result ≡ is_timed_to format frame.now after.now after2 }
 {
@@ -83,7 +86,8 @@ fn is_timed_to(format: Format, frame: &Shown, after: &Shown, after2: Option<Show
     }
 }
 
-/// Whether the two frames before a frame, next to each other and to it, have it in time.
+/// Whether a frame begins when it should, to half an interval, by the clock of the two before it,
+/// if these are one period apart and it is no more than two periods after them.
 fn is_next_from(format: Format, before2: Option<Shown>, before: &Shown, frame: &Shown) -> bool
     ensures { result ≡ is_next_from format before2 before.now frame.now }
 {
@@ -93,7 +97,8 @@ fn is_next_from(format: Format, before2: Option<Shown>, before: &Shown, frame: &
     }
 }
 
-/// Whether the two frames after it have it so.
+/// Whether a frame begins when it should, to half an interval, by the clock of the two after it, if
+/// these are one period apart and it is no more than two periods before them.
 fn is_next_to(format: Format, frame: &Shown, after: &Shown, after2: Option<Shown>) -> bool
     ensures { result ≡ is_next_to format frame.now after.now after2 }
 {
@@ -103,7 +108,8 @@ fn is_next_to(format: Format, frame: &Shown, after: &Shown, after2: Option<Shown
     }
 }
 
-/// Whether a frame is in time by the clock of the frames on both sides, or of two frames next to it.
+/// Whether a frame begins when it should, to half an interval, by the clock of the frames on both
+/// sides (`a` and `b`), or by that of the next two on one side.
 fn is_timed_by(format: Format, near: &Witnesses, a: &Shown, b: &Shown, frame: &Shown) -> bool
     ensures { result
         ≡ is_timed format near.now.before2 (Some a.now) (Some b.now) near.now.after2 frame.now }
@@ -113,7 +119,8 @@ fn is_timed_by(format: Format, near: &Witnesses, a: &Shown, b: &Shown, frame: &S
         || is_next_to(format, frame, b, near.after2)
 }
 
-/// Whether a frame is in time by the clock of the frames next to it.
+/// Whether a frame begins when it should, to half an interval, by the clock of the frames next to
+/// it: those on both sides, or the two on the one side that has any.
 fn is_timed(format: Format, near: &Witnesses, frame: &Shown) -> bool
     ensures { result
         ≡ is_timed format near.now.before2 near.now.before near.now.after near.now.after2 frame.now }
@@ -126,7 +133,8 @@ fn is_timed(format: Format, near: &Witnesses, frame: &Shown) -> bool
     }
 }
 
-/// Whether a frame is where the recording's own clock has it, between the frames next to it.
+/// Whether a frame begins when it should, between the frames next to it, by the recording's own
+/// clock: the one that those two show as the two before or after them do.
 pub fn is_own(format: Format, near: &Witnesses, frame: &Shown) -> bool
     ensures { result
         ≡ is_own format near.now.before2 near.now.before near.now.after near.now.after2 frame.now }
@@ -139,7 +147,8 @@ pub fn is_own(format: Format, near: &Witnesses, frame: &Shown) -> bool
     }
 }
 
-/// Whether a frame has no inserted second, or one that both sides may bear out.
+/// Whether a frame has no inserted second 60, or frames are on both sides: only those may bear one
+/// out.
 fn may_stand(near: &Witnesses, frame: &Shown) -> bool
     ensures { result ≡ may_stand near.now.before near.now.after frame.now }
 {
@@ -189,8 +198,9 @@ fn is_disputed(
     }
 }
 
-/// The frames next to a place that are heard: not the one before it or the one after it if that is
-/// overruled; and none of two on one side that contradict each other if the other has none.
+/// The frames next to a place that are heard: not the one before it or the one after it if that one
+/// alone is overruled; and none of two on one side that contradict each other if the other has
+/// none.
 fn heard(format: Format, near: &Witnesses) -> Witnesses
     ensures { result
         ≡ heard format near.now.before2 near.now.before near.now.after near.now.after2 }
