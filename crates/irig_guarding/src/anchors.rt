@@ -1,4 +1,7 @@
-//! Whether the pulses of a frame are where the recording has them.
+//! Whether the pulses of a frame are where the recording has them. A pulse is an anchor if it rises
+//! where the recording has a pulse. An `Anchor` is such a pulse, or a marker, as it is seen from an
+//! element: how many elements away it is, and when it rises, in microseconds. Markers and elements
+//! count from 0.
 
 ghost use Rattle.std.specs.Prelude.{◌≡◌, ◌↔◌, ◌-◌, ◌≤◌, ◌<◌, ◌^◌, IfSome, IsTrue};
 ghost use Rattle.irig_safety.specs.Anchors.{anchors_among, held_after, held_before, is_anchored};
@@ -38,7 +41,8 @@ fn ends_of(session: &Session, near: &Witnesses, frame: &Seen) -> Ends
     }
 }
 
-/// Whether each pulse of a frame is an anchor, or on the line between those next to it.
+/// Whether each pulse of a frame is an anchor, or on the line between those next to it. `last` and
+/// `next` are the elements of the anchors before an element and after it.
 pub fn are_placed(session: &Session, opened: &Original, near: &Witnesses, frame: &Seen) -> bool
     ensures { IsTrue result ↔ Stands opened.now session.now.state near.now frame.now }
 {
@@ -92,7 +96,8 @@ fn is_anchored(
     opened.holds(pulse_at(session, marker, element), place)
 }
 
-/// The first anchor of a frame from an element on. A place of the recording is looked at first.
+/// The element of the first anchor of a frame from an element on. A place of the recording is
+/// looked at first.
 fn next_anchor(
     session: &Session,
     opened: &Original,
@@ -114,7 +119,8 @@ fn next_anchor(
     None
 }
 
-/// Whether an element is on the line between what holds it on both sides.
+/// Whether an element is on the line between what holds it on both sides. `last` and `next` are the
+/// elements of its frame that are anchors, nearest to it, if there are any.
 fn is_held(
     session: &Session,
     near: &Witnesses,
@@ -144,7 +150,8 @@ fn is_held(
     )
 }
 
-/// What holds an element from before.
+/// What holds an element from before: the last anchor of its frame, or else the marker of the frame
+/// before.
 fn held_before(
     session: &Session,
     near: &Witnesses,
@@ -170,7 +177,8 @@ fn held_before(
     }
 }
 
-/// What holds an element from after it.
+/// What holds an element from after it: the next anchor of its frame, or else the marker of the
+/// frame after.
 fn held_after(
     session: &Session,
     near: &Witnesses,
@@ -195,7 +203,8 @@ fn held_after(
     }
 }
 
-/// The marker before a frame as it is seen from a later element.
+/// The marker before a frame as it is seen from an element, if it was seen from the frame's own
+/// marker.
 fn later(before: Option<Anchor>, element: usize) -> Option<Anchor>
     requires { IfSome before (λ a. a.steps ≤ 2 ^ 16) × (element < 100) }
     ensures value { (f : FormatView) (w : SomeWitnesses) (y : ShownFrame)
@@ -211,7 +220,8 @@ fn later(before: Option<Anchor>, element: usize) -> Option<Anchor>
     }
 }
 
-/// The marker after a frame as it is seen from a later element.
+/// The marker after a frame as it is seen from an element, if it was seen from the frame's own
+/// marker.
 fn sooner(after: Option<Anchor>, element: usize) -> Option<Anchor>
     requires { IfSome after (λ a. a.steps ≤ 2 ^ 16) }
     ensures value { (f : FormatView) (w : SomeWitnesses) (y : ShownFrame)

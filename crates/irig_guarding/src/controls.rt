@@ -1,4 +1,7 @@
-//! Whether the control functions of the frames are borne out.
+//! Whether the control functions of the frames are borne out. One is borne out if the frames
+//! nearest to its own have it, too, if the recording has its pulse or lost it, or if most other
+//! recordings have it. `old` is the frames of the recording that read well, and `near` those of
+//! them next to a frame. Markers and elements count from 0.
 
 ghost use Rattle.std.specs.Prelude.{◌≡◌, ◌↔◌, ◌⊎◌, ◌+◌, ◌<◌, ◌≤◌, ◌∷◌, List, IsTrue, None, Option};
 ghost use Rattle.std.specs.Prelude.{Some};
@@ -47,7 +50,8 @@ pub fn check_controls(
     Ok(())
 }
 
-/// How many of the former frames are passed after one more frame, or why it is at fault.
+/// How many of the former frames are passed after one more frame, if `passed` are before it; or why
+/// it is at fault.
 fn pass(
     session: &Session,
     opened: &Original,
@@ -93,7 +97,8 @@ fn pass(
     judge(session, opened, &near, frame, passed + 1)
 }
 
-/// How many frames are passed after a frame next to some of the former, or why it is at fault.
+/// How many frames are passed after a frame next to some of the former, which is `next`; or why it
+/// is at fault.
 fn judge(
     session: &Session,
     opened: &Original,
@@ -154,7 +159,7 @@ fn may_be(session: &Session, opened: &Original, pulse: Option<Pulse>) -> bool
     }
 }
 
-/// Whether the control function of the frame of a marker is recorded at its place.
+/// Whether the pulse of a control function of the frame of a marker is recorded at its place.
 pub fn is_recorded_at(session: &Session, opened: &Original, marker: usize, function: u32) -> bool
     requires { function < 64 }
     ensures { IsTrue result ↔ MatchOption (slice_get session.now.state.pulses
@@ -168,7 +173,8 @@ pub fn is_recorded_at(session: &Session, opened: &Original, marker: usize, funct
     }
 }
 
-/// Whether a pulse is as recorded, or what was recorded of it was lost.
+/// Whether a pulse is as recorded, or what was recorded of it was lost: nothing near it meant
+/// anything.
 fn is_recorded_or_lost(format: Format, opened: &Original, pulse: Pulse) -> bool
     ensures { IsTrue result ↔ (IsRecorded format opened.now.pulses pulse
         ⊎ IsLost format opened.now.pulses pulse) }
@@ -179,7 +185,7 @@ fn is_recorded_or_lost(format: Format, opened: &Original, pulse: Pulse) -> bool
     !opened.has_any(format, pulse)
 }
 
-/// The pulse of an element of a frame, if there is one.
+/// The pulse of an element of a frame, if there is one. The pulses of a session count from 1.
 pub fn pulse_at(session: &Session, marker: usize, element: usize) -> Option<Pulse>
     ensures { result ≡ slice_get session.now.state.pulses (marker + element) }
 {

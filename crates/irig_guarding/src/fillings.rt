@@ -1,4 +1,4 @@
-//! The frames with control functions that are not in the recording.
+//! The frames with control functions that are not in the recording. Markers count from 0.
 
 ghost use Rattle.std.specs.Prelude.{◌≡◌, ◌↔◌, IsTrue};
 ghost use Rattle.irig_guarding.specs.Fillings.{AreFilled, Fills, IsWhole};
@@ -24,7 +24,7 @@ pub fn filled_frames(session: &Session, opened: &Original, frames: &[Seen]) -> u
     filled_among(session, opened, frames)
 }
 
-/// How many of some frames have one.
+/// How many of some frames have a control function that is not in the recording.
 fn filled_among(session: &Session, opened: &Original, frames: &[Seen]) -> usize
     ensures { AreFilled opened.now session.now.state frames.now result }
 {

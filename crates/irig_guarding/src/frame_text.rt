@@ -7,7 +7,7 @@ use irig_print::{Row, put_time};
 use irig_safety::Shown;
 use std::alloc::AllocError;
 
-/// Prints the time of a frame, as the editor does, and when it begins.
+/// Prints the time of a frame, as the editor does, and when it begins, in microseconds.
 pub fn put_frame(out: &mut Vec<u8>, frame: &Shown) -> Result<(), AllocError>
     ensures { OnOk result (out.new.items ≡ out.old.items ++ frame_text frame.now) }
 {

@@ -1,4 +1,6 @@
-//! A proposed script, run repair by repair.
+//! A proposed script, run repair by repair. `known` has for each frame of the recording that read
+//! well the marker at which its pulses are known to rise as they did. `last` is the frames that
+//! read well before a repair, and `opened` is what is known of the recording.
 
 ghost use Rattle.std.specs.Prelude.{◌≡◌, ◌<◌, ◌≤◌, ◌-◌, [], IfOk, None, OnOk, Some, drop};
 ghost use Rattle.std.specs.Prelude.{is_none, length, take, if◌then◌else◌};
@@ -60,8 +62,8 @@ pub fn guard(
     Ok((out, Kept { status, filled }))
 }
 
-/// Runs lines on a session repair by repair, and prints them. The frames that read well are listed
-/// before and after it. Returns whether all were kept.
+/// Runs lines on a session repair by repair, and prints them. `last` is listed again after each
+/// repair that is kept. Returns whether all were kept.
 fn guard_lines(
     alloc: Global,
     session: &mut Session,
@@ -94,7 +96,7 @@ fn guard_lines(
     Ok(status)
 }
 
-/// The status after one more repair.
+/// The status after one more repair, which was dropped if there is a reason.
 fn status_with(status: Status, dropped: Option<Reason>) -> Status
     ensures { result ≡ if is_none dropped then status else SomeRefused }
 {
@@ -104,7 +106,8 @@ fn status_with(status: Status, dropped: Option<Reason>) -> Status
     }
 }
 
-/// The place after a repair that begins at a place.
+/// The place after a repair that begins at a place: one line, or a group, which without an end is
+/// all lines that are left.
 fn repair_end(lines: &[Line], at: usize) -> usize
     requires { at < length lines.now }
     ensures more { at < result }
@@ -152,7 +155,8 @@ fn guard_repair(
     Ok(dropped)
 }
 
-/// Tries one repair. Returns why it was dropped, if it was.
+/// Tries one repair. Returns why it was dropped, if it was: then nothing has changed but what can
+/// be redone.
 fn try_repair(
     alloc: Global,
     session: &mut Session,

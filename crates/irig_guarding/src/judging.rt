@@ -1,4 +1,7 @@
-//! Whether what a repair leads to may stay.
+//! Whether what a repair leads to may stay. `known` has for each frame of the recording that read
+//! well the marker at which its pulses are known to rise as they did. `before` is the frames that
+//! read well before the repair; `now` and `seen` are those that do now, the latter with their
+//! markers.
 
 ghost use Rattle.std.specs.Prelude.{◌≡◌, IfErr, IfOk, OnErr, OnOk, false, true};
 ghost use Rattle.irig_safety.specs.Original.{with_frames};
@@ -39,7 +42,7 @@ pub fn check(
     }
 }
 
-/// The same of the frames that read well.
+/// Whether these frames, which read well now, may stay.
 fn check_listed(
     alloc: Global,
     session: &Session,
@@ -61,7 +64,7 @@ fn check_listed(
     }
 }
 
-/// Why a repair is dropped by the frames that read well, if none may move.
+/// Whether the frames that read well may stay, if none may move. If not, the reason.
 fn check_unmoved(
     session: &Session,
     opened: &Original,
@@ -83,8 +86,8 @@ fn check_unmoved(
     }
 }
 
-/// Why a repair is dropped by the frames that read well, if they may move: by the places where the
-/// former ones are now.
+/// Whether the frames that read well may stay, if they may move: by the places where the former
+/// ones are now. If not, the reason.
 fn check_moved(
     alloc: Global,
     session: &Session,
@@ -175,7 +178,8 @@ fn check_borne(
     check_controls(session, opened, old, seen)
 }
 
-/// Whether the pulses of the frames are where they may be, or if no frame of the recording reads well are rooted.
+/// Whether the pulses of the frames are where they may be, or if no frame of the recording reads
+/// well are rooted. Rooted is that most of their pulses rise where the recording has one.
 fn check_pulses(
     session: &Session,
     opened: &Original,

@@ -1,4 +1,5 @@
-//! The former frames whose pulses are known to rise as they did.
+//! The former frames whose pulses are known to rise as they did. `known` has for each of them the
+//! marker, from 0, of the frame at which they do, or `None` if that is not known.
 
 ghost use Rattle.std.specs.Prelude.{◌≡◌, List, None, IfOk, IfSome, IsTrue, Some, get_or, length};
 ghost use Rattle.irig_guarding.specs.Known.{AreKnown, Became, Follows};
@@ -12,7 +13,7 @@ use irig_edit::Session;
 use irig_safety::{Original, Shown};
 use std::alloc::{AllocError, Global};
 
-/// Nothing is known of that many former frames.
+/// A list in which nothing is known of that many former frames.
 pub fn unknown(alloc: Global, many: usize) -> Result<Vec<Option<usize>>, AllocError>
     ensures { (o : OriginalView) (ps : List SomePulse)
         → IfOk result (λ known. AreKnown o ps known.items) }
@@ -24,7 +25,8 @@ pub fn unknown(alloc: Global, many: usize) -> Result<Vec<Option<usize>>, AllocEr
     Ok(known)
 }
 
-/// Whether a marker is known of a former frame.
+/// Whether it is known that the pulses of the former frame at a place rise as they did at this
+/// marker.
 pub fn is_known(known: &[Option<usize>], place: usize, marker: usize) -> bool
     ensures { IsTrue result → get_or known.now place None ≡ Some marker }
 {
@@ -45,7 +47,8 @@ fn is_marker(known: Option<usize>, marker: usize) -> bool
     }
 }
 
-/// Compares the pulses of the frames with those of the former ones of which nothing is known.
+/// Fills in what is not known yet: compares the pulses of the frames with those of the former ones
+/// of which nothing is known.
 pub fn learn(session: &Session, opened: &Original, frames: &[Seen], known: &mut Vec<Option<usize>>)
     requires { AreKnown opened.now session.now.state.pulses known.old.items }
     ensures { AreKnown opened.now session.now.state.pulses known.new.items }
@@ -57,7 +60,8 @@ pub fn learn(session: &Session, opened: &Original, frames: &[Seen], known: &mut 
     }
 }
 
-/// The first place from one on of a former frame that does not begin before a time.
+/// The place of the first former frame, from a place on, that does not begin before a time; the
+/// end, if all do.
 fn place_from(old: &[Shown], from: usize, rise: u64) -> usize {
     for place in from..old.len() {
         if rise <= old[place].rise {
@@ -67,7 +71,8 @@ fn place_from(old: &[Shown], from: usize, rise: u64) -> usize {
     old.len()
 }
 
-/// Compares the pulses of a frame with those of the former one at a place, if nothing is known of that.
+/// Compares the pulses of a frame with those of the former one at a place, if nothing is known of
+/// that, and fills in its marker if they rise as those.
 fn learn_one(
     session: &Session,
     opened: &Original,
@@ -86,7 +91,9 @@ fn learn_one(
     }
 }
 
-/// What is still known after pulses became others: how many there were before that, and are after it.
+/// Replaces the markers by what is still known after the pulses from `place` on became others:
+/// `before` is how many there were before that, and `after` how many there are now. Nothing is
+/// known without a place.
 pub fn follow(known: &mut Vec<Option<usize>>, place: Option<Place>, before: usize, after: usize)
     ensures { (o : OriginalView) (ps qs : List SomePulse)
         → IfSome place (λ p. Became p.at p.come ps qs) → length ps ≡ before → length qs ≡ after
@@ -97,7 +104,7 @@ pub fn follow(known: &mut Vec<Option<usize>>, place: Option<Place>, before: usiz
     }
 }
 
-/// The marker that is known after that, if one is.
+/// The marker that is known after that, if one is. Nothing is known without a place.
 fn followed(
     known: Option<usize>,
     place: Option<Place>,
@@ -113,7 +120,8 @@ fn followed(
     }
 }
 
-/// The marker that is known after pulses from a place on became others.
+/// The marker that is known after pulses from a place on became others: the same for a frame that
+/// ends before them, moved with its pulses for one that begins after them, and none between.
 fn followed_by(marker: usize, place: &Place, before: usize, after: usize) -> Option<usize>
     ensures { Follows place.now.at place.now.come before after (Some marker) result }
 {
@@ -131,7 +139,7 @@ fn followed_by(marker: usize, place: &Place, before: usize, after: usize) -> Opt
     }
 }
 
-/// A number, if it is that of a pulse.
+/// A number, if it is small enough for that of a pulse.
 fn number(value: u128) -> Option<usize>
     ensures { IfSome result (λ n. n ≡ value) }
 {

@@ -1,4 +1,6 @@
-//! Repairs that are tried, and kept if they are safe.
+//! Repairs that are tried, and kept if they are safe. `known` has for each frame of the recording
+//! that read well the marker at which its pulses are known to rise as they did; after an error it
+//! is not used. `before` is the frames that read well before the repair.
 
 ghost use Rattle.std.specs.Prelude.{◌≡◌, ◌≢◌, ◌∷◌, ◌++◌, [], ℕ, List, None, IfErr, IfOk, OnErr, OnOk};
 ghost use Rattle.irig_edit.specs.{Session.Calls.Call, Session.Session.work_in};

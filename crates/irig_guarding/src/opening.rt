@@ -23,7 +23,7 @@ pub fn original_of(alloc: Global, session: &Session, terms: Terms) -> Result<Ori
     Ok(Original::new(frames, markers, pulses, terms))
 }
 
-/// The markers of frames.
+/// The markers of frames, as pulses from 0.
 fn markers_of(alloc: Global, frames: &[Seen]) -> Result<Vec<usize>, AllocError>
     ensures { IfOk result (λ markers. markers.items ≡ map (λ y. y.marker) frames.now) }
 {
@@ -34,7 +34,7 @@ fn markers_of(alloc: Global, frames: &[Seen]) -> Result<Vec<usize>, AllocError>
     Ok(markers)
 }
 
-/// The pulses of a session.
+/// The pulses of a session, whose rises and falls never go back.
 fn pulses_of(alloc: Global, session: &Session) -> Result<Vec<Pulse>, AllocError>
     ensures all { IfOk result (λ pulses. pulses.items ≡ session.now.state.pulses) }
     ensures rising { IfOk result (λ pulses.

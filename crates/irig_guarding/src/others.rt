@@ -18,7 +18,7 @@ use irig_safety::{Shown, backed};
 use std::alloc::{AllocError, Global};
 
 /// Puts the frames of another recording that say something of this one after those of others, by
-/// what was read of its dump.
+/// what was read of its dump: those with which a frame next to them agrees.
 pub fn add_frames(
     alloc: Global,
     recording: Recording,

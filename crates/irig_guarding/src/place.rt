@@ -1,4 +1,5 @@
-//! Where a command of a repair changes the pulses of a session.
+//! Where a command of a repair changes the pulses of a session. Each function returns the place of
+//! one command. Addresses count pulses from 1, with 0 for none.
 
 ghost use Rattle.std.specs.Prelude.{◌≡◌, ℕ, ℤ, IfSome, length};
 ghost use Rattle.irig_codes.specs.declared.width.Element.{Element as SomeElement};
@@ -14,7 +15,7 @@ use irig_edit::Session;
 use irig_lines::{Address, Command, Range, Time};
 use irig_script::{ends, number_at, time};
 
-/// Where pulses become others: how many are before them, and how many come.
+/// Where pulses become others: how many are before them, and how many come instead.
 #[derive(Clone, Copy)]
 pub struct Place {
     pub at: usize,
@@ -38,7 +39,7 @@ pub fn place_of(session: &Session, command: &Command) -> Option<Place>
     }
 }
 
-/// That of pulses that are removed.
+/// The place of pulses that are removed.
 fn place_of_delete(session: &Session, range: &Range) -> Place
     ensures { (new : Machine) → Obeys (Command.Delete range.now) session.now Silent new
         → Became result.at result.come session.now.state.pulses new.state.pulses }
@@ -50,7 +51,7 @@ fn place_of_delete(session: &Session, range: &Range) -> Place
     }
 }
 
-/// That of pulses that move: as many come as go.
+/// The place of pulses that move: as many come as go.
 fn place_of_shift(session: &Session, range: &Range) -> Place
     ensures { (by : ℤ) (new : Machine) → Obeys (Command.Shift range.now by) session.now Silent new
         → Became result.at result.come session.now.state.pulses new.state.pulses }
@@ -63,7 +64,7 @@ fn place_of_shift(session: &Session, range: &Range) -> Place
     }
 }
 
-/// That of pulses that become one.
+/// The place of pulses that become one.
 fn place_of_join(session: &Session, range: &Range) -> Place
     ensures { (new : Machine) → Obeys (Command.Join range.now) session.now Silent new
         → Became result.at result.come session.now.state.pulses new.state.pulses }
@@ -75,7 +76,7 @@ fn place_of_join(session: &Session, range: &Range) -> Place
     }
 }
 
-/// That of a pulse that becomes two.
+/// The place of a pulse that becomes two.
 fn place_of_split(session: &Session, address: &Address) -> Place
     ensures { (from to : SomeTime) (new : Machine)
         → Obeys (Command.Split address.now from to) session.now Silent new
@@ -87,7 +88,7 @@ fn place_of_split(session: &Session, address: &Address) -> Place
     }
 }
 
-/// That of a pulse that gets another width.
+/// The place of a pulse that gets another width.
 fn place_of_force(session: &Session, address: &Address) -> Place
     ensures { (element : SomeElement) (new : Machine)
         → Obeys (Command.Force address.now element) session.now Silent new
@@ -99,7 +100,7 @@ fn place_of_force(session: &Session, address: &Address) -> Place
     }
 }
 
-/// That of a pulse that is inserted.
+/// The place of a pulse that is inserted.
 fn place_of_insert(session: &Session, to: &Time) -> Place
     ensures { (from : SomeTime) (new : Machine)
         → Obeys (Command.Insert from to.now) session.now Silent new
@@ -111,7 +112,7 @@ fn place_of_insert(session: &Session, to: &Time) -> Place
     }
 }
 
-/// That of frames that are generated.
+/// The place of frames that are generated: a hundred pulses for each.
 fn place_of_regen(session: &Session, start: &Time, frames: u64) -> Place
     ensures { (moment : MomentView) (control : ℕ) (new : Machine)
         → Obeys (Command.Regen start.now frames moment control) session.now Silent new

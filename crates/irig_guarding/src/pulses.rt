@@ -1,4 +1,7 @@
-//! Whether the pulses of the frames stay where they were.
+//! Whether the pulses of the frames stay where they were. `old` is the frames of the recording that
+//! read well, and `known` has for each of them the marker at which its pulses are known to rise as
+//! they did. Markers and elements count from 0. A pulse is an anchor if it rises where the
+//! recording has one.
 
 ghost use Rattle.std.specs.Prelude.{◌≡◌, ◌↔◌, ◌+◌, ◌<◌, ◌≤◌, ◌∷◌, List, IsTrue, None, Option, Some};
 ghost use Rattle.std.specs.Prelude.{IfErr, IfOk, OnErr, OnOk, drop, get_or, length, slice_get};
@@ -60,7 +63,8 @@ fn is_unmoved(old: &[Shown], known: &[Option<usize>], place: usize, frame: &Seen
     is_known(known, place, frame.marker)
 }
 
-/// How many of the former frames are passed after one more frame, or why it is at fault.
+/// How many of the former frames are passed after one more frame, if `passed` are before it; or why
+/// it is at fault.
 fn pass(
     session: &Session,
     opened: &Original,
@@ -108,8 +112,8 @@ fn pass(
     }
 }
 
-/// How many frames are passed after one that was not fine, next to some of the former, or why it is at
-/// fault.
+/// How many former frames are passed after one that was not fine, next to some of them: `passed` as
+/// before. Or why it is at fault.
 fn come(
     session: &Session,
     opened: &Original,
@@ -160,7 +164,8 @@ fn stands_as(
     keeps_rises(session, opened, opened.marker(place), frame.marker)
 }
 
-/// Whether the pulses of the frame of a marker rise as those of the former one of another.
+/// Whether each pulse of the frame of a marker rises as long after the marker as in the former
+/// frame of another marker.
 pub fn keeps_rises(session: &Session, opened: &Original, former: usize, marker: usize) -> bool
     ensures { IsTrue result ↔ KeepsRises opened.now.pulses former session.now.state.pulses marker }
 {
@@ -175,7 +180,8 @@ pub fn keeps_rises(session: &Session, opened: &Original, former: usize, marker: 
     true
 }
 
-/// When the pulse of an element rises of the frame of a marker.
+/// When the pulse of an element of the frame of a marker rises, in microseconds; 0 if it is not
+/// there.
 pub fn rise_at(session: &Session, marker: usize, element: usize) -> u64
     ensures { result ≡ rise_in session.now.state.pulses marker element }
 {

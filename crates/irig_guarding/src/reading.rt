@@ -21,7 +21,7 @@ pub fn fine_frames(alloc: Global, session: &Session) -> Result<Vec<Shown>, Alloc
     Ok(shown)
 }
 
-/// Puts what a frame shows, from 1, after others if it reads well.
+/// Puts what the frame of a number, from 1, shows after others if it reads well.
 fn put_frame(shown: &mut Vec<Shown>, session: &Session, number: usize) -> Result<(), AllocError>
     requires { (1 ≤ number) × (number ≤ length (frames_of session.now.state)) }
     ensures { (r : Record) → slice_get (frames_of session.now.state) (number - 1) ≡ Some r
@@ -33,7 +33,7 @@ fn put_frame(shown: &mut Vec<Shown>, session: &Session, number: usize) -> Result
     put_verdict(shown, rise, frame.verdict)
 }
 
-/// Puts what a frame shows that begins at a time after others if it reads well.
+/// Puts what a frame shows that begins at a time, in microseconds, after others if it reads well.
 fn put_verdict(shown: &mut Vec<Shown>, rise: u64, verdict: Verdict) -> Result<(), AllocError>
     ensures { OnOk result (shown.new.items ≡ shown.old.items ++ shown_at rise verdict) }
 {

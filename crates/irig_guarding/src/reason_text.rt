@@ -65,7 +65,7 @@ fn put_what(out: &mut Vec<u8>, frame: &Shown, what: &[u8]) -> Result<(), AllocEr
     out.extend_from_slice(what)
 }
 
-/// Prints what the editor refuses.
+/// Prints the editor's refusal.
 fn put_refusal(out: &mut Vec<u8>, why: Refusal) -> Result<(), AllocError>
     ensures { OnOk result (out.new.items ≡ out.old.items ++ reason_text (Reason.Refused why)) }
 {

@@ -54,7 +54,8 @@ pub fn guard_on_parts<R: Read, W: Write, S: Shelf>(
     }
 }
 
-/// Opens a dump by what was read of it. No group is open.
+/// Opens a dump by what was read of it. No group is open. The call that ends a group says so: it is
+/// refused, and changes nothing.
 fn open_closed(
     alloc: Global,
     recording: Recording,
@@ -136,7 +137,7 @@ fn write_product<S: Shelf>(
     }
 }
 
-/// Writes a text.
+/// Writes a text to the shelf. How long it was is not asked for.
 fn write<T: Text, S: Shelf>(text: &mut T, shelf: &mut S) -> Result<(), ShelfFault>
     ensures ok { OnOk result (Puts (S.known shelf.old) (S.known shelf.new)
         (T.rest text.old ∷ []) 0) }

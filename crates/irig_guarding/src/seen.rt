@@ -66,7 +66,7 @@ fn shown_among(alloc: Global, seen: &[Seen]) -> Result<Vec<Shown>, AllocError>
     Ok(shown)
 }
 
-/// Whether a frame shows what the one at a place does.
+/// Whether a frame shows what the one at a place, from 0, of a list does, at the same time.
 pub fn is_as_before(old: &[Shown], place: usize, frame: &Seen) -> bool
     ensures { IsTrue result → slice_get old.now place ≡ Some frame.now.shown }
 {
@@ -76,7 +76,8 @@ pub fn is_as_before(old: &[Shown], place: usize, frame: &Seen) -> bool
     }
 }
 
-/// Puts a frame, from 1, after others if it reads well.
+/// Puts the frame of a number, from 1, after others if it reads well. The pulses of a session count
+/// from 1, too.
 fn put_frame(seen: &mut Vec<Seen>, session: &Session, number: usize) -> Result<(), AllocError>
     requires { (1 ≤ number) × (number ≤ length (frames_of session.now.state)) }
     ensures { (r : Record) → slice_get (frames_of session.now.state) (number - 1) ≡ Some r
@@ -88,7 +89,8 @@ fn put_frame(seen: &mut Vec<Seen>, session: &Session, number: usize) -> Result<(
     put_verdict(seen, rise, frame.marker - 1, frame.verdict)
 }
 
-/// Puts a frame that begins at a time, with a marker, after others if it reads well.
+/// Puts a frame that begins at a time, in microseconds, after others if it reads well. Its marker
+/// counts from 0.
 fn put_verdict(
     seen: &mut Vec<Seen>,
     rise: u64,
