@@ -1,4 +1,5 @@
-//! The command line, read by `clap`.
+//! The command line, read by `clap`. Its matches are what `clap` found in its words. Only memory
+//! can run out for a `Command` or an `Arg`.
 
 ghost use Rattle.std.specs.Prelude.{◌≡◌, IfErr, IfOk, None, codes, false, map, string_bytes};
 ghost use Rattle.clap.specs.Words.{HasMatchesOf, app_of, found_of, rule_of};
@@ -43,12 +44,13 @@ fn asked<'a>(alloc: Global, words: &'a [String]) -> Result<Asked<'a>, Error>
     }
 }
 
-/// The values of the matches.
+/// The values of the matches, as they are written.
 fn values_of<'a>(alloc: Global, matches: &ArgMatches<'a>) -> Result<Asked<'a>, Error>
     ensures values { IfOk result (AreValues (found_of matches.now)) }
     ensures memory { IfErr result WantsMemory }
 {
     let Some(track) = matches.get_str("TRACK") else {
+        // `clap` accepts no line without the track, so this does not come.
         return Err(AllocError.into());
     };
     let others = others_of(alloc, matches)?;
@@ -76,7 +78,7 @@ fn others_of<'a>(alloc: Global, matches: &ArgMatches<'a>) -> Result<Vec<&'a str>
     Ok(others)
 }
 
-/// The matches of a command line that is accepted.
+/// The matches of a command line that `clap` accepts.
 fn parse_words<'a>(alloc: Global, words: &'a [String]) -> Result<ArgMatches<'a>, Error>
     ensures parsed { IfOk result (HasMatchesOf the_command (map string_bytes words.entry.now)) }
     ensures refused { IfErr result (MayRefuse the_command (map string_bytes words.entry.now)) }
@@ -94,7 +96,8 @@ pub fn command<'a>(alloc: Global) -> Result<Command<'a>, AllocError>
     judging(alloc)?.arg(out)?.arg(save)?.arg(track)
 }
 
-/// Its options that say how the track is read, and by what repairs are judged besides.
+/// The command with the options that say how the track is read, and by what repairs are judged
+/// besides.
 fn judging<'a>(alloc: Global) -> Result<Command<'a>, AllocError>
     ensures { IfOk result (λ c. IsJudging (app_of c)) }
 {
@@ -106,7 +109,7 @@ fn judging<'a>(alloc: Global) -> Result<Command<'a>, AllocError>
     reading(alloc)?.arg(moved)?.arg(with_arg(alloc))
 }
 
-/// Its options that say how the track is read.
+/// The command with the options that say how the track is read.
 fn reading<'a>(alloc: Global) -> Result<Command<'a>, AllocError>
     ensures { IfOk result (λ c. IsReading (app_of c)) }
 {
@@ -119,7 +122,7 @@ fn reading<'a>(alloc: Global) -> Result<Command<'a>, AllocError>
         .arg(expression)
 }
 
-/// Other recordings of the same code.
+/// The option for other recordings of the same code, which can come more than once.
 fn with_arg<'a>(alloc: Global) -> Arg<'a>
     ensures rule { rule_of result ≡ beside }
     ensures local { result.global ≡ false }

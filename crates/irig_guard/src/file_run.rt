@@ -1,4 +1,5 @@
-//! A script run under guard on the file of a dump, as the words of a command line ask.
+//! A script run under guard on the file of a dump, as the words of a command line ask. The room is
+//! the memory that writes use: it is taken before a dump is read, so none runs out of it.
 
 ghost use Rattle.std.specs.Prelude.{◌≡◌, ℕ, [], IfOk, IfSome, IsTrue, List, false, is_some, map};
 ghost use Rattle.std.specs.Prelude.{option_map, string_bytes, true};
@@ -208,14 +209,14 @@ fn run_on_read<D: Disk, R: Read, W: Write>(
     )
 }
 
-/// The path of what is written: that of the dump, if nothing is.
+/// The path of what is written: that of the dump, if nothing is, since the shelf needs one.
 fn place_of<'a>(chosen: &Settings<'a>) -> &'a str
     ensures { result.now ≡ place_of chosen.now }
 {
     chosen.out.unwrap_or(chosen.track)
 }
 
-/// What is written.
+/// What is written of the session that the kept repairs leave: nothing, if no path for it is given.
 fn product_of(chosen: &Settings<'_>) -> Product
     ensures { result ≡ product_of chosen.now }
 {

@@ -7,7 +7,8 @@ use crate::asked::Asked;
 use crate::chosen::{OptionFault, Settings};
 use irig_words::format_named;
 
-/// What the values of a command line ask for.
+/// What the values of a command line ask for; an option with a value that it cannot have is a
+/// fault, also if that is so only by another option.
 pub fn settings_of<'a>(asked: Asked<'a>) -> Result<Settings<'a>, OptionFault>
     ensures chosen { IfOk result (IsChosen asked.entry) }
     ensures fault { IfErr result (HasFault asked.entry) }
@@ -33,7 +34,8 @@ pub fn settings_of<'a>(asked: Asked<'a>) -> Result<Settings<'a>, OptionFault>
     })
 }
 
-/// Whether what is to be written is the track.
+/// Whether the path to write is written as that of the track is. Paths that lead to one file are
+/// found out later.
 fn is_over(asked: &Asked<'_>) -> bool
     ensures { result ≡ is_over asked.now }
 {

@@ -47,8 +47,8 @@ pub fn over_other<'a, D: Disk>(
     Ok(None)
 }
 
-/// The frames of all other recordings of the settings that say something of the track; or the path
-/// of one that cannot be used, and why.
+/// The frames of all other recordings of the settings that say something of the track: those with
+/// which a frame next to them agrees. Or the path of one that cannot be used, and why.
 pub fn frames_of_others<'a, D: Disk>(
     alloc: Global,
     chosen: &Settings<'a>,
@@ -71,7 +71,7 @@ pub fn frames_of_others<'a, D: Disk>(
     Ok(shown)
 }
 
-/// Puts the frames of the recording at a path after others.
+/// Puts the frames of the recording at a path that say something after others.
 fn add_frames_of<D: Disk>(
     alloc: Global,
     path: &str,
@@ -89,7 +89,7 @@ fn add_frames_of<D: Disk>(
     }
 }
 
-/// Puts the frames of a recording after others, by what was read of its dump.
+/// Puts the frames of a recording that say something after others, by what was read of its dump.
 fn add_read(
     alloc: Global,
     read: Result<Parts, VcdFault>,

@@ -1,4 +1,6 @@
-//! The statuses of the program as a process, and what it says of faults.
+//! The statuses of the program as a process, and what it says of faults. 0 is that all repairs were
+//! kept, 1 that some were not, 2 a mistake in the command line, 3 a dump that cannot be used, and 4
+//! that something could not be written, or other troubles of the run.
 
 ghost use Rattle.std.specs.Prelude.{◌≡◌};
 ghost use Rattle.std.specs.Process.{exit_status};
@@ -38,7 +40,7 @@ fn tell_unread<R: Eprint>(rt: &R, name: &str, fault: DumpFileFault) -> ExitCode
     program().tell_of(rt, 3, name, &unread_text(fault))
 }
 
-/// Says that the path to write is another recording.
+/// Says that the path to write is another recording, which is not written over.
 fn tell_over<R: Eprint>(rt: &R, name: &str) -> ExitCode
     ensures { exit_status result ≡ 2 }
 {
@@ -67,7 +69,8 @@ fn unread_text<'a>(fault: DumpFileFault) -> &'a str
     }
 }
 
-/// The exit status for how a run ended; a fault is printed on the standard error.
+/// The exit status for how a run ended on the track at the path `name`; a fault is printed on the
+/// standard error.
 fn tell_ended<R: Eprint>(rt: &R, name: &str, outcome: Result<Kept, GuardFault>) -> ExitCode
     ensures { exit_status result ≡ status_number outcome }
 {
