@@ -1,4 +1,6 @@
-//! The command line, read by `clap`.
+//! The command line, read by `clap`. Its matches are what `clap` found in its words. Only memory
+//! can run out for a `Command` or an `Arg`. The options come in this order: `taking`, `reading`,
+//! `placing`, `writing`, `marking`, each of which adds some to those before.
 
 ghost use Rattle.std.specs.Prelude.{◌≡◌, IfErr, IfOk, map, string_bytes};
 ghost use Rattle.clap.specs.Words.{HasMatchesOf, app_of, found_of};
@@ -43,12 +45,13 @@ fn asked<'a>(alloc: Global, words: &'a [String]) -> Result<Asked<'a>, Error>
     }
 }
 
-/// The values of the matches.
+/// The values of the matches, as they are written.
 fn values_of<'a>(matches: &ArgMatches<'a>) -> Result<Asked<'a>, Error>
     ensures values { IfOk result (AreValues (found_of matches.now)) }
     ensures memory { IfErr result WantsMemory }
 {
     let Some(track) = matches.get_str("TRACK") else {
+        // `clap` accepts no line without the track, so this does not come.
         return Err(AllocError.into());
     };
     Ok(Asked {
@@ -72,7 +75,7 @@ fn values_of<'a>(matches: &ArgMatches<'a>) -> Result<Asked<'a>, Error>
     })
 }
 
-/// The matches of a command line that is accepted.
+/// The matches of a command line that `clap` accepts.
 fn parse_words<'a>(alloc: Global, words: &'a [String]) -> Result<ArgMatches<'a>, Error>
     ensures parsed { IfOk result (HasMatchesOf the_command (map string_bytes words.entry.now)) }
     ensures refused { IfErr result (MayRefuse the_command (map string_bytes words.entry.now)) }

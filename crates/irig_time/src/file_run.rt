@@ -1,4 +1,6 @@
-//! Lines are aligned with the track of a dump, as the words of a command line ask.
+//! Lines are aligned with the track of a dump, as the words of a command line ask. A frame is
+//! believed if another one near it supports its time: moments have their times from such frames
+//! alone. `doubted` is how many others have a time.
 
 ghost use Rattle.std.specs.Prelude.{map, string_bytes};
 ghost use Rattle.irig_time.specs.Ending.{AlignsAs, EndsBy, ListsAs, Obeys, RunsAs};
@@ -67,7 +69,8 @@ fn run_track<'a, R: Read, W: Write>(
     }
 }
 
-/// Prints the table of a recording.
+/// Prints the table of a recording. The ending says first of all if frames have a time and are not
+/// believed, and then if none is believed.
 fn list_track<'a, W: Write>(
     alloc: Global,
     chosen: &Chosen<'a>,
@@ -85,7 +88,8 @@ fn list_track<'a, W: Write>(
     }
 }
 
-/// Aligns lines with a recording.
+/// Aligns lines with a recording. The ending says first of all if frames have a time and are not
+/// believed, and then if none is believed; last, whether the column of each line has a number.
 fn align_track<'a, R: Read, W: Write>(
     alloc: Global,
     chosen: &Chosen<'a>,

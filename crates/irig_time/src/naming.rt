@@ -11,8 +11,8 @@ use crate::asked::Asked;
 use crate::chosen::OptionFault;
 use irig_words::text_or;
 
-/// The name of the column of times, if a byte parts columns, or white space, and the header has a
-/// number of lines.
+/// The name of the column of times, if `comma` parts columns, or white space without it, and the
+/// header has `header` lines. A name that is given needs a header.
 pub fn name_of<'a>(
     asked: &Asked<'a>,
     comma: Option<u8>,
@@ -34,7 +34,7 @@ pub fn name_of<'a>(
     Ok(name)
 }
 
-/// Whether a column can have a name.
+/// Whether a column can have a name: it has a byte, and no quote, end of a line or separator.
 fn is_name(comma: Option<u8>, name: &[u8]) -> bool
     ensures { result ≡ is_name comma name.now }
 {

@@ -65,7 +65,8 @@ fn asks_why(asked: &Asked<'_>) -> bool
     is_text(text_or(asked.why, "false"), b"true")
 }
 
-/// Whether an option is given that says how lines are read, or printed.
+/// Whether an option is given that says how lines are read or printed, so that the table cannot be
+/// asked for.
 fn tells_of_lines(asked: &Asked<'_>) -> bool
     ensures { result ≡ tells_of_lines asked.now }
 {
@@ -105,7 +106,8 @@ fn settings_of<'a>(asked: &Asked<'a>) -> Result<Settings<'a>, OptionFault>
     })
 }
 
-/// Whether a date is asked for that nothing gives a year.
+/// Whether a date is asked for that nothing gives a year: the expressions from 4 on carry one in
+/// each frame.
 fn lacks_year(format: Format, settings: &Settings<'_>) -> bool
     ensures { result ≡ lacks_year format settings.now }
 {

@@ -31,11 +31,11 @@ const YEAR_LIMIT: u128 = 9_998;
 pub struct Columns<'a> {
     /// 10^`places` picoseconds are a unit of it.
     pub places: usize,
-    /// The time at the start of the track.
+    /// The time at the start of the track, in picoseconds from the recorder's zero.
     pub offset: Picos,
     /// Its column.
     pub column: Column<'a>,
-    /// The byte that parts columns.
+    /// The byte that parts columns; white space, if it is missing.
     pub comma: Option<u8>,
 }
 
@@ -48,7 +48,7 @@ pub struct Column<'a> {
     pub named: Option<&'a [u8]>,
 }
 
-/// Where the recorder's time is in a line.
+/// Where the recorder's time is in a line: its unit, its offset, its column and what parts columns.
 pub fn columns_of<'a>(asked: &Asked<'a>) -> Result<Columns<'a>, OptionFault>
     ensures columns { IfOk result (λ c. HasColumns asked.now c.places c.offset c.column c.comma) }
     ensures sound { IfOk result (λ c. c.offset.size ≤ 2 ^ 119) }
@@ -96,7 +96,7 @@ fn column_of<'a>(asked: &Asked<'a>) -> Result<Column<'a>, OptionFault>
     })
 }
 
-/// Whether a text is the name of a column, and no number.
+/// Whether a text is the name of a column: it has a byte, and is no whole number.
 #[tactic(auto, using(crate::proofs::Headed::some_capped))]
 fn is_column_name(text: &[u8]) -> bool
     ensures { result ≡ is_column_name text.now }
@@ -104,7 +104,7 @@ fn is_column_name(text: &[u8]) -> bool
     !text.is_empty() && whole(text).is_none()
 }
 
-/// How many lines are the header. A column with a name needs one.
+/// How many lines are the header. A column that is given by its name needs one.
 pub fn header_of(asked: &Asked<'_>, named: Option<&[u8]>) -> Result<u64, OptionFault>
     requires { IfSome named (λ n. names_column asked.now ≡ true) }
     ensures header { IfOk result (λ header.
@@ -150,7 +150,7 @@ pub struct Dates {
     pub form: Form,
 }
 
-/// How a time is written.
+/// How a time is written. The century is that of the year, if one is given.
 pub fn dates_of(asked: &Asked<'_>) -> Result<Dates, OptionFault>
     ensures dates { IfOk result (λ d. HasDates asked.now d.century d.year d.form) }
     ensures sound { IfOk result (λ d. (d.century ≤ 99) × IfSome d.year (λ y. y ≤ 9998)) }

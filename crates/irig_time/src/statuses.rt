@@ -1,4 +1,7 @@
-//! The statuses of the program as a process, and what it says of faults.
+//! The statuses of the program as a process, and what it says of faults. 0 is that each line had a
+//! number or the table was printed, 1 that a line had none, that frames are not believed or that
+//! none has a time, 2 a mistake in the command line, 3 a track that was not read, and 4 that the
+//! run was broken off.
 
 ghost use Rattle.std.specs.Prelude.{◌≡◌};
 ghost use Rattle.std.specs.Process.{exit_status};

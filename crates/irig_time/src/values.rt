@@ -1,4 +1,5 @@
-//! What the texts of single values mean.
+//! What the texts of single values mean. Each function returns `None` if a text means no such
+//! value.
 
 ghost use Rattle.std.specs.Prelude.{◌≡◌, ◌≤◌, ◌<◌, ◌^◌, IfSome, Some};
 ghost use Rattle.std.specs.Str.{bytes_eq};
@@ -11,7 +12,7 @@ use irig_stamps::{Form, Picos, number, whole};
 /// The greatest offset: 2^119 picoseconds.
 const LATEST: u128 = 664_613_997_892_457_936_451_903_530_140_172_288;
 
-/// A whole number from the first to the last.
+/// The whole number that a text is, if it is one from the first to the last.
 pub fn whole_between(first: u128, last: u128, text: &[u8]) -> Option<u128>
     requires { last < 2 ^ 120 }
     ensures value { result ≡ whole_between first last text.now }
@@ -35,7 +36,7 @@ fn within(first: u128, last: u128, number: u128) -> Option<u128>
     }
 }
 
-/// 10^n picoseconds are the unit with this name.
+/// The n of the unit with this name: 10^n picoseconds are one.
 pub fn places_named(name: &[u8]) -> Option<usize>
     ensures { result ≡ places_named name.now }
 {
@@ -46,7 +47,7 @@ pub fn places_named(name: &[u8]) -> Option<usize>
     }
 }
 
-/// 10^n picoseconds are the unit with this letter before its s.
+/// The n of the unit with this letter before its s: 10^n picoseconds are one.
 fn prefix_places(prefix: u8) -> Option<usize>
     ensures { result ≡ prefix_places prefix }
 {
@@ -59,7 +60,7 @@ fn prefix_places(prefix: u8) -> Option<usize>
     }
 }
 
-/// A number in a unit, in picoseconds.
+/// A number in the unit of 10^`places` picoseconds, in picoseconds.
 pub fn offset_named(places: usize, text: &[u8]) -> Option<Picos>
     ensures value { result ≡ offset_named places text.now }
     ensures range { IfSome result (λ v. v.size ≤ 2 ^ 119) }
@@ -70,7 +71,7 @@ pub fn offset_named(places: usize, text: &[u8]) -> Option<Picos>
     }
 }
 
-/// A time, if it is not too far from zero.
+/// A time, if it is no further than 2^119 picoseconds from zero.
 fn near(picos: Picos) -> Option<Picos>
     ensures value { result ≡ near (Some picos) }
     ensures range { IfSome result (λ v. v.size ≤ 2 ^ 119) }
@@ -82,7 +83,7 @@ fn near(picos: Picos) -> Option<Picos>
     }
 }
 
-/// A byte that can part columns.
+/// The byte that can part columns, if the text is one.
 pub fn comma_named(text: &[u8]) -> Option<u8>
     ensures { result ≡ comma_named text.now }
 {

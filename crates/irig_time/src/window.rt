@@ -13,7 +13,8 @@ use irig_words::text_or;
 /// The greatest time in microseconds: 2^64 - 1.
 const TIME_LIMIT: u128 = 18_446_744_073_709_551_615;
 
-/// The window that is asked for, if one of its ends is given.
+/// The window that is asked for, in microseconds, if one of its ends is given. Without `from` it
+/// begins at 0, and without `to` it ends at the greatest time.
 pub fn window_of(asked: &Asked<'_>) -> Result<Option<Window>, OptionFault>
     ensures window { IfOk result (IsWindow asked.now) }
     ensures fault { IfErr result (HasFault asked.now) }
@@ -33,7 +34,7 @@ pub fn window_of(asked: &Asked<'_>) -> Result<Option<Window>, OptionFault>
     Ok(Some(Window { from, to }))
 }
 
-/// A time in microseconds.
+/// The time in microseconds that a text is; `None` if it is none.
 fn time_named(text: &[u8]) -> Option<u64>
     ensures { result ≡ time_named text.now }
 {
