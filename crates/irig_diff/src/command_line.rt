@@ -1,4 +1,5 @@
-//! The command line, read by `clap`.
+//! The command line, read by `clap`. Its matches are what `clap` found in its words. Only memory
+//! can run out for a `Command` or an `Arg`.
 
 ghost use Rattle.std.specs.Prelude.{◌≡◌, IfErr, IfOk, None, false, map, string_bytes};
 ghost use Rattle.clap.specs.Words.{HasMatchesOf, app_of, found_of, rule_of};
@@ -44,11 +45,12 @@ fn asked<'a>(alloc: Global, words: &'a [String]) -> Result<Asked<'a>, Error>
     }
 }
 
-/// The values of the matches.
+/// The values of the matches, as they are written.
 fn values_of<'a>(matches: &ArgMatches<'a>) -> Result<Asked<'a>, Error>
     ensures values { IfOk result (AreValues (found_of matches.now)) }
     ensures memory { IfErr result WantsMemory }
 {
+    // `clap` accepts no line without the two paths, so these errors do not come.
     let Some(before) = matches.get_str("BEFORE") else {
         return Err(AllocError.into());
     };
@@ -66,7 +68,7 @@ fn values_of<'a>(matches: &ArgMatches<'a>) -> Result<Asked<'a>, Error>
     })
 }
 
-/// The matches of a command line that is accepted.
+/// The matches of a command line that `clap` accepts.
 fn parse_words<'a>(alloc: Global, words: &'a [String]) -> Result<ArgMatches<'a>, Error>
     ensures parsed { IfOk result (HasMatchesOf the_command (map string_bytes words.entry.now)) }
     ensures refused { IfErr result (MayRefuse the_command (map string_bytes words.entry.now)) }
@@ -83,7 +85,7 @@ pub fn command<'a>(alloc: Global) -> Result<Command<'a>, AllocError>
     showing(alloc)?.arg(before)?.arg(after)
 }
 
-/// Its options: the wires, and how frames are shown.
+/// The command with all options: the wires, and how frames are shown.
 fn showing<'a>(alloc: Global) -> Result<Command<'a>, AllocError>
     ensures { IfOk result (λ c. IsShowing (app_of c)) }
 {
@@ -97,7 +99,7 @@ fn showing<'a>(alloc: Global) -> Result<Command<'a>, AllocError>
     wired(alloc)?.arg(frames)?.arg(format)?.arg(expression)
 }
 
-/// Its options, which name the wires.
+/// The command with the options that name the wires.
 fn wired<'a>(alloc: Global) -> Result<Command<'a>, AllocError>
     ensures { IfOk result (λ c. IsWired (app_of c)) }
 {

@@ -1,4 +1,6 @@
-//! The tracks of two dumps are compared, as the words of a command line ask.
+//! The tracks of two dumps are compared, as the words of a command line ask. The patch is printed
+//! by a block, in which its parts wait: it is made before the tracks are read. The ending says
+//! whether the two tracks are the same.
 
 ghost use Rattle.std.specs.Prelude.{◌≡◌, map, option_map, string_bytes};
 ghost use Rattle.irig_comments.specs.{Framed.framed, Parts.commented_text};
@@ -51,7 +53,8 @@ fn compare_files<'a, D: Disk, W: Write>(
     compare_with_block(alloc, chosen, disk, out, &mut block)
 }
 
-/// Compares two files as the words ask, and prints by a block that was made before.
+/// Compares two files as the words ask. The track before is read first, and its fault is reported
+/// alone.
 fn compare_with_block<'a, D: Disk, W: Write>(
     alloc: Global,
     chosen: &Settings<'a>,

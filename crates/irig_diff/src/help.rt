@@ -13,6 +13,7 @@ pub fn program<'a>() -> Program<'a>
     Program {
         name: "irig_diff",
         help: help_text(),
+        // The status if its output fails.
         status: 2,
         fault: "output failed",
     }

@@ -30,6 +30,7 @@ fn main(rt: HostRuntime) -> ExitCode {
         return program().tell(&rt, 2, &io::Error::from(io::ErrorKind::OutOfMemory));
     };
     match arguments(&rt) {
+        // One output is for the patch, and one for the help.
         Ok(words) => start(
             &rt,
             words.as_slice(),

@@ -35,7 +35,7 @@ pub fn print<W: Write, T: Text>(
 }
 
 /// Prints the next block of a text, and notes whether it has a byte. Returns whether it was the
-/// last one.
+/// last one. If memory runs out for it, that is a fault of the output.
 fn print_next<W: Write, T: Text>(
     out: &mut W,
     text: &mut T,

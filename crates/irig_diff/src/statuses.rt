@@ -1,4 +1,5 @@
-//! The statuses of the program as a process, and what it says of faults.
+//! The statuses of the program as a process, and what it says of faults. 0 is that the tracks are
+//! the same, 1 that they differ, and 2 any fault.
 
 ghost use Rattle.std.specs.Process.{exit_status};
 ghost use Rattle.irig_diff.specs.Statuses.{Reports};
