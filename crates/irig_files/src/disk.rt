@@ -1,4 +1,5 @@
-//! What the program asks of files.
+//! What the program asks of files. A read has two faults: the outer one is of the file, the inner
+//! one of the dump in it.
 
 ghost use Rattle.std.specs.Prelude.{◌≡◌, ◌<◌, ◌≤◌, ◌^◌, Bool, ℕ, List, Option, Some, IfOk, IfSome};
 ghost use Rattle.std.specs.Prelude.{IsErr, IsErrOf, IsTrue, false, length, true};
@@ -48,7 +49,8 @@ pub trait Disk {
             → IfSome (held self.now path.now) (λ all. 2 ^ 28 < length all) }
         ensures unread { IsErrOf result DumpFileFault.CannotBeRead → unread self.now path.now };
 
-    /// Reads a window of the dump in the file at a path. At most one more byte than 2^47 is read.
+    /// Reads a window of the dump in the file at a path, of the wire of a name, or of the one wire
+    /// of one bit. At most one more byte than 2^47 is read.
     fn read_window(
         &self,
         alloc: Global,
@@ -63,7 +65,8 @@ pub trait Disk {
         ensures unread { IsErrOf result DumpFileFault.CannotBeRead → unread self.now path.now };
 
     /// Writes a text to the file that a path leads to: a regular one, or none yet, is replaced
-    /// whole, by a file of its mode. One that is barred is not. What the room holds before is lost.
+    /// whole, by a file of its mode. One that must not be written is not replaced. What the room
+    /// holds before is lost.
     fn put<T: Text>(
         &mut self,
         path: &str,

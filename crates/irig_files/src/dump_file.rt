@@ -1,4 +1,5 @@
-//! The dump in a file, read in parts.
+//! The dump in a file, read in parts. A read has two faults: the outer one is of the file, the
+//! inner one of the dump in it. If no wire is named, the dump has to have one wire of one bit.
 
 ghost use Rattle.std.specs.Prelude.{◌≡◌, ◌≢◌, ◌<◌, ◌^◌, ◌↔◌, ℕ, List, Some, None, IfOk, OnOk};
 ghost use Rattle.std.specs.Prelude.{IfErr, IfSome, IsErrOf, IsOk, IsTrue, MatchResult, true, false};
@@ -38,6 +39,7 @@ pub enum DumpFileFault {
 impl From<io::Error> for DumpFileFault {
     ghost from_gives = { λ _ e. e ≢ TooLong };
 
+    // What a call of the system says, as a fault.
     fn from(error: io::Error) -> DumpFileFault {
         match error.kind() {
             ErrorKind::OutOfMemory => DumpFileFault::OutOfMemory,
@@ -65,7 +67,7 @@ fn shows_more(described: &Metadata) -> bool
     described.is_file() && described.len() > DUMP_LIMIT as u64
 }
 
-/// After an error more can be read only if it was an interruption. Any other is the fault.
+/// Whether more can be read after an error: only if it was an interruption. Any other is the fault.
 fn after_error(error: io::Error) -> Result<bool, DumpFileFault>
     ensures more { IfOk result (λ is_more. is_more ≡ true) }
     ensures interrupted { IsOk result ↔ (error_kind error ≡ ErrorKind.Interrupted) }
@@ -77,7 +79,8 @@ fn after_error(error: io::Error) -> Result<bool, DumpFileFault>
     }
 }
 
-/// Takes in the next part that a reader gives, and returns whether it may have more.
+/// Takes in the next part that a reader gives. Returns whether it may have more: not if it gave
+/// nothing, since it is at its end, or enough was taken in.
 fn take_part<R: Read>(
     dump: &mut Intake,
     reader: &mut R,
@@ -159,7 +162,7 @@ pub fn read_window<R: Read + Drop>(
     read_by_parts(alloc, &mut reader, &mut part, wire, Some(window))
 }
 
-/// Reads a window of a dump part by part, and counts all bytes.
+/// Reads a dump part by part, or a window of it, and counts all bytes. The parts wait in `part`.
 fn read_by_parts<R: Read>(
     alloc: Global,
     reader: &mut R,

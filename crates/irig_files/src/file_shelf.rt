@@ -15,7 +15,9 @@ use irig_text::{Shelf, ShelfFault, Text};
 pub struct FileShelf<'d, 'p, D: Disk> {
     disk: &'d mut D,
     path: &'p str,
+    // What each write needs memory for.
     room: &'d mut Room,
+    // How many writes failed.
     failures: u64,
 }
 
@@ -68,6 +70,7 @@ impl<'d, 'p, D: Disk> Shelf for FileShelf<'d, 'p, D> {
           mid.path.now first.0.0 (first.1 told) (then.1 told),
     ) };
 
+    // Writes a text whole, and returns how many bytes it has; a fault is counted.
     fn put<T: Text>(&mut self, text: &mut T) -> Result<u64, ShelfFault> {
         match self.disk.put(self.path, text, self.room) {
             Ok(written) => Ok(written.count()),

@@ -1,4 +1,5 @@
-//! Single calls on paths.
+//! Single calls on paths. A read has two faults: the outer one is of the file, the inner one of the
+//! dump in it.
 
 ghost use Rattle.std.specs.Prelude.{◌≡◌, ◌≢◌, ◌<◌, ◌^◌, ℕ, List, Option, None, Some, IfOk, IfSome};
 ghost use Rattle.std.specs.Prelude.{IsErrOf, IsTrue, MatchOption, OnOk, codes, false, length};
@@ -48,7 +49,8 @@ pub trait FileSystem: PlainCalls {
             → IfSome (held self.now path.now) (λ all. 2 ^ 28 < length all) }
         ensures unread { IsErrOf result DumpFileFault.CannotBeRead → unread self.now path.now };
 
-    /// Reads a window of the dump in the file at a path. At most one more byte than 2^47 is read.
+    /// Reads a window of the dump in the file at a path, of the wire of a name, or of the one wire
+    /// of one bit. At most one more byte than 2^47 is read.
     fn read_window(
         &self,
         alloc: Global,
@@ -77,7 +79,8 @@ pub trait FileSystem: PlainCalls {
         ensures id { IsTrue Self.is_told → IfOk result (λ found. HasId (Self.disk self.now)
             (id_of self.now) path.now (option_map (λ d. d.id) found)) };
 
-    /// What the program's answers go to; none if they go nowhere.
+    /// The numbers that no other file has, of what the program's answers go to; none if they go
+    /// nowhere.
     fn output(&self) -> Result<Option<(u64, u64)>, Self::Fault>
         ensures { IsTrue Self.is_told → IfOk result (λ found. found ≡ output_id self.now) };
 

@@ -1,4 +1,4 @@
-//! The files of a file system.
+//! The files of a file system: each method is a call of it, or some.
 
 ghost use Rattle.std.specs.Prelude.{◌≡◌};
 ghost use Rattle.irig_files.specs.Taken.{IsLocked};
@@ -18,6 +18,7 @@ use std::alloc::Global;
 /// The files of a file system. `docs/FORMATS.md` says how one is written.
 #[derive(Drop)]
 pub struct Files<C: FileSystem> {
+    // The system, and room for the folder that a write opens.
     system: C,
     dir: C::Dir,
 }
@@ -55,6 +56,7 @@ impl<C: FileSystem> Disk for Files<C> {
 
     ghost only_now = { λ f. C.only_now f.system };
 
+    // Reads the dump in the file at a path, of the wire of a name, or of the one wire of one bit.
     fn read(
         &self,
         alloc: Global,
@@ -64,6 +66,7 @@ impl<C: FileSystem> Disk for Files<C> {
         self.system.read(alloc, path, wire)
     }
 
+    // Reads a window of such a dump.
     fn read_window(
         &self,
         alloc: Global,
@@ -74,6 +77,7 @@ impl<C: FileSystem> Disk for Files<C> {
         self.system.read_window(alloc, path, wire, window)
     }
 
+    // Writes a text to the file that a path leads to: a regular one is replaced whole.
     fn put<T: Text>(
         &mut self,
         path: &str,
@@ -83,6 +87,7 @@ impl<C: FileSystem> Disk for Files<C> {
         put_file(&mut self.system, &mut self.dir, path, text, room)
     }
 
+    // Whether two paths lead to one regular file.
     fn is_same(&self, one: &str, other: &str) -> Result<bool, ShelfFault> {
         is_same_file(&self.system, one, other)
     }

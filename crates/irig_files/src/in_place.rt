@@ -1,4 +1,5 @@
-//! A text written to what is no regular file: a pipe, a device, the standard output.
+//! A text written to what is no regular file: a pipe, a device, the standard output. It is not
+//! replaced, so a fault can leave a front of the text there.
 
 ghost use Rattle.std.specs.Prelude.{◌≡◌, ◌+◌, ◌++◌, ℕ, List, [], true, length, IfOk, OnOk};
 ghost use Rattle.std.specs.Io.KnownBytes.{Appends};

@@ -1,4 +1,5 @@
-//! The dump in a file, as far as it is taken in.
+//! The dump in a file, as far as it is taken in. Reading has two faults: the outer one is that
+//! memory runs out or the dump is too long, the inner one that the dump is wrong.
 
 ghost use Rattle.std.specs.Prelude.{◌≡◌, ◌≢◌, ◌≤◌, ◌<◌, ◌⊎◌, [], ℕ, List, Option, None, Ok, Err};
 ghost use Rattle.std.specs.Prelude.{IfOk, IfErr, IsOk, IsErrOf, OnOk, OnErr, length, min};
@@ -46,7 +47,8 @@ pub struct Intake {
 }
 
 impl Intake {
-    /// No byte of a dump, for the wire of a name, or for the one wire of one bit.
+    /// No byte of a dump yet, for the wire of a name, or for the one wire of one bit if none is
+    /// given.
     pub fn new(
         alloc: Global,
         wire: Option<&[u8]>,
@@ -63,7 +65,7 @@ impl Intake {
         })
     }
 
-    /// How many bytes are taken at once, if there is room for that many.
+    /// How many bytes are taken at once at most, if there is room for that many.
     pub fn wanted(&self, room: usize) -> usize
         ensures { result ≡ min self.now.left room }
     {
@@ -80,6 +82,7 @@ impl Intake {
         ensures memory { IfErr result (λ fault. fault ≡ file.OutOfMemory) }
     {
         self.left -= part.len();
+        // If memory runs out, that fault stays in the place of what was read.
         let dump = match mem::replace(&mut self.dump, Err(VcdFault::OutOfMemory)) {
             Ok(reader) => unless_short(reader.put(part))?,
             Err(fault) => Err(fault),
@@ -93,7 +96,8 @@ impl Intake {
         let_go(self.dump);
     }
 
-    /// What the dump says, if nothing comes after its parts.
+    /// What the dump says, if nothing comes after its parts. More bytes than a dump has at most are
+    /// a fault.
     pub fn end(self) -> Result<Result<Parts, VcdFault>, DumpFileFault>
         requires counted { IsCounted self }
         ensures read { IfOk result (λ read. (wire : Option (List ℕ)) (bytes : List ℕ)
@@ -120,10 +124,10 @@ impl Intake {
     }
 }
 
-/// Frees what is read.
+/// Frees what is read, which is handed over here and goes no further.
 fn let_go(_dump: Result<DumpReader, VcdFault>) {}
 
-/// What reading gives, unless memory ran out.
+/// What reading gives. That memory ran out becomes a fault of the file.
 fn unless_short<T: Drop>(read: Result<T, VcdFault>) -> Result<Result<T, VcdFault>, DumpFileFault>
     ensures same { IfOk result (λ given. (given ≡ read) × (given ≢ Err OutOfMemory)) }
     ensures memory { IfErr result (λ fault. fault ≡ file.OutOfMemory) }

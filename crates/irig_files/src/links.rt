@@ -11,7 +11,8 @@ use std::path::PathBuf;
 /// How many turns a path may take: 40 symbolic links, and the place where no link is.
 const TURNS: u32 = 41;
 
-/// Follows the chain of symbolic links from a path, and leaves in `target` where it leads.
+/// Follows the chain of symbolic links from a path, and leaves in `target` where it leads. More
+/// than 40 links are a fault.
 pub fn follow_links<C: FileSystem>(
     system: &C,
     path: &str,
@@ -34,8 +35,8 @@ pub fn follow_links<C: FileSystem>(
     Err(ShelfFault)
 }
 
-/// Follows a symbolic link, and returns whether there was one. Only the text of a link takes
-/// memory.
+/// Follows the symbolic link at the target, and returns whether there was one. Only the text of a
+/// link takes memory.
 fn follow_link<C: FileSystem>(system: &C, target: &mut PathBuf) -> Result<bool, ShelfFault>
     ensures end { IsTrue C.is_told → IfOk result (λ is_link. is_link ≡ false
         → (C.link_at system.now (path_buf_bytes target.old) ≡ None)
@@ -53,7 +54,8 @@ fn follow_link<C: FileSystem>(system: &C, target: &mut PathBuf) -> Result<bool, 
     }
 }
 
-/// The target is where the text of a link leads to, which is there.
+/// The target is now where the text of its link leads, from the folder of the link on, or from the
+/// root if it begins with a slash. Returns that there was a link.
 fn go_to(target: &mut PathBuf, next: &str) -> Result<bool, ShelfFault>
     ensures link { IfOk result (λ is_link. is_link ≡ true) }
     ensures to { OnOk result

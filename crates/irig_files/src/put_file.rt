@@ -1,4 +1,5 @@
-//! Writes a text to what a path leads to.
+//! Writes a text to what a path leads to. The room is what a write needs memory for: the block
+//! holds the parts of the text, and the target the path of the file that is replaced.
 
 ghost use Rattle.std.specs.Prelude.{◌≡◌, ℕ, List, length, None, Some, IfOk, IsTrue, ◌≢◌, IsErr};
 ghost use Rattle.std.specs.Prelude.{IsOk, OnErr, OnOk, false, true};
@@ -61,7 +62,7 @@ fn put_other<C: FileSystem, T: Text>(
     }
 }
 
-/// Writes a text to what is no regular file.
+/// Writes a text to what is no regular file and is open.
 fn in_place<F: Write, T: Text>(
     file: &mut F,
     text: &mut T,
@@ -123,7 +124,7 @@ fn whole(outcome: Result<Kept, ShelfFault>) -> Result<Written, ShelfFault>
     }
 }
 
-/// The names of new files but for their numbers: the target's, hidden and marked.
+/// Puts into `stem` the names of new files but for their numbers: the target's, hidden and marked.
 fn put_stem(name: &str, stem: &mut String) -> Result<(), ShelfFault> {
     // a folder takes no name of more than 255 bytes
     let kept = if name.len() <= 200 { name } else { "" };
@@ -134,7 +135,7 @@ fn put_stem(name: &str, stem: &mut String) -> Result<(), ShelfFault> {
     }
 }
 
-/// The folder of a path.
+/// The folder of a path: the current one, if the path is a name alone.
 pub fn folder_of(target: &str) -> &str
     ensures { result.now ≡ folder_of target.now }
 {

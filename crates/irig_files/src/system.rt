@@ -1,4 +1,5 @@
-//! The files of the system: each method is one call. Nothing is known of them.
+//! The files of the system: each method is one call. Nothing is known of them. What each one does
+//! is said with the traits, in `plain_calls` and `file_system`.
 
 ghost use Rattle.std.specs.Prelude.{◌≡◌, ◌≢◌, ◌↔◌, IfErr, IfOk, IsOk, IsTrue, None, Ok, OnErr, OnOk};
 ghost use Rattle.std.specs.Prelude.{Some, false, ⊤};
@@ -36,10 +37,12 @@ impl<'a, R: Files + Print + AllocGlobal> PlainCalls for SystemFolder<'a, R> {
 
     ghost may_write = { λ _ _. ⊤ };
 
+    // Opens the standard output.
     fn open_output(&self, _: &str) -> Printer<'a, R> {
         io::writer(self.runtime())
     }
 
+    // Opens what is there, to write to it.
     fn open_other(&self, path: &str) -> Result<R::File, SystemFault> {
         match as_it_is().open(self.runtime(), path) {
             Ok(file) => Ok(file),
@@ -47,6 +50,7 @@ impl<'a, R: Files + Print + AllocGlobal> PlainCalls for SystemFolder<'a, R> {
         }
     }
 
+    // Opens what is there as if to write to it, and writes nothing.
     fn open_seen(&self, path: &str) -> Result<SystemSeen<R::File>, SystemFault> {
         match as_it_is().open(self.runtime(), path) {
             Ok(file) => Ok(SystemSeen(file)),
@@ -54,6 +58,7 @@ impl<'a, R: Files + Print + AllocGlobal> PlainCalls for SystemFolder<'a, R> {
         }
     }
 
+    // What the system says of an open file.
     fn seen(&self, file: &SystemSeen<R::File>) -> Result<Described, SystemFault> {
         match file.0.metadata() {
             Ok(found) => Ok(described(&found)),
@@ -79,6 +84,7 @@ impl<R: Files + Print + AllocGlobal> FileSystem for SystemFolder<'_, R> {
 
     ghost ids_differ = { λ _ one other same. ap (λ id. id.1) same };
 
+    // Reads the dump in the file at a path, of the wire of a name, or of the one wire of one bit.
     fn read(
         &self,
         alloc: Global,
@@ -88,6 +94,7 @@ impl<R: Files + Print + AllocGlobal> FileSystem for SystemFolder<'_, R> {
         read_dump(self.runtime(), alloc, path, wire)
     }
 
+    // Reads a window of such a dump.
     fn read_window(
         &self,
         alloc: Global,
@@ -98,17 +105,22 @@ impl<R: Files + Print + AllocGlobal> FileSystem for SystemFolder<'_, R> {
         read_dump_window(self.runtime(), alloc, path, wire, window)
     }
 
+    // What is at the path, at the end of its links.
     fn describe(&self, path: &str) -> Result<Option<Described>, SystemFault> {
         found(fs::metadata(self.runtime(), path))
     }
 
+    // The numbers of what the standard output is.
     fn output(&self) -> Result<Option<(u64, u64)>, SystemFault> {
+        // The system has a path for what the answers go to.
         numbers(fs::metadata(self.runtime(), "/dev/stdout"))
     }
 
+    // The text of the link itself.
     fn read_link(&self, path: &str) -> Result<Option<PathBuf>, SystemFault> {
         match fs::read_link(self.runtime(), path) {
             Ok(text) => Ok(Some(text)),
+            // Nothing is there, or what is there is no link.
             Err(error)
                 if error.kind() == ErrorKind::InvalidInput || error.kind() == ErrorKind::NotFound =>
                 { Ok(None) }

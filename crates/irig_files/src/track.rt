@@ -49,6 +49,7 @@ fn read_part<D: Disk>(
     ensures { IsTrackOf (Some window) (D.held disk.now path.now) (name_in wire.entry) result }
 {
     match disk.read_window(alloc, path, bytes_of(wire), window) {
+        // The text of the journal is not needed.
         Ok(Ok((recording, _))) => Ok(recording),
         Ok(Err(fault)) => Err(TrackFault::Dump(fault)),
         Err(fault) => Err(TrackFault::File(fault)),
@@ -65,6 +66,7 @@ fn read_all<D: Disk>(
     ensures { IsTrackOf None (D.held disk.now path.now) (name_in wire.entry) result }
 {
     match disk.read(alloc, path, bytes_of(wire)) {
+        // The text of the journal is not needed.
         Ok(Ok((recording, _))) => Ok(recording),
         Ok(Err(fault)) => Err(TrackFault::Dump(fault)),
         Err(fault) => Err(TrackFault::File(fault)),

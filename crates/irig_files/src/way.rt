@@ -38,7 +38,8 @@ pub fn way_to<C: FileSystem>(
     }
 }
 
-/// How a text is written to a path that leads to what is so described.
+/// How a text is written to a path that leads to what is so described: in place if it is what the
+/// answers go to, also if that is a regular file.
 fn way_over<C: FileSystem>(
     system: &C,
     path: &str,
@@ -63,7 +64,8 @@ fn way_over<C: FileSystem>(
     }
 }
 
-/// The regular file that a path leads to, if one is there, is replaced.
+/// The way of the regular file that a path leads to, or of none yet: it is replaced. The target
+/// gets the path at the end of its links.
 fn replaced<C: FileSystem>(
     system: &C,
     path: &str,
@@ -85,8 +87,8 @@ fn replaced<C: FileSystem>(
     }
 }
 
-/// The mode of the regular file at the target, which may be written; none if no file is there. A
-/// file that must not be written is not replaced either.
+/// The mode that the new file takes: that of the regular file at the target, if one is there. A
+/// file that must not be written is not replaced, and opening it as if to write shows that.
 fn mode_to_take<C: FileSystem>(
     system: &C,
     is_there: bool,

@@ -31,7 +31,7 @@ pub fn write_whole<F: Folder, T: Text>(
     or_shelf_fault(put_text(folder, dir, name, target, stem, mode, text, block))
 }
 
-/// What a call gives; its error is not reported.
+/// What a call gives; which error it was is not reported.
 pub fn or_shelf_fault<T: Drop, E: Drop>(outcome: Result<T, E>) -> Result<T, ShelfFault>
     ensures given { IfOk result (λ value. outcome ≡ Ok value) }
     ensures failed { OnErr result (IsErr outcome) }
