@@ -1,4 +1,5 @@
-//! A script run on the file of a dump, as the words of a command line ask.
+//! A script run on the file of a dump, as the words of a command line ask. The room is the memory
+//! that writes use: it is taken before the dump is read, so none runs out of it.
 
 ghost use Rattle.std.specs.Prelude.{◌≡◌, ℕ, List, map, option_map, string_bytes};
 ghost use Rattle.irig_vcd.specs.{Answer.Gives, Answer.name_of, Parts.dump_parts};

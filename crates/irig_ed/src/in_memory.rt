@@ -1,5 +1,5 @@
-//! The program over folders in memory, where the standard output is one of the files. They report
-//! all, so the clause of a run has no premise.
+//! The program over folders in memory, where the standard output is one of the files. These folders
+//! give their whole state, so what is promised of a run holds of them without a condition.
 
 ghost use Rattle.std.specs.Prelude.{◌≡◌, Some, map, string_bytes, true, None};
 ghost use Rattle.std.specs.Process.{exit_status};
@@ -74,7 +74,7 @@ fn folder(alloc: Global) -> Result<Tree, MemoryFault> {
     Ok(tree)
 }
 
-/// The words of a row.
+/// The words of a row; `None` if memory runs out.
 fn words(alloc: Global, track: &str, out: &str) -> Option<Vec<String>> {
     let mut words = Vec::new(alloc);
     for word in ["irig_ed", "--out", out, track].iter() {

@@ -27,6 +27,7 @@ fn main(rt: HostRuntime) -> ExitCode {
     let Ok(mut files) = system_files(&rt) else {
         return tell_no_words(&rt, &io::Error::from(io::ErrorKind::OutOfMemory));
     };
+    // One output is for the answers, and one for the help.
     serve(
         &rt,
         arguments(&rt),
@@ -37,7 +38,8 @@ fn main(rt: HostRuntime) -> ExitCode {
     )
 }
 
-/// Says why there are no words.
+/// Says why the words of the command line could not be read: one is not UTF-8, or the system gave
+/// none.
 fn tell_no_words<R: Eprint + AllocGlobal>(rt: &R, error: &io::Error) -> ExitCode
     ensures { exit_status result ≡ 2 }
 {

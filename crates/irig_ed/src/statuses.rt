@@ -1,4 +1,6 @@
-//! The statuses of the program as a process, and what it says of faults.
+//! The statuses of the program as a process, and what it says of faults. 0 is that no line was
+//! refused, 1 that some line was, 2 a mistake in the command line, 3 a dump that cannot be used,
+//! and 4 that the run was broken off.
 
 ghost use Rattle.std.specs.Prelude.{◌≡◌};
 ghost use Rattle.std.specs.Process.{exit_status};
@@ -27,7 +29,7 @@ pub fn report<R: Eprint, H: Write>(rt: &R, ending: &Ending<'_>, help: &mut H) ->
     }
 }
 
-/// Says why nothing was begun.
+/// Says why nothing was begun. The status is that of a mistake in the command line.
 pub fn tell<R: Eprint, T: Display>(rt: &R, why: &T) -> ExitCode
     ensures { exit_status result ≡ 2 }
 {
