@@ -182,7 +182,7 @@ def into():
         status, printed, said = run("irig_mend", ["--apply", "new.vcd", "--into", "rec.vcd", "rec.vcd"])
         new = text_of("new.vcd")
         yield same("--into", (status, "1 place found, 1 repaired" in printed.decode()), (0, True))
-        yield same("what is said", "wire top.rx.irig (code !), format B, expression" in said, True)
+        yield same("what is said", "wire ! (path top.rx.irig), format B, expression" in said, True)
         yield same("the other wires", others(new), others(text))
         yield same("the damage that is left", run("irig_damage", ["--expression=4", "--wire=rx.irig", "new.vcd"])[0], 0)
         yield same("the wire", new.replace("\n", " ").count(" 1!"), 800)
@@ -207,7 +207,7 @@ def options_of_a_script():
     def holds():
         for words, head in (
                 ("rec.vcd", "# for irig_ed --format=B --expression=7"), ("--expression=4 rec.vcd", "# frame"),
-                ("two.vcd", "# for irig_ed --format=B --expression=7 and the dump of irig_wire top.rx.irig"),
+                ("two.vcd", "# for irig_ed --format=B --expression=7 and the dump of irig_wire !"),
                 ("--expression=4 --timescale=1us --dump=1 rec.vcd",
                  "# for irig_ed --expression=4 and the dump of irig_wire --timescale=1us --dump=1"),
                 ("sound.vcd", "")):
@@ -469,7 +469,7 @@ REFUSED = (
     ("--apply new.vcd --into none.vcd rec.vcd", "none.vcd: No such file"),
     ("--apply none/new.vcd rec.vcd", "No such file or directory"),
     ("--apply new.vcd --into two.vcd rec.vcd", "several wires are named 'irig'"),
-    ("--apply new.vcd two.vcd", "several wires carry time code, and --wire names one: top.rx.irig (code !), top.irig (code %)"),
+    ("--apply new.vcd two.vcd", "several wires carry time code, and --wire names one: ! (path top.rx.irig), % (path top.irig)"),
     ("--format E --expression 4 rec.vcd", "--format E has no expression 4; it has 1, 2, 5, 6"),
     ("--apply new.vcd junk.vcd", "no frame can be read in any format and expression; 'irig_what junk.vcd' says more"),
     ("--apply new.vcd --wire top.clk two.vcd", "no frame can be read"),

@@ -363,7 +363,7 @@ def sigrok():
         with open(path, "wb") as file:
             file.write(packed())
         status, printed, said = run("irig_what", [path])
-    good = status == 0 and b"wire sigrok.code (code \"), upright, format B" in printed and b"some.sr code > " in printed
+    good = status == 0 and b"wire code (code \", path sigrok.code), upright, format B" in printed and b"some.sr code > " in printed
     good or print("FAILED irig_what of a file of sigrok: %d %s %s" % (status, printed.decode(), said))
     return [*results, good]
 

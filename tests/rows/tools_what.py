@@ -113,7 +113,7 @@ ROWS = [
      ["the file ends within a value, so it is cut"], None),
     ("two dumps in a file", dump(*B) + dump(*B), [], 1, ["the file has 2 dumps", "--dump=1"], 4),
     ("two wires with time code", dump(*B, declared=SCOPES).replace("0!", "0! 0c").replace("1!", "1! 1c"), [], 1,
-     ["tb.clock (code c)", "tb.irig (code !)"], 4),
+     ["clock (code c, path tb.clock)", "irig (code !, path tb.irig)"], 4),
     ("no frame", dump(B[0][:40], 300000), [], 1, ["no frame is fine under any expression; 2 is only a guess"], 0),
     ("nothing", dump([(5, 1), (9, 0)], 99), [], 1, ["A, B, E or G; the unit of time is 1us (--timescale UNIT takes another)"], None),
     ("nothing, and no unit", dump([(5, 1), (9, 0)], 99, unit=""), [], 1, ["no unit of time is named, and these were tried: 1 us,"], None),
@@ -232,7 +232,7 @@ def silent():
 
 def cases(top):
     """Each row by its name."""
-    parts = ["wire TOP.bench.irig (code $), upright, format A", "expression 2: 1 of 1", "109 12:34:56.70"]
+    parts = ["wire irig (code $, path TOP.bench.irig), upright, format A", "expression 2: 1 of 1", "109 12:34:56.70"]
     simulated = "a simulator's dump", verilator(top), [], 0, parts, 1
     return [*(case("what: " + row[0], row_holds, top, *row) for row in (*ROWS, simulated)),
             case("what: in a pipe", piped, top), case("what: one pass", passes), case("what: windows", judged),

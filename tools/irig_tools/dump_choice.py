@@ -1,8 +1,8 @@
-"""Which wire of a dump is meant by a name."""
+"""Which wire of a dump is meant by a name, and the name by which a wire is printed."""
 from __future__ import annotations
 
 import re
-from typing import Dict, List, NamedTuple, Optional, Tuple
+from typing import Dict, List, NamedTuple, Optional, Sequence, Tuple
 
 from .dump_header import Header, Wire, shown
 from .editor import Problem
@@ -22,8 +22,10 @@ class Signal(NamedTuple):
     def name(self) -> str:
         return self.path.rpartition(".")[2] or self.path
 
-    def text(self) -> str:
-        return "%s (code %s)" % (self.path, shown(self.code))
+    @property
+    def names(self) -> List[str]:
+        """What can name it, the best first."""
+        return [*_path_ends(self.path), shown(self.code)]
 
 
 def bit_of(wire: Wire, number: int) -> Optional[Signal]:
@@ -61,14 +63,19 @@ def _candidates(header: Header, name: str) -> Tuple[List[Signal], List[Wire]]:
     return found, [wire for wire in wires if not wire.single]
 
 
+def _by_place(signals: Sequence[Signal]) -> Dict[Tuple[bytes, int], Signal]:
+    """Each signal once, by its code and its place."""
+    return {(signal.code, signal.place): signal for signal in reversed(signals)}
+
+
 def choose(header: Header, name: Optional[str]) -> Signal:
     """The signal that is meant; a problem if there is none, or more than one."""
     found, wide = _candidates(header, name) if name is not None else (singles(header), [])
-    by_place = {(signal.code, signal.place): signal for signal in reversed(found)}
+    by_place = _by_place(found)
     if len(by_place) == 1:
         return next(iter(by_place.values()))
     if by_place:
-        listed = _listed([signal.text() for signal in by_place.values()])
+        listed = _listed(wire_texts(header, list(by_place.values())[:MOST_SHOWN]), len(by_place))
         many = "the dump has several wires of one bit"
         what = many if name is None else "several wires are named '%s'" % name
         raise Problem("%s; name one by its path or its code, or let irig_what find it:%s" % (what, listed))
@@ -77,13 +84,66 @@ def choose(header: Header, name: Optional[str]) -> Signal:
             wide[0].path, wide[0].size, wide[0].path, wide[0].last))
     if wide:
         raise Problem("%s is not made of bits; name a wire or a bit of a vector" % wide[0].path)
-    listed = _listed([
-        "%s (code %s), %d bit%s" % (wire.path, shown(wire.code), wire.size, "s" * (wire.size != 1))
-        for wire in header.wires])
+    wires = [wire for wire, _ in zip(header.wires, range(MOST_SHOWN))]
+    texts = wire_texts(header, [Signal(wire.code, 0, wire.path) for wire in wires])
+    bits = ["%d bit%s" % (wire.size, "s" * (wire.size != 1)) for wire in wires]
+    listed = _listed(list(map("%s, %s".__mod__, zip(texts, bits))), len(header.wires))
     what = "no wire is named '%s'" % name if name is not None else "the dump has no wire of one bit"
     raise Problem("%s; there are:%s" % (what, listed or " none"))
 
 
-def _listed(texts: List[str]) -> str:
-    more = "\n  and %d more" % (len(texts) - MOST_SHOWN) if len(texts) > MOST_SHOWN else ""
-    return "".join("\n  " + text for text in texts[:MOST_SHOWN]) + more
+def _listed(texts: List[str], many: int) -> str:
+    """The first of that many, a line each."""
+    more = "\n  and %d more" % (many - MOST_SHOWN) if many > MOST_SHOWN else ""
+    return "".join("\n  " + text for text in texts) + more
+
+
+def wire_name(header: Header, signal: Signal) -> str:
+    """What means just this signal: its reference or its code, which all programs take; if neither does, as of a bit of a vector, what the
+    tools take."""
+    name = _name(_near(header, [signal]), signal)
+    if name is None:
+        raise Problem("no name means the wire %s alone" % signal.path)
+    return name
+
+
+def _name(header: Header, signal: Signal) -> Optional[str]:
+    found = [name for name in signal.names if _by_place(_candidates(header, name)[0]).keys() == {(signal.code, signal.place)}]
+    return next((name for name in found if _programs_take(header, name, signal)), found[0] if found else None)
+
+
+def _programs_take(header: Header, name: str, signal: Signal) -> bool:
+    """Whether the proved programs choose this signal, as docs/FORMATS.md says: by the reference, or else by the code."""
+    wires = [wire for wire in header.wires if wire.reference == name] or [wire for wire in header.wires if shown(wire.code) == name]
+    return all(wire.single and wire.code == signal.code for wire in wires) and bool(wires)
+
+
+def wire_text(header: Header, signal: Signal) -> str:
+    """How a signal is printed: its name, its code, and its path if that is more."""
+    return wire_texts(header, [signal])[0]
+
+
+def wire_texts(header: Header, signals: Sequence[Signal]) -> List[str]:
+    """The same of several."""
+    near, texts = _near(header, signals), []
+    for signal in signals:
+        name, code = _name(near, signal) or signal.path, shown(signal.code)
+        parts = ["code " + code] * (name != code) + ["path " + signal.path] * (name != signal.path)
+        texts.append("%s (%s)" % (name, ", ".join(parts)))
+    return texts
+
+
+def _near(header: Header, signals: Sequence[Signal]) -> Header:
+    """The wires that a name of these signals can mean: a dump can have a million others."""
+    names = {name for signal in signals for each in signal.names for name in (each, each.rpartition("[")[0])}
+    near = Header()
+    for wire in header.wires:
+        if not names.isdisjoint((wire.reference, shown(wire.code), *_path_ends(wire.path))):
+            near.wires.append(wire)
+    return near
+
+
+def _path_ends(path: str) -> List[str]:
+    """The ends of a path that begin after a dot, the shortest first, and the path."""
+    words = path.split(".")
+    return [".".join(words[-many:]) for many in range(1, len(words) + 1)]

@@ -16,16 +16,17 @@ BODY = {b"$dumpvars", b"$dumpall", b"$dumpon", b"$dumpoff", b"$dumpports", b"$du
 NO_BITS = {"real", "realtime", "event", "parameter", "string", "shortreal"}
 PORT_RANGE = re.compile(rb"\[([0-9]{1,9}):([0-9]{1,9})\]")
 MOST_BEFORE = 10000  # words before the header
+REPLACED = "\ufffd"  # what is shown of a letter that cannot be printed
 ENDLESS = ": is no dump: the declarations do not end; the file is cut off, or it has no $enddefinitions"
 
 
 def shown(word: bytes) -> str:
     """A word of a dump for people."""
     text = word.decode("utf-8", "replace")
-    return "".join(letter if letter.isprintable() else "\ufffd" for letter in text)
+    return "".join(letter if letter.isprintable() else REPLACED for letter in text)
 
 
-Shape = Tuple[int, int, int, bool]  # of a wire: its size, its first and its last bit, whether it is made of bits
+Shape = Tuple[int, int, int, bool, int, int]  # of a wire: all but its code and its path
 
 
 class Wire(NamedTuple):
@@ -37,10 +38,17 @@ class Wire(NamedTuple):
     first: int  # the number of its leftmost bit
     last: int  # that of its rightmost
     bits: bool  # whether it is made of bits
+    begin: int  # its reference is the path from here on
+    end: int  # and up to here; nothing if the path does not have it
 
     @property
     def single(self) -> bool:
         return self.size == 1 and self.bits
+
+    @property
+    def reference(self) -> str:
+        """Its name without scopes, as irig_ed reads it; nothing if that cannot be typed."""
+        return self.path[self.begin:self.end]
 
 
 class Wires:
@@ -155,8 +163,10 @@ class Reader:
             return
         kind, size, code = shown(words[0]), int(words[1]), words[2]
         name, ends = _range(shown(b"".join(words[3:])), size)
+        reference, begin = shown(words[3]), sum(len(scope) + 1 for scope in self.scopes)
+        end = begin + len(reference) if name.startswith(reference) and REPLACED not in reference else begin
         path = ".".join([*self.scopes, name])
-        self.header.wires.append(Wire(code, path, size, *ends, kind not in NO_BITS and size > 0))
+        self.header.wires.append(Wire(code, path, size, *ends, kind not in NO_BITS and size > 0, begin, end))
 
 
 def _with_size(words: List[bytes]) -> List[bytes]:

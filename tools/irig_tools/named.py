@@ -1,7 +1,7 @@
 """The name of the wire of a track."""
 from __future__ import annotations
 
-from .dump_choice import choose
+from .dump_choice import choose, wire_name
 from .dump_header import Reader
 from .dump_source import Source
 from .editor import Problem
@@ -9,8 +9,11 @@ from .opening import Opened
 
 
 def wire_named(track: Opened) -> str:
-    """The name of the wire in the track's own file."""
-    return track.wire or choose(Reader(Source(track.path)).read(), None).name
+    """The name of the wire in the track's own file, which all programs take."""
+    if track.wire is not None:
+        return track.wire
+    header = Reader(Source(track.path)).read()
+    return wire_name(header, choose(header, None))
 
 
 def wire_or_none(track: Opened) -> str:

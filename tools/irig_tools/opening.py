@@ -5,8 +5,8 @@ from contextlib import contextmanager
 from dataclasses import dataclass, field
 from typing import Iterator, List, Optional
 
-from .dump_choice import Signal, choose, singles
-from .dump_header import Header, Reader, shown
+from .dump_choice import Signal, choose, singles, wire_name, wire_text, wire_texts
+from .dump_header import Header, Reader
 from .dump_offset import Offset
 from .dump_source import Source
 from .editor import Problem, called, find_editor
@@ -94,7 +94,7 @@ class Taken:
 
     def text(self) -> str:
         said = "wire %s, format %s, expression %d: %d of %d frames fine" % (
-            self.probe.signal.text(), self.probe.kind[0], self.expression, self.fine, self.frames)
+            wire_text(self.found.header, self.probe.signal), self.probe.kind[0], self.expression, self.fine, self.frames)
         return said + (", but %d lead to a time together" % self.led if self.led else "")
 
 
@@ -108,6 +108,7 @@ def opened(path: str, name: str, given: Given, wire: Optional[str]) -> Iterator[
     if named and as_is and is_opened(path, _wire_words(wire)):
         yield Opened(path, _code_words(given), wire, _offset(path), [], True, is_as_given=True)
         return
+    wire = wire if wire is None or given.has(DUMP) else _usual_name(path, wire)
     taken = None if named and (wire is not None or is_of_one_wire(path)) else _take(path, name, given, wire)
     wire = taken.wire if taken and wire is None else wire
     code = _code_words(given) if named or not taken else taken.code
@@ -154,6 +155,12 @@ def _offset(path: str) -> Optional[Offset]:
     return header.offset if header else None
 
 
+def _usual_name(path: str, wire: str) -> str:
+    """The name of a wire that all programs take; as it is given if only the editor can read the file."""
+    header = _header(path)
+    return wire_name(header, choose(header, wire)) if header else wire
+
+
 def is_of_one_wire(path: str) -> bool:
     """Whether a dump has just one wire of one bit."""
     header = _header(path)
@@ -182,7 +189,7 @@ def _of_none(refused: List[str], fine: List[Taken], name: str) -> Problem:
     if refused and not fine:
         return Problem(refused[0])
     if fine:
-        return SeveralWires(name, [taken.probe.signal.text() for taken in fine])
+        return SeveralWires(name, wire_texts(fine[0].found.header, [taken.probe.signal for taken in fine]))
     return Problem("%s: no frame can be read in any format and expression; 'irig_what %s' says more" % (name, name))
 
 
@@ -208,15 +215,3 @@ def needed_name(header: Header, signal: Signal) -> Optional[str]:
     """What names a signal, if it is not the only wire of one bit."""
     alone = singles(header)
     return None if len(alone) == 1 and alone[0] == signal else wire_name(header, signal)
-
-
-def wire_name(header: Header, signal: Signal) -> str:
-    """The shortest name that means just this signal."""
-    for name in (signal.name, signal.path, shown(signal.code)):
-        try:
-            chosen = choose(header, name)
-        except Problem:
-            continue
-        if (chosen.code, chosen.place) == (signal.code, signal.place):
-            return name
-    raise Problem("no name means the wire %s alone" % signal.text())

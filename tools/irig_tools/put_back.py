@@ -9,7 +9,7 @@ from dataclasses import dataclass
 from typing import IO, Iterator, List, Optional, Tuple
 
 from .dump_body import Body, Change, Wanted
-from .dump_choice import choose
+from .dump_choice import choose, wire_text
 from .dump_copied import Copied
 from .dump_header import Header
 from .dump_offset import Offset
@@ -110,7 +110,7 @@ class PutBack:
         self.merger.flush(len(self.source.taken), True)
         self.source.free = True
         self._check_end(body)
-        self.report.done.append("the wire is %s" % signal.text())
+        self.report.done.append("the wire is %s" % wire_text(header, signal))
         self._say()
         return body
 

@@ -8,12 +8,12 @@ from typing import IO, Dict, List, Optional, cast
 
 from .analysis import Findings
 from .damage import look
-from .dump_choice import Signal
+from .dump_choice import Signal, wire_name, wire_text, wire_texts
 from .dump_header import shown
 from .editor import Editor
 from .kept_wire import write_kept
 from .mend import propose
-from .opening import MOST_READ, needed_name, wire_name
+from .opening import MOST_READ, needed_name
 from .overview import lasting_of
 from .proposal import Proposal, no_option
 from .readings import Reading, Readings, is_read, read
@@ -29,6 +29,8 @@ class CodeWire:
     """A wire with time code, as it was read."""
 
     signal: Signal
+    name: str  # that all programs take
+    text: str  # with its code and its path
     inverted: bool
     kind: str
     readings: Readings
@@ -55,7 +57,7 @@ class CodeWire:
 
     def lines(self) -> List[str]:
         side = "upside down" if self.inverted else "upright"
-        lines = ["wire %s, %s, format %s" % (self.signal.text(), side, self.kind)]
+        lines = ["wire %s, %s, format %s" % (self.text, side, self.kind)]
         if not self.readings.rows:
             lines.append("  irig_ed does not read it: " + (self.readings.refused or "no answer"))
         else:
@@ -75,8 +77,8 @@ class CodeWire:
     def as_object(self) -> Dict[str, object]:
         """The same for a program."""
         return {
-            "wire": self.signal.path, "code": shown(self.signal.code), "inverted": self.inverted, "format": self.kind,
-            "pulses": self.readings.pulses, "length": self.readings.length, "expression": self.expression,
+            "wire": self.name, "code": shown(self.signal.code), "path": self.signal.path, "inverted": self.inverted,
+            "format": self.kind, "pulses": self.readings.pulses, "length": self.readings.length, "expression": self.expression,
             "frames": self.best.frames if self.best else 0, "fine": self.fine,
             "readings": [row.as_object() for row in self.readings.rows],
             "repairs": sum(1 for repair in self.script if repair.edits),
@@ -150,10 +152,10 @@ class What:
     def _wish(self, probe: Probe) -> Wish:
         return Wish(wire_name(self.found.header, probe.signal), self.found.unit, self.dump, invert=probe.kind[1])
 
-    @staticmethod
-    def _read(probe: Probe, track: str, extract: Extract) -> CodeWire:
+    def _read(self, probe: Probe, track: str, extract: Extract) -> CodeWire:
         kind, inverted = probe.kind
-        carrier = CodeWire(probe.signal, inverted, kind, read(track, kind), extract.report.doubtful)
+        texts = wire_name(self.found.header, probe.signal), wire_text(self.found.header, probe.signal)
+        carrier = CodeWire(probe.signal, *texts, inverted, kind, read(track, kind), extract.report.doubtful)
         listing, carrier.readings.listing = carrier.readings.listing, None
         if carrier.fine or carrier.led:
             editor = Editor(["--format", kind, "--expression", str(carrier.expression), track])
@@ -167,8 +169,8 @@ class What:
     def lines(self) -> List[str]:
         found = self.found
         lines = [line for carrier in self.carriers for line in carrier.lines()]
-        lines += ["wire %s may carry time code, too; only %d wires are read" % (probe.signal.text(), MOST_READ)
-                  for probe in found.probes[MOST_READ:]]
+        lines += ["wire %s may carry time code, too; only %d wires are read" % (text, MOST_READ)
+                  for text in wire_texts(found.header, [probe.signal for probe in found.probes[MOST_READ:]])]
         if not found.header.unit and not self.unit and found.probes:
             lines.append("the dump names no unit of time; %s makes time code of it" % found.unit)
         if found.dumps > 1:

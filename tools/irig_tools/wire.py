@@ -6,7 +6,7 @@ from dataclasses import dataclass, field
 from typing import IO, List, Optional, Sequence, Tuple
 
 from .dump_body import Body, Wanted
-from .dump_choice import Signal, choose
+from .dump_choice import Signal, choose, wire_text
 from .dump_header import Header
 from .dump_parts import each_dump
 from .dump_offset import Offset, offset_of
@@ -204,7 +204,7 @@ class Extract:
     def _say_header(self, header: Header, signal: Signal, unit: Unit) -> None:
         say, named = self.report.done.append, self.wish.unit or header.unit or ""
         self.report.done += self.source.notes + header.notes
-        say("the wire is %s" % signal.text())
+        say("the wire is %s" % wire_text(header, signal))
         others = len({wire.code for wire in header.wires} - {signal.code})
         if others:
             say("%d other wire%s left out" % (others, " was" if others == 1 else "s were"))
