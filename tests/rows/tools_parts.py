@@ -7,6 +7,7 @@ import math
 import os
 import random
 import re
+from unittest import mock
 
 from built import TOP
 from cases import case
@@ -388,6 +389,24 @@ def of_every_second():
 
 
 # polarity
+
+
+def of_upright():
+    """A wire that is upright by few pulses is so by all of them: of random rises and falls, in step in some stretches, or out of it."""
+    for seed in range(400):
+        rng, times = random.Random("upright %d" % seed), ([0], [300])
+        shares = rng.choice((0.02, 0.1, 0.3, 0.6, 0.8)), rng.choice((0, 0.05, 0.3, 0.6, 0.9))
+        for _ in range(rng.randint(4, 600)):
+            shares = shares[::-1] if rng.random() < 0.01 else shares
+            for each, share in zip(times, shares):
+                each.append(each[-1] + (rng.choice((500, 1300, 1700)) if rng.random() < share else 1000))
+        listing = Listing(max(map(max, times)), len(times[0]), "A", 2, *times)
+        found = polarity.upside_down(listing, 1000)
+        with mock.patch.object(polarity, "_is_upright", lambda *_: False):
+            votes = polarity.upside_down(listing, 1000)
+        rises, falls = ([not 900 <= after - before <= 1100 for before, after in zip(each, each[1:])] for each in times)
+        few = sum(rise and not fall for rise, fall in zip(rises, falls)) <= limits.TURNED_OVER
+        yield same("upright %d" % seed, found, [] if few else votes)
 
 
 def of_polarity():
@@ -831,6 +850,7 @@ def cases():
     return [case("mend: part: " + name, holds) for name, holds in (
         ("phases", of_phases), ("clock", of_clock), ("clock of samples", of_samples), ("clock that gains a sample", of_one_sample),
         ("clock of runs", of_runs), ("a clock that wanders", of_wander), ("polarity", of_polarity), ("slots", of_slots),
+        ("upright by few pulses", of_upright),
         ("sure runs", of_parts), ("tenths", of_tenths), ("other code", of_other_code),
         ("every second pulse", of_every_second), ("ends of runs on a clock that wanders", of_ends),
         ("a long hole on a clock that wanders", of_vague), ("another speed", of_another_speed),

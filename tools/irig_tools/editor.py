@@ -36,6 +36,14 @@ def called(hidden: str, name: str) -> Iterator[None]:
         raise Problem(str(error).replace(hidden, name)) from error
 
 
+class _Same(Dict[int, int]):
+    """Of numbers that are the same the first one that was asked for."""
+
+    def __missing__(self, number: int) -> int:
+        self[number] = number
+        return number
+
+
 @dataclass
 class Listing:
     """What the editor prints of a track after some repairs."""
@@ -56,8 +64,7 @@ class Listing:
     @cached_property
     def apart(self) -> Sequence[int]:
         """From each rise to the next; those that are the same are one object, as they are millions."""
-        found = list(map(sub, islice(self.rises, 1, None), self.rises))
-        return list(map({each: each for each in set(found)}.__getitem__, found))
+        return list(map(_Same().__getitem__, map(sub, islice(self.rises, 1, None), self.rises)))
 
 
 def find_editor() -> str:

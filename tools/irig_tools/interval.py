@@ -3,7 +3,7 @@ from __future__ import annotations
 
 import statistics
 from dataclasses import dataclass, replace
-from itertools import compress, count, islice
+from itertools import compress, count, islice, repeat
 from operator import sub
 from typing import Callable, Iterator, List, Optional, Sequence, Tuple
 
@@ -67,7 +67,8 @@ def distances(times: Sequence[Microseconds]) -> List[int]:
 
 def are_odd(values: Sequence[int], is_odd: Callable[[int], bool]) -> Iterator[bool]:
     """Whether that is true of each value; those that are the same are looked at once."""
-    return map(set(filter(is_odd, set(values))).__contains__, values)
+    odd = set(filter(is_odd, set(values)))
+    return map(odd.__contains__, values) if odd else repeat(False, len(values))
 
 
 def places_of(values: Sequence[int], is_odd: Callable[[int], bool]) -> Iterator[int]:
@@ -339,6 +340,9 @@ class Clock:
                 if abs(rises[first + way * far] - due) > least and rises[first + way * far] > 0:
                     yield plus(first, way * far), Microseconds(round(due))
         low, beyond = run.first + side, run.last - side + 1
+        apart = set(self.listing.apart[low - 1:beyond])
+        if not apart or max(apart) - min(apart) <= least:  # no two are more different
+            return
         bends = list(map(sub, self.listing.apart[low:beyond], self.listing.apart[low - 1:beyond - 1]))
         for at in map(low.__add__, places_of(bends, lambda each: not -least <= each <= least)):
             due = statistics.median([(rises[at - far] + rises[at + far]) / 2 for far in range(1, side + 1)])
