@@ -207,7 +207,7 @@ def options_of_a_script():
     def holds():
         for words, head in (
                 ("rec.vcd", "# for irig_ed --format=B --expression=7"), ("--expression=4 rec.vcd", "# frame"),
-                ("two.vcd", "# for irig_ed --format=B --expression=7 and the dump of irig_wire !"),
+                ("two.vcd", "# for irig_ed --wire=! --format=B --expression=7"),
                 ("--expression=4 --timescale=1us --dump=1 rec.vcd",
                  "# for irig_ed --expression=4 and the dump of irig_wire --timescale=1us --dump=1"),
                 ("sound.vcd", "")):
