@@ -131,12 +131,14 @@ def is_backed_after(kind, frames, place):
 
 def of_islands(kind, frames):
     """The places of frames that agree with neither of two shores, between these: two frames that agree, with at most three between them,
-    the first of which is backed by a frame before it, and the second by one after it."""
+    the first of which is backed by a frame before it or is the first of all, and the second by one after it or is the last of all."""
     found = set()
     for first in range(len(frames)):
         for last in range(first + 2, min(first + 5, len(frames))):
             one, other = frames[first], frames[last]
-            if agrees(kind, one, other) and is_backed_before(kind, frames, first) and is_backed_after(kind, frames, last):
+            is_shore_before = first == 0 or is_backed_before(kind, frames, first)
+            is_shore_after = last == len(frames) - 1 or is_backed_after(kind, frames, last)
+            if agrees(kind, one, other) and is_shore_before and is_shore_after:
                 found |= {place for place in range(first + 1, last)
                           if not agrees(kind, one, frames[place]) and not agrees(kind, frames[place], other)}
     return found
@@ -332,15 +334,13 @@ class Counting:
         return min(self.tenths(one, other) % 100, -self.tenths(one, other) % 100) <= 2
 
     def borne(self, side, time):
-        """How many pulses of a side, each with its element, come before those that say another time: all, if none does; else up to the
-        last position identifier before the first that does."""
+        """How many pulses of a side, each with its element, are borne out: those up to the last position identifier that is at its place,
+        before the first pulse that says another time."""
         if time.micros > LONG_MINUTE:
             return 0
         wanted = self.wanted(time)
         denied = [place for place, (number, element) in enumerate(side) if self.denies(number, element, wanted)]
-        if not denied:
-            return len(side)
-        marks = [place for place, (number, element) in enumerate(side[:denied[0]])
+        marks = [place for place, (number, element) in enumerate(side[:denied[0]] if denied else side)
                  if wanted[element] == "position" == self.class_at(number)]
         return marks[-1] + 1 if marks else 0
 

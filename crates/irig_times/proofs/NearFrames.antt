@@ -65,7 +65,7 @@ module _ (f : FormatView) where
 
   no-shore : (a2 a p : Option Shown) (x : Shown) → agrees_from f p x ≡ true → is_shore_before f a2 a p x ≡ false
   no-shore a2 a None x e = refl
-  no-shore a2 a (Some p) x e = λ i. not (e i) && (agrees_from f a p || agrees_from f a2 p)
+  no-shore a2 a (Some p) x e = λ i. not (e i) && (not (is_some a) || (agrees_from f a p || agrees_from f a2 p))
 
   no-island : (a b c p q r s t u : Bool) → a ≡ false → b ≡ false → c ≡ false
       → ((a && p) || ((a && q) || ((b && r) || ((a && s) || ((b && t) || (c && u)))))) ≡ false

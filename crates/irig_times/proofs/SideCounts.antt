@@ -61,8 +61,7 @@ module _ (f : FormatView) (ps : List Pulse) (wanted : List Element) (s : Side) w
   confirmed-few (suc n) = cond-holds (λ m. m ≤ suc n) (confirms f ps wanted s n) _ _ (λ on. omega arith) (λ off. omega (arith, confirmed-few n))
 
   pub borne-few : (n : ℕ) → borne f ps wanted s n ≤ n
-  borne-few n = cond-holds (λ m. m ≤ n) (undenied f ps wanted s 0 n == n) _ _ (λ all. omega arith)
-      (λ some. omega (arith, confirmed-few (undenied f ps wanted s 0 n), undenied-few n 0))
+  borne-few n = omega (arith, confirmed-few (undenied f ps wanted s 0 n), undenied-few n 0)
 
 pub borne_at-few : (f : FormatView) (ps : List Pulse) (x : Time) (s : Side) (n : ℕ) → borne_at f ps x s n ≤ n
 borne_at-few f ps x s n = cond-holds (λ m. m ≤ n) (nat_lt 61000000 x.micros) _ _ (λ late. omega arith)

@@ -1,7 +1,7 @@
 -- Frames that read well and are wrong alike: an island between frames that agree. This project's
 -- own.
 use Rattle.std.specs.Prelude.{◌+◌, ◌&&◌, ◌||◌, ℕ, Bool, false, not, List, Option, Some, None}
-use Rattle.std.specs.Prelude.{slice_get}
+use Rattle.std.specs.Prelude.{is_some, slice_get}
 use Rattle.irig_codes.specs.Format.{FormatView}
 use Rattle.irig_safety.specs.{Bearing.agrees, declared.shown.Shown.Shown}
 
@@ -15,17 +15,17 @@ agrees_to f x None = false
 agrees_to f x (Some b) = agrees f x b
 
 -- p before x is a shore: x does not agree with it, and one of the two frames before p, a and a2,
--- supports it
+-- supports it, or there is none before it
 abbrev pub is_shore_before : FormatView → Option Shown → Option Shown → Option Shown → Shown → Bool
 is_shore_before f a2 a None x = false
 is_shore_before f a2 a (Some p) x =
-    not (agrees f p x) && (agrees_from f a p || agrees_from f a2 p)
+    not (agrees f p x) && (not (is_some a) || (agrees_from f a p || agrees_from f a2 p))
 
 -- so is q after x, with the two frames after q, b and b2
 abbrev pub is_shore_after : FormatView → Shown → Option Shown → Option Shown → Option Shown → Bool
 is_shore_after f x None b b2 = false
 is_shore_after f x (Some q) b b2 =
-    not (agrees f x q) && (agrees_to f q b || agrees_to f q b2)
+    not (agrees f x q) && (not (is_some b) || (agrees_to f q b || agrees_to f q b2))
 
 -- of two frames, both are there and agree
 abbrev pub agree : FormatView → Option Shown → Option Shown → Bool

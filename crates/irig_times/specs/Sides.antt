@@ -25,12 +25,9 @@ confirmed f ps wanted s zero = 0
 confirmed f ps wanted s (suc n) =
     if confirms f ps wanted s n then suc n else confirmed f ps wanted s n
 
--- all n, if none of them says another element; else those up to the last position identifier before
--- the first that does
+-- those up to the last position identifier before the first that says another element, or of all n
 abbrev pub borne : FormatView → List Pulse → List Element → Side → ℕ → ℕ
-borne f ps wanted s n =
-    if undenied f ps wanted s 0 n == n then n
-    else confirmed f ps wanted s (undenied f ps wanted s 0 n)
+borne f ps wanted s n = confirmed f ps wanted s (undenied f ps wanted s 0 n)
 
 -- the same of a side that is of a frame of this time
 abbrev pub borne_at : FormatView → List Pulse → Time → Side → ℕ → ℕ

@@ -41,14 +41,16 @@ fn is_between(format: Format, before: Three, frame: &Shown, after: Three) -> boo
 }
 
 /// Whether the first of three frames before a frame is there and does not agree with it, and one of
-/// the other two supports that first one.
+/// the other two supports that first one, or they are not there.
 pub fn is_shore_before(format: Format, before: Three, frame: &Shown) -> bool
     ensures { result ≡ is_shore_before format before.2 before.1 before.0 frame.now }
 {
     match before.0 {
         Some(shore) => {
             !agrees(format, &shore, frame)
-                && (agrees_from(format, before.1, &shore) || agrees_from(format, before.2, &shore))
+                && (!before.1.is_some()
+                    || agrees_from(format, before.1, &shore)
+                    || agrees_from(format, before.2, &shore))
         }
         None => false,
     }
@@ -62,7 +64,9 @@ fn is_shore_after(format: Format, frame: &Shown, after: Three) -> bool
     match after.0 {
         Some(shore) => {
             !agrees(format, frame, &shore)
-                && (agrees_to(format, &shore, after.1) || agrees_to(format, &shore, after.2))
+                && (!after.1.is_some()
+                    || agrees_to(format, &shore, after.1)
+                    || agrees_to(format, &shore, after.2))
         }
         None => false,
     }

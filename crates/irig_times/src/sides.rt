@@ -67,9 +67,8 @@ fn confirmed(
     0
 }
 
-/// How many of the first `most` pulses of a side are kept: all, if none says another element; else
-/// those up to the last position identifier before the first that does, since what is lost can be
-/// anywhere after it.
+/// How many of the first `most` pulses of a side are kept: those up to the last position identifier
+/// before the first that says another element, since what is lost can be anywhere after it.
 fn borne(
     pulses: &mut Lens<'_>,
     format: Format,
@@ -83,9 +82,6 @@ fn borne(
     ensures pulses { pulses.new.track ≡ pulses.old.track }
 {
     let count = undenied(pulses, format, wanted, side, most);
-    if count == most {
-        return most;
-    }
     confirmed(pulses, format, wanted, side, count)
 }
 
