@@ -374,11 +374,12 @@ class Counting:
         return self.borne_out(self.head(frame, self.ahead(frame.marker + 100, 100), next_time(self.kind, frame.time)))
 
     def borne_out(self, part):
-        """The part, if none of its pulses says another time."""
+        """The part, if none of its pulses says another time. The last pulse of all says none: the end of the recording can have cut it."""
         if part.time is None or not is_whole(self.kind, part.time):
             return []
         wanted = self.wanted(part.time)
-        wrong = any(self.denies(part.number + k, part.element + k, wanted) for k in range(part.count))
+        told = [k for k in range(part.count) if part.number + k < len(self.pulses) - 1]
+        wrong = any(self.denies(part.number + k, part.element + k, wanted) for k in told)
         return [] if wrong else [part]
 
 

@@ -1,8 +1,8 @@
 -- Which pulses at the two ends of a track have a time: those that are in step with the first frame,
 -- or with the last one, and say no other time. This project's own.
-use Rattle.std.specs.Prelude.{ℕ, zero, suc, ◌+◌, ◌/◌, ◌%◌, ◌==◌, ◌&&◌, ◌||◌, nat_lt, min}
+use Rattle.std.specs.Prelude.{ℕ, zero, suc, ◌+◌, ◌-◌, ◌/◌, ◌%◌, ◌==◌, ◌&&◌, ◌||◌, nat_lt, min}
 use Rattle.std.specs.Prelude.{Bool, true, false, List, Option, Some, None, if◌then◌else◌}
-use Rattle.std.specs.Prelude.{slice_get}
+use Rattle.std.specs.Prelude.{length, slice_get}
 use Rattle.irig_codes.specs.Format.{FormatView, carries_sbs, frame_period_of, has_control}
 use Rattle.irig_codes.specs.Format.{has_hundredths}
 use Rattle.irig_codes.specs.declared.format.Kind.TheVariants.{A, B, E, G}
@@ -71,12 +71,18 @@ contradictions f ps wanted number element (suc n) =
     then suc (contradictions f ps wanted (number + 1) (element + 1) n)
     else contradictions f ps wanted (number + 1) (element + 1) n
 
--- whether a part says no other time than its own: none of its pulses does
+-- how many pulses of a part can say another time: all, but for the last one of the track, which the
+-- end of the recording can have cut
+abbrev pub telling : List Pulse → Part → ℕ
+telling ps p = if p.number + p.count == length ps then p.count - 1 else p.count
+
+-- whether a part says no other time than its own: none of these pulses does
 abbrev pub is_borne_out : FormatView → List Pulse → Part → Bool
 is_borne_out f ps p =
     is_whole (frame_period_of f.kind) p.time
     && (fits_in f (fields_at f p.time)
-    && (contradictions f ps (encoded f (fields_at f p.time)) p.number p.element p.count == 0))
+    && (contradictions f ps (encoded f (fields_at f p.time)) p.number p.element (telling ps p)
+    == 0))
 
 -- the part, with an empty one after it
 abbrev pub alone : FormatView → List Pulse → Part → Option (Part × Part)

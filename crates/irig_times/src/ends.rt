@@ -6,7 +6,7 @@ ghost use Rattle.std.specs.Prelude.{if◌then◌else◌};
 ghost use Rattle.irig_codes.specs.Fields.{part};
 ghost use Rattle.irig_times.specs.Ends.{after_last, alone, before_first, contradictions};
 ghost use Rattle.irig_times.specs.Ends.{contradicts, end_after, end_before, fields_at};
-ghost use Rattle.irig_times.specs.Ends.{is_borne_out, is_identifier, is_other, time_elements};
+ghost use Rattle.irig_times.specs.Ends.{is_borne_out, is_identifier, is_other, telling, time_elements};
 
 use crate::between::{head_of, min, tail_of};
 use crate::missing::{is_whole, next_time, time_before};
@@ -105,21 +105,22 @@ pub fn contradicts(
     }
 }
 
-/// How many pulses of a part contradict the elements of its frame.
+/// How many of the first `told` pulses of a part contradict the elements of its frame.
 fn contradictions(
     pulses: &mut Lens<'_>,
     format: Format,
     wanted: &[Element; 100],
     part: &Part,
+    told: usize,
 ) -> usize
-    requires few { part.now.element + part.now.count ≤ 100 }
+    requires few { part.now.element + told ≤ 100 }
     requires small { part.now.number < 2 ^ 32 }
     ensures count { result ≡ contradictions format pulses.old.track.pulses wanted.now
-        part.now.number part.now.element part.now.count }
+        part.now.number part.now.element told }
     ensures pulses { pulses.new.track ≡ pulses.old.track }
 {
     let mut count = 0;
-    for place in 0..part.count {
+    for place in 0..told {
         let here = contradicts(
             pulses,
             format,
@@ -140,8 +141,22 @@ fn more(count: usize, is_so: bool) -> usize
     if is_so { count + 1 } else { count }
 }
 
+/// How many pulses of a part can say another time: all, but for the last one of the track, which the
+/// end of the recording can have cut.
+fn telling(pulses: &Lens<'_>, part: &Part) -> usize
+    requires small { (part.now.number < 2 ^ 32) × (part.now.count ≤ 100) }
+    ensures few { result ≤ part.now.count }
+    ensures count { result ≡ telling pulses.now.track.pulses part.now }
+{
+    if part.number + part.count == pulses.len() {
+        part.count.saturating_sub(1)
+    } else {
+        part.count
+    }
+}
+
 /// Whether a part can have its time: a frame of that time is there, ends with its minute, and no
-/// pulse of the part contradicts it.
+/// pulse of the part that can say another time contradicts it.
 fn is_borne_out(pulses: &mut Lens<'_>, format: Format, part: &Part) -> bool
     requires few { part.now.element + part.now.count ≤ 100 }
     requires small { (part.now.number < 2 ^ 32) × (part.now.time.micros < 2 ^ 60) }
@@ -156,7 +171,8 @@ fn is_borne_out(pulses: &mut Lens<'_>, format: Format, part: &Part) -> bool
         return false;
     }
     let wanted = encode(format, &fields);
-    contradictions(pulses, format, &wanted, part) == 0
+    let told = telling(pulses, part);
+    contradictions(pulses, format, &wanted, part, told) == 0
 }
 
 /// The part, with an empty one after it, since two are asked for; `None` if it cannot have its
