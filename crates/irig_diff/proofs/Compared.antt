@@ -3,12 +3,10 @@ use Rattle.std.proofs.Common.{◌≡◌, ℕ, List, Option, Some, None, ap, sym,
 use Rattle.irig_codes.specs.Format.{FormatView}
 use Rattle.irig_comments.specs.{Framed.framed, Parts.commented_text}
 use Rattle.irig_difference.specs.PatchText.{patch_text}
-use Rattle.irig_files.specs.declared.dump_file.DumpFileFault.TheVariants.{OutOfMemory}
 use Rattle.irig_recording.specs.Recording.{RecordingView}
 use Rattle.irig_diff.specs.Ending.{Held, Obeys, PrintsIfRoom, PrintsText, text_between}
-use Rattle.irig_files.specs.Tracks.{HasFault, Says, name_in}
+use Rattle.irig_files.specs.Tracks.{Says, Unreadable, name_in}
 use Rattle.irig_diff.specs.{declared.chosen.Settings.Settings, declared.ending.Ending.Ending}
-use Rattle.irig_files.specs.declared.track.{TrackFault.TrackFault, TrackFault.TheVariants.File}
 use Rattle.irig_diff.specs.declared.ending.Ending.TheVariants as ending
 
 -- a text was printed that takes no memory
@@ -28,17 +26,14 @@ pub printed-frames : (chosen : Settings) (f : FormatView) (b a : RecordingView) 
     → PrintsIfRoom chosen (commented_text (framed f b) (framed f a)) b a old new e → PrintsIfRoom chosen (text_between chosen.frames b a) b a old new e
 printed-frames chosen f b a old new e some p = subst (λ (g : Option FormatView). PrintsIfRoom chosen (text_between g b a) b a old new e) (sym some) p
 
-no_room : (known wire : Option (List ℕ)) (fault : TrackFault) → fault ≡ File OutOfMemory → HasFault None known wire fault
-no_room known wire fault e = subst (HasFault None known wire) (sym e) (λ bad. absurd (cc))
-
 -- of the tracks of two files
-pub obeyed : (held : Held) (chosen : Settings) (b a : RecordingView) (old new : Option (List ℕ)) (e : Ending)
+pub obeyed : (held : Held) (unread : Unreadable) (chosen : Settings) (b a : RecordingView) (old new : Option (List ℕ)) (e : Ending)
     → Says None (held chosen.before.now) (name_in chosen.wire) b → Says None (held chosen.after.now) (name_in chosen.wire_after) a
-    → PrintsIfRoom chosen (text_between chosen.frames b a) b a old new e → Obeys held chosen old new e
-obeyed held chosen b a old new (ending.Compared same) x y p = record { before = b; after = a; of_before = x; of_after = y; printed = p.0; told = p.1 }
-obeyed held chosen b a old new ending.Unprinted x y p = record { before = b; after = a; of_before = x; of_after = y; printed = p }
-obeyed held chosen b a old new (ending.Usage error) x y p = absurd p
-obeyed held chosen b a old new (ending.Unread path fault) x y p = elim p.0 [
-  | inl first ↦ (inl (ap (λ z. z.now) first, no_room (held chosen.before.now) (name_in chosen.wire) fault p.1), p.2)
-  | inr second ↦ (inr (ap (λ z. z.now) second, no_room (held chosen.after.now) (name_in chosen.wire_after) fault p.1), p.2)
+    → PrintsIfRoom chosen (text_between chosen.frames b a) b a old new e → Obeys held unread chosen old new e
+obeyed held unread chosen b a old new (ending.Compared same) x y p = record { before = b; after = a; of_before = x; of_after = y; printed = p.0; told = p.1 }
+obeyed held unread chosen b a old new ending.Unprinted x y p = record { before = b; after = a; of_before = x; of_after = y; printed = p }
+obeyed held unread chosen b a old new (ending.Usage error) x y p = absurd p
+obeyed held unread chosen b a old new (ending.Unread path fault) x y p = elim p.0 [
+  | inl first ↦ (inl (inl (ap (λ z. z.now) first), p.1), p.2)
+  | inr second ↦ (inl (inr (ap (λ z. z.now) second), p.1), p.2)
 ]

@@ -10,7 +10,7 @@ use Rattle.irig_recording.specs.Recording.{RecordingView}
 use Rattle.irig_diff.specs.declared.ending.Ending.TheVariants.{Usage, Unread, Compared}
 use Rattle.irig_diff.specs.declared.ending.Ending.TheVariants.{Unprinted}
 use Rattle.irig_diff.specs.{Printing.AppendsFront, Settings.Reads}
-use Rattle.irig_files.specs.Tracks.{HasFault, Says, name_in}
+use Rattle.irig_files.specs.Tracks.{HasFault, Says, Unreadable, name_in}
 use Rattle.irig_diff.specs.declared.chosen.Settings.{Settings}
 use Rattle.irig_diff.specs.declared.ending.Ending.{Ending}
 use Rattle.irig_files.specs.declared.track.TrackFault.{TrackFault}
@@ -60,23 +60,33 @@ pub record Breaks (held : Held) (chosen : Settings) (old new : Option (List ℕ)
   pub printed : AppendsFront old new (text_between chosen.frames before after)
 
 -- a track of the settings has this fault
-abbrev pub HasFaultAt : Held → Settings → List ℕ → TrackFault → Type 0
-HasFaultAt held chosen path fault =
+abbrev pub HasFaultAt : Held → Unreadable → Settings → List ℕ → TrackFault → Type 0
+HasFaultAt held unread chosen path fault =
     ((path ≡ chosen.before.now)
-    × HasFault None (held chosen.before.now) (name_in chosen.wire) fault)
+    × HasFault None (held chosen.before.now) (unread chosen.before.now) (name_in chosen.wire)
+    fault)
     ⊎ ((path ≡ chosen.after.now)
-    × HasFault None (held chosen.after.now) (name_in chosen.wire_after) fault)
+    × HasFault None (held chosen.after.now) (unread chosen.after.now) (name_in chosen.wire_after)
+    fault)
+
+-- the same; or memory ran out for the patch between the tracks
+abbrev pub IsUncompared : Held → Unreadable → Settings → List ℕ → TrackFault → Type 0
+IsUncompared held unread chosen path fault =
+    (((path ≡ chosen.before.now) ⊎ (path ≡ chosen.after.now)) × (fault ≡ File OutOfMemory))
+    ⊎ HasFaultAt held unread chosen path fault
 
 -- the tracks of the settings were compared; or one was not read, and nothing was printed
-abbrev pub Obeys : Held → Settings → Option (List ℕ) → Option (List ℕ) → Ending → Type 0
-Obeys held chosen old new (Compared same) = Compares held chosen old new same
-Obeys held chosen old new (Unread path fault) =
-    HasFaultAt held chosen path.now fault × (new ≡ old)
-Obeys held chosen old new Unprinted = Breaks held chosen old new
-Obeys held chosen old new (Usage fault) = ⊥
+abbrev pub Obeys : Held → Unreadable → Settings → Option (List ℕ) → Option (List ℕ) → Ending
+    → Type 0
+Obeys held unread chosen old new (Compared same) = Compares held chosen old new same
+Obeys held unread chosen old new (Unread path fault) =
+    IsUncompared held unread chosen path.now fault × (new ≡ old)
+Obeys held unread chosen old new Unprinted = Breaks held chosen old new
+Obeys held unread chosen old new (Usage fault) = ⊥
 
 -- the settings are those of the words, and they were obeyed; or the words have none
-abbrev pub EndsBy : List Text → Held → Option (List ℕ) → Option (List ℕ) → Ending → Type 0
-EndsBy words held old new (Usage fault) = Reads words (Err fault) × (new ≡ old)
-EndsBy words held old new ending =
-    (chosen : Settings) × Reads words (Ok chosen) × Obeys held chosen old new ending
+abbrev pub EndsBy : List Text → Held → Unreadable → Option (List ℕ) → Option (List ℕ) → Ending
+    → Type 0
+EndsBy words held unread old new (Usage fault) = Reads words (Err fault) × (new ≡ old)
+EndsBy words held unread old new ending =
+    (chosen : Settings) × Reads words (Ok chosen) × Obeys held unread chosen old new ending

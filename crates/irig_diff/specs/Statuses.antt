@@ -4,6 +4,7 @@ use Rattle.clap.specs.Words.{Text}
 use Rattle.irig_diff.specs.declared.ending.Ending.TheVariants.{Usage, Unread, Compared}
 use Rattle.irig_diff.specs.declared.ending.Ending.TheVariants.{Unprinted}
 use Rattle.irig_diff.specs.{Ending.EndsBy, Ending.Held, Help.help_text, declared.ending.Ending.Ending}
+use Rattle.irig_files.specs.Tracks.{Unreadable}
 use Rattle.irig_words.specs.Telling.{EndsWith, Explains}
 
 -- the status for how the program ended, and what is printed on the output of help: 0 if the tracks
@@ -17,8 +18,8 @@ Reports Unprinted old new status = EndsWith 2 old new status
 
 -- the words were obeyed; of how that ended is the status of the process, and what came to the
 -- output of help
-pub record Serves (words : List Text) (held : Held) (old new help helped : Option (List ℕ))
-    (status : ℕ) : Type 0 where
+pub record Serves (words : List Text) (held : Held) (unread : Unreadable)
+    (old new help helped : Option (List ℕ)) (status : ℕ) : Type 0 where
   pub ending : Ending
-  pub obeyed : EndsBy words held old new ending
+  pub obeyed : EndsBy words held unread old new ending
   pub told : Reports ending help helped status

@@ -28,7 +28,7 @@ pub fn compare_words<'a, D: Disk, W: Write>(
     disk: &D,
     out: &mut W,
 ) -> Ending<'a>
-    ensures { EndsBy (map string_bytes words.entry.now) (D.held disk.now)
+    ensures { EndsBy (map string_bytes words.entry.now) (D.held disk.now) (D.unread disk.now)
         (W.contents out.old) (W.contents out.new) result }
 {
     match settings(alloc, words) {
@@ -45,7 +45,8 @@ fn compare_files<'a, D: Disk, W: Write>(
     disk: &D,
     out: &mut W,
 ) -> Ending<'a>
-    ensures { Obeys (D.held disk.now) chosen.now (W.contents out.old) (W.contents out.new) result }
+    ensures { Obeys (D.held disk.now) (D.unread disk.now) chosen.now (W.contents out.old)
+        (W.contents out.new) result }
 {
     let Ok(mut block) = new_block(alloc) else {
         return Ending::Unread(chosen.before, TrackFault::File(DumpFileFault::OutOfMemory));
@@ -62,7 +63,8 @@ fn compare_with_block<'a, D: Disk, W: Write>(
     out: &mut W,
     block: &mut Vec<u8>,
 ) -> Ending<'a>
-    ensures { Obeys (D.held disk.now) chosen.now (W.contents out.old) (W.contents out.new) result }
+    ensures { Obeys (D.held disk.now) (D.unread disk.now) chosen.now (W.contents out.old)
+        (W.contents out.new) result }
 {
     let before = match read_track(alloc, disk, chosen.before, chosen.wire, None) {
         Ok(before) => before,

@@ -60,8 +60,8 @@ fn start<P: Eprint + AllocGlobal, C: FileSystem, W: Write, H: Write>(
     // The words were obeyed. The output of help has the help that was asked for, and nothing else:
     // there is no other way to print.
     ensures { Serves (map string_bytes words.now) (C.held disk.now.system)
-        (W.contents out.old) (W.contents out.new) (H.contents help.old) (H.contents help.new)
-        (exit_status result) }
+        (C.unread disk.now.system) (W.contents out.old) (W.contents out.new)
+        (H.contents help.old) (H.contents help.new) (exit_status result) }
 {
     let ending = compare_words(rt.alloc(), words, disk, out);
     report(rt, &ending, help)

@@ -1,2 +1,1 @@
 pub mod RunsBy
-pub mod Sound

@@ -6,9 +6,8 @@ use Rattle.irig_vcd.proofs.{WholeDump.fails_now, Windows.no_window_parts}
 use Rattle.irig_script.specs.{Obey.Desk.Desk, Obey.Desk.desk_at, Obey.DumpRun.RunsOnDump, Print.Screen.Shown, declared.obey.status.Status.Status}
 use Rattle.irig_script.specs.{declared.obey.dump_run.DumpRunFault.DumpRunFault, declared.obey.dump_run.DumpRunFault.TheVariants.Dump}
 use Rattle.irig_text.specs.Shelved.{shelved}
-use Rattle.irig_files.proofs.Intakes.{tells_heading}
+use Rattle.irig_files.proofs.{Intakes.tells_heading, Sound.never_parts}
 use Rattle.irig_ed.specs.{Ending.Ends, Ending.Files, Ending.RunsBy, Ending.ends, Shortage.IsShortOnly}
-use Rattle.irig_ed.proofs.Sound.{never_parts}
 use Rattle.irig_files.specs.{Puts.texts_at, Writes.Write}
 use Rattle.irig_settings.specs.declared.chosen.Settings.{Settings}
 

@@ -1,15 +1,13 @@
 -- What the program does for the words of its command line: from the files and the script to what is
 -- printed and written. This project's own.
-use Rattle.std.specs.Prelude.{◌≡◌, ◌<◌, ◌^◌, ℕ, List, Option, Result, Ok, Err, IfSome, length}
-use Rattle.std.specs.Prelude.{option_map}
+use Rattle.std.specs.Prelude.{◌≡◌, ℕ, List, Option, None, Result, Ok, Err, IfSome, option_map}
 use Rattle.clap.specs.Words.{Text}
 use Rattle.irig_script.specs.declared.obey.status.Status.{Status}
 use Rattle.irig_script.specs.declared.obey.dump_run.DumpRunFault.{DumpRunFault}
 use Rattle.irig_script.specs.{Obey.Desk.desk_at, Obey.DumpRun.RunsOnDump, Print.Screen.Shown}
 use Rattle.irig_text.specs.Shelved.{shelved}
 use Rattle.irig_settings.specs.{Settings.Reads, declared.chosen.Settings.Settings}
-use Rattle.irig_files.specs.declared.dump_file.DumpFileFault.TheVariants.{CannotBeRead, TooLong}
-use Rattle.irig_files.specs.{Puts.texts_at, Writes.Write}
+use Rattle.irig_files.specs.{Puts.texts_at, Tracks.IsUnreadOrShort, Tracks.Unreadable, Writes.Write}
 use Rattle.irig_ed.specs.declared.ending.Ending.TheVariants.{Usage, Unread, Ran}
 use Rattle.irig_ed.specs.{Shortage.IsShortOnly, Statuses.Reports, declared.ending.Ending.Ending}
 
@@ -24,16 +22,16 @@ pub record Ends : Type 0 where
 abbrev pub ends : Shown → Option (List Write) → Option (List ℕ) → Ends
 ends screen writes script = record { screen = screen; writes = writes; script = script }
 
--- what else was given: what files hold, which cannot be read, where paths lead, what a crash leaves
--- of what is written
+-- what else was given: what files hold, for which faults they are not read, where paths lead, what
+-- a crash leaves of what is written
 pub record Files : Type 1 where
   pub held : List ℕ → Option (List ℕ)
-  pub unread : List ℕ → Type 0
+  pub unread : Unreadable
   pub paths : List ℕ → Option (List ℕ)
   pub kept : List ℕ → Type 0
 
 -- the files with these
-abbrev pub files : (List ℕ → Option (List ℕ)) → (List ℕ → Type 0) → (List ℕ → Option (List ℕ))
+abbrev pub files : (List ℕ → Option (List ℕ)) → Unreadable → (List ℕ → Option (List ℕ))
     → (List ℕ → Type 0) → Files
 files held unread paths kept =
     record { held = held; unread = unread; paths = paths; kept = kept }
@@ -60,8 +58,7 @@ Obeys given old new chosen (Ran path result) =
     × RunsBy given chosen source old new result)
 Obeys given old new chosen (Unread path fault) =
     (path ≡ chosen.track) × (new ≡ old) × ((to : List ℕ) → given.kept to)
-    × (fault ≡ TooLong → IfSome (given.held chosen.track.now) (λ all. 2 ^ 28 < length all))
-    × (fault ≡ CannotBeRead → given.unread chosen.track.now)
+    × IsUnreadOrShort None (given.held chosen.track.now) (given.unread chosen.track.now) fault
 Obeys given old new chosen (Usage fault) = ⊥
 
 -- the settings are those of the words, and they were obeyed; or the words have none

@@ -3,6 +3,7 @@
 
 ghost use Rattle.std.specs.Prelude.{◌≡◌, Some, map, string_bytes, true, None};
 ghost use Rattle.std.specs.Process.{exit_status};
+ghost use Rattle.irig_files.specs.declared.dump_file.DumpFileFault.TheVariants.{CannotBeRead};
 ghost use Rattle.irig_files.specs.{Puts.writes_on, Taken.IsLocked, Writes.LeavesTo};
 ghost use Rattle.irig_folders.specs.{Log.disk_of, Log.holds_in, Tree.IsWritable, Tree.tree_disk};
 ghost use Rattle.irig_folders.specs.TreeFiles.{held_at};
@@ -26,7 +27,8 @@ fn start_in_memory<P: Eprint + AllocGlobal>(
 ) -> ExitCode
     ensures { Serves (map string_bytes words.now)
         (files (held_at disk.old.system.layout disk.old.system.memory.calls.items)
-        (λ path. held_at disk.old.system.layout disk.old.system.memory.calls.items path ≡ None)
+        (λ path fault. fault ≡ CannotBeRead
+        → held_at disk.old.system.layout disk.old.system.memory.calls.items path ≡ None)
         (tree_disk disk.old.system.layout (disk_of disk.old.system.memory.calls.items)).paths
         (LeavesTo true
         (IsLocked (λ i. IsWritable (holds_in disk.old.system.memory.calls.items i).mode))

@@ -1,11 +1,12 @@
 -- What is read of a track at a path. This project's own.
-use Rattle.std.specs.Prelude.{◌≡◌, ◌<◌, ℕ, List, Option, Result, Ok, Err, IfSome, length}
+use Rattle.std.specs.Prelude.{◌≡◌, ◌<◌, ◌⊎◌, ℕ, List, Option, Result, Ok, Err, IfSome, length}
 use Rattle.std.specs.Prelude.{option_map}
 use denote.Ref.{Bor}
 use Rattle.irig_recording.specs.Recording.{RecordingView}
 use Rattle.irig_vcd.specs.{Window.parts_in, declared.window.Window.Window}
 use Rattle.irig_files.specs.Reads.{most_bytes}
-use Rattle.irig_files.specs.declared.dump_file.DumpFileFault.TheVariants.{TooLong}
+use Rattle.irig_files.specs.declared.dump_file.DumpFileFault.{DumpFileFault}
+use Rattle.irig_files.specs.declared.dump_file.DumpFileFault.TheVariants.{OutOfMemory, TooLong}
 use Rattle.irig_files.specs.declared.track.TrackFault.{TrackFault}
 use Rattle.irig_files.specs.declared.track.TrackFault.TheVariants.{File, Dump}
 
@@ -21,15 +22,33 @@ pub record Says (window : Option Window) (known wire : Option (List ℕ)) (recor
   pub whole : IfSome known (λ all. source ≡ all)
   pub dump : parts_in window wire source ≡ Ok (recording, journal)
 
--- the fault of the file: it is too long, or this is the first fault of its dump
-abbrev pub HasFault : Option Window → Option (List ℕ) → Option (List ℕ) → TrackFault → Type 0
-HasFault window known wire (File fault) =
-    fault ≡ TooLong → IfSome known (λ all. most_bytes window < length all)
-HasFault window known wire (Dump fault) = (source : List ℕ) × IfSome known (λ all. source ≡ all)
+-- for which faults files are not read, by their paths
+abbrev pub Unreadable : Type 1
+Unreadable = List ℕ → DumpFileFault → Type 0
+
+-- the file is not read for this fault: a call that reads it has it, and it is too long only if it
+-- has too many bytes
+abbrev pub IsUnread : Option Window → Option (List ℕ) → (DumpFileFault → Type 0) → DumpFileFault
+    → Type 0
+IsUnread window known unread fault = unread fault
+    × (fault ≡ TooLong → IfSome known (λ all. most_bytes window < length all))
+
+-- the same; or memory runs out for what is made of the file
+abbrev pub IsUnreadOrShort : Option Window → Option (List ℕ) → (DumpFileFault → Type 0)
+    → DumpFileFault → Type 0
+IsUnreadOrShort window known unread fault =
+    (fault ≡ OutOfMemory) ⊎ IsUnread window known unread fault
+
+-- the file is not read for this fault, or this is the first fault of its dump
+abbrev pub HasFault : Option Window → Option (List ℕ) → (DumpFileFault → Type 0)
+    → Option (List ℕ) → TrackFault → Type 0
+HasFault window known unread wire (File fault) = IsUnread window known unread fault
+HasFault window known unread wire (Dump fault) =
+    (source : List ℕ) × IfSome known (λ all. source ≡ all)
     × (parts_in window wire source ≡ Err fault)
 
 -- the recording of a window that the file says, or its fault
-abbrev pub IsTrackOf : Option Window → Option (List ℕ) → Option (List ℕ)
-    → Result RecordingView TrackFault → Type 0
-IsTrackOf window known wire (Ok recording) = Says window known wire recording
-IsTrackOf window known wire (Err fault) = HasFault window known wire fault
+abbrev pub IsTrackOf : Option Window → Option (List ℕ) → (DumpFileFault → Type 0)
+    → Option (List ℕ) → Result RecordingView TrackFault → Type 0
+IsTrackOf window known unread wire (Ok recording) = Says window known wire recording
+IsTrackOf window known unread wire (Err fault) = HasFault window known unread wire fault

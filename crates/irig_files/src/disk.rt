@@ -1,11 +1,12 @@
 //! What the program asks of files. A read has two faults: the outer one is of the file, the inner
 //! one of the dump in it.
 
-ghost use Rattle.std.specs.Prelude.{◌≡◌, ◌<◌, ◌≤◌, ◌^◌, Bool, ℕ, List, Option, Some, IfOk, IfSome};
-ghost use Rattle.std.specs.Prelude.{IsErr, IsErrOf, IsTrue, false, length, true};
+ghost use Rattle.std.specs.Prelude.{◌≡◌, ◌<◌, ◌≤◌, ◌^◌, Bool, ℕ, List, Option, Some, IfErr, IfOk};
+ghost use Rattle.std.specs.Prelude.{IfSome, IsErr, IsErrOf, IsTrue, false, length, true};
 ghost use Rattle.irig_vcd.specs.Answer.{name_of};
 ghost use Rattle.irig_disk.specs.{Disk.Disk, Disk.MayLeave, Held.Held, Writing.IsUnchanged};
 ghost use Rattle.irig_files.specs.{Once.PutsText, Puts.count_of, Reads.IsReadIn, Reads.IsReadOf};
+ghost use Rattle.irig_files.specs.declared.dump_file.DumpFileFault.{DumpFileFault};
 ghost use Rattle.irig_files.specs.{Apart.AreApart, Apart.LeadToOneFile, Taken.HasFile, Taken.StaysBarred};
 
 use crate::dump_file::DumpFileFault;
@@ -21,8 +22,8 @@ pub trait Disk {
     /// What the file at a path holds, if it is known.
     ghost held: { Self → List ℕ → Option (List ℕ) };
 
-    /// The file at a path cannot be read: a call that reads it fails.
-    ghost unread: { Self → List ℕ → Type 0 };
+    /// The file at a path is not read, for this fault: a call that reads it has it.
+    ghost unread: { Self → List ℕ → DumpFileFault → Type 0 };
 
     /// Whether the contracts give the state below.
     ghost is_told: { Bool };
@@ -47,7 +48,7 @@ pub trait Disk {
         ensures read { IfOk result (IsReadOf (held self.now path.now) (name_of wire.entry)) }
         ensures long { IsErrOf result DumpFileFault.TooLong
             → IfSome (held self.now path.now) (λ all. 2 ^ 28 < length all) }
-        ensures unread { IsErrOf result DumpFileFault.CannotBeRead → unread self.now path.now };
+        ensures unread { IfErr result (unread self.now path.now) };
 
     /// Reads a window of the dump in the file at a path, of the wire of a name, or of the one wire
     /// of one bit. At most one more byte than 2^47 is read.
@@ -62,7 +63,7 @@ pub trait Disk {
             (IsReadIn (Some window) (held self.now path.now) (name_of wire.entry)) }
         ensures long { IsErrOf result DumpFileFault.TooLong
             → IfSome (held self.now path.now) (λ all. 2 ^ 47 < length all) }
-        ensures unread { IsErrOf result DumpFileFault.CannotBeRead → unread self.now path.now };
+        ensures unread { IfErr result (unread self.now path.now) };
 
     /// Writes a text to the file that a path leads to: a regular one, or none yet, is replaced
     /// whole, by a file of its mode. One that must not be written is not replaced. What the room

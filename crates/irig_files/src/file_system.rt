@@ -1,11 +1,12 @@
 //! Single calls on paths. A read has two faults: the outer one is of the file, the inner one of the
 //! dump in it.
 
-ghost use Rattle.std.specs.Prelude.{◌≡◌, ◌≢◌, ◌<◌, ◌^◌, ℕ, List, Option, None, Some, IfOk, IfSome};
-ghost use Rattle.std.specs.Prelude.{IsErrOf, IsTrue, MatchOption, OnOk, codes, false, length};
+ghost use Rattle.std.specs.Prelude.{◌≡◌, ◌≢◌, ◌<◌, ◌^◌, ℕ, List, Option, None, Some, IfErr, IfOk};
+ghost use Rattle.std.specs.Prelude.{IfSome, IsErrOf, IsTrue, MatchOption, OnOk, codes, false, length};
 ghost use Rattle.std.specs.Prelude.{option_map, true, ⊤};
 ghost use Rattle.std.specs.Path.{path_buf_bytes};
 ghost use Rattle.irig_vcd.specs.Answer.{name_of};
+ghost use Rattle.irig_files.specs.declared.dump_file.DumpFileFault.{DumpFileFault};
 ghost use Rattle.irig_files.specs.{Apart.HasId, Paths.IsFolderOf, Paths.followed};
 ghost use Rattle.irig_files.specs.Reads.{IsReadIn, IsReadOf};
 
@@ -34,8 +35,8 @@ pub trait FileSystem: PlainCalls {
     /// What the file at a path holds, if it is known.
     ghost held: { Self → List ℕ → Option (List ℕ) };
 
-    /// The file at a path cannot be read: a call that reads it fails.
-    ghost unread: { Self → List ℕ → Type 0 };
+    /// The file at a path is not read, for this fault: a call that reads it has it.
+    ghost unread: { Self → List ℕ → DumpFileFault → Type 0 };
 
     /// Reads the dump in the file at a path, of the wire of a name, or of the one wire of one bit.
     fn read(
@@ -47,7 +48,7 @@ pub trait FileSystem: PlainCalls {
         ensures read { IfOk result (IsReadOf (held self.now path.now) (name_of wire.entry)) }
         ensures long { IsErrOf result DumpFileFault.TooLong
             → IfSome (held self.now path.now) (λ all. 2 ^ 28 < length all) }
-        ensures unread { IsErrOf result DumpFileFault.CannotBeRead → unread self.now path.now };
+        ensures unread { IfErr result (unread self.now path.now) };
 
     /// Reads a window of the dump in the file at a path, of the wire of a name, or of the one wire
     /// of one bit. At most one more byte than 2^47 is read.
@@ -62,7 +63,7 @@ pub trait FileSystem: PlainCalls {
             (IsReadIn (Some window) (held self.now path.now) (name_of wire.entry)) }
         ensures long { IsErrOf result DumpFileFault.TooLong
             → IfSome (held self.now path.now) (λ all. 2 ^ 47 < length all) }
-        ensures unread { IsErrOf result DumpFileFault.CannotBeRead → unread self.now path.now };
+        ensures unread { IfErr result (unread self.now path.now) };
 
     /// What a path leads to; none if nothing is there.
     fn describe(&self, path: &str) -> Result<Option<Described>, Self::Fault>

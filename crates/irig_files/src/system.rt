@@ -78,7 +78,7 @@ impl<R: Files + Print + AllocGlobal> FileSystem for SystemFolder<'_, R> {
 
     ghost held = { λ _ _. None };
 
-    ghost unread = { λ _ _. ⊤ };
+    ghost unread = { λ _ _ _. ⊤ };
 
     ghost follows = { λ _ _ text link. absurd (cc link) };
 

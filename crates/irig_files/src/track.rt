@@ -30,7 +30,8 @@ pub fn read_track<D: Disk>(
     wire: Option<&str>,
     window: Option<Window>,
 ) -> Result<Recording, TrackFault>
-    ensures { IsTrackOf window (D.held disk.now path.now) (name_in wire.entry) result }
+    ensures { IsTrackOf window (D.held disk.now path.now) (D.unread disk.now path.now)
+        (name_in wire.entry) result }
 {
     match window {
         None => read_all(alloc, disk, path, wire),
@@ -46,7 +47,8 @@ fn read_part<D: Disk>(
     wire: Option<&str>,
     window: Window,
 ) -> Result<Recording, TrackFault>
-    ensures { IsTrackOf (Some window) (D.held disk.now path.now) (name_in wire.entry) result }
+    ensures { IsTrackOf (Some window) (D.held disk.now path.now) (D.unread disk.now path.now)
+        (name_in wire.entry) result }
 {
     match disk.read_window(alloc, path, bytes_of(wire), window) {
         // The text of the journal is not needed.
@@ -63,7 +65,8 @@ fn read_all<D: Disk>(
     path: &str,
     wire: Option<&str>,
 ) -> Result<Recording, TrackFault>
-    ensures { IsTrackOf None (D.held disk.now path.now) (name_in wire.entry) result }
+    ensures { IsTrackOf None (D.held disk.now path.now) (D.unread disk.now path.now)
+        (name_in wire.entry) result }
 {
     match disk.read(alloc, path, bytes_of(wire)) {
         // The text of the journal is not needed.

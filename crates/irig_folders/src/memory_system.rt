@@ -88,7 +88,7 @@ impl FileSystem for Memory {
 
     ghost held = { λ m path. holds_at m.calls.items path };
 
-    ghost unread = { λ _ _. ⊤ };
+    ghost unread = { λ _ _ _. ⊤ };
 
     ghost follows = { λ _ path text link. no_links path text link };
 

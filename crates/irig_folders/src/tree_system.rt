@@ -6,6 +6,7 @@
 ghost use Rattle.std.specs.Prelude.{◌≡◌, ◌≢◌, ◌↔◌, IfOk, IsTrue, None, Some, false, true};
 ghost use Rattle.std.specs.Prelude.{is_none, option_copied, option_map};
 ghost use Rattle.std.proofs.Common.{ap};
+ghost use Rattle.irig_files.specs.declared.dump_file.DumpFileFault.TheVariants.{CannotBeRead};
 ghost use Rattle.irig_folders.specs.Log.{holds_in, leads_in};
 ghost use Rattle.irig_folders.specs.Tree.{IsOther, IsWritable, link_at, other_in, over};
 ghost use Rattle.irig_folders.specs.{TreeFiles.held_at, TreeFiles.output_in, TreeLaws.follows_link};
@@ -158,7 +159,8 @@ impl FileSystem for Tree {
 
     ghost held = { λ t. held_at t.layout t.memory.calls.items };
 
-    ghost unread = { λ t path. held_at t.layout t.memory.calls.items path ≡ None };
+    ghost unread = { λ t path fault. fault ≡ CannotBeRead
+        → held_at t.layout t.memory.calls.items path ≡ None };
 
     ghost follows = { λ t. follows_link t.layout
         (over t.layout (leads_in t.memory.calls.items)) };

@@ -6,7 +6,7 @@ use Rattle.irig_recording.specs.Recording.{RecordingView}
 use Rattle.irig_stamps.specs.{Aligned.Aligns, Aligned.outcome, Aligned.standing, Tables.ListsRecording}
 use Rattle.irig_time.specs.declared.ending.Ending.TheVariants.{Usage, Unread, Aligned}
 use Rattle.irig_time.specs.declared.ending.Ending.TheVariants.{Listed, Timeless, Doubted, Broken}
-use Rattle.irig_files.specs.Tracks.{HasFault, Says, name_in}
+use Rattle.irig_files.specs.Tracks.{HasFault, Says, Unreadable, name_in}
 use Rattle.irig_time.specs.Settings.{Reads}
 use Rattle.irig_time.specs.{declared.chosen.Chosen.Chosen, declared.ending.Ending.Ending}
 
@@ -61,19 +61,22 @@ pub record RunsFile (held : Held) (chosen : Chosen) (lines left from to : Option
   pub ran : RunsAs chosen.table chosen recording.edges lines left from to ending
 
 -- what is asked for was done with the track; or it was not read, and nothing was read or printed
-abbrev pub Obeys : Held → Chosen → Option (List ℕ) → Option (List ℕ) → Option (List ℕ)
-    → Option (List ℕ) → Ending → Type 0
-Obeys held chosen lines left from to (Unread path fault) =
+abbrev pub Obeys : Held → Unreadable → Chosen → Option (List ℕ) → Option (List ℕ)
+    → Option (List ℕ) → Option (List ℕ) → Ending → Type 0
+Obeys held unread chosen lines left from to (Unread path fault) =
     (path ≡ chosen.track)
-    × (HasFault chosen.window (held chosen.track.now) (name_in chosen.wire) fault
+    × (HasFault chosen.window (held chosen.track.now) (unread chosen.track.now)
+    (name_in chosen.wire) fault
     × ((left ≡ lines) × (to ≡ from)))
-Obeys held chosen lines left from to (Usage fault) = ⊥
-Obeys held chosen lines left from to ending = RunsFile held chosen lines left from to ending
+Obeys held unread chosen lines left from to (Usage fault) = ⊥
+Obeys held unread chosen lines left from to ending =
+    RunsFile held chosen lines left from to ending
 
 -- what the words ask for was done; or they ask for nothing, and nothing was read or printed
-abbrev pub EndsBy : List Text → Held → Option (List ℕ) → Option (List ℕ) → Option (List ℕ)
-    → Option (List ℕ) → Ending → Type 0
-EndsBy words held lines left from to (Usage fault) =
+abbrev pub EndsBy : List Text → Held → Unreadable → Option (List ℕ) → Option (List ℕ)
+    → Option (List ℕ) → Option (List ℕ) → Ending → Type 0
+EndsBy words held unread lines left from to (Usage fault) =
     Reads words (Err fault) × ((left ≡ lines) × (to ≡ from))
-EndsBy words held lines left from to ending =
-    (chosen : Chosen) × Reads words (Ok chosen) × Obeys held chosen lines left from to ending
+EndsBy words held unread lines left from to ending =
+    (chosen : Chosen) × Reads words (Ok chosen)
+    × Obeys held unread chosen lines left from to ending

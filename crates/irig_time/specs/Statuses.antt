@@ -1,6 +1,7 @@
 -- The statuses of the program as a process. This project's own.
 use Rattle.std.specs.Prelude.{ℕ, List, true, false, Option}
 use Rattle.clap.specs.Words.{Text}
+use Rattle.irig_files.specs.Tracks.{Unreadable}
 use Rattle.irig_words.specs.Telling.{EndsWith, Explains}
 use Rattle.irig_time.specs.declared.ending.Ending.TheVariants.{Usage, Unread, Aligned}
 use Rattle.irig_time.specs.declared.ending.Ending.TheVariants.{Listed, Timeless, Doubted, Broken}
@@ -22,8 +23,8 @@ Reports (Broken fault) old new status = EndsWith 4 old new status
 
 -- what the words ask for was done; of how that ended is the status of the process, and what came to
 -- the output of help
-pub record Serves (words : List Text) (held : Held)
+pub record Serves (words : List Text) (held : Held) (unread : Unreadable)
     (lines left from to help helped : Option (List ℕ)) (status : ℕ) : Type 0 where
   pub ending : Ending
-  pub obeyed : EndsBy words held lines left from to ending
+  pub obeyed : EndsBy words held unread lines left from to ending
   pub told : Reports ending help helped status

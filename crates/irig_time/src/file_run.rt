@@ -23,8 +23,9 @@ pub fn align_words<'a, D: Disk, R: Read, W: Write>(
     lines: &mut R,
     out: &mut W,
 ) -> Ending<'a>
-    ensures { EndsBy (map string_bytes words.entry.now) (D.held disk.now) (R.remaining lines.old)
-        (R.remaining lines.new) (W.contents out.old) (W.contents out.new) result }
+    ensures { EndsBy (map string_bytes words.entry.now) (D.held disk.now) (D.unread disk.now)
+        (R.remaining lines.old) (R.remaining lines.new) (W.contents out.old) (W.contents out.new)
+        result }
 {
     match chosen(alloc, words) {
         Ok(chosen) => run_file(alloc, &chosen, disk, lines, out),
@@ -41,8 +42,8 @@ fn run_file<'a, D: Disk, R: Read, W: Write>(
     out: &mut W,
 ) -> Ending<'a>
     requires sound { IsSound chosen.now.settings }
-    ensures { Obeys (D.held disk.now) chosen.now (R.remaining lines.old) (R.remaining lines.new)
-        (W.contents out.old) (W.contents out.new) result }
+    ensures { Obeys (D.held disk.now) (D.unread disk.now) chosen.now (R.remaining lines.old)
+        (R.remaining lines.new) (W.contents out.old) (W.contents out.new) result }
 {
     match read_track(alloc, disk, chosen.track, chosen.wire, chosen.window) {
         Ok(recording) => run_track(alloc, chosen, recording, lines, out),

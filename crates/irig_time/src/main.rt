@@ -64,9 +64,10 @@ fn start<P: Eprint + AllocGlobal, C: FileSystem, R: Read, W: Write, H: Write>(
 ) -> ExitCode
     // The words were obeyed. The output of help has the help that was asked for, and nothing else:
     // there is no other way to print.
-    ensures { Serves (map string_bytes words.now) (C.held disk.now.system) (R.remaining lines.old)
-        (R.remaining lines.new) (W.contents out.old) (W.contents out.new) (H.contents help.old)
-        (H.contents help.new) (exit_status result) }
+    ensures { Serves (map string_bytes words.now) (C.held disk.now.system)
+        (C.unread disk.now.system) (R.remaining lines.old) (R.remaining lines.new)
+        (W.contents out.old) (W.contents out.new) (H.contents help.old) (H.contents help.new)
+        (exit_status result) }
 {
     let ending = align_words(rt.alloc(), words, disk, lines, out);
     report(rt, &ending, help)

@@ -1,6 +1,6 @@
-use Rattle.std.proofs.Common.{refl}
+use Rattle.std.proofs.Common.{inl, refl}
 use Rattle.irig_files.specs.Going.{leaves_nowhere}
 use Rattle.irig_ed.proofs.file_run.run_on_track.Goals as goal
 
 pub returns-in_default : goal.returns-in_default
-returns-in_default g c = (refl, refl, (λ to. (leaves_nowhere _ _ _ _ (g.met.D.Disk.only_now _))), (λ is. absurd (cc is)), (λ is. absurd (cc is)))
+returns-in_default g c = (refl, refl, (λ to. (leaves_nowhere _ _ _ _ (g.met.D.Disk.only_now _))), inl refl)

@@ -1,7 +1,6 @@
-use Rattle.std.proofs.Common.{refl, rules, ◌≡◌, ◌<◌, ◌^◌, length}
-use Rattle.std.specs.Prelude.{IfSome}
-use Rattle.irig_files.specs.{Going.leaves_nowhere, declared.dump_file.DumpFileFault.TheVariants.CannotBeRead}
-use Rattle.irig_files.specs.declared.dump_file.DumpFileFault.TheVariants.{TooLong}
+use Rattle.std.proofs.Common.{refl, rules, inr}
+use Rattle.std.specs.Prelude.{None}
+use Rattle.irig_files.specs.{Going.leaves_nowhere, Tracks.IsUnread}
 use Rattle.irig_ed.proofs.file_run.run_with_room.Goals as goal
 
 pub returns-in-Ok : goal.returns-in-Ok
@@ -11,6 +10,6 @@ returns-in-Ok g c =
 
 pub returns-in-Err : goal.returns-in-Err
 returns-in-Err g c =
-    let long : c.in-Err.fault ≡ TooLong → IfSome (g.D.Disk.held c.args.disk.now c.args.chosen.now.track.now) (λ all. 2 ^ 28 < length all) = search rules in
-    let unread : c.in-Err.fault ≡ CannotBeRead → g.D.Disk.unread c.args.disk.now c.args.chosen.now.track.now = search rules in
-    (refl, refl, (λ to. (leaves_nowhere _ _ _ _ (g.met.D.Disk.only_now _))), long, unread)
+    let track = c.args.chosen.now.track.now in
+    let unread : IsUnread None (g.D.Disk.held c.args.disk.now track) (g.D.Disk.unread c.args.disk.now track) c.in-Err.fault = search rules in
+    (refl, refl, (λ to. (leaves_nowhere _ _ _ _ (g.met.D.Disk.only_now _))), inr unread)
