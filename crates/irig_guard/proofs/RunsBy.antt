@@ -2,7 +2,8 @@
 use Rattle.std.proofs.Common.{◌≡◌, [], ℕ, List, Option, Some, None, Result, Err, ap, inl, inr, refl, subst, sym}
 use Rattle.std.specs.Prelude.{is_some, not, option_map, if◌then◌else◌}
 use denote.Ref.{Bor}
-use Rattle.irig_vcd.specs.{Parts.dump_parts, declared.fault.VcdFault.VcdFault}
+use Rattle.irig_edit.specs.Opened.Openings.{MayBeShort}
+use Rattle.irig_vcd.specs.{Parts.dump_parts, declared.fault.VcdFault.TheVariants.OutOfMemory, declared.fault.VcdFault.VcdFault}
 use Rattle.irig_vcd.proofs.WholeDump.{fails_now}
 use Rattle.irig_script.specs.Obey.Desk.{Desk, desk}
 use Rattle.irig_guarding.specs.{GuardedRun.GuardsOnDump, declared.product.GuardFault.GuardFault, declared.product.GuardFault.TheVariants.Dump, declared.product.Kept.Kept}
@@ -14,7 +15,7 @@ use Rattle.irig_guard.specs.{RunsBy.RunsBy, declared.chosen.Settings.Settings}
 use Rattle.irig_guarding.specs.declared.product.Product.TheVariants as product
 use Rattle.irig_disk.specs.{Disk.Disk, Disk.MayLeave, Held.Held}
 use Rattle.irig_files.specs.{Apart.StaysAt, Puts.texts_at, Writes.Goes, Writes.Write}
-use Rattle.irig_files.proofs.Apart.{stays_apart, stays_here}
+use Rattle.irig_files.proofs.{Apart.stays_apart, Apart.stays_here, Sound.never_parts}
 
 -- the wire of the settings
 abbrev wire_in : Settings → Option (List ℕ)
@@ -28,13 +29,13 @@ terms_in chosen others = record { moved = chosen.moved; others = others }
 pub runs_by : (given : Files) (chosen : Settings) (source : List ℕ) (out out_new script left : Option (List ℕ)) (texts texts_new : Option (List (List ℕ)))
     (label label_new : List ℕ) (writes new : Option (List Write)) (failures failures_new : ℕ) (result : Result Kept GuardFault)
     → label_new ≡ label → texts ≡ texts_at (given.paths (place_of chosen)) writes → texts_new ≡ texts_at (given.paths (place_of chosen)) new → failures ≡ 0
-    → given.kept (place_of chosen)
+    → given.kept (place_of chosen) → (result ≡ Err (Dump OutOfMemory) → MayBeShort (dump_parts (wire_in chosen) source))
     → (others : List Shown) → ShowsAll given.held chosen.format (paths chosen.others.items) [] others
     → GuardsOnDump (wire_in chosen) chosen.format (terms_in chosen others) source (product_of chosen) script left (desk out (shelved texts failures label))
     (desk out_new (shelved texts_new failures_new label_new)) result
     → RunsBy given chosen source (ends out writes script) (ends out_new new left) result
-runs_by given chosen source out out_new script left texts texts_new label label_new writes new failures failures_new result e p q z kept others shown
-    h = record {
+runs_by given chosen source out out_new script left texts texts_new label label_new writes new failures failures_new result e p q z kept short
+    others shown h = record {
       others = others;
       shown = shown;
       label = label;
@@ -45,6 +46,7 @@ runs_by given chosen source out out_new script left texts texts_new label label_
           (subst (λ (d : Desk). GuardsOnDump (wire_in chosen) chosen.format (terms_in chosen others) source (product_of chosen) script left
           (desk out (shelved texts failures label)) d result)
           (λ j. desk out_new (shelved (q j) failures_new (e j))) h);
+      short = short;
       kept = kept;
     }
 
@@ -58,6 +60,7 @@ fails_by given chosen source at fault kept others shown is = record {
   label = [];
   failures = 0;
   ran = (inl (fails_now fault (dump_parts (wire_in chosen) source) is), refl, refl);
+  short = λ memory. absurd (never_parts (wire_in chosen) source fault is (cc memory));
   kept = kept;
 }
 

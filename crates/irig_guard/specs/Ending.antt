@@ -1,9 +1,8 @@
 -- What the program does for the words of its command line: from the files and the script to what is
 -- printed and written. This project's own.
-use Rattle.std.specs.Prelude.{◌≡◌, ◌<◌, ◌^◌, ℕ, List, Option, Result, Ok, Err, IfSome, is_some}
-use Rattle.std.specs.Prelude.{length, true}
+use Rattle.std.specs.Prelude.{◌≡◌, ℕ, List, Option, None, Result, Ok, Err, IfSome, is_some, true}
 use Rattle.clap.specs.Words.{Text}
-use Rattle.irig_files.specs.declared.dump_file.DumpFileFault.TheVariants.{TooLong}
+use Rattle.irig_files.specs.Tracks.{IsUnreadOrShort}
 use Rattle.irig_guard.specs.declared.chosen.Settings.{Settings}
 use Rattle.irig_guard.specs.declared.ending.Ending.TheVariants.{Usage, Unread, Over, Unknown}
 use Rattle.irig_guard.specs.declared.ending.Ending.TheVariants.{OverOther, Ran, Unheard}
@@ -26,7 +25,7 @@ Obeys given old new chosen (Ran path result) =
     × RunsBy given chosen source old new result)
 Obeys given old new chosen (Unread path fault) =
     (path ≡ chosen.track) × IsUntouched given old new
-    × (fault ≡ TooLong → IfSome (given.held chosen.track.now) (λ all. 2 ^ 28 < length all))
+    × IsUnreadOrShort None (given.held chosen.track.now) (given.unread chosen.track.now) fault
 Obeys given old new chosen Over =
     IsUntouched given old new × (is_some chosen.out ≡ true)
     × given.same chosen.track.now (place_of chosen)
@@ -35,7 +34,8 @@ Obeys given old new chosen (OverOther path) =
     IsUntouched given old new × (is_some chosen.out ≡ true) × IsOther chosen path.now
     × given.same path.now (place_of chosen)
 Obeys given old new chosen (Unheard path why) =
-    IsUntouched given old new × IsOther chosen path.now × IsUnheard (given.held path.now) why
+    IsUntouched given old new × IsOther chosen path.now
+    × IsUnheard (given.held path.now) (given.unread path.now) why
 Obeys given old new chosen (Usage fault) = ⊥
 
 -- The settings are those of the words, and they were obeyed. However that ended, a crash at any

@@ -3,7 +3,7 @@ use Rattle.std.specs.Prelude.{◌≡◌, ◌⊎◌, ℕ, Bool, List, Option, IsT
 use Rattle.std.specs.Prelude.{option_map, true, unwrap_or}
 use Rattle.irig_disk.specs.Disk.{Disk}
 use Rattle.irig_files.specs.Apart.{AreApart, LeadToOneFile, Spares}
-use Rattle.irig_files.specs.Writes.{GoesTo, Write}
+use Rattle.irig_files.specs.{Tracks.Unreadable, Writes.GoesTo, Writes.Write}
 use Rattle.irig_guarding.specs.declared.product.Product.{Product}
 use Rattle.irig_guarding.specs.declared.product.Product.TheVariants as product
 use Rattle.irig_guard.specs.{Others.IsOther, declared.chosen.Settings.Settings}
@@ -19,19 +19,22 @@ pub record Ends : Type 0 where
 abbrev pub ends : Option (List ℕ) → Option (List Write) → Option (List ℕ) → Ends
 ends out writes script = record { out = out; writes = writes; script = script }
 
--- What the program was given besides: what files hold, where paths lead, and which two lead to one
--- file; what a crash leaves of what is written to a path, and that it leaves at one what was there.
+-- What the program was given besides: what files hold, for which faults they are not read, where
+-- paths lead, and which two lead to one file; what a crash leaves of what is written to a path, and
+-- that it leaves at one what was there.
 pub record Files : Type 1 where
   pub held : List ℕ → Option (List ℕ)
+  pub unread : Unreadable
   pub paths : List ℕ → Option (List ℕ)
   pub same : List ℕ → List ℕ → Type 0
   pub kept : List ℕ → Type 0
   pub spared : List ℕ → Type 0
 
 -- the files that hold these, from one state of a disk to another, if the contracts give them
-abbrev pub files : (List ℕ → Option (List ℕ)) → Bool → Disk → Disk → Files
-files held told old new = record {
+abbrev pub files : (List ℕ → Option (List ℕ)) → Unreadable → Bool → Disk → Disk → Files
+files held unread told old new = record {
   held = held;
+  unread = unread;
   paths = old.paths;
   same = λ one other. IsTrue told → LeadToOneFile old one other;
   kept = GoesTo told old new;

@@ -1,15 +1,18 @@
 -- The other recordings that the settings name. This project's own.
-use Rattle.std.specs.Prelude.{◌≡◌, ◌<◌, ◌^◌, ℕ, List, [], ◌∷◌, Option, Some, None, IfSome, length}
-use Rattle.std.specs.Prelude.{slice_get}
+use Rattle.std.specs.Prelude.{◌≡◌, ℕ, List, [], ◌∷◌, Option, Some, None, IfSome, slice_get}
 use Rattle.irig_codes.specs.Format.{FormatView}
-use Rattle.irig_edit.specs.Opened.Openings.{IsUnopened}
-use Rattle.irig_files.specs.declared.dump_file.DumpFileFault.TheVariants.{TooLong}
+use Rattle.irig_edit.specs.Opened.Openings.{IsUnopened, MayBeShort}
+use Rattle.irig_files.specs.declared.dump_file.DumpFileFault.{DumpFileFault}
+use Rattle.irig_files.specs.declared.dump_file.DumpFileFault.TheVariants as file
+use Rattle.irig_files.specs.Tracks.{IsUnreadOrShort}
 use Rattle.irig_guard.specs.declared.chosen.Settings.{Settings}
 use Rattle.irig_guard.specs.declared.unheard.Unheard.{Unheard}
 use Rattle.irig_guard.specs.declared.unheard.Unheard.TheVariants.{Dump, File}
 use Rattle.irig_guard.specs.Settings.{paths}
 use Rattle.irig_guarding.specs.Others.{Adds}
 use Rattle.irig_safety.specs.declared.shown.Shown.{Shown}
+use Rattle.irig_vcd.specs.{Parts.dump_parts, declared.fault.VcdFault.VcdFault}
+use Rattle.irig_vcd.specs.declared.fault.VcdFault.TheVariants.{OutOfMemory}
 
 -- a path of another recording
 abbrev pub IsOther : Settings → List ℕ → Type 0
@@ -27,13 +30,18 @@ ShowsAll held f [] old new = new ≡ old
 ShowsAll held f (path ∷ rest) old new =
     (mid : List Shown) × Shows (held path) f old mid × ShowsAll held f rest mid new
 
+-- a dump is not opened for this fault, and is out of memory only if its session may be
+abbrev pub FailsToOpen : List ℕ → VcdFault → Type 0
+FailsToOpen source fault = IsUnopened None source fault
+    × (fault ≡ OutOfMemory → MayBeShort (dump_parts None source))
+
 -- the bytes of a dump cannot be used: it is not opened, or memory ran out
 abbrev pub IsUnheardOf : List ℕ → Unheard → Type 0
-IsUnheardOf source (Dump fault) = IsUnopened None source fault
-IsUnheardOf source (File fault) = fault ≡ TooLong → ⊥
+IsUnheardOf source (Dump fault) = FailsToOpen source fault
+IsUnheardOf source (File fault) = fault ≡ file.OutOfMemory
 
--- a file cannot be used: it is not read, or its dump is not opened
-abbrev pub IsUnheard : Option (List ℕ) → Unheard → Type 0
-IsUnheard held (Dump fault) =
-    (source : List ℕ) × IfSome held (λ all. source ≡ all) × IsUnopened None source fault
-IsUnheard held (File fault) = fault ≡ TooLong → IfSome held (λ all. 2 ^ 28 < length all)
+-- a file cannot be used: it is not read, or its dump is not opened, or memory ran out
+abbrev pub IsUnheard : Option (List ℕ) → (DumpFileFault → Type 0) → Unheard → Type 0
+IsUnheard held unread (Dump fault) =
+    (source : List ℕ) × IfSome held (λ all. source ≡ all) × FailsToOpen source fault
+IsUnheard held unread (File fault) = IsUnreadOrShort None held unread fault

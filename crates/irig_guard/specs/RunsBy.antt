@@ -1,7 +1,9 @@
 -- A run on the bytes of a dump, as the settings ask. This project's own.
-use Rattle.std.specs.Prelude.{ℕ, List, [], Result, option_map}
+use Rattle.std.specs.Prelude.{◌≡◌, ℕ, List, [], Result, Err, option_map}
+use Rattle.irig_edit.specs.Opened.Openings.{MayBeShort}
 use Rattle.irig_script.specs.Obey.Desk.{desk}
 use Rattle.irig_guarding.specs.{declared.product.GuardFault.GuardFault, declared.product.Kept.Kept}
+use Rattle.irig_guarding.specs.declared.product.GuardFault.TheVariants.{Dump}
 use Rattle.irig_guarding.specs.GuardedRun.{GuardsOnDump}
 use Rattle.irig_text.specs.Shelved.{shelved}
 use Rattle.irig_files.specs.Puts.{texts_at}
@@ -9,9 +11,10 @@ use Rattle.irig_guard.specs.declared.chosen.Settings.{Settings}
 use Rattle.irig_guard.specs.Given.{Ends, Files, place_of, product_of}
 use Rattle.irig_guard.specs.{Others.ShowsAll, Settings.paths}
 use Rattle.irig_safety.specs.declared.shown.Shown.{Shown}
+use Rattle.irig_vcd.specs.{Parts.dump_parts, declared.fault.VcdFault.TheVariants.OutOfMemory}
 
 -- The script ran under guard on the bytes, by the wire and the format of the settings and by the
--- frames of the other recordings; what was written was written where their path to write leads, and
+-- frames of the other recordings, if its session was not out of memory; what was written was written where their path to write leads, and
 -- is kept through a crash at any moment.
 pub record RunsBy (given : Files) (chosen : Settings) (source : List ℕ) (old new : Ends)
     (result : Result Kept GuardFault) : Type 0 where
@@ -25,4 +28,6 @@ pub record RunsBy (given : Files) (chosen : Settings) (source : List ℕ) (old n
       (desk old.out (shelved (texts_at (given.paths (place_of chosen)) old.writes) 0 label))
       (desk new.out (shelved (texts_at (given.paths (place_of chosen)) new.writes) failures label))
       result
+  pub short : result ≡ Err (Dump OutOfMemory)
+      → MayBeShort (dump_parts (option_map (λ w. w.now) chosen.wire) source)
   pub kept : given.kept (place_of chosen)

@@ -35,7 +35,7 @@ pub fn obey_words<'a, D: Disk, R: Read, W: Write>(
     out: &mut W,
 ) -> Ending<'a>
     ensures { EndsBy (map string_bytes words.entry.now)
-        (files (D.held disk.old) D.is_told (D.disk disk.old) (D.disk disk.new))
+        (files (D.held disk.old) (D.unread disk.old) D.is_told (D.disk disk.old) (D.disk disk.new))
         (ends (W.contents out.old) (writes_on D.is_told (D.disk disk.old)) (R.remaining script.old))
         (ends (W.contents out.new) (writes_on D.is_told (D.disk disk.new)) (R.remaining script.new)) result }
 {
@@ -54,7 +54,8 @@ fn run_on_track<'a, D: Disk, R: Read, W: Write>(
     script: &mut R,
     out: &mut W,
 ) -> Ending<'a>
-    ensures obeyed { Obeys (files (D.held disk.old) D.is_told (D.disk disk.old) (D.disk disk.new))
+    ensures obeyed { Obeys (files (D.held disk.old) (D.unread disk.old) D.is_told
+        (D.disk disk.old) (D.disk disk.new))
         (ends (W.contents out.old) (writes_on D.is_told (D.disk disk.old)) (R.remaining script.old))
         (ends (W.contents out.new) (writes_on D.is_told (D.disk disk.new)) (R.remaining script.new))
         chosen.now result }
@@ -75,7 +76,8 @@ fn run_with_room<'a, D: Disk, R: Read, W: Write>(
     script: &mut R,
     out: &mut W,
 ) -> Ending<'a>
-    ensures obeyed { Obeys (files (D.held disk.old) D.is_told (D.disk disk.old) (D.disk disk.new))
+    ensures obeyed { Obeys (files (D.held disk.old) (D.unread disk.old) D.is_told
+        (D.disk disk.old) (D.disk disk.new))
         (ends (W.contents out.old) (writes_on D.is_told (D.disk disk.old)) (R.remaining script.old))
         (ends (W.contents out.new) (writes_on D.is_told (D.disk disk.new)) (R.remaining script.new))
         chosen.now result }
@@ -102,7 +104,8 @@ fn run_apart<'a, D: Disk, R: Read, W: Write>(
     ensures obeyed { (source : List ℕ)
         → Gives parts_of read (dump_parts (option_map (λ w. w.now) chosen.now.wire) source)
         → IfSome (D.held disk.old chosen.now.track.now) (λ all. source ≡ all)
-        → Obeys (files (D.held disk.old) D.is_told (D.disk disk.old) (D.disk disk.new))
+        → Obeys (files (D.held disk.old) (D.unread disk.old) D.is_told
+        (D.disk disk.old) (D.disk disk.new))
         (ends (W.contents out.old) (writes_on D.is_told (D.disk disk.old)) (R.remaining script.old))
         (ends (W.contents out.new) (writes_on D.is_told (D.disk disk.new)) (R.remaining script.new))
         chosen.now result }
@@ -131,7 +134,8 @@ fn run_beside<'a, D: Disk, R: Read, W: Write>(
     ensures obeyed { (source : List ℕ)
         → Gives parts_of read (dump_parts (option_map (λ w. w.now) chosen.now.wire) source)
         → IfSome (D.held disk.old chosen.now.track.now) (λ all. source ≡ all)
-        → Obeys (files (D.held disk.old) D.is_told (D.disk disk.old) (D.disk disk.new))
+        → Obeys (files (D.held disk.old) (D.unread disk.old) D.is_told
+        (D.disk disk.old) (D.disk disk.new))
         (ends (W.contents out.old) (writes_on D.is_told (D.disk disk.old)) (R.remaining script.old))
         (ends (W.contents out.new) (writes_on D.is_told (D.disk disk.new)) (R.remaining script.new))
         chosen.now result }
@@ -184,7 +188,8 @@ fn run_on_read<D: Disk, R: Read, W: Write>(
         [] others.items }
     ensures ran { (source : List ℕ)
         → Gives parts_of read (dump_parts (option_map (λ w. w.now) chosen.now.wire) source)
-        → RunsBy (files (D.held disk.old) D.is_told (D.disk disk.old) (D.disk disk.new))
+        → RunsBy (files (D.held disk.old) (D.unread disk.old) D.is_told
+        (D.disk disk.old) (D.disk disk.new))
         chosen.now source
         (ends (W.contents out.old) (writes_on D.is_told (D.disk disk.old)) (R.remaining script.old))
         (ends (W.contents out.new) (writes_on D.is_told (D.disk disk.new)) (R.remaining script.new)) result }

@@ -67,8 +67,8 @@ fn start<P: Eprint + AllocGlobal, C: FileSystem, R: Read, W: Write, H: Write>(
     // The output of help has the help that was asked for, and nothing else: there is no other way
     // to print.
     ensures { Serves (map string_bytes words.now)
-        (files (C.held disk.old.system) C.is_told (C.disk disk.old.system)
-        (C.disk disk.new.system))
+        (files (C.held disk.old.system) (C.unread disk.old.system) C.is_told
+        (C.disk disk.old.system) (C.disk disk.new.system))
         (ends (W.contents out.old) (writes_on C.is_told (C.disk disk.old.system))
         (R.remaining script.old))
         (ends (W.contents out.new) (writes_on C.is_told (C.disk disk.new.system))

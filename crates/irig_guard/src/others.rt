@@ -57,7 +57,7 @@ pub fn frames_of_others<'a, D: Disk>(
     ensures shown { IfOk result (λ shown. ShowsAll (D.held disk.now) chosen.now.format
         (paths chosen.now.others.items) [] shown.items) }
     ensures unheard { IfErr result (λ e. IsOther chosen.now e.0.now
-        × IsUnheard (D.held disk.now e.0.now) e.1) }
+        × IsUnheard (D.held disk.now e.0.now) (D.unread disk.now e.0.now) e.1) }
 {
     let mut shown = Vec::new(alloc);
     let others = chosen.others.as_slice();
@@ -81,7 +81,8 @@ fn add_frames_of<D: Disk>(
 ) -> Result<(), Unheard>
     ensures added { OnOk result (Shows (D.held disk.now path.now) format shown.old.items
         shown.new.items) }
-    ensures unheard { IfErr result (IsUnheard (D.held disk.now path.now)) }
+    ensures unheard { IfErr result (IsUnheard (D.held disk.now path.now)
+        (D.unread disk.now path.now)) }
 {
     match disk.read(alloc, path, None) {
         Ok(read) => add_read(alloc, read, format, shown),

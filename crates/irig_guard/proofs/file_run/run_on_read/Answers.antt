@@ -1,4 +1,5 @@
-use Rattle.std.proofs.Common.{rules, ◌≡◌, ◌∷◌, ◌∙◌, ap, drop, List, ℕ}
+use Rattle.std.proofs.Common.{rules, ◌≡◌, ◌∷◌, ◌∙◌, ap, drop, List, ℕ, subst, sym}
+use Rattle.irig_edit.specs.Opened.Openings.{MayBeShort}
 use Rattle.irig_files.proofs.Apart.{stays_here}
 use Rattle.irig_files.proofs.PutsAt.{texts_where}
 use Rattle.irig_files.specs.{Going.goes_nowhere, Puts.texts_at, Puts.writes_on, Writes.GoesTo}
@@ -26,7 +27,7 @@ returns-clause-ran g c = λ source is.
     let kept : GoesTo told (disk c.args.disk.now) (disk new.disk.now) (place_of chosen) =
     rw (c.new-shelf.ensures.disk, path) at c.guard_on_parts.ensures.since.1 in
     let ends = c.guard_on_parts.ensures.ends _ source (rw c.in-Ok.is at is) in
-    let done = runs_by (files (g.D.Disk.held c.args.disk.now) told (disk c.args.disk.now) (disk new.disk.now))
+    let done = runs_by (files (g.D.Disk.held c.args.disk.now) (g.D.Disk.unread c.args.disk.now) told (disk c.args.disk.now) (disk new.disk.now))
     chosen source (g.W.Write.contents c.args.out.now) (g.W.Write.contents c.guard_on_parts.new.out)
     (g.R.Read.remaining c.args.script.now) (g.R.Read.remaining c.guard_on_parts.new.script)
     (texts_at ((disk old.disk.now).paths old.path.now) (writes_on told (disk old.disk.now)))
@@ -36,7 +37,8 @@ returns-clause-ran g c = λ source is.
     c.guard_on_parts.result c.guard_on_parts.ensures.label
     (λ j. texts_at ((disk (c.new-shelf.ensures.disk j)).paths (path j)) (writes_on told (disk (c.new-shelf.ensures.disk j))))
     (texts_where told (disk c.args.disk.now) (disk new.disk.now) (place_of chosen) new.path.now same_path (λ is_told. (kept is_told).paths))
-    c.new-shelf.ensures.none_failed kept c.args.others.items c.requires.shown
+    c.new-shelf.ensures.none_failed kept
+    (λ memory. subst MayBeShort (sym (rw c.in-Ok.is at is)) (c.guard_on_parts.ensures.memory memory)) c.args.others.items c.requires.shown
     (rw c.product_of.ensures at ends) in
     search (rules, done)
 
