@@ -19,6 +19,7 @@ from rows import in_process
 in_process.MAINS.update(irig_mend=mend_program.main)
 SAMPLES = 200
 UNITS = (None, 100, 10)  # nanoseconds, of the other recording
+DIFFERS = re.compile(" (is|are) recorded here|it looks like a ")
 SHOWN = re.compile(r"(\d{3})T(\d\d):(\d\d):(\d\d\.\d{6})\s")
 
 
@@ -33,6 +34,7 @@ class Judged:
     gained: int = 0
     wrong: list = field(default_factory=list)  # samples, and frames at another place or with another time
     said: str = ""
+    parity: bool = False  # whether one element says something of those before it
 
     @property
     def missing(self):
@@ -47,11 +49,15 @@ class Judged:
                 or "not kept: frame %s %s at " % tuple(text.split()[:2]) in self.said}
 
     @property
-    def contested(self):
-        """Those in which both have recorded something else: each has a line."""
-        lines = [line for line in self.said.splitlines() if " is recorded here" in line or " are recorded here" in line
-                 or "it looks like a " in line]
+    def doubtful(self):
+        """Those in which both have recorded something else, and nothing else says what was sent. The same two files come of a signal that
+        is another one there, damaged in the other recorder alone; so no tool is right for both. Each has a line."""
+        lines = [line for line in self.said.splitlines() if DIFFERS.search(line) and self._is_open(line)]
         return {text for text in self.missing if any("T".join(text.split()[:2]) in line for line in lines)}
+
+    def _is_open(self, line):
+        """Whether no parity is of the elements that a line names."""
+        return not self.parity or all(int(element) > pairs.PARITY for element in re.findall(r"element (\d+)", line))
 
 
 def frames_of(options, path):
@@ -100,7 +106,7 @@ def judged(rng, with_other=True):
         there, true, sent = (frames_of(options, written(folder, "a.vcd", text)) for text in (
             other.dump(), here.dump(true=True), damages.dump(signal.pulses, signal.length)))
         whole = set(true) & set(sent)
-        found = Judged((set(begun) | set(there)) & whole, set(begun) & whole, set(after), said=said)
+        found = Judged((set(begun) | set(there)) & whole, set(begun) & whole, set(after), said=said, parity=signal.parity is not None)
         found.wrong += wrong_frames(signal, after, true, begun)
         judge_samples(rng, found, signal, here, (options, path, new), sent)
     return found
