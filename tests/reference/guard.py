@@ -88,9 +88,33 @@ class Safety:
 
     def _stays(self, beside: Near, was: Shown, frame: Shown) -> bool:
         """Whether a frame is as it was, or was wrong and is mended, or has other control functions alone that both next to
-        it have."""
-        mended = self.bearing.is_contradicted(beside, was) and self.bearing.is_borne(beside, frame)
-        return frame == was or mended or has_control_of_both(beside, was, frame)
+        it have: all that it has, or those that change, if other recordings have them, too."""
+        is_wrong = self.bearing.is_contradicted(beside, was) or self._is_refuted(beside, was, frame)
+        mended = is_wrong and self.bearing.is_borne(beside, frame)
+        return frame == was or mended or has_control_of_both(beside, was, frame) or self._has_control_of_most(beside, was, frame)
+
+    def _is_refuted(self, beside: Near, was: Shown, frame: Shown) -> bool:
+        """Whether nothing is on one side of a frame, the two on the other contradict it, and another recording has the time that it has
+        now, and none that which it had."""
+        if beside.before is None:
+            later = [beside.after, beside.after_next]
+            contradict = None not in later and not any(self.bearing.allows(was, one) for one in later)
+        else:
+            earlier = [beside.before_last, beside.before]
+            contradict = beside.after is None and None not in earlier and not any(self.bearing.allows(one, was) for one in earlier)
+        return contradict and self.controls.have_time(frame) and not self.controls.have_time(was)
+
+    def _has_control_of_most(self, beside: Near, was: Shown, frame: Shown) -> bool:
+        """Whether a frame has other control functions than it had, nothing else is another, and each of those that are others is so
+        in both next to it, and in most other recordings."""
+        if not changes_control(was, frame) or beside.before is None or beside.after is None:
+            return False
+        now = frame.values["control"]
+        changed = [bit for bit in range(len(self.controls.elements)) if (was.values["control"] ^ now) >> bit & 1]
+        return all(
+            self.controls.is_told(frame, bit) and not any((one.values["control"] ^ now) >> bit & 1 for one in (beside.before, beside.after))
+            for bit in changed
+        )
 
     def _controls(self, old: Sequence[Shown], new: Sequence[Fine]) -> Optional[str]:
         """The first frame that is not as it was, and whose control functions are not supported."""
@@ -132,11 +156,14 @@ def since(frame: Fine) -> List[int]:
 
 def has_control_of_both(near: Near, was: Shown, frame: Shown) -> bool:
     """Whether a frame has other control functions than it had, nothing else is another, and both next to it have those."""
-    if "control" not in frame.values or near.before is None or near.after is None:
+    if not changes_control(was, frame) or near.before is None or near.after is None:
         return False
-    control = frame.values["control"]
-    same = {**was.values, "control": control} == frame.values
-    return same and all(one.values["control"] == control for one in (near.before, near.after))
+    return all(one.values["control"] == frame.values["control"] for one in (near.before, near.after))
+
+
+def changes_control(was: Shown, frame: Shown) -> bool:
+    """Whether nothing of a frame is another than its control functions."""
+    return "control" in frame.values and {**was.values, "control": frame.values["control"]} == frame.values
 
 
 def near(old: Sequence[Shown], place: int, after: int) -> Near:
@@ -179,7 +206,7 @@ class Controls:
         """Whether each is recorded, or as in the nearest frames on both sides, or what was recorded of it was lost, or as most others
         of that time have it."""
         return all(
-            self._is_recorded(pulse) or self._is_shared(near, frame.shown, bit) or self._is_lost(pulse) or self._is_told(frame.shown, bit)
+            self._is_recorded(pulse) or self._is_shared(near, frame.shown, bit) or self._is_lost(pulse) or self.is_told(frame.shown, bit)
             for bit, pulse in enumerate(frame.pulses[element] for element in self.elements)
         )
 
@@ -203,11 +230,18 @@ class Controls:
     def _class(self, pulse: Tuple[int, int]) -> str:
         return timecode.class_of(self.interval, pulse[1] - pulse[0])
 
-    def _is_told(self, frame: Shown, bit: int) -> bool:
+    def is_told(self, frame: Shown, bit: int) -> bool:
         """Whether most frames of other recordings with its time have a control function as it has it."""
-        own = {**frame.values, "control": 0}
-        votes = [(one.values["control"] ^ frame.values["control"]) >> bit & 1 for one in self.others if {**one.values, "control": 0} == own]
+        votes = [(one.values["control"] ^ frame.values["control"]) >> bit & 1 for one in self._of_time(frame)]
         return 2 * sum(votes) < len(votes)
+
+    def have_time(self, frame: Shown) -> bool:
+        """Whether another recording has a frame of its time."""
+        return bool(self._of_time(frame))
+
+    def _of_time(self, frame: Shown) -> List[Shown]:
+        own = {**frame.values, "control": 0}
+        return [one for one in self.others if {**one.values, "control": 0} == own]
 
     def _is_shared(self, near: Near, frame: Shown, bit: int) -> bool:
         """Whether the two nearest frames have a control function as it has it."""

@@ -112,6 +112,9 @@ SET_FUNCTION = steady(control=4)  # element 62 is a one
 ONE_FUNCTION = joined(joined(SOUND, SET_FUNCTION, 3), SOUND, 4)  # that of frame 3
 OF_OTHER = [[at * 1001 // 1000 + 123456 for at in pulse] for pulse in ONE_FUNCTION]  # another recorder's clock
 OF_SOUND = [[at * 1001 // 1000 + 123456 for at in pulse] for pulse in SOUND]
+CHANGING = frames("B4", [values_of("B4", NOON + datetime.timedelta(seconds=k), 4 + (k % 2 << 17)) for k in range(7)])
+CHANGING_AS_ZERO = changed(CHANGING, 363, "zero")  # element 62 of frame 3
+FIRST_IS_50, LAST_IS_57 = changed(steady("B5"), 102, "zero"), changed(steady("B5"), 602, "one")  # and not 51, and not 56
 AS_ZERO = without(SOUND, 343)  # and the control function of frame 3 was recorded as a zero
 SET_FUNCTION_OF_3 = ["begin", "insert 3420000 3422000", "363 force one", "end"]
 LATE_FUNCTION = ["begin", "363 delete", "insert 3620000 3625000", "end"]
@@ -395,6 +398,37 @@ ROWS = (
         unsafe("138 12:34:53", 3000000, UNRECORDED, *SET_FUNCTION_OF_3), others=[OF_SOUND, OF_OTHER, SOUND]),
     Row("a frame that was fine, and another recording has it otherwise", "B4", SOUND, ["363 force one"],
         unsafe("138 12:34:53", 3000000, CHANGED, "363 force one"), others=[OF_OTHER]),
+    Row("a frame that was fine, and both next to it and another recording have it otherwise", "B4", CHANGING_AS_ZERO, ["363 force one"],
+        ["363 force one"], filled=1, others=[CHANGING]),
+    Row("the same, and no other recording", "B4", CHANGING_AS_ZERO, ["363 force one"],
+        unsafe("138 12:34:53", 3000000, CHANGED, "363 force one")),
+    Row("the same, and one of two other recordings has it as it was", "B4", CHANGING_AS_ZERO, ["363 force one"],
+        unsafe("138 12:34:53", 3000000, CHANGED, "363 force one"), others=[CHANGING, CHANGING_AS_ZERO]),
+    Row("the same, and the frame after it has it as it was", "B4", joined(CHANGING_AS_ZERO, changed(CHANGING, 463, "zero"), 4),
+        ["363 force one"], unsafe("138 12:34:53", 3000000, CHANGED, "363 force one"), others=[CHANGING]),
+    Row("the same, and another one that only the other recording has", "B4", CHANGING_AS_ZERO,
+        ["begin", "363 force one", "371 force one", "end"],
+        unsafe("138 12:34:53", 3000000, CHANGED, "begin", "363 force one", "371 force one", "end"),
+        others=[changed(CHANGING, 371, "one")]),
+    # a first or last frame that another recording knows
+    Row("the first frame has another time, and another recording has the one before the next", "B5", FIRST_IS_50, ["102 force one"],
+        ["102 force one"], others=[steady("B5")]),
+    Row("the same, and no other recording", "B5", FIRST_IS_50, ["102 force one"],
+        unsafe("138 12:34:50", 1000000, CHANGED, "102 force one")),
+    Row("the same, and another recording has the time that it had", "B5", FIRST_IS_50, ["102 force one"],
+        unsafe("138 12:34:50", 1000000, CHANGED, "102 force one"),
+        others=[steady("B5", begin=NOON - datetime.timedelta(seconds=2))]),
+    Row("the same, and another recording begins later", "B5", FIRST_IS_50, ["102 force one"],
+        unsafe("138 12:34:50", 1000000, CHANGED, "102 force one"), others=[steady("B5")[190:]]),
+    Row("the first frame and the one after the next contradict the next", "B5", changed(steady("B5"), 202, "one"),
+        ["begin", "102 force zero", "103 force one", "end"],
+        unsafe("138 12:34:51", 1000000, CHANGED, "begin", "102 force zero", "103 force one", "end"), others=[steady("B5")[190:]]),
+    Row("the same, as a time to which the next two do not lead", "B5", FIRST_IS_50, ["103 force one"],
+        unsafe("138 12:34:50", 1000000, CHANGED, "103 force one"), others=[steady("B5")]),
+    Row("the last frame has another time, and another recording has the one after that before it", "B5", LAST_IS_57,
+        ["602 force zero"], ["602 force zero"], others=[steady("B5")]),
+    Row("the same, and another recording has the time that it had, too", "B5", LAST_IS_57, ["602 force zero"],
+        unsafe("138 12:34:57", 6000000, CHANGED, "602 force zero"), others=[steady("B5", 9)]),
     Row("a time that the frames next to it contradict, and another recording has", "B4", hole(SOUND, 3),
         ["regen 3000000 1 " + FOURTH], unsafe("138 12:34:54", 3000000, UNSUPPORTED, "regen 3000000 1 " + FOURTH), others=[OF_SOUND]),
     Row("another recording without a frame", "B4", AS_ZERO, SET_FUNCTION_OF_3,

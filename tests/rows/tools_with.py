@@ -422,6 +422,32 @@ def of_mended():
     return in_folder(lambda: list(holds()), rec=dump(flipped(seldom(), LOST)), other=dump(slow(seldom())))
 
 
+def of_fine():
+    """irig_guard gets the other recording for frames that were fine, too: a control function that both next to it have, though others
+    change there; and the day of the first frame."""
+    def with_parity(*places):
+        return flipped(code(parity=(75, 1)), *places)
+
+    sent_there = with_parity()
+    at = next(at for at in range(1062, 1068) if len({class_at(sent_there, at + frame) for frame in (-100, 0, 100)}) == 1)
+
+    def holds():
+        for name in ("function", "first"):
+            status, printed, _ = run_of("--with", "other.vcd", "--apply", "new.vcd", name + ".vcd")
+            yield same(name, (status, len(printed)), (0, 1))
+            yield same(name + ": what is written", edges(text_of("new.vcd")) == edges(dump(sent_there)), True)
+            status = run_of("--apply", "alone.vcd", name + ".vcd")[0]
+            yield same(name + ": without it", (status, edges(text_of("alone.vcd")) == edges(dump(sent_there))), (1, False))
+
+    return in_folder(lambda: list(holds()), function=dump(with_parity(at)), first=dump(with_parity(130)), other=dump(slow(sent_there), 100))
+
+
+def run_of(*words):
+    """As `mend`, of a recording that the words name."""
+    status, printed, said = run("irig_mend", ["--expression=4", *words])
+    return status, [line for line in printed.decode().splitlines() if not line.endswith(FILLED)], said
+
+
 def of_two_wires(*signals):
     """A dump of two wires."""
     edges = sorted((time, "%d%s" % (1 - end, "!\""[wire])) for wire, pulses in enumerate(signals) for pulse in pulses
@@ -485,5 +511,5 @@ def of_refused():
 
 def cases(_top):
     parts = (of_lost, of_recorded, of_votes, of_trusted, of_other_code, of_contrary, of_rules, of_few, of_beside, of_inserted, of_apply,
-             of_guarded, of_mended, of_refused)
+             of_guarded, of_mended, of_fine, of_refused)
     return [case("mend: with: " + part.__name__[3:].replace("_", " "), lambda part=part: list(part())) for part in parts]

@@ -1,5 +1,5 @@
 -- Frames with control functions that are not in the recording, counted one by one.
-use Rattle.std.proofs.Common.{◌≡◌, ◌+◌, ◌<◌, ◌≤◌, ◌∙◌, ◌==◌, ℕ, suc, Bool, true, false, List, [], ◌∷◌, Some, ap, arith, drop, inl, inr, length, refl, slice_get, subst, sym}
+use Rattle.std.proofs.Common.{◌≡◌, ◌+◌, ◌≤◌, ◌∙◌, ◌==◌, ℕ, suc, Bool, true, false, List, [], ◌∷◌, Some, ap, arith, drop, inl, inr, length, refl, slice_get, subst, sym}
 use Rattle.std.proofs.lemmas.Bool.Decides.{nat_tests}
 use Rattle.std.proofs.lemmas.List.{drop_all}
 use Rattle.irig_edit.specs.State.State.{State}
@@ -56,17 +56,3 @@ pub counted_by : (o : OriginalView) (s : State) (moved : Bool) (frames : List Sh
 counted_by o s true frames r n m e is h = absurd (cc)
 counted_by o s false [] r n m e is h = absurd (cc)
 counted_by o s false (x ∷ frames) r n m e is h = h
-
--- each number below the next one is below this one, or is this one
-is_it : (k n : ℕ) (b : Bool) → b ≡ (k == n) → b ≡ true → k ≡ n
-is_it k n b is t = grind (arith, nat_tests)
-
-is_below : (k n : ℕ) (b : Bool) → b ≡ (k == n) → b ≡ false → k < n + 1 → k < n
-is_below k n b is t less = grind (arith, nat_tests)
-
-by_test : (P : ℕ → Type 0) (n k : ℕ) (b : Bool) → b ≡ (k == n) → ((m : ℕ) → m < n → P m) → P n → k < n + 1 → P k
-by_test P n k true is each last less = subst P (sym (is_it k n true is refl)) last
-by_test P n k false is each last less = each k (is_below k n false is refl less)
-
-pub to_next : (P : ℕ → Type 0) (n : ℕ) → ((m : ℕ) → m < n → P m) → P n → (k : ℕ) → k < n + 1 → P k
-to_next P n each last k less = by_test P n k (k == n) refl each last less

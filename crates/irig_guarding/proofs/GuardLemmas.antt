@@ -114,18 +114,18 @@ stands_remarks first a b old new remarks same s =
     }
 
 -- what reads well is safe by itself
-safe_self : (f : FormatView) (a2 a : Option Shown) (xs : List Shown) → IsSafeFrom f a2 a xs xs
-safe_self f a2 a [] = tt
-safe_self f a2 a (x ∷ xs) = inl (refl, inl refl, safe_self f a (Some x) xs)
+safe_self : (f : FormatView) (others : List Shown) (a2 a : Option Shown) (xs : List Shown) → IsSafeFrom f others a2 a xs xs
+safe_self f others a2 a [] = tt
+safe_self f others a2 a (x ∷ xs) = inl (refl, inl refl, safe_self f others a (Some x) xs)
 
-safe_whole : (f : FormatView) (xs : List Shown) → IsSafe f xs xs
-safe_whole f [] = inl refl
-safe_whole f (x ∷ xs) = safe_self f None None (x ∷ xs)
+safe_whole : (f : FormatView) (others xs : List Shown) → IsSafe f others xs xs
+safe_whole f others [] = inl refl
+safe_whole f others (x ∷ xs) = safe_self f others None None (x ∷ xs)
 
 safe_by_self : (terms : TermsView) (s : State) → IsSafeBy (original_of terms s) s
 safe_by_self terms s =
     subst (λ (l : List Shown). IsSafeAt (with_frames l (original_of terms s)) s) (sym (located_self terms.moved (fine_frames s)))
-    (safe_whole s.format (fine_frames s), borne_self terms s, stand_self terms s)
+    (safe_whole s.format terms.others (fine_frames s), borne_self terms s, stand_self terms s)
 
 -- the run of the script that is printed
 not_quit : (c : Command) → IsPrinted c → c ≢ command.Quit

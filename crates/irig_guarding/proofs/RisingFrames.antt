@@ -80,16 +80,16 @@ rising_frames s track =
     shown_rising s.pulses 0 track.rises (frames_of s) (markers_rise s.format s.pulses) within
 
 -- of frames that are safe by some
-from_first : (f : FormatView) (old new : List Shown) → old ≢ [] → IsSafe f old new → IsSafeFrom f None None old new
-from_first f [] new some h = absurd (some refl)
-from_first f (o ∷ old) new some h = h
+from_first : (f : FormatView) (others old new : List Shown) → old ≢ [] → IsSafe f others old new → IsSafeFrom f others None None old new
+from_first f others [] new some h = absurd (some refl)
+from_first f others (o ∷ old) new some h = h
 
 pub safe_states : SafeStatesMean
 safe_states terms old new track some safe =
     let at = located terms.moved (fine_frames old) (fine_frames new) in
-    let first = from_first new.format at (fine_frames new) (λ e. some (located_some terms.moved (fine_frames old) (fine_frames new) e)) safe.safe.0 in
-    let means = safe_means new.format at (fine_frames new) (rising_frames new track) first in
-    subst (λ (f : FormatView). IsKeptAt f (fine_frames old) at (fine_frames new)) safe.format (record {
+    let first = from_first new.format terms.others at (fine_frames new) (λ e. some (located_some terms.moved (fine_frames old) (fine_frames new) e)) safe.safe.0 in
+    let means = safe_means new.format terms.others at (fine_frames new) (rising_frames new track) first in
+    subst (λ (f : FormatView). IsKeptAt f terms.others (fine_frames old) at (fine_frames new)) safe.format (record {
       fields = located_fields terms.moved (fine_frames old) (fine_frames new);
       kept = means.0;
       told = means.1;

@@ -79,8 +79,8 @@ IsUnborneBy (x ∷ frames) o s why = IsUnborneFrom o s None None (x ∷ frames) 
 -- the frames of a state are safe by those of the recording at some places: their times, their
 -- control functions, and their pulses
 abbrev pub IsSafeAt : OriginalView → State → Type 0
-IsSafeAt o s = IsSafe s.format o.frames (fine_frames s) × AreBorneBy o.frames o s
-    × StandBy o.frames o s
+IsSafeAt o s = IsSafe s.format o.terms.others o.frames (fine_frames s)
+    × AreBorneBy o.frames o s × StandBy o.frames o s
 
 -- the recording, its frames where they are in a state if they may move
 abbrev pub located_by : OriginalView → State → OriginalView

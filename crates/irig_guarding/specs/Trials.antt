@@ -86,8 +86,9 @@ MayStay opened last s =
 -- that read well before the repair some are spoiled
 abbrev pub HasFaultAt : OriginalView → List Shown → State → Fault → Type 0
 HasFaultAt opened last s why =
-    IsFault s.format opened.frames (fine_frames s) why
-    ⊎ (IsSafe s.format opened.frames (fine_frames s) × (IsUnborneBy opened.frames opened s why
+    IsFault s.format opened.terms.others opened.frames (fine_frames s) why
+    ⊎ (IsSafe s.format opened.terms.others opened.frames (fine_frames s)
+    × (IsUnborneBy opened.frames opened s why
     ⊎ (AreBorneBy opened.frames opened s × (StrayBy opened.frames opened s why
     ⊎ (StandBy opened.frames opened s × IsSpoiledBy last (fine_frames s) why)))))
 

@@ -145,7 +145,7 @@ fn check_frames(
     ensures fault { IfErr result (HasFaultAt (with_frames old.now opened.now) last.now
         session.now.state) }
 {
-    if let Err(why) = check_safe(session.current_format(), old, now) {
+    if let Err(why) = check_safe(session.current_format(), opened.others(), old, now) {
         return Err(why);
     }
     if let Err(why) = check_borne(session, opened, old, seen) {

@@ -1,5 +1,6 @@
 -- Control functions, and the frames next to a place.
-use Rattle.std.proofs.Common.{◌≡◌, ◌+◌, ◌-◌, ◌≤◌, ℕ, Bool, true, false, List, ◌∙◌, slice_get, arith, sym}
+use Rattle.std.proofs.Common.{◌≡◌, ◌+◌, ◌-◌, ◌≤◌, ◌<◌, ◌==◌, ℕ, Bool, true, false, List, ◌∙◌, slice_get, arith, refl, subst, sym}
+use Rattle.std.proofs.lemmas.Bool.Decides.{nat_tests}
 use Rattle.std.specs.Prelude.{if◌then◌else◌}
 use Rattle.irig_codes.specs.Format.{FormatView, control_count_of, control_width, has_control, has_year}
 use Rattle.irig_codes.specs.declared.format.Kind.{Kind}
@@ -28,3 +29,17 @@ pub near_is : (frames : List Shown) (place next : ℕ) (w : Witnesses) → w.bef
     → w.after ≡ slice_get frames next → w.after2 ≡ slice_get frames (next + 1) → w ≡ near_in frames place next
 near_is frames place next w a b c d =
     λ i. record { before2 = a i; before = b i; after = (c ∙ sym (first_from next frames)) i; after2 = (d ∙ sym (get-drop next 1 frames)) i }
+
+-- each number below the next one is below this one, or is this one
+is_it : (k n : ℕ) (b : Bool) → b ≡ (k == n) → b ≡ true → k ≡ n
+is_it k n b is t = grind (arith, nat_tests)
+
+is_below : (k n : ℕ) (b : Bool) → b ≡ (k == n) → b ≡ false → k < n + 1 → k < n
+is_below k n b is t less = grind (arith, nat_tests)
+
+by_test : (P : ℕ → Type 0) (n k : ℕ) (b : Bool) → b ≡ (k == n) → ((m : ℕ) → m < n → P m) → P n → k < n + 1 → P k
+by_test P n k true is each last less = subst P (sym (is_it k n true is refl)) last
+by_test P n k false is each last less = each k (is_below k n false is refl less)
+
+pub to_next : (P : ℕ → Type 0) (n : ℕ) → ((m : ℕ) → m < n → P m) → P n → (k : ℕ) → k < n + 1 → P k
+to_next P n each last k less = by_test P n k (k == n) refl each last less

@@ -1,10 +1,9 @@
 -- Frames of other recordings, one by one.
 use Rattle.std.proofs.Common.{◌≡◌, ◌∙◌, ◌+◌, ◌≤◌, ◌++◌, ℕ, Bool, true, false, List, [], ◌∷◌, Option, None, Some, ap, arith, drop}
-use Rattle.std.proofs.Common.{append_assoc, if◌then◌else◌, length, slice_get, sym}
+use Rattle.std.proofs.Common.{◌||◌, append_assoc, if◌then◌else◌, length, slice_get, sym}
 use Rattle.std.proofs.lemmas.List.{append-nil, drop_all}
 use Rattle.irig_codes.specs.Format.{FormatView}
-use Rattle.irig_safety.specs.Controls.{is_vote, votes}
-use Rattle.irig_safety.specs.Others.{backed, backed_from, is_backed}
+use Rattle.irig_safety.specs.Others.{backed, backed_from, is_among, is_backed, is_of_time, is_vote, votes}
 use Rattle.irig_safety.specs.{Safety.behind, declared.shown.Shown.Shown}
 use Rattle.irig_safety.proofs.SafetyLemmas.{drop-item, first_from, next_behind}
 
@@ -37,6 +36,28 @@ vote_all so k others y many i past h =
     let none : votes so k (drop i others) y ≡ 0 = ap (λ l. votes so k l y) (drop_all i others past) in
     let all = h.1 in
     omega (arith, none, all)
+
+-- with those from a place on, whether one of all has the time
+abbrev pub Among : List Shown → Shown → ℕ → Type 0
+Among others y i = is_among others y ≡ is_among (drop i others) y
+
+among_at : (others : List Shown) (x y : Shown) (i : ℕ) (b : Bool) → slice_get others i ≡ Some x → b ≡ is_of_time x.fields y.fields
+    → is_among (drop i others) y ≡ (b || is_among (drop (i + 1) others) y)
+among_at others x y i b here is =
+    ap (λ l. is_among l y) (drop-item others i x here) ∙ ap (λ (c : Bool). c || is_among (drop (i + 1) others) y) (sym is)
+
+pub among_on : (others : List Shown) (x y : Shown) (i : ℕ) (b : Bool) → slice_get others i ≡ Some x → b ≡ is_of_time x.fields y.fields → b ≡ false
+    → Among others y i → Among others y (i + 1)
+among_on others x y i b here is not h =
+    h ∙ (among_at others x y i b here is ∙ ap (λ (c : Bool). c || is_among (drop (i + 1) others) y) not)
+
+pub among_found : (others : List Shown) (x y : Shown) (i : ℕ) (b : Bool) → slice_get others i ≡ Some x → b ≡ is_of_time x.fields y.fields → b ≡ true
+    → Among others y i → true ≡ is_among others y
+among_found others x y i b here is so h =
+    sym (h ∙ (among_at others x y i b here is ∙ ap (λ (c : Bool). c || is_among (drop (i + 1) others) y) so))
+
+pub among_none : (others : List Shown) (y : Shown) (i : ℕ) → length others ≤ i → Among others y i → false ≡ is_among others y
+among_none others y i past h = sym (h ∙ ap (λ l. is_among l y) (drop_all i others past))
 
 -- with those from a place on, all that count
 abbrev pub Backs : FormatView → List Shown → List Shown → ℕ → Type 0

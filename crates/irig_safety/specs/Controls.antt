@@ -1,14 +1,13 @@
 -- When the control functions of a frame are borne out, which its time does not decide. This
 -- project's own.
-use Rattle.std.specs.Prelude.{◌≡◌, ◌<◌, ◌⊎◌, ◌+◌, ◌/◌, ◌%◌, ◌^◌, ◌==◌, ◌&&◌, ℕ, Bool, true, false}
-use Rattle.std.specs.Prelude.{List, [], ◌∷◌, Option, Some, None, MatchOption, if◌then◌else◌}
-use Rattle.std.specs.Prelude.{nat_lt, not, slice_get, unwrap_or}
+use Rattle.std.specs.Prelude.{◌≡◌, ◌<◌, ◌⊎◌, ◌+◌, ◌/◌, ◌==◌, ◌&&◌, ℕ, Bool, true, false, List}
+use Rattle.std.specs.Prelude.{Option, Some, None, MatchOption, if◌then◌else◌, slice_get}
 use Rattle.irig_codes.specs.Format.{FormatView, control_count_of, has_year}
 use Rattle.irig_codes.specs.declared.format.Kind.TheVariants.{A, B, E, G}
 use Rattle.irig_codes.specs.{declared.format.Kind.Kind}
 use Rattle.irig_recording.specs.declared.pulse.Pulse.{Pulse}
 use Rattle.irig_safety.specs.{Original.IsLost, Original.IsRecorded, Original.OriginalView}
-use Rattle.irig_safety.specs.{Others.is_of_time, declared.shown.Shown.Shown}
+use Rattle.irig_safety.specs.{Others.function_of, Others.is_told, declared.shown.Shown.Shown}
 use Rattle.irig_safety.specs.declared.witnesses.Witnesses.{Witnesses}
 
 -- the element with the first control function, with the year and without it
@@ -23,10 +22,6 @@ first_function G y = if y then 70 else 60
 abbrev pub function_element : FormatView → ℕ → ℕ
 function_element f k = first_function f.kind (has_year f.expression) + k + k / 9
 
--- a control function of a frame: 1 or 0
-abbrev pub function_of : ℕ → Shown → ℕ
-function_of k x = unwrap_or x.fields.control 0 / 2 ^ k % 2
-
 -- another frame is there, and has the control function as the frame has it
 abbrev pub shares : ℕ → Option Shown → Shown → Bool
 shares k None y = false
@@ -39,23 +34,6 @@ is_shared k w y = both w.before2 w.before w.after w.after2 where
   both a2 a None b2 = shares k a2 y && shares k a y
   both a2 None (Some b) b2 = shares k (Some b) y && shares k b2 y
   both a2 (Some a) (Some b) b2 = shares k (Some a) y && shares k (Some b) y
-
--- another frame has the time of a frame, and a control function as the frame has it, or otherwise
-abbrev pub is_vote : Bool → ℕ → Shown → Shown → Bool
-is_vote so k x y =
-    is_of_time x.fields y.fields && is_so so (function_of k x == function_of k y) where
-      is_so : Bool → Bool → Bool
-      is_so true same = same
-      is_so false same = not same
-
--- how many others do
-abbrev pub votes : Bool → ℕ → List Shown → Shown → ℕ
-votes so k [] y = 0
-votes so k (x ∷ others) y = (if is_vote so k x y then 1 else 0) + votes so k others y
-
--- most of the others that have its time have the control function as the frame has it
-abbrev pub is_told : ℕ → List Shown → Shown → Bool
-is_told k others y = nat_lt (votes false k others y) (votes true k others y)
 
 -- a control function is as the two nearest frames have it; or as it was recorded, or what was
 -- recorded of it was lost; or most others of its time have it so

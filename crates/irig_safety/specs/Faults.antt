@@ -13,33 +13,34 @@ abbrev pub NextOrLater : Type 0 → Fault → Fault → Type 0 → Type 0
 NextOrLater Sound next why Later = ((Sound → ⊥) × (why ≡ next)) ⊎ (Sound × Later)
 
 -- the first fault. The two frames that were before the first of the former are known
-abbrev pub FaultFrom : FormatView → Option Shown → Option Shown → List Shown → List Shown → Fault
-    → Type 0
-FaultFrom f a2 a [] [] why = ⊥
-FaultFrom f a2 a (o ∷ old) [] why = why ≡ Lost o
-FaultFrom f a2 a [] (n ∷ new) why =
-    NextOrLater (Comes f a2 a [] n) (Unsupported n) why (FaultFrom f a2 a [] new why)
-FaultFrom f a2 a (o ∷ old) (n ∷ new) why =
-    ((o.rise ≡ n.rise) × NextOrLater (Stays f a2 a o old n) (Changed o) why
-    (FaultFrom f a (Some o) old new why))
+abbrev pub FaultFrom : FormatView → List Shown → Option Shown → Option Shown → List Shown
+    → List Shown → Fault → Type 0
+FaultFrom f others a2 a [] [] why = ⊥
+FaultFrom f others a2 a (o ∷ old) [] why = why ≡ Lost o
+FaultFrom f others a2 a [] (n ∷ new) why =
+    NextOrLater (Comes f a2 a [] n) (Unsupported n) why (FaultFrom f others a2 a [] new why)
+FaultFrom f others a2 a (o ∷ old) (n ∷ new) why =
+    ((o.rise ≡ n.rise) × NextOrLater (Stays f others a2 a o old n) (Changed o) why
+    (FaultFrom f others a (Some o) old new why))
     ⊎ (((n.rise < o.rise) × NextOrLater (Comes f a2 a (o ∷ old) n) (Unsupported n) why
-    (FaultFrom f a2 a (o ∷ old) new why))
+    (FaultFrom f others a2 a (o ∷ old) new why))
     ⊎ ((o.rise < n.rise) × (why ≡ Lost o)))
 
 -- frames are safe, or have this fault
-abbrev pub JudgedFrom : FormatView → Option Shown → Option Shown → List Shown → List Shown
-    → Option Fault → Type 0
-JudgedFrom f a2 a old new None = IsSafeFrom f a2 a old new
-JudgedFrom f a2 a old new (Some why) = FaultFrom f a2 a old new why
+abbrev pub JudgedFrom : FormatView → List Shown → Option Shown → Option Shown → List Shown
+    → List Shown → Option Fault → Type 0
+JudgedFrom f others a2 a old new None = IsSafeFrom f others a2 a old new
+JudgedFrom f others a2 a old new (Some why) = FaultFrom f others a2 a old new why
 
 -- so from a place of the former on
-abbrev pub JudgedAt : FormatView → List Shown → ℕ → List Shown → Option Fault → Type 0
-JudgedAt f old k new found = JudgedFrom f (behind (k - 1) old) (behind k old) (drop k old) new found
+abbrev pub JudgedAt : FormatView → List Shown → List Shown → ℕ → List Shown → Option Fault → Type 0
+JudgedAt f others old k new found =
+    JudgedFrom f others (behind (k - 1) old) (behind k old) (drop k old) new found
 
--- why frames are not safe by those of the recording
-abbrev pub IsFault : FormatView → List Shown → List Shown → Fault → Type 0
-IsFault f [] new why = (AreOfThemselves f new → ⊥) × (why ≡ Alone)
-IsFault f (o ∷ old) new why = FaultFrom f None None (o ∷ old) new why
+-- why frames are not safe by those of the recording, and frames of other recordings
+abbrev pub IsFault : FormatView → List Shown → List Shown → List Shown → Fault → Type 0
+IsFault f others [] new why = (AreOfThemselves f new → ⊥) × (why ≡ Alone)
+IsFault f others (o ∷ old) new why = FaultFrom f others None None (o ∷ old) new why
 
 -- the first frame that read well and does not now, at its time
 abbrev pub IsSpoiledBy : List Shown → List Shown → Fault → Type 0

@@ -29,26 +29,29 @@ pub record IsBorneOut (f : FormatView) (old : List Shown) (y : Shown) : Type 0 w
       (slice_get after 0) (slice_get after 1) y ≡ true
 
 -- a former frame is another one at the same time: both next to it contradict it, and bear out the
--- other; or both have the control functions of the other, which has nothing else of its own
-pub record IsMended (f : FormatView) (old : List Shown) (o n : Shown) : Type 0 where
+-- other; or it is at an end, and other recordings speak for the other; or the other has other
+-- control functions alone, which both next to it have, all of them or with other recordings
+pub record IsMended (f : FormatView) (others old : List Shown) (o n : Shown) : Type 0 where
   pub before : List Shown
   pub after : List Shown
   pub whole : old ≡ before ++ o ∷ after
   pub rise : o.rise ≡ n.rise
-  pub mended : Mends f (behind (length before - 1) before) (behind (length before) before) o
-      (slice_get after 0) (slice_get after 1) n
+  pub mended : Mends f others (behind (length before - 1) before) (behind (length before) before)
+      o (slice_get after 0) (slice_get after 1) n
 
 -- a former frame is kept, or one of the frames mends it
-abbrev pub IsKept : FormatView → List Shown → List Shown → Shown → Type 0
-IsKept f old new x = IsOneOf x new ⊎ ((n : Shown) × IsOneOf n new × IsMended f old x n)
+abbrev pub IsKept : FormatView → List Shown → List Shown → List Shown → Shown → Type 0
+IsKept f others old new x =
+    IsOneOf x new ⊎ ((n : Shown) × IsOneOf n new × IsMended f others old x n)
 
 -- a frame was there, or mends one that was, or is borne out by those that were
-abbrev pub IsTold : FormatView → List Shown → Shown → Type 0
-IsTold f old y =
-    IsOneOf y old ⊎ (((o : Shown) × IsMended f old o y) ⊎ IsBorneOut f old y)
+abbrev pub IsTold : FormatView → List Shown → List Shown → Shown → Type 0
+IsTold f others old y =
+    IsOneOf y old ⊎ (((o : Shown) × IsMended f others old o y) ⊎ IsBorneOut f old y)
 
 -- if frames are safe by former ones, each of the former is kept or mended, and each other one is
 -- borne out by the former
 abbrev pub SafeMeans : Type 0
-SafeMeans = (f : FormatView) (old new : List Shown) → AreRising new → IsSafeFrom f None None old new
-    → AllByRecursion (IsKept f old new) old × AllByRecursion (IsTold f old) new
+SafeMeans = (f : FormatView) (others old new : List Shown) → AreRising new
+    → IsSafeFrom f others None None old new
+    → AllByRecursion (IsKept f others old new) old × AllByRecursion (IsTold f others old) new

@@ -1,7 +1,9 @@
 -- When a frame that read well is another one after an edit, and that mends it. This project's own.
-use Rattle.std.specs.Prelude.{◌≡◌, ◌⊎◌, ◌&&◌, ℕ, Bool, true, false, not, Option, Some, None}
-use Rattle.irig_codes.specs.Format.{FormatView}
+use Rattle.std.specs.Prelude.{◌≡◌, ◌<◌, ◌==◌, ◌⊎◌, ◌&&◌, ◌||◌, ℕ, Bool, true, false, not, List}
+use Rattle.std.specs.Prelude.{Option, Some, None}
+use Rattle.irig_codes.specs.Format.{FormatView, control_count_of}
 use Rattle.irig_safety.specs.{Bearing.allows, Witnesses.is_borne}
+use Rattle.irig_safety.specs.Others.{function_of, is_among, is_told}
 use Rattle.irig_safety.specs.declared.shown.Shown.{Shown}
 
 -- The time of the frame between two others was wrong: both contradict it, and they bear out what it
@@ -11,6 +13,38 @@ abbrev pub is_mended : FormatView → Option Shown → Option Shown → Shown �
 is_mended f a2 (Some a) o (Some b) b2 n =
     not (allows f a o) && not (allows f o b) && is_borne f a2 (Some a) (Some b) b2 n
 is_mended f a2 a o b b2 n = false
+
+-- a frame before it is there and contradicts it, or one after it
+abbrev pub contradicts_from : FormatView → Option Shown → Shown → Bool
+contradicts_from f None y = false
+contradicts_from f (Some a) y = not (allows f a y)
+
+abbrev pub contradicts_to : FormatView → Shown → Option Shown → Bool
+contradicts_to f y None = false
+contradicts_to f y (Some b) = not (allows f y b)
+
+-- nothing is on one side of it, and the two frames on the other contradict it
+abbrev pub is_refuted : FormatView → Option Shown → Option Shown → Shown → Option Shown
+    → Option Shown → Bool
+is_refuted f a2 None o None b2 = false
+is_refuted f a2 (Some a) o None b2 = contradicts_from f a2 o && contradicts_from f (Some a) o
+is_refuted f a2 None o (Some b) b2 = contradicts_to f o (Some b) && contradicts_to f o b2
+is_refuted f a2 (Some a) o (Some b) b2 = false
+
+-- The time of the first frame was wrong, or of the last: the two next to it contradict it, and they
+-- bear out what it is now; and another recording has a frame of that time, and none has one of the
+-- time that it was.
+abbrev pub is_mended_at_end : FormatView → List Shown → Option Shown → Option Shown → Shown
+    → Option Shown → Option Shown → Shown → Bool
+is_mended_at_end f others a2 a o b b2 n =
+    is_refuted f a2 a o b b2 && is_borne f a2 a b b2 n && is_among others n
+    && not (is_among others o)
+
+-- its time is mended
+abbrev pub is_time_mended : FormatView → List Shown → Option Shown → Option Shown → Shown
+    → Option Shown → Option Shown → Shown → Bool
+is_time_mended f others a2 a o b b2 n =
+    is_mended f a2 a o b b2 n || is_mended_at_end f others a2 a o b b2 n
 
 -- the frame with these control functions instead of its own
 abbrev pub with_control : Option ℕ → Shown → Shown
@@ -25,7 +59,29 @@ HasControlOfBoth (Some a) o (Some b) n =
     × (b.fields.control ≡ n.fields.control)
 HasControlOfBoth a o b n = ⊥
 
+-- A control function of the frame between two others is as it was; or both have it as it is now,
+-- and so have most frames of its time in other recordings.
+abbrev pub is_function_mended : List Shown → Shown → Shown → Shown → Shown → ℕ → Bool
+is_function_mended others a o b n k =
+    (function_of k o == function_of k n)
+    || ((function_of k a == function_of k n) && (function_of k b == function_of k n)
+    && is_told k others n)
+
+abbrev pub AreFunctionsMended : FormatView → List Shown → Shown → Shown → Shown → Shown → Type 0
+AreFunctionsMended f others a o b n =
+    (k : ℕ) → k < control_count_of f → is_function_mended others a o b n k ≡ true
+
+-- The frame between two others has other control functions now, and nothing else of it is another:
+-- each of these is mended.
+abbrev pub HasControlOfMost : FormatView → List Shown → Option Shown → Shown → Option Shown → Shown
+    → Type 0
+HasControlOfMost f others (Some a) o (Some b) n =
+    (with_control n.fields.control o ≡ n) × AreFunctionsMended f others a o b n
+HasControlOfMost f others a o b n = ⊥
+
 -- its time is mended, or its control functions alone are
-abbrev pub Mends : FormatView → Option Shown → Option Shown → Shown → Option Shown → Option Shown
-    → Shown → Type 0
-Mends f a2 a o b b2 n = (is_mended f a2 a o b b2 n ≡ true) ⊎ HasControlOfBoth a o b n
+abbrev pub Mends : FormatView → List Shown → Option Shown → Option Shown → Shown → Option Shown
+    → Option Shown → Shown → Type 0
+Mends f others a2 a o b b2 n =
+    (is_time_mended f others a2 a o b b2 n ≡ true)
+    ⊎ (HasControlOfBoth a o b n ⊎ HasControlOfMost f others a o b n)

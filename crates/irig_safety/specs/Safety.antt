@@ -12,9 +12,10 @@ behind zero frames = None
 behind (suc n) frames = slice_get frames n
 
 -- a frame that was there is as it was, or was wrong and is mended
-abbrev pub Stays : FormatView → Option Shown → Option Shown → Shown → List Shown → Shown → Type 0
-Stays f a2 a o old n =
-    (o ≡ n) ⊎ Mends f a2 a o (slice_get old 0) (slice_get old 1) n
+abbrev pub Stays : FormatView → List Shown → Option Shown → Option Shown → Shown → List Shown
+    → Shown → Type 0
+Stays f others a2 a o old n =
+    (o ≡ n) ⊎ Mends f others a2 a o (slice_get old 0) (slice_get old 1) n
 
 -- a frame that was not there is borne out by those before it and after it
 abbrev pub Comes : FormatView → Option Shown → Option Shown → List Shown → Shown → Type 0
@@ -22,13 +23,14 @@ Comes f a2 a old n = is_borne f a2 a (slice_get old 0) (slice_get old 1) n ≡ t
 
 -- The frames that read well are those that did before, each where it was, and others between them.
 -- The two frames that were before the first of the former are known.
-abbrev pub IsSafeFrom : FormatView → Option Shown → Option Shown → List Shown → List Shown → Type 0
-IsSafeFrom f a2 a [] [] = Unit {0}
-IsSafeFrom f a2 a (o ∷ old) [] = ⊥
-IsSafeFrom f a2 a [] (n ∷ new) = Comes f a2 a [] n × IsSafeFrom f a2 a [] new
-IsSafeFrom f a2 a (o ∷ old) (n ∷ new) =
-    ((o.rise ≡ n.rise) × Stays f a2 a o old n × IsSafeFrom f a (Some o) old new)
-    ⊎ ((n.rise < o.rise) × Comes f a2 a (o ∷ old) n × IsSafeFrom f a2 a (o ∷ old) new)
+abbrev pub IsSafeFrom : FormatView → List Shown → Option Shown → Option Shown → List Shown
+    → List Shown → Type 0
+IsSafeFrom f others a2 a [] [] = Unit {0}
+IsSafeFrom f others a2 a (o ∷ old) [] = ⊥
+IsSafeFrom f others a2 a [] (n ∷ new) = Comes f a2 a [] n × IsSafeFrom f others a2 a [] new
+IsSafeFrom f others a2 a (o ∷ old) (n ∷ new) =
+    ((o.rise ≡ n.rise) × Stays f others a2 a o old n × IsSafeFrom f others a (Some o) old new)
+    ⊎ ((n.rise < o.rise) × Comes f a2 a (o ∷ old) n × IsSafeFrom f others a2 a (o ∷ old) new)
 
 -- each frame leads to the next
 abbrev pub LeadOn : FormatView → List Shown → Type 0
@@ -41,10 +43,10 @@ LeadOn f (x ∷ y ∷ frames) = (leads f x y ≡ true) × LeadOn f (y ∷ frames
 abbrev pub AreOfThemselves : FormatView → List Shown → Type 0
 AreOfThemselves f new = (length new ≡ 0) ⊎ ((3 ≤ length new) × LeadOn f new)
 
--- frames are safe by those of the recording
-abbrev pub IsSafe : FormatView → List Shown → List Shown → Type 0
-IsSafe f [] new = AreOfThemselves f new
-IsSafe f (o ∷ old) new = IsSafeFrom f None None (o ∷ old) new
+-- frames are safe by those of the recording, and frames of other recordings
+abbrev pub IsSafe : FormatView → List Shown → List Shown → List Shown → Type 0
+IsSafe f others [] new = AreOfThemselves f new
+IsSafe f others (o ∷ old) new = IsSafeFrom f others None None (o ∷ old) new
 
 -- each frame that read well still does, at its time
 abbrev pub NoneIsSpoiled : List Shown → List Shown → Type 0

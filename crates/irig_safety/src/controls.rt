@@ -3,8 +3,8 @@
 
 ghost use Rattle.std.specs.Prelude.{◌≡◌, ◌<◌, ◌≤◌};
 ghost use Rattle.irig_codes.specs.Format.{control_count_of, has_year};
-ghost use Rattle.irig_safety.specs.Controls.{first_function, function_element, function_of};
-ghost use Rattle.irig_safety.specs.Controls.{is_shared, shares};
+ghost use Rattle.irig_safety.specs.Controls.{first_function, function_element, is_shared, shares};
+ghost use Rattle.irig_safety.specs.Others.{function_of};
 
 use crate::shown::Shown;
 use crate::witnesses::Witnesses;

@@ -1,20 +1,64 @@
 //! Whether a frame that read well, and is another one now, is mended by that. `former` is the frame
 //! as it was, `frame` as it is now, and `near` the former frames next to it.
 
-ghost use Rattle.std.specs.Prelude.{◌≡◌, ◌↔◌, IsTrue};
-ghost use Rattle.irig_safety.specs.Mended.{HasControlOfBoth, Mends, is_mended, with_control};
+ghost use Rattle.std.specs.Prelude.{◌≡◌, ◌↔◌, ◌<◌, ◌⊎◌, IsTrue, ℕ, not, ◌&&◌};
+ghost use Rattle.irig_codes.specs.Format.{control_count_of};
+ghost use Rattle.irig_safety.specs.Mended.{AreFunctionsMended, HasControlOfBoth, HasControlOfMost};
+ghost use Rattle.irig_safety.specs.Mended.{Mends, contradicts_from, contradicts_to};
+ghost use Rattle.irig_safety.specs.Mended.{is_function_mended, is_mended, is_mended_at_end};
+ghost use Rattle.irig_safety.specs.Mended.{is_refuted, is_time_mended, with_control};
+ghost use Rattle.irig_safety.specs.Others.{is_among};
 
 use crate::bearing::allows;
+use crate::controls::{function_of, functions};
+use crate::others::{is_among, is_told};
 use crate::shown::{Shown, is_same};
 use crate::witnesses::{Witnesses, is_borne};
 use irig_codes::{Fields, Format};
 
-/// Whether the time of a frame is mended, or its control functions alone are.
-pub fn mends(format: Format, near: &Witnesses, former: &Shown, frame: &Shown) -> bool
-    ensures { IsTrue result ↔ Mends format near.now.before2 near.now.before former.now
+/// Whether the time of a frame is mended, or its control functions alone are, also by frames of
+/// other recordings.
+pub fn mends(
+    format: Format,
+    others: &[Shown],
+    near: &Witnesses,
+    former: &Shown,
+    frame: &Shown,
+) -> bool
+    ensures { IsTrue result ↔ Mends format others.now near.now.before2 near.now.before former.now
         near.now.after near.now.after2 frame.now }
 {
-    is_mended(format, near, former, frame) || has_control_of_both(near, former, frame)
+    is_time_mended(format, others, near, former, frame)
+        || is_control_mended(format, others, near, former, frame)
+}
+
+/// Whether the time of a frame is mended.
+fn is_time_mended(
+    format: Format,
+    others: &[Shown],
+    near: &Witnesses,
+    former: &Shown,
+    frame: &Shown,
+) -> bool
+    ensures { result ≡ is_time_mended format others.now near.now.before2 near.now.before former.now
+        near.now.after near.now.after2 frame.now }
+{
+    is_mended(format, near, former, frame) || is_mended_at_end(format, others, near, former, frame)
+}
+
+/// Whether the control functions of a frame alone are mended.
+fn is_control_mended(
+    format: Format,
+    others: &[Shown],
+    near: &Witnesses,
+    former: &Shown,
+    frame: &Shown,
+) -> bool
+    ensures { IsTrue result ↔ (HasControlOfBoth near.now.before former.now near.now.after frame.now
+        ⊎ HasControlOfMost format others.now near.now.before former.now near.now.after frame.now) }
+{
+    has_control_of_both(near, former, frame)
+        || has_control_of_most(format, others, near, former, frame)
 }
 
 /// Whether the time of a frame was wrong and is mended: both next to it contradict it, and bear out
@@ -30,6 +74,63 @@ fn is_mended(format: Format, near: &Witnesses, former: &Shown, frame: &Shown) ->
                 && is_borne(format, near, frame)
         }
         _ => false,
+    }
+}
+
+/// Whether the time of the first frame was wrong, or of the last, and is mended: the two next to it
+/// contradict it, and bear out what it is; and another recording has that time, and none the one
+/// that it was.
+fn is_mended_at_end(
+    format: Format,
+    others: &[Shown],
+    near: &Witnesses,
+    former: &Shown,
+    frame: &Shown,
+) -> bool
+    ensures { result ≡ is_mended_at_end format others.now near.now.before2 near.now.before
+        former.now near.now.after near.now.after2 frame.now }
+{
+    is_refuted(format, near, former)
+        && is_borne(format, near, frame)
+        && is_among(others, frame)
+        && !is_among(others, former)
+}
+
+/// Whether nothing is on one side of a frame, and the two on the other contradict it.
+fn is_refuted(format: Format, near: &Witnesses, former: &Shown) -> bool
+    ensures { result ≡ is_refuted format near.now.before2 near.now.before former.now near.now.after
+        near.now.after2 }
+{
+    match (near.before, near.after) {
+        (Some(_), None) => {
+            contradicts_from(format, near.before2, former)
+                && contradicts_from(format, near.before, former)
+        }
+        (None, Some(_)) => {
+            contradicts_to(format, former, near.after)
+                && contradicts_to(format, former, near.after2)
+        }
+        _ => false,
+    }
+}
+
+/// Whether a frame before a frame is there, and contradicts it.
+fn contradicts_from(format: Format, before: Option<Shown>, frame: &Shown) -> bool
+    ensures { result ≡ contradicts_from format before frame.now }
+{
+    match before {
+        Some(before) => !allows(format, &before, frame),
+        None => false,
+    }
+}
+
+/// Whether a frame after a frame is there, and contradicts it.
+fn contradicts_to(format: Format, frame: &Shown, after: Option<Shown>) -> bool
+    ensures { result ≡ contradicts_to format frame.now after }
+{
+    match after {
+        Some(after) => !allows(format, frame, &after),
+        None => false,
     }
 }
 
@@ -53,6 +154,68 @@ fn both_have(one: &Shown, other: &Shown, control: Option<u64>) -> bool
         ↔ (one.now.fields.control ≡ control) × (other.now.fields.control ≡ control) }
 {
     one.fields.control == control && other.fields.control == control
+}
+
+/// Whether the control functions of a frame alone are other ones, each of which both next to it
+/// have, and most frames of its time in other recordings.
+fn has_control_of_most(
+    format: Format,
+    others: &[Shown],
+    near: &Witnesses,
+    former: &Shown,
+    frame: &Shown,
+) -> bool
+    ensures { IsTrue result ↔ HasControlOfMost format others.now near.now.before former.now
+        near.now.after frame.now }
+{
+    match (near.before, near.after) {
+        (Some(before), Some(after)) => {
+            is_same(&with_control(former, frame.fields.control), frame)
+                && are_functions_mended(format, others, &before, former, &after, frame)
+        }
+        _ => false,
+    }
+}
+
+/// Whether each control function of a frame is as it was, or mended.
+fn are_functions_mended(
+    format: Format,
+    others: &[Shown],
+    before: &Shown,
+    former: &Shown,
+    after: &Shown,
+    frame: &Shown,
+) -> bool
+    ensures { IsTrue result
+        ↔ AreFunctionsMended format others.now before.now former.now after.now frame.now }
+{
+    for function in 0..functions(format) {
+        if !is_function_mended(others, before, former, after, frame, function) {
+            return false;
+        }
+    }
+    true
+}
+
+/// Whether a control function is as it was; or both frames next to it have it as it is now, and so
+/// have most others of its time.
+fn is_function_mended(
+    others: &[Shown],
+    before: &Shown,
+    former: &Shown,
+    after: &Shown,
+    frame: &Shown,
+    function: u32,
+) -> bool
+    requires { function < 64 }
+    ensures { result ≡ is_function_mended others.now before.now former.now after.now frame.now
+        function }
+{
+    let now = function_of(frame, function);
+    function_of(former, function) == now
+        || function_of(before, function) == now
+            && function_of(after, function) == now
+            && is_told(others, frame, function)
 }
 
 /// A frame with these control functions instead of its own.

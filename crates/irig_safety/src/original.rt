@@ -7,7 +7,7 @@ ghost use Rattle.irig_codes.specs.Width.{class_of};
 ghost use Rattle.irig_recording.specs.declared.pulse.Pulse.{Pulse as SomePulse};
 ghost use Rattle.irig_safety.specs.Anchors.{is_anchor, is_rise};
 ghost use Rattle.irig_safety.specs.Original.{IsAlike, IsNear, IsRecorded, near_in, reach_of};
-ghost use Rattle.irig_safety.specs.{Controls.is_told, Rises.rise_in, Rises.rise_or};
+ghost use Rattle.irig_safety.specs.{Others.is_told, Rises.rise_in, Rises.rise_or};
 
 use crate::others::is_told;
 use crate::rises::{has_fall, has_rise};
@@ -83,6 +83,13 @@ impl Original {
         ensures { result ≡ is_told function self.now.terms.others frame.now }
     {
         is_told(self.terms.others.as_slice(), frame, function)
+    }
+
+    /// The frames of other recordings.
+    pub fn others(&self) -> &[Shown]
+        ensures { result.now ≡ self.now.terms.others }
+    {
+        self.terms.others.as_slice()
     }
 
     /// The frames that read well.

@@ -1,9 +1,8 @@
 //! What other recordings of the same code say of a frame.
 
 ghost use Rattle.std.specs.Prelude.{◌≡◌, ◌<◌, IfOk};
-ghost use Rattle.irig_safety.specs.Controls.{is_told, is_vote, votes};
-ghost use Rattle.irig_safety.specs.Others.{backed, is_backed, is_backed_from, is_backed_to};
-ghost use Rattle.irig_safety.specs.Others.{is_of_time};
+ghost use Rattle.irig_safety.specs.Others.{backed, is_among, is_backed, is_backed_from};
+ghost use Rattle.irig_safety.specs.Others.{is_backed_to, is_of_time, is_told, is_vote, votes};
 
 use crate::bearing::agrees;
 use crate::controls::function_of;
@@ -47,6 +46,18 @@ fn is_vote(other: &Shown, frame: &Shown, function: u32, so: bool) -> bool
     }
     let same = function_of(other, function) == function_of(frame, function);
     if so { same } else { !same }
+}
+
+/// Whether one of the frames of other recordings has the time of a frame.
+pub fn is_among(others: &[Shown], frame: &Shown) -> bool
+    ensures { result ≡ is_among others.now frame.now }
+{
+    for other in others {
+        if is_of_time(&other.fields, &frame.fields) {
+            return true;
+        }
+    }
+    false
 }
 
 /// Whether two frames have the same time of day, day and year, or neither has a year.

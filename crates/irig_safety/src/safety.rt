@@ -18,15 +18,20 @@ use crate::shown::{Shown, is_same};
 use crate::witnesses::{Witnesses, is_borne};
 use irig_codes::Format;
 
-/// Whether the frames that read well now are safe, by those that did at first. If not, the first
-/// fault in the order of their rises.
-pub fn check_safe(format: Format, old: &[Shown], new: &[Shown]) -> Result<(), Fault>
-    ensures safe { OnOk result (IsSafe format old.now new.now) }
-    ensures unsafe_so { OnErr result (IsSafe format old.now new.now → ⊥) }
-    ensures fault { IfErr result (IsFault format old.now new.now) }
+/// Whether the frames that read well now are safe, by those that did at first, and by frames of
+/// other recordings. If not, the first fault in the order of their rises.
+pub fn check_safe(
+    format: Format,
+    others: &[Shown],
+    old: &[Shown],
+    new: &[Shown],
+) -> Result<(), Fault>
+    ensures safe { OnOk result (IsSafe format others.now old.now new.now) }
+    ensures unsafe_so { OnErr result (IsSafe format others.now old.now new.now → ⊥) }
+    ensures fault { IfErr result (IsFault format others.now old.now new.now) }
 {
     if !old.is_empty() {
-        return check_from(format, old, new);
+        return check_from(format, others, old, new);
     }
     if are_of_themselves(format, new) {
         Ok(())
@@ -56,13 +61,13 @@ fn lead_on(format: Format, frames: &[Shown]) -> bool
 
 /// Whether each frame is one of the former, or was wrong and is mended, or is borne out by them. If
 /// not, the first fault.
-fn check_from(format: Format, old: &[Shown], new: &[Shown]) -> Result<(), Fault>
-    ensures safe { OnOk result (IsSafeFrom format None None old.now new.now) }
-    ensures fault { IfErr result (FaultFrom format None None old.now new.now) }
+fn check_from(format: Format, others: &[Shown], old: &[Shown], new: &[Shown]) -> Result<(), Fault>
+    ensures safe { OnOk result (IsSafeFrom format others.now None None old.now new.now) }
+    ensures fault { IfErr result (FaultFrom format others.now None None old.now new.now) }
 {
     let mut kept = 0;
     for frame in new {
-        match passed(format, old, kept, frame) {
+        match passed(format, others, old, kept, frame) {
             Ok(place) => kept = place,
             Err(why) => return Err(why),
         }
@@ -75,14 +80,20 @@ fn check_from(format: Format, old: &[Shown], new: &[Shown]) -> Result<(), Fault>
 
 /// How many of the former frames are passed after one more frame, if `kept` are passed before it;
 /// or why it is not safe.
-fn passed(format: Format, old: &[Shown], kept: usize, frame: &Shown) -> Result<usize, Fault>
+fn passed(
+    format: Format,
+    others: &[Shown],
+    old: &[Shown],
+    kept: usize,
+    frame: &Shown,
+) -> Result<usize, Fault>
     requires { kept ≤ length old.now }
     ensures within { IfOk result (λ place. place ≤ length old.now) }
     ensures safe { (rest : List ShownFrame) (found : Option SomeFault) → IfOk result (λ place.
-        JudgedAt format old.now place rest found
-        → JudgedAt format old.now kept (frame.now ∷ rest) found) }
+        JudgedAt format others.now old.now place rest found
+        → JudgedAt format others.now old.now kept (frame.now ∷ rest) found) }
     ensures fault { (rest : List ShownFrame) → IfErr result (λ why.
-        JudgedAt format old.now kept (frame.now ∷ rest) (Some why)) }
+        JudgedAt format others.now old.now kept (frame.now ∷ rest) (Some why)) }
 {
     let Some(former) = frame_at(old, kept) else {
         return come(format, old, kept, frame);
@@ -93,7 +104,7 @@ fn passed(format: Format, old: &[Shown], kept: usize, frame: &Shown) -> Result<u
     if former.rise < frame.rise {
         return Err(Fault::Lost(former));
     }
-    if stays(format, old, kept, &former, frame) {
+    if stays(format, others, old, kept, &former, frame) {
         Ok(kept + 1)
     } else {
         Err(Fault::Changed(former))
@@ -116,10 +127,17 @@ fn come(format: Format, old: &[Shown], kept: usize, frame: &Shown) -> Result<usi
 }
 
 /// Whether a former frame is as it was, or was wrong and is mended.
-fn stays(format: Format, old: &[Shown], place: usize, former: &Shown, frame: &Shown) -> bool
+fn stays(
+    format: Format,
+    others: &[Shown],
+    old: &[Shown],
+    place: usize,
+    former: &Shown,
+    frame: &Shown,
+) -> bool
     requires { slice_get old.now place ≡ Some former.now }
-    ensures { IsTrue result ↔ Stays format (behind (place - 1) old.now) (behind place old.now)
-        former.now (drop (place + 1) old.now) frame.now }
+    ensures { IsTrue result ↔ Stays format others.now (behind (place - 1) old.now)
+        (behind place old.now) former.now (drop (place + 1) old.now) frame.now }
 {
     if is_same(former, frame) {
         return true;
@@ -130,7 +148,7 @@ fn stays(format: Format, old: &[Shown], place: usize, former: &Shown, frame: &Sh
         after: frame_at(old, place + 1),
         after2: frame_at(old, place + 2),
     };
-    mends(format, &near, former, frame)
+    mends(format, others, &near, former, frame)
 }
 
 /// The frames next to one that begins between former ones, `place` of which are before it.

@@ -9,14 +9,14 @@ returns-in_default-clause-within c = come_within c.args.old.now c.args.kept _ c.
 pub returns-in_default-clause-safe : goal.returns-in_default-clause-safe
 returns-in_default-clause-safe c = λ rest found.
     let none : slice_get c.args.old.now c.args.kept ≡ None = sym c.frame_at.ensures ∙ c.in_default.is in
-    passes_ok c.args.format c.args.old.now c.args.kept c.args.frame.now c.come.result rest found
-    (comes_on c.args.format c.args.old.now c.args.kept c.args.frame.now c.come.result rest (none_before c.args.old.now c.args.kept c.args.frame.now none) _ refl c.come.ensures)
+    passes_ok c.args.format c.args.others.now c.args.old.now c.args.kept c.args.frame.now c.come.result rest found
+    (comes_on c.args.format c.args.others.now c.args.old.now c.args.kept c.args.frame.now c.come.result rest (none_before c.args.old.now c.args.kept c.args.frame.now none) _ refl c.come.ensures)
 
 pub returns-in_default-clause-fault : goal.returns-in_default-clause-fault
 returns-in_default-clause-fault c = λ rest.
     let none : slice_get c.args.old.now c.args.kept ≡ None = sym c.frame_at.ensures ∙ c.in_default.is in
-    passes_err c.args.format c.args.old.now c.args.kept c.args.frame.now c.come.result rest
-    (comes_on c.args.format c.args.old.now c.args.kept c.args.frame.now c.come.result rest (none_before c.args.old.now c.args.kept c.args.frame.now none) _ refl c.come.ensures)
+    passes_err c.args.format c.args.others.now c.args.old.now c.args.kept c.args.frame.now c.come.result rest
+    (comes_on c.args.format c.args.others.now c.args.old.now c.args.kept c.args.frame.now c.come.result rest (none_before c.args.old.now c.args.kept c.args.frame.now none) _ refl c.come.ensures)
 
 pub returns-then-frame-former-clause-within : goal.returns-then-frame-former-clause-within
 returns-then-frame-former-clause-within c =
@@ -26,22 +26,22 @@ pub returns-then-frame-former-clause-safe : goal.returns-then-frame-former-claus
 returns-then-frame-former-clause-safe c = λ rest found.
     let here : slice_get c.args.old.now c.args.kept ≡ Some c.in-Some.former = sym c.frame_at.ensures ∙ c.in-Some.is in
     let less : c.args.frame.now.rise < c.in-Some.former.rise = omega (arith, c.if-frame-former.true) in
-    passes_ok c.args.format c.args.old.now c.args.kept c.args.frame.now c.come-then-frame-former.result rest found
-    (comes_on c.args.format c.args.old.now c.args.kept c.args.frame.now c.come-then-frame-former.result rest
+    passes_ok c.args.format c.args.others.now c.args.old.now c.args.kept c.args.frame.now c.come-then-frame-former.result rest found
+    (comes_on c.args.format c.args.others.now c.args.old.now c.args.kept c.args.frame.now c.come-then-frame-former.result rest
     (some_before c.args.old.now c.args.kept c.args.frame.now c.in-Some.former here less) _ refl c.come-then-frame-former.ensures)
 
 pub returns-then-frame-former-clause-fault : goal.returns-then-frame-former-clause-fault
 returns-then-frame-former-clause-fault c = λ rest.
     let here : slice_get c.args.old.now c.args.kept ≡ Some c.in-Some.former = sym c.frame_at.ensures ∙ c.in-Some.is in
     let less : c.args.frame.now.rise < c.in-Some.former.rise = omega (arith, c.if-frame-former.true) in
-    passes_err c.args.format c.args.old.now c.args.kept c.args.frame.now c.come-then-frame-former.result rest
-    (comes_on c.args.format c.args.old.now c.args.kept c.args.frame.now c.come-then-frame-former.result rest
+    passes_err c.args.format c.args.others.now c.args.old.now c.args.kept c.args.frame.now c.come-then-frame-former.result rest
+    (comes_on c.args.format c.args.others.now c.args.old.now c.args.kept c.args.frame.now c.come-then-frame-former.result rest
     (some_before c.args.old.now c.args.kept c.args.frame.now c.in-Some.former here less) _ refl c.come-then-frame-former.ensures)
 
 pub returns-then-former-frame-clause-fault : goal.returns-then-former-frame-clause-fault
 returns-then-former-frame-clause-fault c = λ rest.
     let here : slice_get c.args.old.now c.args.kept ≡ Some c.in-Some.former = sym c.frame_at.ensures ∙ c.in-Some.is in
-    at_lost c.args.format c.args.old.now c.args.kept c.in-Some.former c.args.frame.now rest here (omega (arith, c.if-former-frame.true))
+    at_lost c.args.format c.args.others.now c.args.old.now c.args.kept c.in-Some.former c.args.frame.now rest here (omega (arith, c.if-former-frame.true))
 
 pub returns-then-stays-clause-within : goal.returns-then-stays-clause-within
 returns-then-stays-clause-within c =
@@ -52,12 +52,12 @@ returns-then-stays-clause-within c =
 pub returns-then-stays-clause-safe : goal.returns-then-stays-clause-safe
 returns-then-stays-clause-safe c = λ rest found.
     let here : slice_get c.args.old.now c.args.kept ≡ Some c.in-Some.former = sym c.frame_at.ensures ∙ c.in-Some.is in
-    at_stay c.args.format c.args.old.now c.args.kept c.in-Some.former c.args.frame.now rest found here
+    at_stay c.args.format c.args.others.now c.args.old.now c.args.kept c.in-Some.former c.args.frame.now rest found here
     (omega (arith, c.if-frame-former.false, c.if-former-frame.false)) (c.stays.ensures.0 c.if-stays.true)
 
 pub returns-else-stays-clause-fault : goal.returns-else-stays-clause-fault
 returns-else-stays-clause-fault c = λ rest.
     let here : slice_get c.args.old.now c.args.kept ≡ Some c.in-Some.former = sym c.frame_at.ensures ∙ c.in-Some.is in
-    not_stay c.args.format c.args.old.now c.args.kept c.in-Some.former c.args.frame.now rest here
+    not_stay c.args.format c.args.others.now c.args.old.now c.args.kept c.in-Some.former c.args.frame.now rest here
     (omega (arith, c.if-frame-former.false, c.if-former-frame.false))
     (λ s. let bad : false ≡ true = sym c.if-stays.false ∙ c.stays.ensures.1 s in absurd (cc))
