@@ -14,8 +14,8 @@ use Rattle.irig_safety.specs.declared.shown.Shown.{Shown}
 use Rattle.irig_vcd.specs.{Parts.dump_parts, declared.fault.VcdFault.TheVariants.OutOfMemory}
 
 -- The script ran under guard on the bytes, by the wire and the format of the settings and by the
--- frames of the other recordings, if its session was not out of memory; what was written was written where their path to write leads, and
--- is kept through a crash at any moment.
+-- frames of the other recordings, if its session was not out of memory; what was written was
+-- written where their path to write leads, and is kept through a crash at any moment.
 pub record RunsBy (given : Files) (chosen : Settings) (source : List ℕ) (old new : Ends)
     (result : Result Kept GuardFault) : Type 0 where
   pub others : List Shown

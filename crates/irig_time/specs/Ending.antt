@@ -64,13 +64,10 @@ pub record RunsFile (held : Held) (chosen : Chosen) (lines left from to : Option
 abbrev pub Obeys : Held → Unreadable → Chosen → Option (List ℕ) → Option (List ℕ)
     → Option (List ℕ) → Option (List ℕ) → Ending → Type 0
 Obeys held unread chosen lines left from to (Unread path fault) =
-    (path ≡ chosen.track)
-    × (HasFault chosen.window (held chosen.track.now) (unread chosen.track.now)
-    (name_in chosen.wire) fault
-    × ((left ≡ lines) × (to ≡ from)))
+    (path ≡ chosen.track) × (HasFault chosen.window (held chosen.track.now)
+    (unread chosen.track.now) (name_in chosen.wire) fault × ((left ≡ lines) × (to ≡ from)))
 Obeys held unread chosen lines left from to (Usage fault) = ⊥
-Obeys held unread chosen lines left from to ending =
-    RunsFile held chosen lines left from to ending
+Obeys held unread chosen lines left from to ending = RunsFile held chosen lines left from to ending
 
 -- what the words ask for was done; or they ask for nothing, and nothing was read or printed
 abbrev pub EndsBy : List Text → Held → Unreadable → Option (List ℕ) → Option (List ℕ)
@@ -78,5 +75,4 @@ abbrev pub EndsBy : List Text → Held → Unreadable → Option (List ℕ) → 
 EndsBy words held unread lines left from to (Usage fault) =
     Reads words (Err fault) × ((left ≡ lines) × (to ≡ from))
 EndsBy words held unread lines left from to ending =
-    (chosen : Chosen) × Reads words (Ok chosen)
-    × Obeys held unread chosen lines left from to ending
+    (chosen : Chosen) × Reads words (Ok chosen) × Obeys held unread chosen lines left from to ending

@@ -141,8 +141,8 @@ fn more(count: usize, is_so: bool) -> usize
     if is_so { count + 1 } else { count }
 }
 
-/// How many pulses of a part can say another time: all, but for the last one of the track, which the
-/// end of the recording can have cut.
+/// How many pulses of a part can say another time: all, but for the last one of the track, which
+/// the end of the recording can have cut.
 fn telling(pulses: &Lens<'_>, part: &Part) -> usize
     requires small { (part.now.number < 2 ^ 32) × (part.now.count ≤ 100) }
     ensures few { result ≤ part.now.count }

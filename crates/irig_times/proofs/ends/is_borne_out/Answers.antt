@@ -14,6 +14,7 @@ returns-clause-answer c =
     ap (λ k. is_whole k p.time) (sym c.frame_period.ensures) ∙ (sym c.is_whole.ensures ∙ c.if-not-is_whole.false) in
     let fit : fits_in f (fields_at f p.time) ≡ true = ap (fits_in f) (sym c.fields_at-fields.ensures) ∙ (sym c.fits.ensures ∙ c.if-not-fits.false) in
     let count : contradictions f ps (encoded f (fields_at f p.time)) p.number p.element (telling ps p) ≡ c.contradictions.result =
-    ap (λ w. contradictions f ps w p.number p.element (telling ps p)) (sym (c.encode-wanted.ensures.frame ∙ ap (encoded f) c.fields_at-fields.ensures))
+    ap (λ w. contradictions f ps w p.number p.element (telling ps p))
+    (sym (c.encode-wanted.ensures.frame ∙ ap (encoded f) c.fields_at-fields.ensures))
     ∙ (ap (contradictions f ps c.encode-wanted.result p.number p.element) (sym c.telling-told.ensures.count) ∙ sym c.contradictions.ensures.count) in
     sym (λ i. ends i && (fit i && (count i == 0)))
