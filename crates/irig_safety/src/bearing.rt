@@ -1,5 +1,6 @@
 //! How the times and the rises of two frames go together. `other` is a frame that begins after
-//! `one`. Rises and distances are in microseconds.
+//! `one`. Rises and distances are in microseconds. The stray of two frames is by how much their
+//! distance differs from that of their times.
 
 ghost use Rattle.std.specs.Prelude.{◌≡◌, ◌+◌, ◌*◌, ◌%◌, ◌==◌, ◌^◌, ◌<◌};
 ghost use Rattle.irig_safety.specs.Bearing.{agrees, allows, apart, clock_after, clock_of};
@@ -12,7 +13,8 @@ ghost use Rattle.irig_moment.specs.Generated.{period_of};
 use crate::shown::Shown;
 use irig_codes::{Fields, Format};
 
-/// The hundredths of a second from the beginning of the year.
+/// The hundredths of a second from a day before the year begins, since days count from 1. Clocks
+/// are only compared.
 pub fn clock(fields: &Fields) -> u128
     ensures value { result ≡ clock_of fields.now }
     ensures small { result < 2 ^ 60 }
@@ -64,7 +66,8 @@ fn year(is_long: bool) -> u128
 }
 
 /// By how many hundredths of a second the year of other fields begins after that of these: 0 if it
-/// is the same year. Without years it is the next one if the clock would go back else.
+/// is the same year. Without years it is the next one if the clock would go back else. A year is
+/// long if its number is a multiple of 4, or without years if `one` is on its day 366.
 fn turn(one: &Fields, other: &Fields) -> u128
     ensures value { result ≡ turn_of one.now.year other.now.year one.now other.now }
     ensures small { result < 2 ^ 32 }
@@ -88,7 +91,8 @@ fn turn(one: &Fields, other: &Fields) -> u128
     }
 }
 
-/// The hundredths of a second that an inserted second 60 adds before another frame.
+/// The hundredths of a second that the inserted second 60 of `one` adds to the clock of `other`:
+/// 100, or 0 if `one` is in no second 60, or `other` is, too.
 fn inserted(one: &Fields, other: &Fields) -> u128
     ensures value { result ≡ inserted_of one.now other.now }
     ensures small { result < 2 ^ 8 }
@@ -130,7 +134,8 @@ fn goes_back(one: &Fields, other: &Fields) -> bool
 }
 
 /// Whether the time of the second frame is whole frame periods after that of the first, no later
-/// than in the next year.
+/// than in the next year. A time that goes back from second 60 in its minute is refused first: the
+/// inserted second, or a turn of the year, would make it seem later.
 pub fn is_later(format: Format, one: &Shown, other: &Shown) -> bool
     ensures { result ≡ is_later format one.now other.now }
 {
@@ -186,7 +191,8 @@ pub fn is_far(format: Format, one: &Shown, other: &Shown) -> bool
     1_000 * u128::from(format.frame_period()) <= slack(format, one, other)
 }
 
-/// Whether the distance of two frames shows as many frame periods as their times.
+/// Whether the time of `other` is whole frame periods later, and their distance shows as many: they
+/// stray by less than half a period.
 pub fn is_shown(format: Format, one: &Shown, other: &Shown) -> bool
     ensures { result ≡ is_shown format one.now other.now }
 {
@@ -195,7 +201,8 @@ pub fn is_shown(format: Format, one: &Shown, other: &Shown) -> bool
 }
 
 /// Whether the time of a frame leads to that of another: it is whole periods later, they are not
-/// far from each other, and the other begins when it should, as far as it may stray.
+/// far from each other (`is_far`), and the other begins when it should, as far as it may stray
+/// (`slack`).
 pub fn leads(format: Format, one: &Shown, other: &Shown) -> bool
     ensures { result ≡ leads format one.now other.now }
 {
@@ -204,8 +211,8 @@ pub fn leads(format: Format, one: &Shown, other: &Shown) -> bool
         && 2_000 * stray(format, one, other) <= slack(format, one, other)
 }
 
-/// Whether the times of two frames do not contradict each other: either they are far from each
-/// other, or the times differ by as many periods as the distance shows.
+/// Whether the times of two frames do not contradict each other: either the frames are far from
+/// each other (`is_far`), or the times differ by as many periods as the distance shows.
 pub fn allows(format: Format, one: &Shown, other: &Shown) -> bool
     ensures { result ≡ allows format one.now other.now }
 {

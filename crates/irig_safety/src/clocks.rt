@@ -1,6 +1,8 @@
 //! When a frame begins by the clock that other frames show. The clock of two frames is how long a
 //! frame period takes in the recording, by their distance and their times. It is off if that is not
-//! the nominal period.
+//! the nominal period. Two frames agree if the later one's time is whole periods later, and they
+//! are that far apart, to half a period. `before2`, `before`, `after` and `after2` are the two
+//! frames before a frame, the nearer one last, and the two after it.
 
 ghost use Rattle.std.specs.Prelude.{◌≡◌, ◌<◌, ◌^◌, Some};
 ghost use Rattle.irig_safety.specs.Clocks.{is_by_clock, is_by_next, is_in_time, shows_any_clock};
@@ -12,8 +14,8 @@ use crate::bearing::{apart, distance, is_later, is_shown, periods, stray};
 use crate::shown::Shown;
 use irig_codes::Format;
 
-/// Whether two frames agree, and so show by how much the clock is off: by a fortieth at most, or by 8 in
-/// 100 if one is the next after the other.
+/// Whether two frames agree, and so show by how much the clock is off: by a fortieth at most, or by
+/// 8 in 100 if one is the next after the other.
 pub fn shows_clock(format: Format, one: &Shown, other: &Shown) -> bool
     ensures { result ≡ shows_clock format one.now other.now }
 {
@@ -61,8 +63,8 @@ pub fn shows_any_clock(format: Format, one: &Shown, other: &Shown) -> bool
             <= 2 * (periods(format, one, other) * u128::from(format.frame_period()))
 }
 
-/// Whether the times of two frames are whole frame periods apart, on a clock that is off by 8 in 100 at
-/// most.
+/// Whether the times of two frames are whole frame periods apart, on a clock that is off by 8 in
+/// 100 at most.
 fn is_off(format: Format, one: &Shown, other: &Shown) -> bool
     ensures { result ≡ is_off format one.now other.now }
 {
@@ -70,8 +72,9 @@ fn is_off(format: Format, one: &Shown, other: &Shown) -> bool
     is_later(format, one, other) && 25 * stray(format, one, other) <= 2 * whole
 }
 
-/// Whether two frames show the clock that two others show, to half an interval, and are no more than a
-/// hundred times as far from each other.
+/// Whether `from` and `to` show the clock that `one` and `other` show, to half an interval, and are
+/// no more than a hundred times as far from each other as these. Neither clock is off by more than
+/// 8 in 100.
 fn is_same_clock(format: Format, one: &Shown, other: &Shown, from: &Shown, to: &Shown) -> bool
     ensures { result ≡ is_same_clock format one.now other.now from.now to.now }
 {
@@ -81,7 +84,8 @@ fn is_same_clock(format: Format, one: &Shown, other: &Shown, from: &Shown, to: &
         && is_in_time(format, one, other, from, to)
 }
 
-/// Whether `before` and `after` show the clock of the two before, if there are two.
+/// Whether `before` and `after` show the clock of `before2` and `before`. False if `before2` is not
+/// there.
 fn is_own_from(format: Format, before2: Option<Shown>, before: &Shown, after: &Shown) -> bool
     ensures { result ≡ is_own_from format before2 before.now after.now }
 {
@@ -91,7 +95,8 @@ fn is_own_from(format: Format, before2: Option<Shown>, before: &Shown, after: &S
     }
 }
 
-/// Whether `before` and `after` show the clock of the two after, if there are two.
+/// Whether `before` and `after` show the clock of `after` and `after2`. False if `after2` is not
+/// there.
 fn is_own_to(format: Format, before: &Shown, after: &Shown, after2: Option<Shown>) -> bool
     ensures { result ≡ is_own_to format before.now after.now after2 }
 {
@@ -101,7 +106,8 @@ fn is_own_to(format: Format, before: &Shown, after: &Shown, after2: Option<Shown
     }
 }
 
-/// How many microseconds `many` frame periods take on the clock of two frames.
+/// How many microseconds `many` frame periods take on the clock of two frames; 0 if these are less
+/// than a period apart.
 fn long_by(format: Format, one: &Shown, other: &Shown, many: u128) -> u128
     requires { many < 2 ^ 61 }
     ensures { result ≡ long_by format one.now other.now many }
@@ -114,8 +120,8 @@ fn long_by(format: Format, one: &Shown, other: &Shown, many: u128) -> u128
     }
 }
 
-/// Whether a distance of `micros` is between what two clocks say, `one` and `other`, to half an
-/// interval, and they differ by six intervals at most.
+/// Whether a distance of `micros` microseconds is between what two clocks say, `one` and `other`,
+/// to half an interval, and these differ by six intervals at most. All are in microseconds.
 fn is_amidst(interval: u64, one: u128, other: u128, micros: u128) -> bool
     requires { micros < 2 ^ 64 }
     ensures { result ≡ is_amidst interval one other micros }
@@ -127,8 +133,8 @@ fn is_amidst(interval: u64, one: u128, other: u128, micros: u128) -> bool
         && (least <= one || least <= other)
 }
 
-/// Whether the clock wanders: the frames on both sides are as far apart as lies between what the clock of
-/// the two before says and that of the two after.
+/// Whether the clock wanders: the frames on both sides are as far apart as lies between what the
+/// clock of the two before says and that of the two after. False if one of the four is not there.
 fn is_amid(
     format: Format,
     before2: Option<Shown>,
@@ -144,8 +150,9 @@ fn is_amid(
     }
 }
 
-/// Whether two frames are as far apart as lies between what the clock of the two before says and
-/// that of the two after.
+/// Whether `before` and `after` are as far apart as lies between what the clock of the two before
+/// says and that of the two after. None of the clocks is off by more than 8 in 100, and `before`
+/// and `after` are no more than a hundred times as far apart as the two before.
 fn is_amid_of(
     format: Format,
     before2: &Shown,
@@ -169,8 +176,9 @@ fn is_amid_of(
         )
 }
 
-/// Whether the frames on both sides show the clock of the recording, and by that a frame begins when
-/// it should, and the one after it.
+/// Whether the frames on both sides show the clock of the recording, and by it a frame begins when
+/// it should after `before`, and `after` after the frame. They show it if two on one side do, too,
+/// or if it is between the clocks of both sides.
 pub fn is_by_own_clock(
     format: Format,
     before2: Option<Shown>,

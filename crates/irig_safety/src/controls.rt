@@ -59,8 +59,8 @@ fn shares(other: Option<Shown>, frame: &Shown, function: u32) -> bool
     }
 }
 
-/// Whether the two frames nearest to a frame have a control function as it has it: one on each side,
-/// or the two of one side if the other has none.
+/// Whether the two frames nearest to a frame are there and have a control function as it has it:
+/// one on each side, or the two of one side if the other has none.
 pub fn is_shared(near: &Witnesses, frame: &Shown, function: u32) -> bool
     requires { function < 64 }
     ensures { result ≡ is_shared function near.now frame.now }

@@ -1,6 +1,7 @@
 //! Whether a pulse is on the curve on which the clock of two frames becomes that of two others. The
 //! clock of two frames is how long a frame period takes in the recording, by their distance and
-//! their times.
+//! their times. Distances are in microseconds. An anchor is a pulse whose place is known: its
+//! `steps` are how many elements it is away, and `rise` is when it rises.
 
 ghost use Rattle.std.specs.Prelude.{◌≡◌, ◌≤◌, ◌<◌, ◌*◌, ◌^◌, IsTrue};
 ghost use Rattle.irig_codes.specs.Format.{interval_of};
@@ -25,7 +26,7 @@ pub struct Sides {
     pub after2: Shown,
 }
 
-/// Whether the frames are at most 500 frame periods from each other.
+/// Whether each of the frames is at most 500 frame periods before the next.
 fn are_few(format: Format, sides: &Sides) -> bool
     ensures value { result ≡ are_few format sides.now }
     ensures before { IsTrue result → periods format sides.now.before2 sides.now.before ≤ 500 }
@@ -38,7 +39,7 @@ fn are_few(format: Format, sides: &Sides) -> bool
 }
 
 /// How many microseconds a frame period takes by the clock of the two before, times `seen_over`: so
-/// nothing is divided.
+/// nothing is divided. The periods of the two before cancel.
 fn long_before(format: Format, sides: &Sides) -> u128
     requires { periods format sides.now.after sides.now.after2 ≤ 500 }
     ensures value { result ≡ long_before format sides.now }
@@ -48,7 +49,8 @@ fn long_before(format: Format, sides: &Sides) -> u128
     distance(&sides.before2, &sides.before) * many
 }
 
-/// How many microseconds a frame period takes by the clock of the two after, times `seen_over`.
+/// How many microseconds a frame period takes by the clock of the two after, times `seen_over`: the
+/// periods of the two after cancel.
 fn long_after(format: Format, sides: &Sides) -> u128
     requires { periods format sides.now.before2 sides.now.before ≤ 500 }
     ensures value { result ≡ long_after format sides.now }
@@ -58,7 +60,7 @@ fn long_after(format: Format, sides: &Sides) -> u128
     distance(&sides.after, &sides.after2) * many
 }
 
-/// The product of how many frame periods both clocks were seen over.
+/// How many frame periods the two before are apart, times how many the two after are.
 fn seen_over(format: Format, sides: &Sides) -> u128
     requires before { periods format sides.now.before2 sides.now.before ≤ 500 }
     requires after { periods format sides.now.after sides.now.after2 ≤ 500 }
@@ -84,7 +86,8 @@ fn is_mean(format: Format, sides: &Sides) -> bool
     apart(found, wanted) <= seen * u128::from(format.interval())
 }
 
-/// Whether the clock changes from that of the two before to that of the two after.
+/// Whether the clock changes evenly from that of the two before to that of the two after. Neither
+/// is off by more than 8 in 100 (`shows_any_clock`).
 fn is_turning(format: Format, sides: &Sides) -> bool
     ensures value { result ≡ is_turning format sides.now }
     ensures before { IsTrue result → periods format sides.now.before2 sides.now.before ≤ 500 }
@@ -98,8 +101,9 @@ fn is_turning(format: Format, sides: &Sides) -> bool
         && is_mean(format, sides)
 }
 
-/// What a bend is divided by. `all` is twice the frame periods from the middle of the two before to
-/// the middle of the two after: over these the clock changes evenly.
+/// What a bend is divided by: `all`, `seen_over`, which is in the difference of the clocks, and 100
+/// twice, since a frame has 100 elements. `all` is twice the frame periods from the middle of the
+/// two before to the middle of the two after: over these the clock changes evenly.
 fn turned_over(format: Format, sides: &Sides) -> u128
     requires before { periods format sides.now.before2 sides.now.before ≤ 500 }
     requires across { periods format sides.now.before sides.now.after ≤ 500 }

@@ -1,5 +1,6 @@
 //! Why frames are not safe. A frame is borne out if the former frames next to it have its time
-//! there.
+//! there. A control function is borne out if the frames nearest to its own have it, too, if the
+//! recording has its pulse or lost it, or if most other recordings have it.
 
 use crate::shown::Shown;
 
@@ -10,14 +11,18 @@ pub enum Fault {
     Lost(Shown),
     /// This one read well, and is another one now that does not mend it.
     Changed(Shown),
-    /// This one did not read well, and nothing bears it out.
+    /// This one did not read well before, and nothing bears it out.
     Unsupported(Shown),
-    /// This one did not read well, or is another one now, and nothing bears out its control functions.
+    /// This one did not read well, or is another one now, and nothing bears out its control
+    /// functions.
     Unrecorded(Shown),
     /// This one read well and still does, and its pulses do not rise when they did.
     Moved(Shown),
-    /// This one did not read well, and its pulses rise where nothing supports it.
+    /// This one did not read well, and its pulses rise where nothing supports it: one is neither
+    /// where the recording has one nor on the line between those next to it. If no frame of the
+    /// recording read well: fewer than 60 of its pulses are where the recording has one.
     Misplaced(Shown),
-    /// None read well, and they do not bear each other out.
+    /// None read well, and those that do now do not bear each other out: they are fewer than three,
+    /// or their times do not lead from one to the next.
     Alone,
 }

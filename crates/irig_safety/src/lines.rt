@@ -1,6 +1,9 @@
 //! Whether a pulse is on the line between two whose place is known. `near` is the frames next to a
-//! frame. The clock of two frames is how long a frame period takes in the recording, by their
-//! distance and their times.
+//! frame: `before2` and `before` before it, the nearer one last, `after` and `after2` after it. The
+//! clock of two frames is how long a frame period takes in the recording, by their distance and
+//! their times. Two frames agree if they are near enough for their distance to say how many periods
+//! it is, and their times are as many apart. `steps` are elements, and `micros` the microseconds
+//! that they took.
 
 ghost use Rattle.std.specs.Prelude.{◌≡◌, ◌≤◌, ◌<◌, ◌+◌, ◌-◌, ◌*◌, ◌/◌, ◌^◌, IfSome, IsTrue};
 ghost use Rattle.irig_codes.specs.Format.{interval_of};
@@ -17,8 +20,8 @@ use crate::shown::Shown;
 use crate::witnesses::{Witnesses, is_own};
 use irig_codes::Format;
 
-/// A pulse whose place is known: how many elements it is away from another, and when it rises, in
-/// microseconds.
+/// A pulse whose place is known: how many elements it is away from the one that is looked at, and
+/// when it rises, in microseconds.
 #[derive(Clone, Copy)]
 pub struct Anchor {
     pub steps: u128,
@@ -111,8 +114,8 @@ pub fn between(from: u64, to: u64) -> u128
     u128::from(to.saturating_sub(from))
 }
 
-/// Whether a time is on the line between two anchors, that many microseconds after the first, to a tenth of
-/// an interval.
+/// Whether a time `micros` microseconds after the first of two anchors is on the line between them,
+/// to a tenth of an interval. It is as many elements from each anchor as the anchor's `steps`.
 pub fn is_straight(format: Format, before: &Anchor, micros: u128, after: &Anchor) -> bool
     requires { (before.now.steps ≤ 2 ^ 17) × (after.now.steps ≤ 2 ^ 17) × (micros < 2 ^ 65) }
     ensures { result ≡ is_straight format before.now micros after.now }
@@ -123,7 +126,8 @@ pub fn is_straight(format: Format, before: &Anchor, micros: u128, after: &Anchor
     apart(found, wanted) <= whole * tenth(format)
 }
 
-/// Whether a time is on the line between two anchors, or on the curve on which the clock changes there.
+/// Whether a rise, in microseconds, is on the line between two anchors, or on the curve on which
+/// the clock changes there.
 fn is_between(format: Format, near: &Witnesses, before: &Anchor, rise: u64, after: &Anchor) -> bool
     requires { (before.now.steps ≤ 2 ^ 17) × (after.now.steps ≤ 2 ^ 17) }
     ensures { result ≡ is_between format near.now before.now rise after.now }
@@ -133,7 +137,7 @@ fn is_between(format: Format, near: &Witnesses, before: &Anchor, rise: u64, afte
 }
 
 /// Whether `steps` elements take as many microseconds as they nominally do, to a tenth of an
-/// interval and a thousandth.
+/// interval and a thousandth of `micros`.
 fn is_nominal(format: Format, steps: u128, micros: u128) -> bool
     requires { (steps ≤ 2 ^ 17) × (micros < 2 ^ 64) }
     ensures { result ≡ is_nominal format steps micros }
@@ -142,8 +146,8 @@ fn is_nominal(format: Format, steps: u128, micros: u128) -> bool
     1_000 * apart(micros, steps * interval) <= 100 * interval + micros
 }
 
-/// Whether `steps` elements take as many microseconds as by the clock of two frames, to a tenth of
-/// an interval.
+/// Whether two frames show a clock that is not far off (`shows_clock`), and `steps` elements take
+/// as many microseconds as by that clock, to a tenth of an interval.
 fn is_at_clock(format: Format, steps: u128, micros: u128, one: &Shown, other: &Shown) -> bool
     requires { (steps ≤ 2 ^ 17) × (micros < 2 ^ 64) }
     ensures { result ≡ is_at_clock format steps micros one.now other.now }
@@ -153,7 +157,7 @@ fn is_at_clock(format: Format, steps: u128, micros: u128, one: &Shown, other: &S
     shows_clock(format, one, other) && apart(micros * whole, wanted) <= whole * tenth(format)
 }
 
-/// Whether steps and microseconds fit the clock of two frames, if both are there.
+/// Whether steps and microseconds fit the clock of two frames. False if one of them is not there.
 fn is_at_clock_of(
     format: Format,
     steps: u128,
@@ -191,7 +195,9 @@ fn is_along(format: Format, near: &Witnesses, steps: u128, micros: u128) -> bool
     is_nominal(format, steps, micros) || is_clocked(format, near, steps, micros)
 }
 
-/// Whether a time is where the anchors have it that are there before it and after it.
+/// Whether a rise, in microseconds, is where the anchors have it: on the line or the curve between
+/// two; from one alone, by the nominal interval or the clock of the nearest frames. False if there
+/// is none.
 pub fn is_on_line(
     format: Format,
     near: &Witnesses,

@@ -1,5 +1,6 @@
 //! Whether a frame that read well, and is another one now, is mended by that. `former` is the frame
-//! as it was, `frame` as it is now, and `near` the former frames next to it.
+//! as it was, `frame` as it is now, and `near` the former frames next to it. Two frames contradict
+//! each other if they are near, and their times are not as many frame periods apart as their rises.
 
 ghost use Rattle.std.specs.Prelude.{◌≡◌, ◌↔◌, ◌<◌, ◌⊎◌, IsTrue, ℕ, not, ◌&&◌};
 ghost use Rattle.irig_codes.specs.Format.{control_count_of};
@@ -61,8 +62,8 @@ fn is_control_mended(
         || has_control_of_most(format, others, near, former, frame)
 }
 
-/// Whether the time of a frame was wrong and is mended: both next to it contradict it, and bear out
-/// what it is.
+/// Whether the time of a frame was wrong and is mended: the frames on both sides contradict what it
+/// was, and those next to it bear out what it is. False if one side has no frame.
 fn is_mended(format: Format, near: &Witnesses, former: &Shown, frame: &Shown) -> bool
     ensures { result ≡ is_mended format near.now.before2 near.now.before former.now
         near.now.after near.now.after2 frame.now }
@@ -134,7 +135,8 @@ fn contradicts_to(format: Format, frame: &Shown, after: Option<Shown>) -> bool
     }
 }
 
-/// Whether the control functions of a frame alone are other ones: those of both next to it.
+/// Whether a frame is the former one but for its control functions, and has those that both frames
+/// next to it have. It is not asked whether they differ from the former ones.
 fn has_control_of_both(near: &Witnesses, former: &Shown, frame: &Shown) -> bool
     ensures { IsTrue result
         ↔ HasControlOfBoth near.now.before former.now near.now.after frame.now }
@@ -148,7 +150,7 @@ fn has_control_of_both(near: &Witnesses, former: &Shown, frame: &Shown) -> bool
     }
 }
 
-/// Whether two frames have these control functions.
+/// Whether two frames both have just these control functions; with `None`, that neither has any.
 fn both_have(one: &Shown, other: &Shown, control: Option<u64>) -> bool
     ensures { IsTrue result
         ↔ (one.now.fields.control ≡ control) × (other.now.fields.control ≡ control) }

@@ -1,4 +1,6 @@
-//! Where the frames of a recording are after an edit that moves them.
+//! Where the frames of a recording are after an edit that moves them. Places in a list count from
+//! 0. Two frames have one time here if their day and time of day are the same: years are not
+//! compared.
 
 ghost use Rattle.std.specs.Prelude.{◌≡◌, ◌≤◌, IfOk, drop, length};
 ghost use Rattle.irig_safety.specs.Moved.{from_time, moved_in, moved_to, rest_of};
@@ -8,8 +10,8 @@ use crate::safety::frame_at;
 use crate::shown::Shown;
 use std::alloc::{AllocError, Global};
 
-/// The former frames where they are now: each where the next frame is that has its time. One
-/// without such a frame is where it was.
+/// The former frames where they are now: each where the first frame is that has its time, after the
+/// one that the frame before it was found at. One without such a frame is where it was.
 pub fn moved_in(alloc: Global, old: &[Shown], new: &[Shown]) -> Result<Vec<Shown>, AllocError>
     ensures { IfOk result (λ moved. moved.items ≡ moved_in old.now new.now) }
 {
@@ -38,7 +40,7 @@ fn place_of(frame: &Shown, new: &[Shown], from: usize) -> usize
     new.len()
 }
 
-/// A frame where another one is, if there is one.
+/// A frame with the rise of `at`, if there is one, and its own fields; else as it is.
 fn moved_to(frame: &Shown, at: Option<Shown>) -> Shown
     ensures { result ≡ moved_to frame.now at }
 {
@@ -51,7 +53,8 @@ fn moved_to(frame: &Shown, at: Option<Shown>) -> Shown
     }
 }
 
-/// Where the next search begins: after the place that was found, or where this one did if none was.
+/// Where the next search begins: after `place`, where a frame was found, or if it is the end of the
+/// list, since none was, at `passed`, where this search began.
 fn rest_of(new: &[Shown], place: usize, passed: usize) -> usize
     requires { (place ≤ length new.now) × (passed ≤ length new.now) }
     ensures within { result ≤ length new.now }

@@ -47,7 +47,7 @@ impl Model for Original {
 }
 
 impl Original {
-    /// All put together, and by what repairs are judged besides.
+    /// These parts as one. `markers` has the marker of each of `frames`.
     pub fn new(
         frames: Vec<Shown>,
         markers: Vec<usize>,
@@ -109,7 +109,7 @@ impl Original {
         }
     }
 
-    /// All pulses, which rise.
+    /// All pulses, in rising order.
     pub fn pulses(&self) -> &[Pulse]
         ensures { result.now ≡ self.now.pulses }
     {
@@ -128,9 +128,9 @@ impl Original {
         }
     }
 
-    /// Whether a pulse, if it is there, rises when one of the recording does, or is a gap of it turned
-    /// over. A place of the recording is looked at first, and becomes the next one to look at: the
-    /// answer does not depend on it.
+    /// Whether a pulse is there and rises when one of the recording does, or is a gap of it turned
+    /// over. A place, from 0, of the recording is looked at first, and becomes the next one to look
+    /// at: the answer does not depend on it.
     pub fn holds(&self, pulse: Option<Pulse>, place: &mut usize) -> bool
         ensures { result ≡ is_anchor self.now.pulses pulse }
     {
@@ -140,8 +140,8 @@ impl Original {
         }
     }
 
-    /// Whether a pulse is as recorded: one of the same class rises within a tenth of the interval of
-    /// it.
+    /// Whether a pulse is as recorded: one of the same class rises within a tenth of the interval
+    /// of it.
     pub fn has(&self, format: Format, pulse: Pulse) -> bool
         ensures { IsTrue result ↔ IsRecorded format self.now.pulses pulse }
     {
@@ -198,7 +198,8 @@ pub fn near_in(frames: &[Shown], place: usize, next: usize) -> Witnesses
     }
 }
 
-/// Whether one of some pulses that rise is alike to a pulse, and near it.
+/// Whether one of some pulses, in rising order, is alike to a pulse and near it. `any`: any class
+/// will do.
 fn has_alike(format: Format, any: bool, recorded: &[Pulse], pulse: Pulse) -> bool
     requires { IsNonDecreasingBy (λ (p : SomePulse). p.rise) recorded.now }
     ensures { IsTrue result ↔ IsNear format any recorded.now pulse }

@@ -1,4 +1,6 @@
-//! What other recordings of the same code say of a frame.
+//! What other recordings of the same code say of a frame. `others` is their frames. Control
+//! functions count from 0. Two frames agree if they are near enough for their distance to say how
+//! many frame periods it is, and their times are as many apart.
 
 ghost use Rattle.std.specs.Prelude.{◌≡◌, ◌<◌, IfOk};
 ghost use Rattle.irig_safety.specs.Others.{backed, is_among, is_backed, is_backed_from};
@@ -11,8 +13,8 @@ use crate::shown::Shown;
 use irig_codes::{Fields, Format};
 use std::alloc::{AllocError, Global};
 
-/// Whether most frames of other recordings that have the time of a frame have a control function as
-/// it has it.
+/// Whether, of the frames of other recordings that have the time of a frame, more have a control
+/// function as it has it than otherwise.
 pub fn is_told(others: &[Shown], frame: &Shown, function: u32) -> bool
     requires { function < 64 }
     ensures { result ≡ is_told function others.now frame.now }
@@ -20,8 +22,8 @@ pub fn is_told(others: &[Shown], frame: &Shown, function: u32) -> bool
     votes(others, frame, function, false) < votes(others, frame, function, true)
 }
 
-/// How many frames have the time of a frame, and a control function as it has it, if `so`; else
-/// otherwise than it has it.
+/// How many frames have the time of a frame, and a control function as it has it, if `so`; if not
+/// `so`, otherwise than it has it.
 fn votes(others: &[Shown], frame: &Shown, function: u32, so: bool) -> usize
     requires { function < 64 }
     ensures { result ≡ votes so function others.now frame.now }
@@ -35,8 +37,8 @@ fn votes(others: &[Shown], frame: &Shown, function: u32, so: bool) -> usize
     many
 }
 
-/// Whether another frame has the time of a frame, and a control function as it has it, if `so`;
-/// else otherwise than it has it.
+/// Whether another frame has the time of a frame, and a control function as it has it, if `so`; if
+/// not `so`, otherwise than it has it.
 fn is_vote(other: &Shown, frame: &Shown, function: u32, so: bool) -> bool
     requires { function < 64 }
     ensures { result ≡ is_vote so function other.now frame.now }
@@ -60,7 +62,8 @@ pub fn is_among(others: &[Shown], frame: &Shown) -> bool
     false
 }
 
-/// Whether two frames have the same time of day, day and year, or neither has a year.
+/// Whether two frames have the same time of day, day and year. No year is the same as no year, and
+/// no hundredths are 0.
 fn is_of_time(one: &Fields, other: &Fields) -> bool
     ensures { result ≡ is_of_time one.now other.now }
 {

@@ -1,6 +1,10 @@
-//! Whether frames are safe, and why they are not. `old` is the frames that read well at first and
-//! `new` those that do now, both in the order of their rises. A frame is borne out if the old ones
-//! next to it have its time there, and leads to another if it has the other's time there.
+//! Whether frames are safe, and why they are not. `old` is the frames that read well at first (the
+//! former ones) and `new` those that do now, both in the order of their rises. A frame leads to a
+//! later one if the later one's time is whole frame periods later and it rises that long after,
+//! nearly. A frame is borne out if the old ones next to it have its time there. A former frame is
+//! passed if the new frames that were looked at have one that begins when it does. The faults:
+//! `Lost` if a former frame has none, `Changed` if the one it has is not it and does not mend it,
+//! `Unsupported` of a new frame, that it is not borne out.
 
 ghost use Rattle.std.specs.Prelude.{◌≡◌, ◌↔◌, ◌-◌, ◌≤◌, ◌+◌, ◌∷◌, List, IsTrue, None, Option, Some};
 ghost use Rattle.std.specs.Prelude.{Err, IfErr, IfOk, Ok, OnErr, OnOk, drop, if◌then◌else◌, length};
@@ -19,7 +23,8 @@ use crate::witnesses::{Witnesses, is_borne};
 use irig_codes::Format;
 
 /// Whether the frames that read well now are safe, by those that did at first, and by frames of
-/// other recordings. If not, the first fault in the order of their rises.
+/// other recordings. If not, the first fault in the order of their rises. If none read well at
+/// first, the only fault is `Alone`: the new ones do not bear each other out.
 pub fn check_safe(
     format: Format,
     others: &[Shown],
@@ -40,7 +45,7 @@ pub fn check_safe(
     }
 }
 
-/// Whether none reads well, or at least three do, each of which leads to the next.
+/// Whether none reads well now, or at least three do, each of which leads to the next.
 fn are_of_themselves(format: Format, new: &[Shown]) -> bool
     ensures { IsTrue result ↔ AreOfThemselves format new.now }
 {
@@ -59,8 +64,8 @@ fn lead_on(format: Format, frames: &[Shown]) -> bool
     true
 }
 
-/// Whether each frame is one of the former, or was wrong and is mended, or is borne out by them. If
-/// not, the first fault.
+/// Whether each frame is one of the former, or was wrong and is mended, or is borne out by them,
+/// and no former one is gone. If not, the first fault. `kept` is how many former frames are passed.
 fn check_from(format: Format, others: &[Shown], old: &[Shown], new: &[Shown]) -> Result<(), Fault>
     ensures safe { OnOk result (IsSafeFrom format others.now None None old.now new.now) }
     ensures fault { IfErr result (FaultFrom format others.now None None old.now new.now) }
@@ -78,8 +83,8 @@ fn check_from(format: Format, others: &[Shown], old: &[Shown], new: &[Shown]) ->
     }
 }
 
-/// How many of the former frames are passed after one more frame, if `kept` are passed before it;
-/// or why it is not safe.
+/// How many of the former frames are passed after one more new frame, if `kept` are passed before
+/// it; or why the new one is not safe.
 fn passed(
     format: Format,
     others: &[Shown],
@@ -111,8 +116,8 @@ fn passed(
     }
 }
 
-/// How many former frames are passed after a frame that begins where none of them does: no more
-/// than before. Or why it is not safe.
+/// How many former frames are passed after a new frame that begins when none of them does: still
+/// `kept`. `Unsupported` if it is not borne out.
 fn come(format: Format, old: &[Shown], kept: usize, frame: &Shown) -> Result<usize, Fault>
     requires { kept ≤ length old.now }
     ensures { result ≡ if is_borne format (behind (kept - 1) old.now) (behind kept old.now)
@@ -126,7 +131,8 @@ fn come(format: Format, old: &[Shown], kept: usize, frame: &Shown) -> Result<usi
     }
 }
 
-/// Whether a former frame is as it was, or was wrong and is mended.
+/// Whether `frame`, which begins when the former frame at `place` of `old` does, is that former one
+/// (`former`), or mends it.
 fn stays(
     format: Format,
     others: &[Shown],
@@ -151,7 +157,8 @@ fn stays(
     mends(format, others, &near, former, frame)
 }
 
-/// The frames next to one that begins between former ones, `place` of which are before it.
+/// The frames next to one that begins between former ones, `place` of which are before it: two on
+/// each side, as far as they are there.
 fn near(old: &[Shown], place: usize) -> Witnesses
     requires { place ≤ length old.now }
     ensures before2 { result.before2 ≡ behind (place - 1) old.now }
@@ -186,7 +193,8 @@ pub fn frame_behind(frames: &[Shown], place: usize) -> Option<Shown>
     }
 }
 
-/// Whether each frame that read well still does, at its time. If not, the first that does not.
+/// Whether each frame of `last`, which read well, still does: a frame of `new` begins when it does.
+/// What the two say is not compared. If not, `Lost` with the first frame that does not.
 pub fn check_unspoiled(last: &[Shown], new: &[Shown]) -> Result<(), Fault>
     ensures kept { OnOk result (NoneIsSpoiled last.now new.now) }
     ensures spoiled { OnErr result (NoneIsSpoiled last.now new.now → ⊥) }
@@ -205,8 +213,8 @@ pub fn check_unspoiled(last: &[Shown], new: &[Shown]) -> Result<(), Fault>
     }
 }
 
-/// How many former frames are found again after one more frame, if `found` are before it; or which
-/// one is not.
+/// How many frames of `last` are found again after one more new frame, if `found` are before it; or
+/// `Lost` with the next one, if the new frame begins after it.
 fn found_after(last: &[Shown], found: usize, frame: &Shown) -> Result<usize, Fault>
     requires { found ≤ length last.now }
     ensures within { IfOk result (λ place. place ≤ length last.now) }

@@ -4,7 +4,8 @@ ghost use Rattle.std.specs.Prelude.{◌≡◌, ◌↔◌, IsTrue};
 
 use irig_codes::Fields;
 
-/// A frame that reads well: when its marker rises, in microseconds, and what it says.
+/// A frame that reads well: when its marker rises, in microseconds, and its fields, which are its
+/// time and its control functions.
 #[derive(Clone, Copy, PartialEq, Eq)]
 pub struct Shown {
     pub rise: u64,

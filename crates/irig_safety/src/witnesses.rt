@@ -1,7 +1,9 @@
-//! Whether the frames on both sides of a frame bear out its time. A frame leads to another if it
-//! has the other's time at the place of that, and contradicts it if it has another time there. The
-//! clock of two frames is how long a frame period takes in the recording, by their distance and
-//! their times. Two frames stray by how much their distance differs from that of their times.
+//! Whether the frames on both sides of a frame bear out its time. A frame leads to a later one if
+//! the later one's time is whole frame periods later and it rises that long after, to half an
+//! interval and a thousandth of the distance. It contradicts a later one if the two are near enough
+//! for their distance to say how many periods it is, and their times say another number. The clock
+//! of two frames is how long a frame period takes in the recording: their distance by the periods
+//! of their times. Two frames stray by how much their distance differs from that of their times.
 
 ghost use Rattle.std.specs.Prelude.{◌≡◌, Some};
 ghost use Rattle.irig_safety.specs.Heard.{heard, is_disputed, is_overruled};
@@ -24,8 +26,9 @@ pub struct Witnesses {
     pub after2: Option<Shown>,
 }
 
-/// Whether the frame before a frame leads to it, or it leads to the one after it. If both are there
-/// and agree, it strays by no more than half an interval more than these two do.
+/// Whether the frame `before` a frame leads to it, or it leads to the one `after` it. If both are
+/// there and do not contradict each other, it strays by no more than half an interval more than
+/// these two do from each other. False if neither is there.
 fn is_led(format: Format, before: Option<Shown>, after: Option<Shown>, frame: &Shown) -> bool
     ensures { result ≡ is_led format before after frame.now }
 {
@@ -37,8 +40,7 @@ fn is_led(format: Format, before: Option<Shown>, after: Option<Shown>, frame: &S
     }
 }
 
-/// Whether the first of two frames leads to a frame between them, or that one leads to the second.
-/// If the two agree, it strays by no more than half an interval more than they do.
+/// As `is_led`, of two frames that are both there.
 fn is_led_by(format: Format, before: &Shown, after: &Shown, frame: &Shown) -> bool
     ensures { result ≡ is_led format (Some before.now) (Some after.now) frame.now }
 {
@@ -119,8 +121,10 @@ fn is_timed_by(format: Format, near: &Witnesses, a: &Shown, b: &Shown, frame: &S
         || is_next_to(format, frame, b, near.after2)
 }
 
-/// Whether a frame begins when it should, to half an interval, by the clock of the frames next to
-/// it: those on both sides, or the two on the one side that has any.
+/// Whether a frame begins when it should, to half an interval, by a clock of the frames next to it:
+/// if some are on both sides, that of the nearest two, or as in `is_next_from` and `is_next_to`
+/// that of the two on one side; else that of the two on the one side. A single frame shows no
+/// clock.
 fn is_timed(format: Format, near: &Witnesses, frame: &Shown) -> bool
     ensures { result
         ≡ is_timed format near.now.before2 near.now.before near.now.after near.now.after2 frame.now }
@@ -134,7 +138,8 @@ fn is_timed(format: Format, near: &Witnesses, frame: &Shown) -> bool
 }
 
 /// Whether a frame begins when it should, between the frames next to it, by the recording's own
-/// clock: the one that those two show as the two before or after them do.
+/// clock: that of these two, if the two before or the two after show it too, or it is between the
+/// clocks of both pairs. False if a side has no frame.
 pub fn is_own(format: Format, near: &Witnesses, frame: &Shown) -> bool
     ensures { result
         ≡ is_own format near.now.before2 near.now.before near.now.after near.now.after2 frame.now }
@@ -147,16 +152,17 @@ pub fn is_own(format: Format, near: &Witnesses, frame: &Shown) -> bool
     }
 }
 
-/// Whether a frame has no inserted second 60, or frames are on both sides: only those may bear one
-/// out.
+/// Whether a frame has no inserted second 60, or frames are on both sides: an inserted second is
+/// borne out only by both sides.
 fn may_stand(near: &Witnesses, frame: &Shown) -> bool
     ensures { result ≡ may_stand near.now.before near.now.after frame.now }
 {
     frame.fields.seconds <= 59 || near.before.is_some() && near.after.is_some()
 }
 
-/// Whether the frames next to a frame bear out its time: one of them leads to it, or it is in time
-/// by their clock, and none contradicts it; or it is where the recording's own clock has it.
+/// Whether the frames next to a frame bear out its time: it is led (`is_led`) or in time by their
+/// clock, and none contradicts it; or it is where the recording's own clock has it. In either case
+/// an inserted second 60 needs frames on both sides.
 fn bears(format: Format, near: &Witnesses, frame: &Shown) -> bool
     ensures { result ≡ bears format near.now frame.now }
 {
@@ -166,7 +172,7 @@ fn bears(format: Format, near: &Witnesses, frame: &Shown) -> bool
         && may_stand(near, frame)
 }
 
-/// Whether a frame is overruled: both others contradict it, and do not contradict each other.
+/// Whether both other frames contradict `frame`, and not each other. False if one is missing.
 fn is_overruled(
     format: Format,
     before: Option<Shown>,
@@ -183,7 +189,7 @@ fn is_overruled(
     }
 }
 
-/// Whether nothing is on one side, and the two frames on the other contradict each other.
+/// Whether `other` is not there, and `one` and `next` are and contradict each other.
 fn is_disputed(
     format: Format,
     other: Option<Shown>,
@@ -198,9 +204,9 @@ fn is_disputed(
     }
 }
 
-/// The frames next to a place that are heard: not the one before it or the one after it if that one
-/// alone is overruled; and none of two on one side that contradict each other if the other has
-/// none.
+/// The frames next to a place that are heard. If just one of the two nearest is overruled, it is
+/// left out, and the next on its side is the nearest. None is heard if one side has no frame, and
+/// the two on the other side contradict each other.
 fn heard(format: Format, near: &Witnesses) -> Witnesses
     ensures { result
         ≡ heard format near.now.before2 near.now.before near.now.after near.now.after2 }
