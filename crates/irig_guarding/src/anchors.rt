@@ -1,7 +1,8 @@
 //! Whether the pulses of a frame are where the recording has them. A pulse is an anchor if it rises
 //! where the recording has a pulse. An `Anchor` is such a pulse, or a marker, as it is seen from an
-//! element: how many elements away it is, and when it rises, in microseconds. Markers and elements
-//! count from 0.
+//! element: how many elements away it is (`steps`), and when it rises, in microseconds. Markers and
+//! elements count from 0. `near` is the frames of the recording next to a frame, two on each side,
+//! and `place` the pulse of the recording that is looked at first: no answer depends on it.
 
 ghost use Rattle.std.specs.Prelude.{◌≡◌, ◌↔◌, ◌-◌, ◌≤◌, ◌<◌, ◌^◌, IfSome, IsTrue};
 ghost use Rattle.irig_safety.specs.Anchors.{anchors_among, held_after, held_before, is_anchored};
@@ -75,15 +76,15 @@ pub fn is_rooted(session: &Session, opened: &Original, frame: &Seen) -> bool
     is_most(many)
 }
 
-/// Whether that many of the 100 pulses of a frame are most of them.
+/// Whether that many of the 100 pulses of a frame are most of them: 60 or more.
 fn is_most(many: usize) -> bool
     ensures { IsTrue result ↔ (60 ≤ many) }
 {
     many >= 60
 }
 
-/// Whether the pulse of an element is an anchor, of the frame of a marker. A place of the recording is
-/// looked at first, and becomes the next one to look at.
+/// Whether the pulse of an element of the frame of a marker is an anchor. `place` becomes the next
+/// one to look at.
 fn is_anchored(
     session: &Session,
     opened: &Original,
@@ -96,8 +97,7 @@ fn is_anchored(
     opened.holds(pulse_at(session, marker, element), place)
 }
 
-/// The element of the first anchor of a frame from an element on. A place of the recording is
-/// looked at first.
+/// The element of the first anchor of a frame from the element `from` on; `None` if none is there.
 fn next_anchor(
     session: &Session,
     opened: &Original,
@@ -150,8 +150,10 @@ fn is_held(
     )
 }
 
-/// What holds an element from before: the last anchor of its frame, or else the marker of the frame
-/// before.
+/// What holds an element from before, as it is seen from the element: the last anchor of its frame,
+/// at element `last`, or else the marker of the frame before. `before` is that marker as it is seen
+/// from the frame's own, so the element's number is added. `None` if there is neither. `near` is
+/// for the contract alone.
 fn held_before(
     session: &Session,
     near: &Witnesses,
@@ -177,8 +179,10 @@ fn held_before(
     }
 }
 
-/// What holds an element from after it: the next anchor of its frame, or else the marker of the
-/// frame after.
+/// What holds an element from after it, as it is seen from the element: the next anchor of its
+/// frame, at element `next`, or else the marker of the frame after. `after` is that marker as it is
+/// seen from the frame's own, so the element's number is taken off. `None` if there is neither.
+/// `near` is for the contract alone.
 fn held_after(
     session: &Session,
     near: &Witnesses,
@@ -203,8 +207,8 @@ fn held_after(
     }
 }
 
-/// The marker before a frame as it is seen from an element, if it was seen from the frame's own
-/// marker.
+/// The marker before a frame as it is seen from an element; `before` is as it is seen from the
+/// frame's own marker, which is that many elements nearer. `None` if there is none.
 fn later(before: Option<Anchor>, element: usize) -> Option<Anchor>
     requires { IfSome before (λ a. a.steps ≤ 2 ^ 16) × (element < 100) }
     ensures value { (f : FormatView) (w : SomeWitnesses) (y : ShownFrame)
@@ -220,8 +224,8 @@ fn later(before: Option<Anchor>, element: usize) -> Option<Anchor>
     }
 }
 
-/// The marker after a frame as it is seen from an element, if it was seen from the frame's own
-/// marker.
+/// The marker after a frame as it is seen from an element; `after` is as it is seen from the
+/// frame's own marker, which is that many elements farther. `None` if there is none.
 fn sooner(after: Option<Anchor>, element: usize) -> Option<Anchor>
     requires { IfSome after (λ a. a.steps ≤ 2 ^ 16) }
     ensures value { (f : FormatView) (w : SomeWitnesses) (y : ShownFrame)

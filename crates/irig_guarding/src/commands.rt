@@ -1,4 +1,5 @@
-//! What the lines of a proposed script ask for.
+//! What the lines of a proposed script ask for. `begin` opens a group, `end` ends it, and `abort`
+//! gives it up. A line that is not valid, or has more than 1000 bytes, asks for nothing of these.
 
 ghost use Rattle.std.specs.Prelude.{◌≡◌, ◌↔◌, ◌⊎◌, IsTrue, MatchOption};
 ghost use Rattle.irig_guarding.specs.Repair.{Asks, IsRepair, texts};
@@ -9,7 +10,7 @@ ghost use Rattle.irig_lines.specs.declared.command.Command.TheVariants as comman
 use crate::line::Line;
 use irig_lines::{Command, Purpose, parse_line};
 
-/// The most bytes of a line of a script.
+/// The most bytes of a line of a script, without the newline.
 const LINE_LIMIT: usize = 1000;
 
 /// What a line asks for, if it is valid and not too long.
@@ -20,7 +21,7 @@ pub fn command_of(line: &Line) -> Option<Command>
     command_in(line.bytes.as_slice())
 }
 
-/// What the bytes of a line ask for, if they are valid.
+/// What the bytes of a line ask for, if they are valid and not too many.
 fn command_in(line: &[u8]) -> Option<Command>
     ensures { MatchOption result ((asked : SomeCommand) → Asks asked line.now → ⊥)
         (λ asked. Asks asked line.now) }
@@ -66,7 +67,7 @@ fn is_begin(command: &Command) -> bool
     matches!(command, Command::Begin)
 }
 
-/// Whether a line ends a group.
+/// Whether a line ends a group and keeps it.
 pub fn ends(line: &Line) -> bool
     ensures { IsTrue result ↔ Asks command.End line.now.bytes.items }
 {
@@ -76,14 +77,14 @@ pub fn ends(line: &Line) -> bool
     }
 }
 
-/// Whether a command ends a group.
+/// Whether a command ends a group and keeps it.
 fn is_end(command: &Command) -> bool
     ensures { IsTrue result ↔ (command.now ≡ Command.End) }
 {
     matches!(command, Command::End)
 }
 
-/// Whether a line closes a group.
+/// Whether a line closes a group: it ends it or gives it up.
 pub fn closes(line: &Line) -> bool
     ensures { IsTrue result ↔ IsClosing line.now.bytes.items }
 {
@@ -93,7 +94,7 @@ pub fn closes(line: &Line) -> bool
     }
 }
 
-/// Whether a command closes a group.
+/// Whether a command closes a group: it ends it or gives it up.
 fn is_closing(command: &Command) -> bool
     ensures { IsTrue result ↔ ((command.now ≡ Command.End) ⊎ (command.now ≡ Command.Abort)) }
 {
@@ -117,7 +118,7 @@ fn is_nothing(command: &Command) -> bool
     matches!(command, Command::Nothing)
 }
 
-/// Whether the lines are one comment, or blank line.
+/// Whether the lines are just one, which is a comment or blank.
 pub fn are_remarks(lines: &[Line]) -> bool
     ensures { IsTrue result ↔ IsIdle (texts lines.now) }
 {

@@ -1,7 +1,9 @@
 //! Whether the control functions of the frames are borne out. One is borne out if the frames
 //! nearest to its own have it, too, if the recording has its pulse or lost it, or if most other
-//! recordings have it. `old` is the frames of the recording that read well, and `near` those of
-//! them next to a frame. Markers and elements count from 0.
+//! recordings have it. `old` is the frames of the recording that read well (the former ones), and
+//! `near` those of them next to a frame. Markers, elements and functions count from 0. A former
+//! frame is passed if the frames that were looked at have one that begins when it does. The faults:
+//! `Lost` if none does, `Unrecorded` of a frame with a function that is not borne out.
 
 ghost use Rattle.std.specs.Prelude.{◌≡◌, ◌↔◌, ◌⊎◌, ◌+◌, ◌<◌, ◌≤◌, ◌∷◌, List, IsTrue, None, Option};
 ghost use Rattle.std.specs.Prelude.{Some};
@@ -97,8 +99,8 @@ fn pass(
     judge(session, opened, &near, frame, passed + 1)
 }
 
-/// How many frames are passed after a frame next to some of the former, which is `next`; or why it
-/// is at fault.
+/// How many former frames are passed after a frame whose functions are looked at: `next`, if they
+/// are borne out. Else `Unrecorded`.
 fn judge(
     session: &Session,
     opened: &Original,

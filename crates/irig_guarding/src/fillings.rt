@@ -9,8 +9,8 @@ use crate::seen::Seen;
 use irig_edit::Session;
 use irig_safety::{Original, functions};
 
-/// How many frames of a session have a control function that is not in the recording. They are not
-/// counted if frames may move, or if none of the recording reads well.
+/// How many frames of a session have a control function that is not in the recording. 0 if frames
+/// may move, or if none of the recording reads well: then they are not counted.
 pub fn filled_frames(session: &Session, opened: &Original, frames: &[Seen]) -> usize
     requires { frames.now ≡ seen_frames session.now.state }
     ensures { Fills opened.now session.now.state result }

@@ -63,7 +63,7 @@ pub fn guard(
 }
 
 /// Runs lines on a session repair by repair, and prints them. `last` is listed again after each
-/// repair that is kept. Returns whether all were kept.
+/// repair that is kept. Returns `AllAccepted`, or `SomeRefused` if a repair was dropped.
 fn guard_lines(
     alloc: Global,
     session: &mut Session,
@@ -106,8 +106,8 @@ fn status_with(status: Status, dropped: Option<Reason>) -> Status
     }
 }
 
-/// The place after a repair that begins at a place: one line, or a group, which without an end is
-/// all lines that are left.
+/// The place, from 0, after a repair that begins at a place: one line, or a group, which without an
+/// end is all lines that are left.
 fn repair_end(lines: &[Line], at: usize) -> usize
     requires { at < length lines.now }
     ensures more { at < result }
@@ -156,7 +156,7 @@ fn guard_repair(
 }
 
 /// Tries one repair. Returns why it was dropped, if it was: then nothing has changed but what can
-/// be redone.
+/// be redone. `known` is copied first, since a repair that is dropped leaves it wrong.
 fn try_repair(
     alloc: Global,
     session: &mut Session,

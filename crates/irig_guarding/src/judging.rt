@@ -1,7 +1,8 @@
-//! Whether what a repair leads to may stay. `known` has for each frame of the recording that read
-//! well the marker at which its pulses are known to rise as they did. `before` is the frames that
-//! read well before the repair; `now` and `seen` are those that do now, the latter with their
-//! markers.
+//! Whether what a repair leads to may stay. `opened` is what is known of the recording, and `old`
+//! its frames that read well, at the places where they are now if frames may move. `known` has for
+//! each of them the marker at which its pulses are known to rise as they did. `before` is the
+//! frames that read well before the repair, and `last` those at the places where they are now;
+//! `now` and `seen` are those that read well now, the latter with their markers.
 
 ghost use Rattle.std.specs.Prelude.{◌≡◌, IfErr, IfOk, OnErr, OnOk, false, true};
 ghost use Rattle.irig_safety.specs.Original.{with_frames};
@@ -124,8 +125,8 @@ fn check_moved(
     }
 }
 
-/// Whether the frames may stay by those of the recording at the old places, and by those before the
-/// repair at their last ones. If not, their first fault.
+/// Whether the frames may stay by those of the recording (`old`), and by those before the repair
+/// (`last`). If not, their first fault.
 fn check_frames(
     session: &Session,
     opened: &Original,
@@ -157,7 +158,8 @@ fn check_frames(
     check_unspoiled(last, now)
 }
 
-/// Whether the control functions are borne out, if some frame of the recording reads well.
+/// Whether the control functions of the frames are borne out, which `controls.rt` says, if some
+/// frame of the recording reads well; without one they may be any. If not, the first fault.
 fn check_borne(
     session: &Session,
     opened: &Original,
@@ -179,7 +181,7 @@ fn check_borne(
 }
 
 /// Whether the pulses of the frames are where they may be, or if no frame of the recording reads
-/// well are rooted. Rooted is that most of their pulses rise where the recording has one.
+/// well are rooted: most of their pulses rise where the recording has one. If not, the first fault.
 fn check_pulses(
     session: &Session,
     opened: &Original,

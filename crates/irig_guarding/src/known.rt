@@ -25,8 +25,8 @@ pub fn unknown(alloc: Global, many: usize) -> Result<Vec<Option<usize>>, AllocEr
     Ok(known)
 }
 
-/// Whether it is known that the pulses of the former frame at a place rise as they did at this
-/// marker.
+/// Whether it is known that the pulses of the former frame at a place, from 0, rise as they did at
+/// this marker.
 pub fn is_known(known: &[Option<usize>], place: usize, marker: usize) -> bool
     ensures { IsTrue result → get_or known.now place None ≡ Some marker }
 {
@@ -37,7 +37,7 @@ pub fn is_known(known: &[Option<usize>], place: usize, marker: usize) -> bool
     }
 }
 
-/// Whether a marker is this one.
+/// Whether the marker that is known is there, and is this one.
 fn is_marker(known: Option<usize>, marker: usize) -> bool
     ensures { IsTrue result → known ≡ Some marker }
 {
@@ -60,8 +60,8 @@ pub fn learn(session: &Session, opened: &Original, frames: &[Seen], known: &mut 
     }
 }
 
-/// The place of the first former frame, from a place on, that does not begin before a time; the
-/// end, if all do.
+/// The place, from 0, of the first former frame, from the place `from` on, that does not begin
+/// before `rise`, in microseconds; the end, if all do.
 fn place_from(old: &[Shown], from: usize, rise: u64) -> usize {
     for place in from..old.len() {
         if rise <= old[place].rise {
@@ -72,7 +72,8 @@ fn place_from(old: &[Shown], from: usize, rise: u64) -> usize {
 }
 
 /// Compares the pulses of a frame with those of the former one at a place, if nothing is known of
-/// that, and fills in its marker if they rise as those.
+/// the former one, and fills in the frame's marker if its pulses rise as long after it as the
+/// former ones do after theirs.
 fn learn_one(
     session: &Session,
     opened: &Original,
@@ -91,9 +92,9 @@ fn learn_one(
     }
 }
 
-/// Replaces the markers by what is still known after the pulses from `place` on became others:
-/// `before` is how many there were before that, and `after` how many there are now. Nothing is
-/// known without a place.
+/// Replaces the markers by what is still known after pulses from a place on became others: `before`
+/// is how many pulses there were before that, and `after` how many there are now. Nothing is known
+/// if `place` is `None`.
 pub fn follow(known: &mut Vec<Option<usize>>, place: Option<Place>, before: usize, after: usize)
     ensures { (o : OriginalView) (ps qs : List SomePulse)
         → IfSome place (λ p. Became p.at p.come ps qs) → length ps ≡ before → length qs ≡ after
@@ -104,7 +105,8 @@ pub fn follow(known: &mut Vec<Option<usize>>, place: Option<Place>, before: usiz
     }
 }
 
-/// The marker that is known after that, if one is. Nothing is known without a place.
+/// The marker that is known after pulses became others, if one is: `known` is the one before.
+/// Nothing is known if `place` is `None`.
 fn followed(
     known: Option<usize>,
     place: Option<Place>,
@@ -120,8 +122,10 @@ fn followed(
     }
 }
 
-/// The marker that is known after pulses from a place on became others: the same for a frame that
-/// ends before them, moved with its pulses for one that begins after them, and none between.
+/// The marker that is known after the pulses from `place.at` on became `place.come` others: the
+/// same for a frame whose 100 pulses end before them, moved with its pulses for one that begins
+/// after them, and none between. `before` and `after` are how many pulses there were and are. More
+/// others than a `u64` has would not fit the sums.
 fn followed_by(marker: usize, place: &Place, before: usize, after: usize) -> Option<usize>
     ensures { Follows place.now.at place.now.come before after (Some marker) result }
 {
@@ -139,7 +143,7 @@ fn followed_by(marker: usize, place: &Place, before: usize, after: usize) -> Opt
     }
 }
 
-/// A number, if it is small enough for that of a pulse.
+/// The value as a number of a pulse; `None` if it does not fit.
 fn number(value: u128) -> Option<usize>
     ensures { IfSome result (λ n. n ≡ value) }
 {

@@ -4,8 +4,11 @@ ghost use Rattle.irig_guarding.specs.{Guarded.PrintedIsObeyed, Meaning.SafeState
 
 use irig_edit::calls_give_back;
 
-/// Does nothing. Its contract is what it means that a state is safe by another: the frames of that
-/// one which read well are kept or mended, and the others are borne out by those next to them.
+/// Does nothing. Its contract is what it means that a new state is safe by an old one in which some
+/// frame reads well. Each frame that reads well in the old state, at its place or if frames may
+/// move where it is now, is one of the new state, or was wrong and one of the new state mends it.
+/// Each frame that reads well in the new state and is neither is borne out: the old frames next to
+/// it have its time there.
 pub fn safe_states_are_kept_or_borne_out()
     ensures { SafeStatesMean }
 {}

@@ -26,7 +26,7 @@ pub fn lines_of(alloc: Global, script: &[u8]) -> Result<Vec<Line>, AllocError>
     Ok(lines)
 }
 
-/// Puts a last line after others that no newline ends, if it has a byte.
+/// Puts a last line, which no newline ends, after others, if it has a byte.
 fn put_last(lines: &mut Vec<Line>, bytes: Vec<u8>) -> Result<(), AllocError>
     requires { IsPlain bytes.items }
     ensures { OnOk result (texts lines.new.items ≡ texts lines.old.items ++ lines_of bytes.items) }

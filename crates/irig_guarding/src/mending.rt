@@ -26,8 +26,8 @@ use irig_safety::{Original, Shown};
 use irig_script::{Reply, obey_command};
 use std::alloc::Global;
 
-/// Obeys an edit. If it is refused, nothing has changed. What is known of the pulses of former frames
-/// stays true.
+/// Obeys an edit. If it is refused, nothing has changed. What is known of the pulses of former
+/// frames stays true. An edit answers nothing else.
 fn edit(
     session: &mut Session,
     known: &mut Vec<Option<usize>>,
@@ -68,7 +68,7 @@ fn mend(session: &mut Session, known: &mut Vec<Option<usize>>, line: &Line) -> R
     }
 }
 
-/// Obeys a command in a group if it is an edit.
+/// Obeys a command in a group if it is an edit; else `NoRepair`.
 fn mend_by(
     session: &mut Session,
     known: &mut Vec<Option<usize>>,

@@ -34,7 +34,8 @@ fn markers_of(alloc: Global, frames: &[Seen]) -> Result<Vec<usize>, AllocError>
     Ok(markers)
 }
 
-/// The pulses of a session, whose rises and falls never go back.
+/// The pulses of a session, whose rises and falls never go back. An error means that memory ran
+/// out.
 fn pulses_of(alloc: Global, session: &Session) -> Result<Vec<Pulse>, AllocError>
     ensures all { IfOk result (λ pulses. pulses.items ≡ session.now.state.pulses) }
     ensures rising { IfOk result (λ pulses.

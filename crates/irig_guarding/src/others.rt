@@ -1,4 +1,6 @@
-//! The frames of another recording of the same code.
+//! The frames of another recording of the same code. They say something of this one if a frame next
+//! to them agrees with them: the two are near enough for their distance to say how many frame
+//! periods it is, and their times are as many apart.
 
 ghost use Rattle.std.specs.Prelude.{◌≡◌, ◌≤◌, ◌^◌, ◌++◌, ℕ, Err, List, Option, length, Ok, IfErr};
 ghost use Rattle.std.specs.Prelude.{IfSome, OnOk};
@@ -18,7 +20,8 @@ use irig_safety::{Shown, backed};
 use std::alloc::{AllocError, Global};
 
 /// Puts the frames of another recording that say something of this one after those of others, by
-/// what was read of its dump: those with which a frame next to them agrees.
+/// what was read of its dump. `Dump` if it cannot be opened, `OutOfMemory` if memory runs out after
+/// that.
 pub fn add_frames(
     alloc: Global,
     recording: Recording,

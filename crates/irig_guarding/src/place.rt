@@ -15,7 +15,7 @@ use irig_edit::Session;
 use irig_lines::{Address, Command, Range, Time};
 use irig_script::{ends, number_at, time};
 
-/// Where pulses become others: how many are before them, and how many come instead.
+/// Where pulses become others: how many are before them (`at`), and how many come instead.
 #[derive(Clone, Copy)]
 pub struct Place {
     pub at: usize,

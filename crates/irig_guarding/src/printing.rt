@@ -63,7 +63,7 @@ fn put_remark(out: &mut Vec<u8>, line: &Line) -> Result<(), AllocError>
     }
 }
 
-/// Prints the front of a line after a number sign.
+/// Prints the first 900 bytes of a line after a number sign.
 fn put_front(out: &mut Vec<u8>, line: &Line) -> Result<(), AllocError>
     requires { Asks command.Nothing line.now.bytes.items → ⊥ }
     ensures { OnOk result ((remark : List ℕ) × IsRemark remark × IsRemarkOf line.now.bytes.items remark

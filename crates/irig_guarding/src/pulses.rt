@@ -1,7 +1,10 @@
 //! Whether the pulses of the frames stay where they were. `old` is the frames of the recording that
-//! read well, and `known` has for each of them the marker at which its pulses are known to rise as
-//! they did. Markers and elements count from 0. A pulse is an anchor if it rises where the
-//! recording has one.
+//! read well (the former ones), and `known` has for each of them the marker at which its pulses are
+//! known to rise as they did. Markers and elements count from 0, and places in `old`. A pulse is an
+//! anchor if it rises where the recording has one. A former frame is passed if the frames that were
+//! looked at have one that begins when it does. The faults: `Lost` if none does, `Moved` if the
+//! pulses of that one do not rise as they did, `Misplaced` of a frame that was not fine, or if none
+//! was.
 
 ghost use Rattle.std.specs.Prelude.{◌≡◌, ◌↔◌, ◌+◌, ◌<◌, ◌≤◌, ◌∷◌, List, IsTrue, None, Option, Some};
 ghost use Rattle.std.specs.Prelude.{IfErr, IfOk, OnErr, OnOk, drop, get_or, length, slice_get};
@@ -52,7 +55,8 @@ pub fn check_stand(
     Ok(())
 }
 
-/// Whether a frame shows what the former one at a place does, and is known to rise as that.
+/// Whether a frame shows what the former one at a place does, at its time, and its pulses are known
+/// to rise as those of the former one.
 fn is_unmoved(old: &[Shown], known: &[Option<usize>], place: usize, frame: &Seen) -> bool
     ensures same { IsTrue result → slice_get old.now place ≡ Some frame.now.shown }
     ensures known { IsTrue result → get_or known.now place None ≡ Some frame.now.marker }
@@ -112,8 +116,9 @@ fn pass(
     }
 }
 
-/// How many former frames are passed after one that was not fine, next to some of them: `passed` as
-/// before. Or why it is at fault.
+/// How many former frames are passed after a frame that was not fine: `passed` as before. `near` is
+/// the former ones next to it. `Misplaced` if a pulse of it is neither an anchor nor on the line
+/// between those next to it.
 fn come(
     session: &Session,
     opened: &Original,
@@ -130,7 +135,8 @@ fn come(
     }
 }
 
-/// Whether most pulses of each frame that reads well are anchors. If not, the first that is at fault.
+/// Whether most pulses of each frame that reads well, 60 or more, are anchors. If not, the first
+/// that is at fault.
 pub fn check_rooted(session: &Session, opened: &Original, frames: &[Seen]) -> Result<(), Fault>
     ensures rooted { OnOk result
         (AllByRecursion (IsRooted opened.now session.now.state) frames.now) }

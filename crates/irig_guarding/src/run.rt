@@ -1,4 +1,8 @@
-//! A run under guard on a dump, from the bytes that come in to those that go out.
+//! A run under guard on a dump, from the bytes that come in to those that go out. Under guard,
+//! commands that are not safe by `terms` are left out: these have frames of other recordings of the
+//! same code, and say whether frames of the recording may move. `Kept` is how a run ended: whether
+//! all of the script was accepted, and how many frames have control functions that are not in the
+//! recording.
 
 ghost use Rattle.std.specs.Prelude.{◌≡◌, ◌≤◌, ◌^◌, ℕ, Err, List, None, Option, length, Ok, IfErr, IfOk};
 ghost use Rattle.std.specs.Prelude.{IfSome, OnErr, OnOk, [], ◌∷◌};
@@ -22,8 +26,10 @@ use irig_vcd::VcdFault;
 use std::alloc::Global;
 use std::io::{Read, Write};
 
-/// Opens a dump by what was read of it, runs a proposed script on it under guard, prints the script
-/// that is accepted and writes what it leaves. Frames of the recording may move or not.
+/// Opens a dump by what was read of it, its recording and the text of its journal, and runs a
+/// proposed script on it under guard. The script that is accepted is printed to `out`, and what
+/// `product` asks for, nothing, the track or the session, is put on the shelf. `Err` is the first
+/// fault of the dump, of memory, of a read of the script or of a write.
 pub fn guard_on_parts<R: Read, W: Write, S: Shelf>(
     alloc: Global,
     recording: Recording,
@@ -83,8 +89,9 @@ fn open_closed(
     }
 }
 
-/// Runs a proposed script on a session under guard, prints the script that is accepted and writes
-/// what it leaves.
+/// Runs a proposed script on a session under guard, prints the script that is accepted to `out`,
+/// and puts what `product` asks for on the shelf. What the calls' own errors say is not kept: the
+/// fault says which step failed.
 pub fn guard_session<R: Read, W: Write, S: Shelf>(
     alloc: Global,
     session: &mut Session,
@@ -118,7 +125,8 @@ pub fn guard_session<R: Read, W: Write, S: Shelf>(
     }
 }
 
-/// Writes what is asked for of a session.
+/// Puts what is asked for of a session on the shelf: nothing, its track, or its track with the
+/// journal.
 fn write_product<S: Shelf>(
     session: &Session,
     product: Product,

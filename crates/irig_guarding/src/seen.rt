@@ -11,7 +11,8 @@ use irig_edit::{Session, Verdict};
 use irig_safety::{Shown, frame_at, is_same};
 use std::alloc::{AllocError, Global};
 
-/// A frame that reads well, and the place of its marker among the pulses, from 0.
+/// A frame that reads well, with its rise and its fields, and the place of its marker among the
+/// pulses, from 0.
 #[derive(Clone, Copy)]
 pub struct Seen {
     pub shown: Shown,
@@ -46,7 +47,8 @@ pub fn seen_frames(alloc: Global, session: &Session) -> Result<Vec<Seen>, AllocE
     Ok(seen)
 }
 
-/// What the frames of a session show that read well, without their markers.
+/// What the frames of a session show that read well, without their markers. `seen` is these frames;
+/// the session is for the contract alone.
 pub fn shown_of(alloc: Global, session: &Session, seen: &[Seen]) -> Result<Vec<Shown>, AllocError>
     requires { seen.now ≡ seen_frames session.now.state }
     ensures { IfOk result (λ shown. shown.items ≡ fine_frames session.now.state) }
@@ -66,7 +68,8 @@ fn shown_among(alloc: Global, seen: &[Seen]) -> Result<Vec<Shown>, AllocError>
     Ok(shown)
 }
 
-/// Whether a frame shows what the one at a place, from 0, of a list does, at the same time.
+/// Whether a frame shows what the one at a place, from 0, of a list does, at the same time. False
+/// if the list has none there.
 pub fn is_as_before(old: &[Shown], place: usize, frame: &Seen) -> bool
     ensures { IsTrue result → slice_get old.now place ≡ Some frame.now.shown }
 {
