@@ -1,11 +1,11 @@
-//! What a call says of a file.
+//! What a call of the system says of a file.
 
 /// What a call says of a file.
 #[derive(Clone, Copy)]
 pub struct Described {
     /// Whether it is a regular one.
     pub is_file: bool,
-    /// Its mode.
+    /// Its mode: who may read and write it.
     pub mode: u32,
     /// The numbers that no other file has.
     pub id: (u64, u64),

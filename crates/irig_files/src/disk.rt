@@ -1,5 +1,7 @@
-//! What the program asks of files. A read has two faults: the outer one is of the file, the inner
-//! one of the dump in it.
+//! What the program asks of files. Reading has two faults: `DumpFileFault` is of the file, which is
+//! not there, cannot be read or is too long, or memory runs out; `VcdFault` inside is of the dump
+//! in it. `Parts` are the recording of a wire and the text of the journal that the dump carries, if
+//! it has one. What a path leads to is at the end of its links.
 
 ghost use Rattle.std.specs.Prelude.{◌≡◌, ◌<◌, ◌≤◌, ◌^◌, Bool, ℕ, List, Option, Some, IfErr, IfOk};
 ghost use Rattle.std.specs.Prelude.{IfSome, IsErr, IsErrOf, IsTrue, false, length, true};
@@ -37,8 +39,9 @@ pub trait Disk {
     /// A file is not replaced: it must not be written.
     ghost is_barred: { Self → ℕ → Type 0 };
 
-    /// Reads the dump in the file at a path, of the wire of a name, or of the one wire of one bit.
-    /// At most one more byte than 2^28 is read.
+    /// Reads the dump in the file at a path, of the wire named `wire`, or if none is named of the
+    /// one wire of one bit. At most one more byte than 2^28 is read. If nothing is at the path:
+    /// `CannotBeRead`.
     fn read(
         &self,
         alloc: Global,
@@ -50,8 +53,9 @@ pub trait Disk {
             → IfSome (held self.now path.now) (λ all. 2 ^ 28 < length all) }
         ensures unread { IfErr result (unread self.now path.now) };
 
-    /// Reads a window of the dump in the file at a path, of the wire of a name, or of the one wire
-    /// of one bit. At most one more byte than 2^47 is read.
+    /// Reads a window of the dump in the file at a path, of the wire named `wire`, or if none is
+    /// named of the one wire of one bit. At most one more byte than 2^47 is read. If nothing is at
+    /// the path: `CannotBeRead`.
     fn read_window(
         &self,
         alloc: Global,
@@ -66,8 +70,9 @@ pub trait Disk {
         ensures unread { IfErr result (unread self.now path.now) };
 
     /// Writes a text to the file that a path leads to: a regular one, or none yet, is replaced
-    /// whole, by a file of its mode. One that must not be written is not replaced. What the room
-    /// holds before is lost.
+    /// whole, by a file of its mode. One that must not be written is not replaced. What the room,
+    /// which is the memory of a write, holds before is lost. `Written` says how it was written, and
+    /// its count how many bytes the text has; a `ShelfFault` says only that it was not.
     fn put<T: Text>(
         &mut self,
         path: &str,
@@ -83,7 +88,8 @@ pub trait Disk {
         ensures still { IsTrue is_told → StaysBarred (is_barred self.old) (is_barred self.new)
             (disk self.old) (disk self.new) path.now };
 
-    /// Whether two paths lead to one regular file.
+    /// Whether two paths lead to one regular file: false if one leads to none, or to what is no
+    /// regular file. `Err` if the system does not say what is there.
     fn is_same(&self, one: &str, other: &str) -> Result<bool, ShelfFault>
         ensures apart { IsTrue is_told → IfOk result (λ same. same ≡ false
             → AreApart (disk self.now) one.now other.now) }

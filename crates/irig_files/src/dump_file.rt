@@ -1,5 +1,7 @@
-//! The dump in a file, read in parts. A read has two faults: the outer one is of the file, the
-//! inner one of the dump in it. If no wire is named, the dump has to have one wire of one bit.
+//! The dump in a file, read in parts. A read has two faults: the outer one, `DumpFileFault`, is of
+//! the file, the inner one, `VcdFault`, of the dump in it. `Parts` are the recording of a wire and
+//! the text of the journal that the dump carries, if it has one. `wire` is the name of the wire; if
+//! none is named, the dump has to have one wire of one bit.
 
 ghost use Rattle.std.specs.Prelude.{◌≡◌, ◌≢◌, ◌<◌, ◌^◌, ◌↔◌, ℕ, List, Some, None, IfOk, OnOk};
 ghost use Rattle.std.specs.Prelude.{IfErr, IfSome, IsErrOf, IsOk, IsTrue, MatchResult, true, false};
@@ -28,7 +30,7 @@ pub enum DumpFileFault {
     /// The file is missing, or is none, or there is no permission to read it.
     #[error("cannot be read")]
     CannotBeRead,
-    /// The file has more than 2^28 bytes.
+    /// The file has more than 2^28 bytes, or 2^47 if a window is read.
     #[error("too long")]
     TooLong,
     /// A growth was refused.
@@ -48,7 +50,7 @@ impl From<io::Error> for DumpFileFault {
     }
 }
 
-/// Whether a file shows that it has more than 2^28 bytes, if the system describes it.
+/// Whether a file shows that it has more than 2^28 bytes. False if the system does not describe it.
 fn is_too_long(described: io::Result<Metadata>) -> bool
     ensures { MatchResult described (λ d. IsTrue result
         ↔ (IsFile (file_type d) × (2 ^ 28 < metadata_len d))) (λ _. result ≡ false) }
@@ -67,7 +69,7 @@ fn shows_more(described: &Metadata) -> bool
     described.is_file() && described.len() > DUMP_LIMIT as u64
 }
 
-/// Whether more can be read after an error: only if it was an interruption. Any other is the fault.
+/// `Ok(true)` if more can be read after an error, since it was an interruption; else the fault.
 fn after_error(error: io::Error) -> Result<bool, DumpFileFault>
     ensures more { IfOk result (λ is_more. is_more ≡ true) }
     ensures interrupted { IsOk result ↔ (error_kind error ≡ ErrorKind.Interrupted) }
@@ -79,8 +81,9 @@ fn after_error(error: io::Error) -> Result<bool, DumpFileFault>
     }
 }
 
-/// Takes in the next part that a reader gives. Returns whether it may have more: not if it gave
-/// nothing, since it is at its end, or enough was taken in.
+/// Takes in the next part that a reader gives; `part` is where it waits. Returns whether the reader
+/// may have more: also after an interruption, but not if it gave nothing, since it is at its end,
+/// or enough was taken in.
 fn take_part<R: Read>(
     dump: &mut Intake,
     reader: &mut R,
@@ -189,7 +192,7 @@ fn read_by_parts<R: Read>(
 }
 
 /// Reads the dump in the file at a path. At most one more byte than 2^28 is read, and none if the
-/// file's size is greater.
+/// file's size is greater. If nothing is at the path: `CannotBeRead`.
 pub fn read_dump<R: Files>(
     rt: &R,
     alloc: Global,
@@ -216,7 +219,8 @@ fn read_open<F: OpenFile + Read + Drop>(
     read_whole(alloc, file, wire)
 }
 
-/// Reads a window of the dump in the file at a path, whatever the size of the file.
+/// Reads a window of the dump in the file at a path, whatever the size of the file. If nothing is
+/// at the path: `CannotBeRead`.
 pub fn read_dump_window<R: Files>(
     rt: &R,
     alloc: Global,

@@ -1,5 +1,7 @@
-//! Single calls on paths. A read has two faults: the outer one is of the file, the inner one of the
-//! dump in it.
+//! Single calls on paths. Reading has two faults: `DumpFileFault` is of the file, which is not
+//! there, cannot be read or is too long, or memory runs out; `VcdFault` inside is of the dump in
+//! it. `Parts` are the recording of a wire and the text of the journal that the dump carries, if it
+//! has one. A `Fault` is the error of a call.
 
 ghost use Rattle.std.specs.Prelude.{◌≡◌, ◌≢◌, ◌<◌, ◌^◌, ℕ, List, Option, None, Some, IfErr, IfOk};
 ghost use Rattle.std.specs.Prelude.{IfSome, IsErrOf, IsTrue, MatchOption, OnOk, codes, false, length};
@@ -38,7 +40,9 @@ pub trait FileSystem: PlainCalls {
     /// The file at a path is not read, for this fault: a call that reads it has it.
     ghost unread: { Self → List ℕ → DumpFileFault → Type 0 };
 
-    /// Reads the dump in the file at a path, of the wire of a name, or of the one wire of one bit.
+    /// Reads the dump in the file at a path, of the wire named `wire`, or if none is named of the
+    /// one wire of one bit. At most one more byte than 2^28 is read. If nothing is at the path:
+    /// `CannotBeRead`.
     fn read(
         &self,
         alloc: Global,
@@ -50,8 +54,8 @@ pub trait FileSystem: PlainCalls {
             → IfSome (held self.now path.now) (λ all. 2 ^ 28 < length all) }
         ensures unread { IfErr result (unread self.now path.now) };
 
-    /// Reads a window of the dump in the file at a path, of the wire of a name, or of the one wire
-    /// of one bit. At most one more byte than 2^47 is read.
+    /// Reads a window of the dump in the file at a path, of the wire named `wire`, or if none is
+    /// named of the one wire of one bit. At most one more byte than 2^47 is read.
     fn read_window(
         &self,
         alloc: Global,
@@ -65,7 +69,8 @@ pub trait FileSystem: PlainCalls {
             → IfSome (held self.now path.now) (λ all. 2 ^ 47 < length all) }
         ensures unread { IfErr result (unread self.now path.now) };
 
-    /// What a path leads to; none if nothing is there.
+    /// What a path leads to, at the end of its links: whether it is a regular file, its mode and
+    /// its numbers; `None` if nothing is there.
     fn describe(&self, path: &str) -> Result<Option<Described>, Self::Fault>
         ensures none { IsTrue Self.is_told → IfOk result
             (λ found. MatchOption found (is_other self.now path.now → ⊥) (λ _. ⊤)) }
@@ -80,17 +85,17 @@ pub trait FileSystem: PlainCalls {
         ensures id { IsTrue Self.is_told → IfOk result (λ found. HasId (Self.disk self.now)
             (id_of self.now) path.now (option_map (λ d. d.id) found)) };
 
-    /// The numbers that no other file has, of what the program's answers go to; none if they go
+    /// The numbers that no other file has, of what the program's answers go to; `None` if they go
     /// nowhere.
     fn output(&self) -> Result<Option<(u64, u64)>, Self::Fault>
         ensures { IsTrue Self.is_told → IfOk result (λ found. found ≡ output_id self.now) };
 
-    /// The text of the link at a path; none if no link is there.
+    /// The text of the link at a path; `None` if nothing is there, or no link.
     fn read_link(&self, path: &str) -> Result<Option<PathBuf>, Self::Fault>
         ensures { IsTrue Self.is_told → IfOk result
             (λ found. option_map path_buf_bytes found ≡ link_at self.now path.now) };
 
-    /// Opens the folder at a path.
+    /// Opens the folder that a path leads to, and leaves it in `dir`. An error if nothing is there.
     fn open_folder(&self, dir: &mut Self::Dir, path: &str) -> Result<(), Self::Fault>
         ensures { IsTrue Self.is_told → OnOk result (IsFolderOf (link_at self.now)
             (is_other self.now) (Self.disk self.now).paths (Self.place dir.new) path.now) };

@@ -1,4 +1,5 @@
-//! The files of a file system: each method is a call of it, or some.
+//! The files of a file system: each method is a call of it, or some. What they do is said with the
+//! trait, in `disk`.
 
 ghost use Rattle.std.specs.Prelude.{◌≡◌};
 ghost use Rattle.irig_files.specs.Taken.{IsLocked};
@@ -56,7 +57,8 @@ impl<C: FileSystem> Disk for Files<C> {
 
     ghost only_now = { λ f. C.only_now f.system };
 
-    // Reads the dump in the file at a path, of the wire of a name, or of the one wire of one bit.
+    // Reads the dump in the file at a path, of the wire named `wire`, or if none is named of the
+    // one wire of one bit. The outer fault is of the file, the inner one of the dump.
     fn read(
         &self,
         alloc: Global,

@@ -22,7 +22,7 @@ impl InPlace {
     }
 }
 
-/// Writes all of a text. Its parts wait in the block, and what it holds before is lost.
+/// Writes all of a text. Its parts wait in the block, and what the block holds before is lost.
 pub fn write_in_place<F: Write, T: Text>(
     file: &mut F,
     text: &mut T,

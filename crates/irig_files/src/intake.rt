@@ -1,5 +1,6 @@
-//! The dump in a file, as far as it is taken in. Reading has two faults: the outer one is that
-//! memory runs out or the dump is too long, the inner one that the dump is wrong.
+//! The dump in a file, as far as it is taken in. Reading has two faults: the outer one,
+//! `DumpFileFault`, is that memory runs out or the dump is too long, the inner one, `VcdFault`,
+//! that the dump is wrong.
 
 ghost use Rattle.std.specs.Prelude.{◌≡◌, ◌≢◌, ◌≤◌, ◌<◌, ◌⊎◌, [], ℕ, List, Option, None, Ok, Err};
 ghost use Rattle.std.specs.Prelude.{IfOk, IfErr, IsOk, IsErrOf, OnOk, OnErr, length, min};
@@ -16,13 +17,13 @@ use irig_vcd::{DumpReader, VcdFault, Window};
 use std::alloc::{AllocError, Global};
 use std::mem;
 
-/// What a dump says of a wire, and the text of the journal that it carries.
+/// What a dump says of a wire, and the text of the journal that it carries, if it has one.
 pub type Parts = (Recording, Option<Vec<u8>>);
 
-/// The most bytes of a dump.
+/// The most bytes of a dump: 2^28.
 pub const DUMP_LIMIT: usize = 268_435_456;
 
-/// The most bytes of a dump, if a window of it is read.
+/// The most bytes of a dump, if a window of it is read: 2^47.
 const LONG_LIMIT: usize = 1 << 47;
 
 /// The most bytes of a dump: of all of it, or of a window.
@@ -97,7 +98,8 @@ impl Intake {
     }
 
     /// What the dump says, if nothing comes after its parts. More bytes than a dump has at most are
-    /// a fault.
+    /// a fault, `TooLong`, and memory that runs out is `OutOfMemory`; the inner fault is of the
+    /// dump.
     pub fn end(self) -> Result<Result<Parts, VcdFault>, DumpFileFault>
         requires counted { IsCounted self }
         ensures read { IfOk result (λ read. (wire : Option (List ℕ)) (bytes : List ℕ)
@@ -127,7 +129,7 @@ impl Intake {
 /// Frees what is read, which is handed over here and goes no further.
 fn let_go(_dump: Result<DumpReader, VcdFault>) {}
 
-/// What reading gives. That memory ran out becomes a fault of the file.
+/// What reading gives. The inner fault that memory ran out becomes one of the file, the outer one.
 fn unless_short<T: Drop>(read: Result<T, VcdFault>) -> Result<Result<T, VcdFault>, DumpFileFault>
     ensures same { IfOk result (λ given. (given ≡ read) × (given ≢ Err OutOfMemory)) }
     ensures memory { IfErr result (λ fault. fault ≡ file.OutOfMemory) }

@@ -11,8 +11,8 @@ use std::path::PathBuf;
 /// How many turns a path may take: 40 symbolic links, and the place where no link is.
 const TURNS: u32 = 41;
 
-/// Follows the chain of symbolic links from a path, and leaves in `target` where it leads. More
-/// than 40 links are a fault.
+/// Follows the chain of symbolic links from a path, and leaves in `target` where it leads: the path
+/// itself, if no link is there. More than 40 links are a fault.
 pub fn follow_links<C: FileSystem>(
     system: &C,
     path: &str,

@@ -1,4 +1,5 @@
-//! The files of the system, as a program makes them.
+//! The files of the system, as a program makes them. A runtime is what a program has of the system:
+//! its files, its standard output and its memory.
 
 ghost use Rattle.std.specs.Prelude.{◌≡◌, IfOk};
 
@@ -7,7 +8,8 @@ use irig_disk::{SystemDir, SystemFolder};
 use std::alloc::AllocError;
 use std::rt::Files as FileRuntime;
 
-/// The files of the system. The memory of their paths is taken here.
+/// The files of the system that a runtime gives. The memory for the path of a folder that a write
+/// opens is taken here; `Err` if there is none for it.
 pub fn system_files<R: FileRuntime + Print + AllocGlobal>(
     rt: &R,
 ) -> Result<Files<SystemFolder<'_, R>>, AllocError>

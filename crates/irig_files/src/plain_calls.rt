@@ -1,4 +1,5 @@
-//! Single calls on paths, of which no contract says which bytes they give or take.
+//! Single calls on paths, of which no contract says which bytes they give or take. A `Fault` is the
+//! error of a call; one that opens fails if nothing is at the path.
 
 ghost use Rattle.std.specs.Prelude.{◌≡◌, ℕ, None, IfOk, IsTrue, true};
 ghost use Rattle.irig_files.specs.Taken.{HasMode, IsFileAt};

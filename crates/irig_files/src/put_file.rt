@@ -1,5 +1,6 @@
 //! Writes a text to what a path leads to. The room is what a write needs memory for: the block
-//! holds the parts of the text, and the target the path of the file that is replaced.
+//! holds the parts of the text, and the target the path of the file that is replaced. A
+//! `ShelfFault` says only that a text was not written, so the errors of calls are not handed on.
 
 ghost use Rattle.std.specs.Prelude.{◌≡◌, ℕ, List, length, None, Some, IfOk, IsTrue, ◌≢◌, IsErr};
 ghost use Rattle.std.specs.Prelude.{IsOk, OnErr, OnOk, false, true};
@@ -20,7 +21,8 @@ use irig_text::{ShelfFault, Text};
 use std::io::Write;
 use std::path::Path;
 
-/// Writes a text to a file: a regular one, or none yet, is replaced; any other is written.
+/// Writes a text to what a path leads to: a regular file, or none yet, is replaced; what the
+/// answers go to, and any other file, is written in place.
 pub fn put_file<C: FileSystem, T: Text>(
     system: &mut C,
     dir: &mut C::Dir,
@@ -111,7 +113,7 @@ fn replace<C: FileSystem, T: Text>(
     whole(write_whole(system, dir, file_name, name, stem, mode, text, block))
 }
 
-/// The outcome of a write that replaces the file.
+/// The outcome of a write that replaces the file: that it was written whole, or the fault.
 fn whole(outcome: Result<Kept, ShelfFault>) -> Result<Written, ShelfFault>
     ensures count { (n : ℕ) → IfOk outcome (λ kept. kept.count ≡ n)
         → IfOk result (λ written. count_of written ≡ n) }
@@ -124,7 +126,8 @@ fn whole(outcome: Result<Kept, ShelfFault>) -> Result<Written, ShelfFault>
     }
 }
 
-/// Puts into `stem` the names of new files but for their numbers: the target's, hidden and marked.
+/// Puts into `stem` the names of new files but for their numbers: the target's `name`, hidden and
+/// marked. A name of more than 200 bytes is left out, so that room is left for the rest.
 fn put_stem(name: &str, stem: &mut String) -> Result<(), ShelfFault> {
     // a folder takes no name of more than 255 bytes
     let kept = if name.len() <= 200 { name } else { "" };

@@ -6,8 +6,8 @@ ghost use Rattle.irig_files.specs.Apart.{AreApart, HasId, LeadToOneFile};
 use crate::file_system::FileSystem;
 use irig_text::ShelfFault;
 
-/// Whether two paths lead to one regular file. Not if nothing is at one of them; a fault if that
-/// cannot be found out.
+/// Whether two paths lead to one regular file: false if one leads to none, or to what is no regular
+/// file. `Err` if the system does not say what is there.
 pub fn is_same_file<C: FileSystem>(system: &C, one: &str, other: &str) -> Result<bool, ShelfFault>
     ensures apart { IsTrue C.is_told → IfOk result (λ same. same ≡ false
         → AreApart (C.disk system.now) one.now other.now) }
@@ -21,8 +21,8 @@ pub fn is_same_file<C: FileSystem>(system: &C, one: &str, other: &str) -> Result
     }
 }
 
-/// The numbers that no other file has, of the regular file that a path leads to; none if none is
-/// there.
+/// The numbers that no other file has, of the regular file that a path leads to; `None` if nothing
+/// is there, or no regular file.
 fn file_id<C: FileSystem>(system: &C, path: &str) -> Result<Option<(u64, u64)>, ShelfFault>
     ensures { IsTrue C.is_told → IfOk result
         (HasId (C.disk system.now) (C.id_of system.now) path.now) }

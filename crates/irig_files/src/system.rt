@@ -1,5 +1,7 @@
 //! The files of the system: each method is one call. Nothing is known of them. What each one does
-//! is said with the traits, in `plain_calls` and `file_system`.
+//! is said with the traits, in `plain_calls` and `file_system`. Reading has two faults:
+//! `DumpFileFault` is of the file, which is not there, cannot be read or is too long, or memory
+//! runs out; `VcdFault` inside is of the dump in it. A `SystemFault` is the error of the call.
 
 ghost use Rattle.std.specs.Prelude.{◌≡◌, ◌≢◌, ◌↔◌, IfErr, IfOk, IsOk, IsTrue, None, Ok, OnErr, OnOk};
 ghost use Rattle.std.specs.Prelude.{Some, false, ⊤};
@@ -84,7 +86,8 @@ impl<R: Files + Print + AllocGlobal> FileSystem for SystemFolder<'_, R> {
 
     ghost ids_differ = { λ _ one other same. ap (λ id. id.1) same };
 
-    // Reads the dump in the file at a path, of the wire of a name, or of the one wire of one bit.
+    // Reads the dump in the file at a path, of the wire named `wire`, or if none is named of the
+    // one wire of one bit. If nothing is at the path: `CannotBeRead`.
     fn read(
         &self,
         alloc: Global,
@@ -105,18 +108,18 @@ impl<R: Files + Print + AllocGlobal> FileSystem for SystemFolder<'_, R> {
         read_dump_window(self.runtime(), alloc, path, wire, window)
     }
 
-    // What is at the path, at the end of its links.
+    // What is at the path, at the end of its links; `None` if nothing is there.
     fn describe(&self, path: &str) -> Result<Option<Described>, SystemFault> {
         found(fs::metadata(self.runtime(), path))
     }
 
-    // The numbers of what the standard output is.
+    // The numbers that no other file has, of what the standard output is; `None` if it is nothing.
     fn output(&self) -> Result<Option<(u64, u64)>, SystemFault> {
         // The system has a path for what the answers go to.
         numbers(fs::metadata(self.runtime(), "/dev/stdout"))
     }
 
-    // The text of the link itself.
+    // The text of the link itself; `None` if nothing is at the path, or no link.
     fn read_link(&self, path: &str) -> Result<Option<PathBuf>, SystemFault> {
         match fs::read_link(self.runtime(), path) {
             Ok(text) => Ok(Some(text)),
@@ -128,13 +131,15 @@ impl<R: Files + Print + AllocGlobal> FileSystem for SystemFolder<'_, R> {
         }
     }
 
+    // Opens the folder at a path, at the end of its links, and leaves it in `dir`. An error if
+    // nothing is there, or no folder.
     fn open_folder(&self, dir: &mut SystemDir<R::File>, path: &str) -> Result<(), SystemFault> {
         dir.open(self.runtime(), path)
     }
 }
 
-/// What a path leads to, by what the system says of it; none only if it says that nothing is there.
-/// It is a function for its clauses: of this system those of `FileSystem` say nothing.
+/// What a path leads to, by what the system says of it; `None` only if it says that nothing is
+/// there. It is a function for its clauses: of this system those of `FileSystem` say nothing.
 fn found(said: io::Result<Metadata>) -> Result<Option<Described>, SystemFault>
     ensures some { IfOk said (λ found. (d : Described) × (result ≡ Ok (Some d))
         × (IsTrue d.is_file ↔ IsFile (file_type found))) }
@@ -149,8 +154,8 @@ fn found(said: io::Result<Metadata>) -> Result<Option<Described>, SystemFault>
     }
 }
 
-/// The numbers of what the answers go to, by what the system says of it; none only if it says that
-/// they go nowhere.
+/// The numbers that no other file has, of what the answers go to, by what the system says of it;
+/// `None` only if it says that they go nowhere.
 fn numbers(said: io::Result<Metadata>) -> Result<Option<(u64, u64)>, SystemFault>
     ensures some { OnOk said (IfOk result (λ id. id ≢ None)) }
     ensures none { IfErr said (λ error. IsOk result

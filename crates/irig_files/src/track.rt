@@ -1,4 +1,5 @@
-//! The track of a wire in the dump at a path.
+//! The track of a wire in the dump at a path. A read of the disk has two faults: the outer one is
+//! of the file, the inner one of the dump in it.
 
 ghost use Rattle.std.specs.Prelude.{◌≡◌, None, Some};
 ghost use Rattle.irig_vcd.specs.Answer.{name_of};
@@ -22,7 +23,8 @@ pub enum TrackFault {
     Dump(VcdFault),
 }
 
-/// The track of a wire in the dump at a path, or in a window of it.
+/// The track of a wire in the dump at a path, or in a window of it if there is one. `wire` is its
+/// name; if none is given, the dump has to have one wire of one bit.
 pub fn read_track<D: Disk>(
     alloc: Global,
     disk: &D,

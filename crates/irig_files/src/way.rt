@@ -21,7 +21,9 @@ pub enum Way {
     Other,
 }
 
-/// How a text is written to a path. Of a file that is to be replaced, the target gets its path.
+/// How a text is written to a path. Of a file that is to be replaced, `target` gets the path at the
+/// end of its links; else what it holds is not used. `Err` if the system does not say what is
+/// there, or the file must not be written.
 pub fn way_to<C: FileSystem>(
     system: &C,
     path: &str,
@@ -64,8 +66,8 @@ fn way_over<C: FileSystem>(
     }
 }
 
-/// The way of the regular file that a path leads to, or of none yet: it is replaced. The target
-/// gets the path at the end of its links.
+/// The way of the regular file that a path leads to, or of none yet (`is_there` is false): it is
+/// replaced. The target gets the path at the end of its links.
 fn replaced<C: FileSystem>(
     system: &C,
     path: &str,
@@ -87,8 +89,9 @@ fn replaced<C: FileSystem>(
     }
 }
 
-/// The mode that the new file takes: that of the regular file at the target, if one is there. A
-/// file that must not be written is not replaced, and opening it as if to write shows that.
+/// The mode that the new file takes: that of the regular file at the target, or `None` if none is
+/// there. A file that must not be written is not replaced, and opening it as if to write shows
+/// that.
 fn mode_to_take<C: FileSystem>(
     system: &C,
     is_there: bool,

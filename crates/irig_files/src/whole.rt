@@ -1,4 +1,5 @@
-//! A text written whole to a regular file.
+//! A text written whole to a regular file. A `ShelfFault` says only that it was not written: which
+//! error it was is not reported.
 
 ghost use Rattle.std.specs.Prelude.{◌≡◌, length, Ok, IfOk, OnErr, IsErr, IsTrue};
 ghost use Rattle.irig_disk.specs.{Name.IsName, Put.held};
@@ -8,8 +9,8 @@ use irig_disk::{Folder, Kept, put_text};
 use irig_text::{ShelfFault, Text};
 
 /// Writes a text to the target in a folder, by a new file that has the stem and a number as its
-/// name until it takes the target's. It takes the mode, if one is given. That name is written to
-/// `name`, and the parts of the text wait in the block.
+/// name until it takes the target's. It takes the mode, if one is given. The new file's name is
+/// written to `name`, and the parts of the text wait in the block.
 pub fn write_whole<F: Folder, T: Text>(
     folder: &mut F,
     dir: &F::Dir,
