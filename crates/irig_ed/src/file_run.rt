@@ -1,5 +1,7 @@
 //! A script run on the file of a dump, as the words of a command line ask. The room is the memory
-//! that writes use: it is taken before the dump is read, so none runs out of it.
+//! that writes use: it is taken before the dump is read, so none runs out of it. A read has two
+//! faults: the outer one is of the file, the inner one, `VcdFault`, of the dump in it. An `Ending`
+//! is `Usage` if the words ask for no run, `Unread` if the file was not read, or else `Ran`.
 
 ghost use Rattle.std.specs.Prelude.{◌≡◌, ℕ, List, map, option_map, string_bytes};
 ghost use Rattle.irig_vcd.specs.{Answer.Gives, Answer.name_of, Parts.dump_parts};
@@ -38,7 +40,7 @@ pub fn obey_words<'a, D: Disk, R: Read, W: Write, N: Witness>(
 }
 
 /// Runs a script on the dump of the settings. The memory of its writes is taken before the dump is
-/// read.
+/// read; if there is none, that is reported as a fault of the file, `Unread`.
 fn run_on_track<'a, D: Disk, R: Read, W: Write, N: Witness>(
     alloc: Global,
     chosen: &Settings<'a>,
@@ -59,7 +61,8 @@ fn run_on_track<'a, D: Disk, R: Read, W: Write, N: Witness>(
     run_with_room(alloc, chosen, &mut room, disk, script, screen)
 }
 
-/// Runs a script on the dump of the settings. Each write uses the room.
+/// Runs a script on the dump of the settings. Each write uses the room. `Unread` if the file could
+/// not be read; else `Ran`, also with a dump that is no recording: its fault is in the result then.
 fn run_with_room<'a, D: Disk, R: Read, W: Write, N: Witness>(
     alloc: Global,
     chosen: &Settings<'a>,
@@ -84,8 +87,8 @@ fn run_with_room<'a, D: Disk, R: Read, W: Write, N: Witness>(
     }
 }
 
-/// Runs a script on what was read of a dump, by the format and the path of the settings. Each write
-/// uses the room.
+/// Runs a script on what was read of a dump, by the format and the path for writes of the settings.
+/// Each write uses the room. `Dump` if the dump is no recording.
 fn run_on_read<D: Disk, R: Read, W: Write, N: Witness>(
     alloc: Global,
     chosen: &Settings<'_>,
@@ -121,7 +124,7 @@ fn run_on_read<D: Disk, R: Read, W: Write, N: Witness>(
     )
 }
 
-/// The bytes of the wire's name, if one is given.
+/// The bytes of the wire's name, if one is given; else the dump has to have one wire of one bit.
 fn wire_of<'a>(chosen: &Settings<'a>) -> Option<&'a [u8]>
     ensures { name_of result ≡ option_map (λ w. w.now) chosen.now.wire }
 {

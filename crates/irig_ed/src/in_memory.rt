@@ -50,8 +50,8 @@ fn start_in_memory<P: Eprint + AllocGlobal>(
 static DUMP: &[u8] = b"$timescale 1 us $end $var wire 1 ! code $end $enddefinitions $end\n\
     #100 1!\n#120 0!\n#200 1!\n#280 0!\n#1000\n";
 
-/// A run that writes twice: the track, the path, the status, what is printed, and how many calls
-/// change the folders.
+/// A run that writes twice: the track, the path of the writes, the exit status, what is printed,
+/// and how many calls change the folders.
 type Row = (&'static str, &'static str, u8, &'static [u8], usize);
 
 /// What is no regular file, and the standard output, are written in place, also through a link.

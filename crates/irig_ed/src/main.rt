@@ -56,7 +56,8 @@ fn arguments<R: Runtime + AllocGlobal>(rt: &R) -> io::Result<Vec<String>> {
     Ok(words)
 }
 
-/// Edits the track that the words name, if there are words. `main` ends with its status.
+/// Edits the track that the words name, if there are words; else says why there are none. `main`
+/// ends with its status.
 fn serve<P: Eprint + AllocGlobal, C: FileSystem, R: Read, W: Write, N: Witness, H: Write>(
     rt: &P,
     words: io::Result<Vec<String>>,
@@ -86,7 +87,7 @@ fn serve<P: Eprint + AllocGlobal, C: FileSystem, R: Read, W: Write, N: Witness, 
 }
 
 /// Edits the track that the words name, by the files of this system, this script and this screen,
-/// and reports how that ended.
+/// and reports how that ended: the answer is the exit status.
 fn start<P: Eprint + AllocGlobal, C: FileSystem, R: Read, W: Write, N: Witness, H: Write>(
     rt: &P,
     words: &[String],

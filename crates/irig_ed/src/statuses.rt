@@ -58,7 +58,8 @@ fn explain<R: Eprint, H: Write>(rt: &R, error: &clap::Error, help: &mut H) -> Ex
     tell_help(rt, help)
 }
 
-/// Prints the help. The exit status says whether all of it was printed.
+/// Prints the help. The exit status says whether all of it was printed: 4 if not, as for a run that
+/// was broken off. No dump is named then.
 fn tell_help<R: Eprint, H: Write>(rt: &R, help: &mut H) -> ExitCode
     ensures { Helps (H.contents help.old) (H.contents help.new) (exit_status result) }
 {
@@ -68,7 +69,7 @@ fn tell_help<R: Eprint, H: Write>(rt: &R, help: &mut H) -> ExitCode
     }
 }
 
-/// Says why a track was not read.
+/// Says why the track at the path `name` was not read. The status is 3.
 fn tell_unread<R: Eprint>(rt: &R, name: &str, fault: DumpFileFault) -> ExitCode
     ensures { exit_status result ≡ 3 }
 {
@@ -88,7 +89,8 @@ fn unread_text<'a>(fault: DumpFileFault) -> &'a str
     }
 }
 
-/// The exit status for how a run ended; a fault is printed on the standard error.
+/// The exit status for how a run on the dump at the path `name` ended; a fault is printed on the
+/// standard error. `Dump` is that the dump is no recording, `Run` that the run was broken off.
 fn tell_ended<R: Eprint>(rt: &R, name: &str, outcome: Result<Status, DumpRunFault>) -> ExitCode
     ensures { exit_status result ≡ status_number outcome }
 {
