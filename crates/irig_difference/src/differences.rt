@@ -67,8 +67,8 @@ impl<'a> Differences<'a> {
     }
 }
 
-/// Takes the first edge that only one of two rising lists has, in microseconds. An edge that both
-/// have changes nothing in whether they differ.
+/// Takes the first edge that only one of two rising lists has, in microseconds; `None` if neither
+/// has one. An edge that both have is passed over: it changes nothing in whether they differ.
 fn next_edge(before: &mut EdgesLeft<'_>, after: &mut EdgesLeft<'_>) -> Option<u64>
     requires before { RisesFrom 0 before.old }
     requires after { RisesFrom 0 after.old }

@@ -44,7 +44,7 @@ impl<'a> EdgesLeft<'a> {
         }
     }
 
-    /// The next edge, if one is left.
+    /// The next edge, in microseconds, if one is left. It stays the next.
     #[inline(always)]
     pub fn first(&self) -> Option<u64>
         ensures { result ≡ slice_get self.now 0 }
@@ -73,7 +73,7 @@ impl<'a> EdgesLeft<'a> {
     }
 
     /// Goes past the pulses that both begin with, two edges at a time, if the next edge of both is
-    /// a rise.
+    /// a rise; else past none.
     pub fn pass_common(&mut self, other: &mut EdgesLeft<'_>)
         ensures { PassCommon self.old self.new other.old other.new }
     {
@@ -86,8 +86,8 @@ impl<'a> EdgesLeft<'a> {
     }
 }
 
-/// How many of the same pulses two buffers have, from the places `i` and `j` on. Both are left of
-/// their buffer's own place.
+/// How many of the same pulses two buffers have, from the places `i` and `j` on, which count from
+/// 0. Both are left of their buffer's own place.
 fn common(before: &Gap<Pulse>, i: usize, after: &Gap<Pulse>, j: usize) -> usize
     requires before { i ≤ before.now.place }
     requires after { j ≤ after.now.place }

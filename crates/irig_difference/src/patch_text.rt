@@ -10,7 +10,7 @@ use irig_text::Text;
 use std::alloc::AllocError;
 use std::marker::Model;
 
-/// The room for a space and the most decimal digits of a `u64`.
+/// The room for a space and the most decimal digits of a `u64`, which are 20.
 const ROOM: usize = 21;
 
 /// The patch between two recordings, as lines of the editor's language: each inverts the level in
@@ -53,7 +53,8 @@ impl<'a> PatchText<'a> {
 impl Text for PatchText<'_> {
     ghost rest = { λ p. p };
 
-    // Writes the next lines, until the block has `enough` bytes. Returns whether none is left.
+    // Writes the next lines, until the block has `enough` bytes. True only if no line is left;
+    // false if the block is full, whether or not a line is left.
     fn fill(&mut self, block: &mut Vec<u8>, enough: usize) -> Result<bool, AllocError> {
         if !self.is_told {
             put_note(block, self.before, self.after)?;
@@ -63,7 +64,8 @@ impl Text for PatchText<'_> {
     }
 }
 
-/// Writes the comment with two lengths in microseconds, unless they are the same.
+/// Writes the comment with two lengths in microseconds, `before` and `after`, unless they are the
+/// same.
 pub fn put_note(block: &mut Vec<u8>, before: u64, after: u64) -> Result<(), AllocError>
     ensures { OnOk result (block.new.items ≡ block.old.items ++ length_note before after) }
 {
@@ -73,7 +75,8 @@ pub fn put_note(block: &mut Vec<u8>, before: u64, after: u64) -> Result<(), Allo
     put_line(block, b"# length", before, after)
 }
 
-/// Writes lines of stretches until a block has `enough` bytes. Returns whether none is left.
+/// Writes lines of stretches until a block has `enough` bytes. True only if no line is left; false
+/// if the block is full, whether or not a line is left.
 fn put_lines(
     block: &mut Vec<u8>,
     left: &mut Differences<'_>,
@@ -112,8 +115,8 @@ pub fn put_number(block: &mut Vec<u8>, number: u64) -> Result<(), AllocError>
     block.extend_from_slice(&digits[start..])
 }
 
-/// Writes a space and a number in decimal so that they end where the bytes do. Returns where they
-/// start.
+/// Writes a space and a number in decimal so that they end where the bytes do. Returns the index,
+/// from 0, at which they start.
 fn put_digits(digits: &mut [u8], number: u64) -> usize
     requires { length digits.old ≡ 21 }
     ensures within { result ≤ length digits.new }
