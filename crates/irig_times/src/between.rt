@@ -1,8 +1,9 @@
 //! The pulses between two frames that have a time. A part is pulses in a row, as elements of one
 //! frame whose time is known. Pulses and elements count from 0. `from` and `to` are two believed
 //! frames, `to` the next after `from` of those that have a time; `missing` is what frames have to
-//! be between them by their times. A frame is believed if another one near it supports its time.
-//! Pulses are in step if each rises one interval after the one before.
+//! be between them by their times. A pair of parts is the pulses counted on from `from` and those
+//! counted back from `to`. A frame is believed if another one near it supports its time. Pulses are
+//! in step if each rises one interval after the one before.
 
 ghost use Rattle.std.specs.Prelude.{◌≡◌, ◌≤◌, ◌<◌, ◌+◌, ◌-◌, ◌^◌, IfSome, min, slice_get};
 ghost use Rattle.irig_codes.specs.Format.{frame_period_of};
@@ -55,10 +56,10 @@ pub fn gap(from: &Part, to: &Part) -> usize
     to.number - (from.number + from.count)
 }
 
-/// The pulses that are counted between two parts, on from the first and back from the second.
-/// `after` pulses follow the first in step, and `before` ones lead to the second; `in_step` says
-/// whether these meet in step. If just one frame of 100 pulses is missing, and both counts reach
-/// over all of it, all of them go on from the first.
+/// The pulses that are counted between two parts, on from the first and back from the second;
+/// `None` if a pulse would be of both. `after` pulses follow the first in step, and `before` ones
+/// lead to the second; `in_step` says whether these meet in step. If just one frame of 100 pulses
+/// is missing, and both counts reach over all of it, all of them go on from the first.
 fn sides(
     from: &Part,
     to: &Part,
@@ -140,8 +141,8 @@ fn tail_left(seam: bool, head: usize, tail: usize) -> usize
     }
 }
 
-/// Of the elements that one side reaches, how many the other does not reach too, if both are of one
-/// frame.
+/// Of the `count` elements that one side reaches, how many the other side, which reaches `other`,
+/// does not reach too, if both are of one frame (`is_one`); else all.
 fn kept(is_one: bool, count: usize, other: usize) -> usize
     requires { other ≤ 100 }
     ensures kept { result ≡ kept is_one count other }
@@ -155,7 +156,8 @@ fn kept(is_one: bool, count: usize, other: usize) -> usize
 }
 
 /// The frames that are missing between two, whose times must be as many periods apart as their
-/// markers, to the nearest period; else `None`. `century` is 20 for 2000 to 2099.
+/// markers, to the nearest period; else `None`, and if none is missing or a marker is not there.
+/// `century` is 20 for 2000 to 2099.
 pub fn missing_by(
     pulses: &mut Lens<'_>,
     format: Format,
@@ -185,7 +187,7 @@ pub fn missing_by(
 }
 
 /// The parts between two, if `after` pulses after the first are in step and `before` ones before
-/// the second.
+/// the second. `None` if a pulse would be of both.
 pub fn sides_at(
     pulses: &mut Lens<'_>,
     format: Format,

@@ -85,8 +85,8 @@ fn shared(format: Format, place: &Place, part: u64, whole: u64) -> Time
     later_by(&place.time, place.element as u64 * interval + over)
 }
 
-/// How many microseconds of a nominal interval are over, if these microseconds and picoseconds of
-/// the recorded one are, which is `whole` microseconds long. Rounded down.
+/// How many microseconds of a nominal interval are over, if `micros` microseconds and `picos`
+/// picoseconds of the recorded one are, which is `whole` microseconds long. Rounded down.
 fn share(interval: u64, micros: u64, picos: u64, whole: u64) -> u64
     requires interval { interval ≤ 100000 }
     requires picos { picos < 1000000 }
@@ -97,7 +97,7 @@ fn share(interval: u64, micros: u64, picos: u64, whole: u64) -> u64
     (micros * interval + picos * interval / PICOS) / whole
 }
 
-/// The time some microseconds after another, in its minute.
+/// The time `micros` microseconds after another. Nothing is carried: it is in the same minute.
 fn later_by(time: &Time, micros: u64) -> Time
     requires small { micros < 2 ^ 53 }
     requires minute { time.now.micros < 2 ^ 53 }

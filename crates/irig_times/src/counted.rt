@@ -1,7 +1,9 @@
 //! All pulses of a track that have a time. A part is pulses in a row, as elements of one frame
 //! whose time is known. A frame that has a time and is not believed is a part without pulses. A
 //! frame is believed if another one near it supports its time. Pulses next to it are counted if
-//! they are in step with it: as elements of the frame before it or after it.
+//! they are in step with it: as elements of the frame before it or after it. A pair of parts is
+//! what is counted on from a frame and what is counted back from the next. `century` is that of
+//! years of two digits: 20 for 2000 to 2099.
 
 ghost use Rattle.std.specs.Prelude.{[], ◌≡◌, ◌≤◌, ◌<◌, ◌++◌, ◌∷◌, IfOk, None, OnOk, Some, length};
 ghost use Rattle.irig_index.specs.Frames.{frames};
@@ -74,7 +76,7 @@ fn counted_parts(
     Ok(list)
 }
 
-/// The part at a place, if there is one.
+/// The part at a place, from 0, if there is one.
 fn part_at(parts: &[Part], place: usize) -> Option<Part>
     ensures { result ≡ slice_get parts.now place }
 {
@@ -117,7 +119,8 @@ fn put_frame(
     Ok(())
 }
 
-/// What is counted before a frame; nothing if the time jumps there.
+/// What is counted before a frame (`part`); nothing if the time jumps there. `before` is the frame
+/// before it.
 fn sides_without(
     pulses: &mut Lens<'_>,
     format: Format,

@@ -1,4 +1,6 @@
 //! The pulses at the two ends of a track that have a time. A pulse says an element by its width.
+//! Pulses and elements count from 0. `wanted` is the elements that a frame should have. A frame is
+//! believed if another one near it supports its time; one that is not is a part without pulses.
 
 ghost use Rattle.std.specs.Prelude.{◌≡◌, ◌≤◌, ◌<◌, ◌+◌, ◌-◌, ◌^◌, IfSome, length, min, slice_get};
 ghost use Rattle.irig_codes.specs.Format.{frame_period_of};
@@ -175,8 +177,8 @@ fn is_borne_out(pulses: &mut Lens<'_>, format: Format, part: &Part) -> bool
     contradictions(pulses, format, &wanted, part, told) == 0
 }
 
-/// The part, with an empty one after it, since two are asked for; `None` if it cannot have its
-/// time.
+/// The part, with an empty one after it, since a pair is asked for, as between two frames; `None`
+/// if the part cannot have its time.
 fn alone(pulses: &mut Lens<'_>, format: Format, part: Part) -> Option<(Part, Part)>
     requires few { part.element + part.count ≤ 100 }
     requires small { (part.number < 2 ^ 31) × (part.time.micros < 2 ^ 60) }
@@ -191,7 +193,8 @@ fn alone(pulses: &mut Lens<'_>, format: Format, part: Part) -> Option<(Part, Par
 }
 
 /// The pulses after the last frame that have a time, up to a hundred in step, as the frame one
-/// period later. `None` if that frame is not believed, ends the day, or a pulse says another time.
+/// period later. `None` if the last frame is not there, not believed or ends the day, or a pulse
+/// says another time.
 pub fn end_after(pulses: &mut Lens<'_>, format: Format, from: Option<Part>) -> Option<(Part, Part)>
     requires { IfSome from (λ a. (a.time.micros < 2 ^ 59) × (a.number + a.count < 2 ^ 30)) }
     ensures end { result ≡ end_after format pulses.old.track.pulses from }
@@ -211,8 +214,8 @@ pub fn end_after(pulses: &mut Lens<'_>, format: Format, from: Option<Part>) -> O
 }
 
 /// The pulses before the first frame that have a time, up to a hundred in step, as the frame one
-/// period earlier. `None` if that frame is not believed, begins the day, or a pulse says another
-/// time.
+/// period earlier. `None` if the first frame is not believed or begins the day, or a pulse says
+/// another time.
 pub fn end_before(pulses: &mut Lens<'_>, format: Format, to: &Part) -> Option<(Part, Part)>
     requires { (to.now.time.micros < 2 ^ 59) × (to.now.number < 2 ^ 30) }
     ensures end { result ≡ end_before format pulses.old.track.pulses to.now }

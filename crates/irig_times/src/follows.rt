@@ -23,7 +23,7 @@ fn same_year(year: Option<u32>, other: Option<u32>) -> bool
     }
 }
 
-/// The year after a year of two digits.
+/// The year after a year of two digits, which is 0 after 99; `None` if the year is unknown.
 fn next_year(year: Option<u32>) -> Option<u32>
     ensures { result ≡ next_year year }
 {
@@ -61,7 +61,8 @@ pub fn same_time(a: &Time, b: &Time) -> bool
     same_minute(a, b) && a.micros == b.micros
 }
 
-/// Whether the second time is on the day after that of the first, if its year has `count` days.
+/// Whether the second time is on the day after that of the first, if the first one's year has
+/// `count` days.
 fn is_day_after(count: u32, a: &Time, b: &Time) -> bool
     ensures { result ≡ is_day_after count a.now b.now }
 {

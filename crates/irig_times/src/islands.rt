@@ -1,6 +1,6 @@
-//! Which frames are on an island: wrong alike, between frames that agree. Two frames agree if their
-//! times are as many periods apart as their rises. A shore is a frame next to the island that does
-//! not agree with it.
+//! Which frames are on an island: wrong alike, between frames that agree. Two frames agree if they
+//! are near enough for their distance to say how many periods it is, and their times are as many
+//! apart. A shore is a frame next to the island that does not agree with it.
 
 ghost use Rattle.std.specs.Prelude.{◌≡◌, ◌&&◌, List};
 ghost use Rattle.irig_safety.specs.declared.shown.Shown.{Shown};
@@ -40,8 +40,8 @@ fn is_between(format: Format, before: Three, frame: &Shown, after: Three) -> boo
         && agree(format, before.0, after.0)
 }
 
-/// Whether the first of three frames before a frame is there and does not agree with it, and one of
-/// the other two supports that first one, or they are not there.
+/// Whether the first of three frames before a frame is there and does not agree with it, and the
+/// second or the third of them agrees with the first, or the second is not there.
 pub fn is_shore_before(format: Format, before: Three, frame: &Shown) -> bool
     ensures { result ≡ is_shore_before format before.2 before.1 before.0 frame.now }
 {
@@ -56,8 +56,8 @@ pub fn is_shore_before(format: Format, before: Three, frame: &Shown) -> bool
     }
 }
 
-/// Whether the first of three frames after a frame is there and does not agree with it, and one of
-/// the other two supports that first one.
+/// Whether the first of three frames after a frame is there and does not agree with it, and the
+/// second or the third of them agrees with the first.
 fn is_shore_after(format: Format, frame: &Shown, after: Three) -> bool
     ensures { result ≡ is_shore_after format frame.now after.0 after.1 after.2 }
 {

@@ -152,7 +152,7 @@ fn slips_by(format: Format, century: u32, from: &Time, to: &Time, first: Pulse, 
 }
 
 /// Whether the last frame is believed, a time follows it on its day, and pulses after it say
-/// another one.
+/// another time.
 fn is_denied_after(pulses: &mut Lens<'_>, format: Format, from: &Part) -> bool
     requires small { (from.now.time.micros < 2 ^ 59) × (from.now.number + from.now.count < 2 ^ 30) }
     ensures denied { result ≡ is_denied_after format pulses.old.track.pulses from.now }
@@ -164,7 +164,7 @@ fn is_denied_after(pulses: &mut Lens<'_>, format: Format, from: &Part) -> bool
 }
 
 /// Whether the first frame is believed, a time is before it on its day, and pulses before it say
-/// another one.
+/// another time.
 fn is_denied_before(pulses: &mut Lens<'_>, format: Format, to: &Part) -> bool
     requires small { (to.now.time.micros < 2 ^ 59) × (to.now.number < 2 ^ 30) }
     ensures denied { result ≡ is_denied_before format pulses.old.track.pulses to.now }
@@ -199,8 +199,8 @@ pub fn is_jump_between(
     }
 }
 
-/// A frame before a jump: of its pulses only the marker keeps its time, since nobody knows at which
-/// element the time jumps.
+/// A frame, if the time `jumps` after it: of its pulses only the marker keeps its time, since
+/// nobody knows at which element the time jumps. Else as it is.
 pub fn before_jump(jumps: bool, part: Part) -> Part
     ensures { result ≡ before_jump jumps part }
 {
@@ -214,8 +214,8 @@ pub fn before_jump(jumps: bool, part: Part) -> Part
     }
 }
 
-/// A frame after a jump: of its pulses those after the elements of its time keep it, since the time
-/// was surely right from there on.
+/// A frame, if the time `jumps` before it: of its pulses those after the elements of its time keep
+/// it, since the time was surely right from there on. Else as it is.
 pub fn after_jump(format: Format, jumps: bool, part: Part) -> Part
     requires small { (part.number < 2 ^ 32) × (part.element < 2 ^ 32) }
     ensures { result ≡ after_jump format.kind jumps part }

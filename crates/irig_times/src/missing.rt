@@ -27,14 +27,14 @@ pub struct Missing {
     pub last: Time,
 }
 
-/// A time in the minute of another.
+/// A time in the minute of another, `micros` microseconds after it began.
 fn at_micros(time: &Time, micros: u64) -> Time
     ensures { result ≡ at_micros time.now micros }
 {
     Time { micros, ..*time }
 }
 
-/// A time on the day of another.
+/// A time on the day of another, `micros` microseconds after that minute began.
 fn at_minute(time: &Time, hours: u32, minutes: u32, micros: u64) -> Time
     ensures { result ≡ at_minute time.now hours minutes micros }
 {
@@ -46,7 +46,8 @@ fn at_minute(time: &Time, hours: u32, minutes: u32, micros: u64) -> Time
     }
 }
 
-/// The microseconds of a minute: the last of an hour can have a leap second.
+/// The microseconds of a minute: the last of an hour can have a leap second, so it has 61 seconds
+/// here.
 fn minute_end(minutes: u32) -> u64
     ensures { result ≡ minute_end minutes }
 {
@@ -97,7 +98,8 @@ pub fn middle(century: u32, period: u64, from: &Time, to: &Time) -> Option<Time>
     }
 }
 
-/// The time one period later, in a minute of 60 seconds; `None` if it is on another day.
+/// The time one period later, in a minute of 60 seconds; `None` if it is on another day, or the
+/// time is in a second 60.
 pub fn next_time(period: u64, time: &Time) -> Option<Time>
     requires small { period < 2 ^ 32 }
     ensures time { result ≡ next_time period time.now }
@@ -148,7 +150,8 @@ pub fn day_micros(time: &Time) -> u64
     MINUTE * (60 * time.hours as u64 + time.minutes as u64) + time.micros
 }
 
-/// How many periods two rises are apart, to the nearest.
+/// How many periods two rises in microseconds are apart, to the nearest; 0 if the second is not
+/// later.
 pub fn rounded(period: u64, from: u64, to: u64) -> u64
     requires some { 0 < period }
     requires small { (period < 2 ^ 32) × (to < 2 ^ 60) }
@@ -159,7 +162,8 @@ pub fn rounded(period: u64, from: u64, to: u64) -> u64
 }
 
 /// The times of the frames that are missing between two, which are `count` periods apart. `None` if
-/// none is missing or the times are not so far apart; more than one are not counted over midnight.
+/// none is missing, the times are not so far apart, or the first or the last missing one does not
+/// end in its minute. More than one are not counted over midnight.
 pub fn missing_in(century: u32, period: u64, count: u64, from: &Time, to: &Time) -> Option<Missing>
     requires century { century ≤ 99 }
     requires small { (period < 2 ^ 25) × (count < 2 ^ 42 + 2) }
@@ -178,7 +182,7 @@ pub fn missing_in(century: u32, period: u64, count: u64, from: &Time, to: &Time)
     missing_more(period, next_time(period, from), time_before(period, to))
 }
 
-/// The microseconds since midnight some periods after a time.
+/// The microseconds from the midnight before a time to `count` periods after that time.
 pub fn later_micros(period: u64, count: u64, from: &Time) -> u128
     requires small { (period < 2 ^ 25) × (count < 2 ^ 42 + 2) }
     requires times { from.now.micros < 2 ^ 59 }
@@ -187,7 +191,7 @@ pub fn later_micros(period: u64, count: u64, from: &Time) -> u128
     u128::from(day_micros(from)) + u128::from(count) * u128::from(period)
 }
 
-/// One frame of a time.
+/// One frame of a time; `None` if there is no time.
 fn missing_one(time: Option<Time>) -> Option<Missing>
     ensures { result ≡ missing_one time }
 {
@@ -201,7 +205,8 @@ fn missing_one(time: Option<Time>) -> Option<Missing>
     }
 }
 
-/// More than one frame, the first and the last of these times, if both end in their minutes.
+/// More than one frame, the first and the last of these times. `None` if one of the times is
+/// missing, or its frame does not end in its minute.
 fn missing_more(period: u64, first: Option<Time>, last: Option<Time>) -> Option<Missing>
     requires small { period < 2 ^ 25 }
     requires first { IfSome first (λ t. t.micros < 2 ^ 60) }

@@ -6,7 +6,7 @@ ghost use Rattle.irig_times.specs.{Nearest.nearest, Support.with_frame};
 
 use irig_safety::Shown;
 
-/// A frame, if it is there, and the two next to it that are farther away.
+/// A frame, if it is there, and the two next after it that are farther away.
 pub type Three = (Option<Shown>, Option<Shown>, Option<Shown>);
 
 /// The five frames that are nearest to a frame on one side of it, the nearest one first.
@@ -33,7 +33,8 @@ impl Nearest {
         }
     }
 
-    /// The nearest of these and one more that is nearer, if there is one.
+    /// The nearest of `frame`, which is nearer than these, and of these; if there is no such frame,
+    /// these.
     pub fn with(self, frame: Option<Shown>) -> Nearest
         ensures { (frames : List Shown) → self ≡ nearest frames
             → result ≡ nearest (with_frame frame frames) }

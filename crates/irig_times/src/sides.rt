@@ -1,7 +1,8 @@
 //! What is counted between two frames: from both sides, as far as it is borne out. `from` and `to`
-//! are two believed frames, as parts. A side is the pulses next to one of them, from it on or back;
-//! pulse 0 of a side is the nearest. `wanted` is the elements that the frame there should have.
-//! Pulses are in step if each rises one interval after the one before.
+//! are two believed frames, as parts; a pair is the part on from the one and the part back from the
+//! other. A side is the pulses next to one of them, from it on or back; pulse 0 of a side is the
+//! nearest. `wanted` is the elements that the frame there should have. Pulses are in step if each
+//! rises one interval after the one before.
 
 ghost use Rattle.std.specs.Prelude.{◌≡◌, ◌≤◌, ◌<◌, ◌+◌, ◌^◌};
 ghost use Rattle.irig_times.specs.Sides.{between, borne, borne_at, confirmed, side_after};
@@ -153,7 +154,8 @@ fn torn_sides(
 }
 
 /// The parts between two frames, if `after` pulses after the first and `before` ones before the
-/// second are in step: fewer if intervals are lost there, which is to be torn.
+/// second are in step: fewer if intervals are lost there. `None` if they would overlap, or tens of
+/// intervals are lost.
 fn sides_in(
     pulses: &mut Lens<'_>,
     format: Format,
@@ -179,6 +181,7 @@ fn sides_in(
 
 /// The pulses between two frames that have a time: up to a hundred in step with the first, and up
 /// to a hundred in step with the second. `None` if the times of the two do not fit their distance.
+/// `century` is 20 for 2000 to 2099.
 pub fn between(
     pulses: &mut Lens<'_>,
     format: Format,

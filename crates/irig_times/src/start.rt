@@ -1,4 +1,5 @@
-//! Where frames start. `century` is 20 for 2000 to 2099.
+//! Where frames start. `century` is 20 for 2000 to 2099. A record is a frame of the track; places
+//! of records, pulses and elements count from 0.
 
 ghost use Rattle.std.specs.Prelude.{◌≡◌, ◌↔◌, ◌<◌, ◌≤◌, ◌+◌, IsTrue, length, slice_get, Some};
 ghost use Rattle.irig_codes.specs.Format.{FormatView};
@@ -21,7 +22,7 @@ pub struct FrameStart {
     pub rise: u64,
     /// Its time.
     pub time: Time,
-    /// Whether the frame after it follows it.
+    /// Whether the next frame begins right after this one, and its time is one period later.
     pub is_followed: bool,
 }
 
@@ -58,8 +59,8 @@ pub fn start_of(
     }
 }
 
-/// Where the frame of a marker starts, a pulse from 0. Its own record is the last of the first
-/// `next`.
+/// Where the frame of a marker, a pulse, starts. Its own record is the last of the first `next`, so
+/// the next frame's is at the place `next`.
 fn started(
     pulses: &mut Lens<'_>,
     records: &mut FrameLens<'_>,
@@ -90,8 +91,9 @@ fn started(
     }
 }
 
-/// Whether the next frame begins right after one with these fields, one frame period later. The
-/// last pulse of that one is `number`, from 0, and its record is the last of the first `next`.
+/// Whether the next frame begins right after one with these fields, and its time is one frame
+/// period later. `number` is the last pulse of the frame with these fields, and `next` the place of
+/// the next frame's record.
 fn is_followed(
     records: &mut FrameLens<'_>,
     format: Format,

@@ -1,5 +1,6 @@
 //! Pulses that follow one another in step. Pulses count from 0. A step is from the rise of one
-//! pulse to that of the next, in microseconds.
+//! pulse to that of the next, in microseconds. It is in step if it is one interval long, to a
+//! tenth.
 
 ghost use Rattle.std.specs.Prelude.{◌≡◌, ◌<◌, ◌≤◌, ◌+◌, ◌^◌, IfSome, length, option_map, slice_get};
 ghost use Rattle.irig_recording.specs.declared.pulse.Pulse.{Pulse};
@@ -77,7 +78,8 @@ fn step_at(pulses: &mut Lens<'_>, number: usize) -> u64
     }
 }
 
-/// Whether a step is as long as one next to it, to a tenth, if that one is in step at all.
+/// Whether a step is as long as `other`, which is one next to it, to a tenth; also true if `other`
+/// is not in step at all.
 fn is_as_long(format: Format, step: u64, other: u64) -> bool
     requires { (step ≤ 2 ^ 40) × (other ≤ 2 ^ 40) }
     ensures { result ≡ is_as_long format step other }

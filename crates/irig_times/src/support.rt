@@ -1,6 +1,8 @@
 //! Which frames are believed: those that another one near them supports, and that are on no island.
-//! Two frames agree if their times are as many periods apart as their rises. An island is up to
-//! three frames that are wrong alike, between two that agree with each other.
+//! Two frames agree if they are near enough for their distance to say how many periods it is, and
+//! their times are as many apart. An island is up to three frames that are wrong alike, between two
+//! that agree with each other. A record is a frame of the track; places count from 0. `before` and
+//! `after` are the five frames nearest to a frame that have a time.
 
 ghost use Rattle.std.specs.Prelude.{◌≡◌, ◌<◌, ◌&&◌, IfOk, None, Some, [], drop, is_some, length};
 ghost use Rattle.std.specs.Prelude.{List, not, slice_get};
@@ -132,8 +134,9 @@ fn is_there(frame: Option<Shown>) -> bool
     frame.is_some()
 }
 
-/// Whether a frame is believed, after others (`before`) and before the records from the place
-/// `next` on. Those are looked at only if what comes before does not decide it.
+/// Whether a frame is there and believed, after others (`before`) and before the records from the
+/// place `next` on. The later ones are looked at only if those before do not decide it. `alone`:
+/// each frame that has a time is believed.
 fn is_held(
     pulses: &mut Lens<'_>,
     records: &mut FrameLens<'_>,
@@ -186,7 +189,7 @@ fn is_believed(format: Format, before: &Nearest, frame: &Shown, after: &Nearest)
 }
 
 /// Whether one of the two frames before a frame or the two after it agrees with it, or there is no
-/// other.
+/// other frame at all.
 fn is_supported(format: Format, before: &Nearest, frame: &Shown, after: &Nearest) -> bool
     ensures { result ≡ is_supported format before.now.second before.now.first after.now.first
         after.now.second frame.now }

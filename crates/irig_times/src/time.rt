@@ -1,4 +1,4 @@
-//! Times of year.
+//! Times of year, and those of frames. A frame says its time in its fields.
 
 ghost use Rattle.std.specs.Prelude.{◌≡◌, ◌+◌, ◌^◌, ◌<◌};
 ghost use Rattle.irig_times.specs.Times.{minute_micros, time_in, timed};
@@ -20,11 +20,11 @@ pub struct Time {
     pub hours: u32,
     /// Minutes, 0 to 59.
     pub minutes: u32,
-    /// Microseconds since the minute began, fewer than 61 seconds.
+    /// Microseconds since the minute began: of a moment that has a time, fewer than 61 seconds.
     pub micros: u64,
 }
 
-/// The microseconds from the start of its minute to a frame.
+/// The microseconds from the start of its minute to a frame with these fields.
 fn minute_micros(fields: &Fields) -> u64
     ensures value { result ≡ minute_micros fields.now }
     ensures small { result < 2 ^ 53 }
@@ -33,7 +33,8 @@ fn minute_micros(fields: &Fields) -> u64
     10_000 * (100 * fields.seconds as u64 + hundredths)
 }
 
-/// The time some microseconds after a frame begins.
+/// The time `micros` microseconds after a frame with these fields begins. Nothing is carried: the
+/// minute stays the frame's, so the result can be past its end, 61 seconds or more.
 pub fn time_in(fields: &Fields, micros: u64) -> Time
     requires { micros < 2 ^ 53 }
     ensures value { result ≡ time_in fields.now micros }
@@ -49,7 +50,7 @@ pub fn time_in(fields: &Fields, micros: u64) -> Time
 }
 
 /// The fields of a fine frame that ends with its minute of 61 seconds at the latest: so it has a
-/// time.
+/// time. `None` if it is not fine, or ends later.
 pub fn timed(format: Format, verdict: Verdict) -> Option<Fields>
     ensures { result ≡ timed format verdict }
 {

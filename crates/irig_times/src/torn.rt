@@ -21,7 +21,8 @@ use irig_track::Lens;
 /// The last element of a frame.
 const LAST: usize = 99;
 
-/// Pulses next to a frame, from the one of a number on or back: pulse 0 is the nearest.
+/// Pulses next to a frame, from the one of a number, from 0, on or back: pulse 0 of the side is the
+/// nearest.
 #[derive(Clone, Copy)]
 pub struct Side {
     /// Whether they go back.
@@ -30,7 +31,8 @@ pub struct Side {
     pub number: usize,
 }
 
-/// How long after one pulse another rises, in microseconds; 0 if one of them is not there.
+/// How long after pulse `one` pulse `other` rises, in microseconds: both are numbers of pulses from
+/// 0. 0 if one of them is not there, or the other does not rise later.
 fn from_to(pulses: &mut Lens<'_>, one: usize, other: usize) -> u64
     ensures time { result ≡ from_to pulses.old.track.pulses one other }
     ensures low { result ≤ 2 ^ 40 }
@@ -59,8 +61,9 @@ fn both_last(pulses: &mut Lens<'_>, from: &Part, to: &Part) -> u64
     first + last
 }
 
-/// How many tenths of an interval a time has, by the mean interval of two frames that last `both`
-/// together: that many microseconds for 198 intervals. To the nearest.
+/// How many tenths of an interval a time in microseconds has, by the mean interval of two frames
+/// that last `both` microseconds together, for 198 intervals: 2 times 10 times 198 is 3960. To the
+/// nearest; 0 if `both` is 0.
 fn tenths_by(both: u64, time: u64) -> u64
     requires { (both ≤ 2 ^ 41) × (time ≤ 2 ^ 40) }
     ensures count { result ≡ tenths_by both time }
@@ -113,9 +116,9 @@ pub fn are_tens(count: u64) -> bool
     (count + 2) % 100 <= 4
 }
 
-/// Whether intervals are lost between two frames, or are there twice: all pulses there are not in
-/// step, and the distance is not the whole periods that it is nearest to. `after` pulses after the
-/// first and `before` ones before the second are in step.
+/// Whether intervals are lost between two frames, or are there twice: not all pulses between them
+/// are in step, and the distance is not the whole periods that it is nearest to. `after` pulses
+/// after the first and `before` ones before the second are in step.
 pub fn is_torn(
     pulses: &mut Lens<'_>,
     format: Format,
@@ -160,7 +163,8 @@ fn element_of(side: &Side, place: usize) -> usize
     if side.is_back { LAST - place } else { place }
 }
 
-/// Whether pulse `place` of a side says another element than the frame there should have.
+/// Whether pulse `place` of a side says another element than the frame there should have; `wanted`
+/// is the elements of that frame.
 pub fn denies(
     pulses: &mut Lens<'_>,
     format: Format,
@@ -177,7 +181,7 @@ pub fn denies(
     contradicts(pulses, format, wanted, number, element)
 }
 
-/// Whether a pulse is a position identifier, as it should be.
+/// Whether a pulse is there and is a position identifier, and one is wanted.
 fn is_mark(format: Format, pulse: Option<Pulse>, wanted: Element) -> bool
     ensures { result ≡ is_mark format pulse (Some wanted) }
 {
@@ -200,7 +204,8 @@ fn is_position(class: Option<Element>) -> bool
     }
 }
 
-/// Whether pulse `place` of a side is a position identifier, as it should be.
+/// Whether pulse `place` of a side is there and is a position identifier, and the frame there
+/// should have one; `wanted` is the elements of that frame.
 pub fn confirms(
     pulses: &mut Lens<'_>,
     format: Format,

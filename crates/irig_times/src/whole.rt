@@ -34,7 +34,7 @@ pub fn whole_parts(
     Ok(list)
 }
 
-/// The frame of the record at a place, if it has a time.
+/// The frame of the record at a place, from 0, if it has a time.
 fn whole_at(
     records: &mut FrameLens<'_>,
     format: Format,
