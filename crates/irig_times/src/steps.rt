@@ -1,6 +1,6 @@
 //! Pulses that follow one another in step. Pulses count from 0. A step is from the rise of one
 //! pulse to that of the next, in microseconds. It is in step if it is one interval long, to a
-//! tenth.
+//! tenth; the pulse that it leads to is in step if it is also as long as the steps next to it.
 
 ghost use Rattle.std.specs.Prelude.{◌≡◌, ◌<◌, ◌≤◌, ◌+◌, ◌^◌, IfSome, length, option_map, slice_get};
 ghost use Rattle.irig_recording.specs.declared.pulse.Pulse.{Pulse};

@@ -1,4 +1,5 @@
-//! Why moments have no time.
+//! Why moments have no time. A frame is believed if another one near it supports its time; one that
+//! is not is a part without pulses. Pulses count from 0.
 
 ghost use Rattle.std.specs.Prelude.{◌≡◌, ◌≤◌, ◌<◌, ◌+◌, ◌/◌, ◌^◌, ℕ, IfOk, IfSome, List, Bool, Some};
 ghost use Rattle.std.specs.Prelude.{MatchOption, length, slice_get};
@@ -123,7 +124,7 @@ fn why_next_to(
 }
 
 /// Why pulses between two frames, before the first one or after the last one have no time, if the
-/// time does not jump there.
+/// time does not jump there. `Before` also if no frame has a time.
 fn why_steady(
     pulses: &mut Lens<'_>,
     format: Format,
