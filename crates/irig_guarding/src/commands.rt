@@ -1,5 +1,6 @@
 //! What the lines of a proposed script ask for. `begin` opens a group, `end` ends it, and `abort`
-//! gives it up. A line that is not valid, or has more than 1000 bytes, asks for nothing of these.
+//! gives it up. A line that is not valid, or has more than 1000 bytes, is none of these, no edit
+//! and no comment.
 
 ghost use Rattle.std.specs.Prelude.{◌≡◌, ◌↔◌, ◌⊎◌, IsTrue, MatchOption};
 ghost use Rattle.irig_guarding.specs.Repair.{Asks, IsRepair, texts};
