@@ -25,7 +25,8 @@ use std::io::{Read, Write};
 
 /// Reads lines to their end and prints each with its time before it: the time of year that a
 /// recording has at the line's recorder's time. Returns whether the column of each line has a
-/// number, and which frames are believed. What was printed before an error stays.
+/// number, lines of the header not counted, and which frames are believed. What was printed before
+/// an error stays.
 pub fn align<R: Read, W: Write>(
     alloc: Global,
     recording: Recording,
@@ -48,7 +49,7 @@ pub fn align<R: Read, W: Write>(
     align_named(alloc, recording, lines, out, format, settings, name)
 }
 
-/// As `align`, if the number of the column is known: `settings.column`.
+/// As `align`, if the number of the column, from 0, is known: `settings.column`.
 fn align_numbered<R: Read, W: Write>(
     alloc: Global,
     recording: Recording,

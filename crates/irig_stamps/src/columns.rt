@@ -1,12 +1,12 @@
-//! The columns of a line.
+//! The columns of a line. They are parted by a byte (`comma`), or if there is none by white space.
+//! Columns count from 0.
 
 ghost use Rattle.std.specs.Prelude.{◌≡◌, Some, None};
 ghost use Rattle.irig_stamps.specs.Columns.{column_of, passed, word_at, part_at, rest_of};
 
 use crate::cutting::{Until, cut};
 
-/// Column `k` of a line, from 0: columns are parted by a byte, or else by white space. No byte if
-/// the line has no such column.
+/// Column `k` of a line. No byte if the line has no such column.
 pub fn column(comma: Option<u8>, k: usize, line: &[u8]) -> &[u8]
     ensures { result.now ≡ column_of comma k line.now }
 {

@@ -33,8 +33,8 @@ impl Until {
     }
 }
 
-/// What is before the first byte of a kind, and what is from it on: nothing, if there is no such
-/// byte.
+/// What is before the first byte of a kind, and what is from that byte on. If there is no such
+/// byte: all, and nothing.
 pub fn cut(text: &[u8], until: Until) -> (&[u8], &[u8])
     ensures before { result.0.now ≡ before until text.now }
     ensures onward { result.1.now ≡ onward until text.now }
@@ -46,7 +46,7 @@ pub fn cut(text: &[u8], until: Until) -> (&[u8], &[u8])
     (&text[..at], &text[at..])
 }
 
-/// Whether a byte is white space in a line.
+/// Whether a byte is white space in a line: a space, a tab or a carriage return.
 fn is_space(byte: u8) -> bool
     ensures { result ≡ is_space byte }
 {

@@ -1,4 +1,5 @@
-//! Years and dates of times, by the calendar of jiff.
+//! Years and dates of times, by the calendar of jiff. Days of the year, months and days of a month
+//! count from 1. A frame is believed if another one near it supports its time.
 
 ghost use Rattle.std.specs.Prelude.{◌≡◌, ◌≤◌, IfSome};
 ghost use Rattle.irig_stamps.specs.Dates.{counted_on, date_from, date_in, year_in};
@@ -9,7 +10,8 @@ use jiff_core::civil::days_in_month;
 
 /// The year of a time. If frames carry one, of two digits, it is in the century of the settings.
 /// Else it is the year of the first believed frame, `settings.year`, or the next one if the day is
-/// before that frame's: a track is taken to be shorter than a year. `None` if neither is known.
+/// before that frame's, `settings.first_day`: a track is taken to be shorter than a year. `None` if
+/// neither is known.
 pub fn year_in(settings: &Settings<'_>, time: &Time) -> Option<u32>
     requires century { settings.now.century ≤ 99 }
     requires year { IfSome settings.now.year (λ y. y ≤ 9998) }
@@ -22,8 +24,8 @@ pub fn year_in(settings: &Settings<'_>, time: &Time) -> Option<u32>
     }
 }
 
-/// The year of a day (from 1), if frames carry no year: that of the first believed frame, or the
-/// next one if the day is before the day of that frame.
+/// The year of a day, if frames carry no year: that of the first believed frame, or the next one if
+/// the day is before the day of that frame. `None` if its year is not known.
 fn counted_on(settings: &Settings<'_>, days: u32) -> Option<u32>
     requires year { IfSome settings.now.year (λ y. y ≤ 9998) }
     ensures value { result ≡ counted_on settings.now days }

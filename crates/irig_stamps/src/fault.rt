@@ -29,7 +29,7 @@ pub enum RunFault {
     /// No column has the name that is looked for.
     #[error("no column of the header has this name")]
     NoColumn,
-    /// Two columns have it.
+    /// Two columns have the name that is looked for.
     #[error("two columns of the header have this name")]
     TwoColumns,
 }

@@ -1,4 +1,6 @@
-//! The column with a name, in the header of the lines.
+//! The column with a name, in the header of the lines. The header is the first `settings.header`
+//! lines, and the name is looked for in its last one. Columns are parted by `settings.comma`, or if
+//! it is `None` by white space.
 
 ghost use Rattle.std.specs.Prelude.{◌≡◌, ◌≤◌, ◌<◌, ◌+◌, ℕ, List, length, Option, Ok, Err, IfErr, IfOk, Bool};
 ghost use Rattle.std.specs.Prelude.{if◌then◌else◌, ◌==◌};
@@ -14,7 +16,7 @@ use crate::settings::Settings;
 use std::alloc::Global;
 use std::io::Read;
 
-/// The most bytes after which no more is read of a header: 1 MiB.
+/// When 1 MiB of the lines is read, no more is read of their header.
 const HEADER_LIMIT: usize = 1_048_576;
 
 /// How many columns a number can name.
@@ -38,8 +40,8 @@ struct Header {
     ended: usize,
 }
 
-/// Reads the header of the lines, which is `settings.header` lines long, and finds the column with
-/// a name in its last line. What was read goes back with it: it can reach past the header.
+/// Reads the header of the lines, and finds the column with a name in its last line. What was read
+/// goes back with it: it can reach past the header.
 pub fn find<R: Read>(
     alloc: Global,
     lines: &mut R,
@@ -90,8 +92,8 @@ fn read_header<R: Read>(
     Err(RunFault::TooManyReads)
 }
 
-/// Reads a part and adds it to the header. Returns whether the header needs no more reads: all its
-/// lines have ended, or nothing is left to read.
+/// Reads a part, by the buffer, and adds it to the header. Returns whether the header needs no more
+/// reads: all its lines have ended, or nothing is left to read.
 fn read_more<R: Read>(
     lines: &mut R,
     buffer: &mut [u8; READ_LIMIT],
@@ -143,7 +145,8 @@ fn newline(byte: u8) -> usize
 }
 
 /// The column, from 0, that has a name in the last line of the header. `bytes` is what was read of
-/// the lines. `NoHeader` if that line is not there.
+/// the lines. `NoHeader` if that line is not there, `NoColumn` if none has the name, and
+/// `TwoColumns` if two have it.
 fn find_in(settings: &Settings<'_>, name: &[u8], bytes: &[u8]) -> Result<usize, RunFault>
     requires { 0 < settings.now.header }
     ensures { (lines : Option (List ℕ)) (left : Option (List ℕ))
@@ -163,7 +166,7 @@ fn find_in(settings: &Settings<'_>, name: &[u8], bytes: &[u8]) -> Result<usize, 
     place_of(settings.comma, name, line)
 }
 
-/// The column of a line with a name, from 0; an error if none has it, or two.
+/// The column of a line with a name, from 0; `NoColumn` if none has it, `TwoColumns` if two do.
 fn place_of(comma: Option<u8>, name: &[u8], line: &[u8]) -> Result<usize, RunFault>
     ensures { IsPlace (has_name comma name.now line.now) 65536 result }
 {

@@ -1,7 +1,7 @@
 //! The day of the first frame that is believed, and how many frames are not. Each record is a frame
-//! of the track, and `held` says of each, at the same place, whether it is believed: whether
-//! another frame near it supports its time. `timed` gives the fields of a frame that has a time: it
-//! is fine and ends within its minute.
+//! of the track, and `held` says of each, at the same place, from 0, whether it is believed:
+//! whether another frame near it supports its time. `timed` gives the fields of a frame that has a
+//! time: it is fine and ends within its minute.
 
 ghost use Rattle.std.specs.Prelude.{◌≡◌, ◌≤◌, ◌<◌, Some, slice_get, length};
 ghost use Rattle.irig_index.specs.declared.record.Record.{Record};
@@ -36,7 +36,7 @@ pub fn held_at(held: &[bool], place: usize) -> Option<bool>
     }
 }
 
-/// The fields of the frame of the record at a place; `None` if it is not believed.
+/// The fields of the frame of the record at a place; `None` if it is not believed, or has no time.
 fn held_fields(
     records: &mut FrameLens<'_>,
     held: &[bool],

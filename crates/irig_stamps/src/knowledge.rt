@@ -1,5 +1,5 @@
 //! What is known of the times of a track. A part is pulses in a row whose times are known from one
-//! frame.
+//! frame. A frame is believed if another one near it supports its time.
 
 ghost use Rattle.std.specs.Prelude.{◌≡◌, ◌≤◌, IfOk, IfSome, is_some, length};
 ghost use Rattle.irig_index.specs.Frames.{frames};

@@ -1,6 +1,7 @@
 //! The decimal number in a column. The result is the column's number times 10^`places`, as a whole
 //! number: rounded up if `up`, else down. Each function returns `None` if the text is no number,
-//! and 2^120 for each greater one.
+//! and 2^120 for each greater one. `whole` and `fraction` are digits in ASCII. White space is a
+//! space, a tab or a carriage return.
 
 ghost use Rattle.std.specs.Prelude.{◌≡◌, ◌^◌, ℕ, List, min, option_map, false, true};
 ghost use Rattle.irig_stamps.specs.Columns.{before, onward};
@@ -48,7 +49,7 @@ fn positive(places: usize, text: &[u8]) -> Option<Picos>
     above(size_in(false, places, text))
 }
 
-/// A number this far above zero, if there is a size.
+/// A number this far above zero; `None` if there is no size.
 fn above(size: Option<u128>) -> Option<Picos>
     ensures { result ≡ above size }
 {
@@ -61,7 +62,7 @@ fn above(size: Option<u128>) -> Option<Picos>
     }
 }
 
-/// A number this far below zero, if there is a size.
+/// A number this far below zero; `None` if there is no size.
 fn below(size: Option<u128>) -> Option<Picos>
     ensures { result ≡ below size }
 {
@@ -74,7 +75,7 @@ fn below(size: Option<u128>) -> Option<Picos>
     }
 }
 
-/// The whole number that a text is, if it has only digits; 2^120 if it is greater.
+/// The whole number that a text is, if it has only digits and at least one; 2^120 if it is greater.
 pub fn whole(text: &[u8]) -> Option<u128>
     ensures { result ≡ option_map (λ v. min v (2 ^ 120)) (whole_in text.now) }
 {

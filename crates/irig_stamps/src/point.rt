@@ -68,7 +68,7 @@ fn exceeds(up: bool, digits: &[u8], others: &[u8]) -> bool
     up && (has_weight(digits) || has_weight(others))
 }
 
-/// One more, at most 2^120; or the value as it is.
+/// The value plus 1 if `more`, at most 2^120; else the value as it is.
 fn with_one(more: bool, value: u128) -> u128
     requires { value ≤ 2 ^ 120 }
     ensures { result ≡ min (with_one more value) (2 ^ 120) }
@@ -76,7 +76,7 @@ fn with_one(more: bool, value: u128) -> u128
     if more { MOST.min(value + 1) } else { value }
 }
 
-/// What is after the first `count` digits.
+/// What is after the first `count` digits; nothing if there are no more.
 fn after(count: usize, digits: &[u8]) -> &[u8]
     ensures { result.now ≡ drop count digits.now }
 {
@@ -91,7 +91,7 @@ fn has_weight(digits: &[u8]) -> bool
     !left.is_empty()
 }
 
-/// A value with one more digit after it; 2^120 if it is greater.
+/// A value with one more digit, in ASCII, after it; 2^120 if it is greater.
 fn more(value: u128, digit: u8) -> u128
     requires { value ≤ 2 ^ 120 }
     ensures value { result ≡ min (10 * value + (digit - 48)) (2 ^ 120) }
@@ -104,7 +104,7 @@ fn more(value: u128, digit: u8) -> u128
     }
 }
 
-/// A value with more digits after it; 2^120 if it is greater.
+/// A value with more digits, in ASCII, after it; 2^120 if it is greater.
 pub fn digits(value: u128, digits: &[u8]) -> u128
     requires { value ≤ 2 ^ 120 }
     ensures { result ≡ min (digits_after value digits.now) (2 ^ 120) }

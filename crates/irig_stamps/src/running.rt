@@ -1,5 +1,6 @@
 //! The run over a text of lines. `state` is how far they were read, and `text` is what comes out
-//! for them and is not printed yet.
+//! for them and is not printed yet. `pulses` is the track's pulses, and `known` which of them have
+//! a time. `format` and `settings` say how they are read.
 
 ghost use Rattle.std.specs.Prelude.{◌≡◌, ◌≤◌, ◌<◌, ◌^◌, [], ℕ, List, Option, true, false, OnOk, IfOk};
 ghost use Rattle.std.specs.Prelude.{IfSome};
@@ -177,7 +178,7 @@ fn put_part<W: Write>(
 }
 
 /// Ends the last line, if bytes came after the last newline, and prints what comes out for it.
-/// Returns `true`: all lines were read.
+/// Returns `true`: all lines were read. Ending a line can only run out of memory.
 fn end<W: Write>(
     out: &mut W,
     state: &mut Lines,

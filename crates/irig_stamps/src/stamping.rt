@@ -1,5 +1,7 @@
-//! A line with its time before it. `count` is how many lines are before it; `known` is which pulses
-//! have a time.
+//! A line with its time before it. `count` is how many lines are before it. `pulses` is the track's
+//! pulses, and `known` which of them have a time. A recorder's time is in picoseconds from the
+//! recorder's zero. The column that is read is `settings.column`, parted by `settings.comma`, or by
+//! white space if that is `None`.
 
 ghost use Rattle.std.specs.Prelude.{◌≡◌, ◌↔◌, ◌<◌, ◌≤◌, ◌^◌, ◌-◌, ◌++◌, ◌∷◌, [], ℕ, List, Some, min, Option};
 ghost use Rattle.std.specs.Prelude.{IfOk, IfSome, OnOk, is_some, option_map, unwrap_or};
@@ -44,7 +46,7 @@ fn span(settings: &Settings<'_>, picos: Picos) -> (u128, u128)
 }
 
 /// The time of year at a recorder's time; `None` if there is none, or it is before the track
-/// starts. A time of 2^120 picoseconds stands for all that are further, and has none.
+/// starts. A time of 2^120 picoseconds stands for all that are further from zero, and has none.
 fn time_of(
     pulses: &mut Lens<'_>,
     parts: &[Part],
@@ -73,7 +75,8 @@ fn time_of(
     time_by(pulses, parts, format, settings.century, since as u64)
 }
 
-/// Why a recorder's time has no time of year, if it has none.
+/// Why a recorder's time has no time of year, if it has none. If it has one, the answer means
+/// nothing.
 fn why_of(
     pulses: &mut Lens<'_>,
     whys: &Whys,
@@ -116,7 +119,7 @@ fn why_word<'a>(why: Why) -> &'a [u8]
     }
 }
 
-/// The word of no time: a hyphen, or why there is none, if that is asked for.
+/// The word of no time: a hyphen, or if that is asked for the word why there is none.
 fn none_word<'a>(
     pulses: &mut Lens<'_>,
     known: &Known,

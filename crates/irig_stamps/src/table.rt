@@ -1,6 +1,6 @@
 //! A table of the frames of a track that have a time. Each record is a frame of the track, and
-//! `held` says of each, at the same place, whether it is believed: whether another frame near it
-//! supports its time.
+//! `held` says of each, at the same place, from 0, whether it is believed: whether another frame
+//! near it supports its time.
 
 ghost use Rattle.std.specs.Prelude.{◌≡◌, ◌≤◌, ◌<◌, ◌++◌, ℕ, List, Some, slice_get, length, IfOk};
 ghost use Rattle.std.specs.Prelude.{IfSome, OnOk, Option};
@@ -152,7 +152,8 @@ fn put_start(
     }
 }
 
-/// Adds the row of a frame: the microsecond of its rise, its time, and the answer below.
+/// Adds the row of a frame: the microsecond of its rise, its time, and the word of `answer`. `held`
+/// says whether it is believed.
 fn put_row(
     text: &mut Vec<u8>,
     settings: &Settings<'_>,
@@ -174,7 +175,7 @@ fn put_row(
 }
 
 /// `yes` if a frame is believed and the next one follows it one period later, `no` if it is
-/// believed and none does, and `unsupported` if it is not believed.
+/// believed and none does, and `unsupported` if it is not believed, which `None` means, too.
 fn answer<'a>(held: Option<bool>, is_followed: bool) -> &'a [u8]
     ensures { result.now ≡ answer_of held is_followed }
 {

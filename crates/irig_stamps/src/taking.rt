@@ -1,4 +1,5 @@
-//! Bytes of lines, as they come.
+//! Bytes of lines, as they come. `text` is what comes out for the lines that have ended. `pulses`
+//! is the track's pulses, and `known` which of them have a time.
 
 ghost use Rattle.std.specs.Prelude.{◌≡◌, ◌≢◌, ◌≤◌, ◌<◌, ◌^◌, ◌∷◌, [], OnOk, IfSome};
 ghost use Rattle.irig_stamps.specs.Reasons.{IsKnownOf};
@@ -44,7 +45,7 @@ fn take_byte(
     }
 }
 
-/// Adds a byte to the line so far.
+/// Adds a byte to the line so far; `TooLong` if the line has 1 MiB already.
 fn push_byte(lines: &mut Lines, byte: u8) -> Result<(), TakeFault>
     requires plain { byte ≢ 10 }
     ensures { PushesAs byte lines.old lines.new result }
@@ -86,7 +87,7 @@ pub fn end_line(
     Ok(())
 }
 
-/// Takes some bytes, of the middle of a line or of many lines.
+/// Takes some bytes, of the middle of a line or of many lines. The bytes before a fault are taken.
 pub fn take_part(
     lines: &mut Lines,
     text: &mut Vec<u8>,

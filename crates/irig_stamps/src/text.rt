@@ -23,7 +23,7 @@ fn digit(unit: u64, number: u64) -> u8
     b'0' + (number / unit % 10) as u8
 }
 
-/// Adds the word of a time to a text: a hyphen if there is none.
+/// Adds the word of a time, in the form of the settings, to a text: a hyphen if there is none.
 pub fn put_word(
     text: &mut Vec<u8>,
     settings: &Settings<'_>,
