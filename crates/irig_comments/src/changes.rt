@@ -1,4 +1,6 @@
-//! The frames that differ between two recordings.
+//! The frames that differ between two recordings. The place of a frame is when its marker rises, in
+//! microseconds. What is at a place are its two sides: the frame before and the frame after, as far
+//! as they are there.
 
 ghost use Rattle.std.specs.Prelude.{◌≡◌, [], ◌∷◌, ◌<◌, ◌^◌, MatchOption, length};
 ghost use Rattle.irig_comments.specs.Framed.{shown_frames};

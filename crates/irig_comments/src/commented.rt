@@ -1,4 +1,5 @@
-//! The patch between two recordings with comments, as a text in parts.
+//! The patch between two recordings with comments, as a text in parts. A stretch is where the two
+//! differ. The place of a frame is when its marker rises, in microseconds.
 
 ghost use Rattle.std.specs.Prelude.{◌≡◌, ◌↔◌, ◌≤◌, ◌<◌, ◌++◌, [], true, false, IfOk, OnOk};
 ghost use Rattle.std.specs.Prelude.{vec_len};
@@ -66,7 +67,8 @@ impl<'a> CommentedPatch<'a> {
 impl Text for CommentedPatch<'_> {
     ghost rest = { λ p. p };
 
-    // Writes the next lines, until the block has `enough` bytes. Returns whether none is left.
+    // Writes the next lines, until the block has `enough` bytes. True only if no line is left;
+    // false if the block is full, whether or not a line is left.
     fn fill(&mut self, block: &mut Vec<u8>, enough: usize) -> Result<bool, AllocError> {
         if !self.is_told {
             put_note(block, self.before, self.after)?;
@@ -76,7 +78,8 @@ impl Text for CommentedPatch<'_> {
     }
 }
 
-/// Writes lines until a block has `enough` bytes. Returns whether none is left.
+/// Writes lines until a block has `enough` bytes. True only if no line is left; false if the block
+/// is full, whether or not a line is left.
 fn put_lines(
     block: &mut Vec<u8>,
     left: &mut LinesLeft<'_>,

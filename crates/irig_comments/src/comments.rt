@@ -1,4 +1,5 @@
 //! The comment on the frames at one place. A place is when a frame's marker rises, in microseconds.
+//! Its two sides are the frame before there and the frame after, as far as they are there.
 
 ghost use Rattle.std.specs.Prelude.{◌≡◌, ◌++◌, OnOk};
 ghost use Rattle.irig_comments.specs.Comments.{after_text, before_text, comment_text, whole_text};
@@ -46,7 +47,7 @@ fn put_after(
     }
 }
 
-/// Writes a frame with its number and its place.
+/// Writes a frame with its number, from 1, its place, and what is reported of it.
 fn put_whole(block: &mut Vec<u8>, frame: &Shown) -> Result<(), AllocError>
     ensures { OnOk result (block.new.items ≡ block.old.items ++ whole_text frame.now) }
 {

@@ -1,4 +1,6 @@
-//! How many frames are fine, and how many came, went and changed.
+//! How many frames are fine, and how many came, went and changed. The place of a frame is when its
+//! marker rises, in microseconds. The sides of a place are the frame before there and the frame
+//! after.
 
 ghost use Rattle.std.specs.Prelude.{◌≡◌, ◌<◌, ◌+◌, ◌++◌, ◌^◌, OnOk, cond, codes, decimal};
 ghost use Rattle.irig_comments.specs.Counts.{counts_between, counts_text, is_alone, is_both};
@@ -43,7 +45,7 @@ impl Counts {
         counts
     }
 
-    /// Counts the frames of one place, which differ.
+    /// Counts the frames of one place, which differ: made, lost or changed.
     fn add(&mut self, sides: &Sides)
         requires room { (self.old.made < 2 ^ 32) × (self.old.lost < 2 ^ 32)
             × (self.old.changed < 2 ^ 32) }
@@ -65,7 +67,7 @@ impl Counts {
     }
 }
 
-/// Writes the line with the numbers.
+/// Writes the last line, with the numbers of frames.
 pub(crate) fn put_counts(block: &mut Vec<u8>, counts: &Counts) -> Result<(), AllocError>
     ensures { OnOk result (block.new.items ≡ block.old.items ++ counts_text counts.now) }
 {

@@ -87,7 +87,7 @@ impl Framed {
         })
     }
 
-    /// How many frames are fine.
+    /// How many frames are read, and fine.
     pub(crate) fn fine(&self) -> usize
         ensures { result ≡ fine_frames self.now }
     {

@@ -1,4 +1,6 @@
-//! The frames of two recordings by their places, one place after the other.
+//! The frames of two recordings by their places, one place after the other. The place of a frame is
+//! when its marker rises, in microseconds. Its two sides are the frame before there and the frame
+//! after, as far as they are there.
 
 ghost use Rattle.std.specs.Prelude.{◌≡◌, [], ◌∷◌, MatchOption, filter, length, ◌<◌, ◌^◌};
 ghost use Rattle.irig_comments.specs.Framed.{shown_frames};

@@ -1,5 +1,5 @@
-//! Texts that are written in front of others, from the last to the first. `end` is the place after
-//! the last byte that is written.
+//! Texts that are written in front of others, from the last to the first. `end` is the index, from
+//! 0, after the last byte that is written, and what is given back the index of the first.
 
 ghost use Rattle.std.specs.Prelude.{◌≡◌, ◌≤◌, ◌+◌, ◌++◌, ◌∷◌, length, drop, decimal};
 

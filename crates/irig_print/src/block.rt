@@ -49,7 +49,7 @@ impl Block {
         put_all(out, &self.bytes[..len])
     }
 
-    /// Takes a text of at most 8,192 bytes, and writes what is held back first if there is no room.
+    /// Takes a text of at most 256 bytes, and writes what is held back first if there is no room.
     pub fn put<W: Write>(&mut self, out: &mut W, text: &[u8]) -> Result<(), PrintFault>
         requires { length text.now ≤ 256 }
         ensures ok { OnOk result (Sends

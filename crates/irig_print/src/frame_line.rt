@@ -1,4 +1,5 @@
-//! The line that the command `frames` prints of a record.
+//! The line that the command `frames` prints of a record. A row is a line of at most 256 bytes
+//! while it is put together.
 
 ghost use Rattle.std.specs.Prelude.{◌≡◌, ◌≤◌, ◌+◌, ◌++◌, length};
 ghost use Rattle.irig_print.specs.FrameLine.{cause_word, name_word, note_text, time_text};
@@ -38,7 +39,8 @@ fn put_name(row: &mut Row, name: Name)
     }
 }
 
-/// Writes what is noted of a frame that was read.
+/// Writes what is noted of a frame that was read: that it is fine, which field is wrong, that the
+/// seconds of the day disagree with the time, or at which element, from 0, a pulse is stray.
 fn put_note(row: &mut Row, note: Note)
     requires room { length row.old ≤ 220 }
     ensures text { row.new ≡ row.old ++ note_text note }

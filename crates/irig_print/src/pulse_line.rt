@@ -12,8 +12,9 @@ use irig_recording::Pulse;
 /// letters with a newline.
 pub const LINE_ROOM: usize = 72;
 
-/// Writes the line of a pulse so that it ends at `end`, and gives where it starts: its number, its
-/// rise and its fall in microseconds, and the word of the element that its width means.
+/// Writes the line of a pulse so that it ends at `end`, the index after its last byte, and gives
+/// the index of its first: its number, from 1, its rise and its fall in microseconds, and the word
+/// of the element that its width means.
 pub fn write_pulse(bytes: &mut [u8], end: usize, format: Format, number: u64, pulse: Pulse) -> usize
     requires { (72 ≤ end) × (end ≤ length bytes.old) }
     ensures start { (end ≤ result + 72) × (result ≤ length bytes.old) }
