@@ -8,8 +8,8 @@ use irig_disk::{SystemDir, SystemFolder};
 use std::alloc::AllocError;
 use std::rt::Files as FileRuntime;
 
-/// The files of the system that a runtime gives. The memory for the path of a folder that a write
-/// opens is taken here; `Err` if there is none for it.
+/// The files of the system that a runtime gives. The memory for the paths that a write hands to the
+/// system, two names and an open folder, is taken here; `Err` if there is none.
 pub fn system_files<R: FileRuntime + Print + AllocGlobal>(
     rt: &R,
 ) -> Result<Files<SystemFolder<'_, R>>, AllocError>

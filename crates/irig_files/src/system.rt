@@ -131,8 +131,8 @@ impl<R: Files + Print + AllocGlobal> FileSystem for SystemFolder<'_, R> {
         }
     }
 
-    // Opens the folder at a path, at the end of its links, and leaves it in `dir`. An error if
-    // nothing is there, or no folder.
+    // Opens what is at a path, which a write takes as the folder of its files, and leaves it in
+    // `dir`. An error if nothing is there.
     fn open_folder(&self, dir: &mut SystemDir<R::File>, path: &str) -> Result<(), SystemFault> {
         dir.open(self.runtime(), path)
     }
