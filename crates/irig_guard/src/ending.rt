@@ -15,12 +15,13 @@ pub enum Ending<'a> {
     Unread(&'a str, DumpFileFault),
     /// The path to write leads to the dump.
     Over,
-    /// It cannot be found out whether it does.
+    /// It cannot be found out whether the path to write leads to the dump, or to another recording.
     Unknown,
     /// The path to write leads to the other recording at this path.
     OverOther(&'a str),
     /// The other recording at this path cannot be used.
     Unheard(&'a str, Unheard),
-    /// The script ran under guard on the dump at this path, and so the run ended.
+    /// The script ran under guard on the dump at this path, and so the run ended; also if the dump
+    /// is no recording, which is the fault `Dump` then.
     Ran(&'a str, Result<Kept, GuardFault>),
 }

@@ -1,5 +1,8 @@
 //! A script run under guard on the file of a dump, as the words of a command line ask. The room is
-//! the memory that writes use: it is taken before a dump is read, so none runs out of it.
+//! the memory that writes use: it is taken before a dump is read, so none runs out of it. A read
+//! has two faults: the outer one is of the file, the inner one, `VcdFault`, of the dump in it.
+//! `Parts` are the recording of a wire and the text of the journal, if the dump has one. A
+//! `ShelfFault` says only that it cannot be found out where a path leads.
 
 ghost use Rattle.std.specs.Prelude.{◌≡◌, ℕ, [], IfOk, IfSome, IsTrue, List, false, is_some, map};
 ghost use Rattle.std.specs.Prelude.{option_map, string_bytes, true};
@@ -46,7 +49,7 @@ pub fn obey_words<'a, D: Disk, R: Read, W: Write>(
 }
 
 /// Runs a script under guard on the dump of the settings. The memory of its writes is taken before
-/// the dump is read.
+/// the dump is read; if there is none, that is reported as a fault of the file, `Unread`.
 fn run_on_track<'a, D: Disk, R: Read, W: Write>(
     alloc: Global,
     chosen: &Settings<'a>,
@@ -67,7 +70,8 @@ fn run_on_track<'a, D: Disk, R: Read, W: Write>(
     run_with_room(alloc, chosen, &mut room, disk, script, out)
 }
 
-/// Runs a script under guard on the dump of the settings. Each write uses the room.
+/// Runs a script under guard on the dump of the settings. Each write uses the room. `Unread` if the
+/// file could not be read; that the dump is no recording comes later, in `Ran`.
 fn run_with_room<'a, D: Disk, R: Read, W: Write>(
     alloc: Global,
     chosen: &Settings<'a>,
@@ -89,8 +93,8 @@ fn run_with_room<'a, D: Disk, R: Read, W: Write>(
     }
 }
 
-/// Runs a script under guard on what was read of a dump, if the path to write does not lead to it.
-/// Each write uses the room.
+/// Runs a script under guard on what was read of a dump. Each write uses the room. `Over` if the
+/// path to write leads to the dump, `Unknown` if that cannot be found out.
 fn run_apart<'a, D: Disk, R: Read, W: Write>(
     alloc: Global,
     chosen: &Settings<'a>,
@@ -118,8 +122,9 @@ fn run_apart<'a, D: Disk, R: Read, W: Write>(
     }
 }
 
-/// Runs a script under guard on what was read of a dump, by what other recordings say, if the path
-/// to write leads to none of these. Each write uses the room.
+/// Runs a script under guard on what was read of a dump, by what other recordings say. Each write
+/// uses the room. `OverOther` if the path to write leads to one of these, `Unknown` if that cannot
+/// be found out, `Unheard` if one of these cannot be used.
 fn run_beside<'a, D: Disk, R: Read, W: Write>(
     alloc: Global,
     chosen: &Settings<'a>,
@@ -155,7 +160,8 @@ fn run_beside<'a, D: Disk, R: Read, W: Write>(
     }
 }
 
-/// Whether the path to write leads to the dump.
+/// Whether the path to write leads to the dump; false if there is none. `Err` if that cannot be
+/// found out.
 fn is_over<D: Disk>(chosen: &Settings<'_>, disk: &D) -> Result<bool, ShelfFault>
     ensures apart { IsTrue D.is_told → IfOk result (λ over. over ≡ false
         → IsApart chosen.now (D.disk disk.now)) }
@@ -170,7 +176,8 @@ fn is_over<D: Disk>(chosen: &Settings<'_>, disk: &D) -> Result<bool, ShelfFault>
 }
 
 /// Runs a script under guard on what was read of a dump, by the format and the path of the
-/// settings. Each write uses the room.
+/// settings, and by the frames of other recordings. Each write uses the room. `Dump` if the dump is
+/// no recording.
 fn run_on_read<D: Disk, R: Read, W: Write>(
     alloc: Global,
     chosen: &Settings<'_>,
@@ -234,7 +241,7 @@ fn product_of(chosen: &Settings<'_>) -> Product
     }
 }
 
-/// The bytes of the wire's name, if one is given.
+/// The bytes of the wire's name, if one is given; else the dump has to have one wire of one bit.
 fn wire_of<'a>(chosen: &Settings<'a>) -> Option<&'a [u8]>
     ensures { name_of result ≡ option_map (λ w. w.now) chosen.now.wire }
 {

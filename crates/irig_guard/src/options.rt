@@ -34,8 +34,8 @@ pub fn settings_of<'a>(asked: Asked<'a>) -> Result<Settings<'a>, OptionFault>
     })
 }
 
-/// Whether the path to write is written as that of the track is. Paths that lead to one file are
-/// found out later.
+/// Whether the path to write is written like that of the track. Whether two other paths lead to one
+/// file is found out later.
 fn is_over(asked: &Asked<'_>) -> bool
     ensures { result ≡ is_over asked.now }
 {

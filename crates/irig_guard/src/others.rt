@@ -1,4 +1,7 @@
-//! The other recordings that the settings name.
+//! The other recordings that the settings name. A frame of one says something of the track if a
+//! frame next to it agrees with it: the two are near enough for their distance to say how many
+//! frame periods it is, and their times are as many apart. A dump that is read has two faults: the
+//! outer one is of its file, the inner one of the dump in it.
 
 ghost use Rattle.std.specs.Prelude.{◌≡◌, ◌<◌, ◌^◌, ℕ, List, None, [], IfErr, IfOk, IfSome, IsTrue, OnOk};
 ghost use Rattle.std.specs.Prelude.{false, is_some, true};
@@ -20,7 +23,8 @@ use irig_text::ShelfFault;
 use irig_vcd::VcdFault;
 use std::alloc::Global;
 
-/// The path of the first other recording to which the path to write leads, if it leads to one.
+/// The path of the first other recording to which the path to write leads; `None` if it leads to
+/// none, or there is no path to write. `Err` if that cannot be found out.
 pub fn over_other<'a, D: Disk>(
     chosen: &Settings<'a>,
     disk: &D,
@@ -47,8 +51,8 @@ pub fn over_other<'a, D: Disk>(
     Ok(None)
 }
 
-/// The frames of all other recordings of the settings that say something of the track: those with
-/// which a frame next to them agrees. Or the path of one that cannot be used, and why.
+/// The frames of all other recordings of the settings that say something of the track. `Err` has
+/// the path of the first one that cannot be used, and why.
 pub fn frames_of_others<'a, D: Disk>(
     alloc: Global,
     chosen: &Settings<'a>,
@@ -71,7 +75,8 @@ pub fn frames_of_others<'a, D: Disk>(
     Ok(shown)
 }
 
-/// Puts the frames of the recording at a path that say something after others.
+/// Puts the frames of the recording at a path that say something after others. It is of the one
+/// wire of one bit that the dump has to have.
 fn add_frames_of<D: Disk>(
     alloc: Global,
     path: &str,
@@ -90,7 +95,8 @@ fn add_frames_of<D: Disk>(
     }
 }
 
-/// Puts the frames of a recording that say something after others, by what was read of its dump.
+/// Puts the frames of a recording that say something after others, by what was read of its dump. If
+/// memory runs out, that is a fault of its file.
 fn add_read(
     alloc: Global,
     read: Result<Parts, VcdFault>,

@@ -33,14 +33,15 @@ pub fn report<R: Eprint, H: Write>(rt: &R, ending: &Ending<'_>, help: &mut H) ->
     }
 }
 
-/// Says why a track was not read.
+/// Says why the track at the path `name` was not read. The status is 3.
 fn tell_unread<R: Eprint>(rt: &R, name: &str, fault: DumpFileFault) -> ExitCode
     ensures { exit_status result ≡ 3 }
 {
     program().tell_of(rt, 3, name, &unread_text(fault))
 }
 
-/// Says that the path to write is another recording, which is not written over.
+/// Says that the path to write leads to another recording, at the path `name`, which is not written
+/// over. The status is 2.
 fn tell_over<R: Eprint>(rt: &R, name: &str) -> ExitCode
     ensures { exit_status result ≡ 2 }
 {
@@ -48,7 +49,7 @@ fn tell_over<R: Eprint>(rt: &R, name: &str) -> ExitCode
     ExitCode::from(2)
 }
 
-/// Says why another recording cannot be used.
+/// Says why another recording, at the path `name`, cannot be used. The status is 3.
 fn tell_unheard<R: Eprint>(rt: &R, name: &str, why: Unheard) -> ExitCode
     ensures { exit_status result ≡ 3 }
 {
@@ -81,8 +82,9 @@ fn tell_ended<R: Eprint>(rt: &R, name: &str, outcome: Result<Kept, GuardFault>) 
     }
 }
 
-/// The exit status for a run that came to its end. How many frames have control functions that are not in
-/// the recording is printed on the standard error, if some have.
+/// The exit status for a run that came to its end: 0 if all repairs were kept, else 1. How many
+/// frames have control functions that are not in the recording is printed on the standard error, if
+/// some have.
 fn tell_kept<R: Eprint>(rt: &R, name: &str, kept: Kept) -> ExitCode
     ensures { exit_status result ≡ kept_number kept.status }
 {

@@ -6,8 +6,8 @@ use irig_vcd::VcdFault;
 /// Why another recording cannot be used.
 #[derive(Clone, Copy)]
 pub enum Unheard {
-    /// Its file is no dump that can be read.
+    /// Its file is no dump that can be read, or memory ran out.
     File(DumpFileFault),
-    /// The dump is not opened.
+    /// The dump in it is no recording, or was not opened.
     Dump(VcdFault),
 }
