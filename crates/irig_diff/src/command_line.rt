@@ -1,5 +1,6 @@
 //! The command line, read by `clap`. Its matches are what `clap` found in its words. Only memory
-//! can run out for a `Command` or an `Arg`.
+//! can run out for a `Command` or an `Arg`. A `UsageFault` is `Words` if `clap` does not accept the
+//! words, or they ask for help, and `Value` if an option has a value that it cannot have.
 
 ghost use Rattle.std.specs.Prelude.{◌≡◌, IfErr, IfOk, None, false, map, string_bytes};
 ghost use Rattle.clap.specs.Words.{HasMatchesOf, app_of, found_of, rule_of};

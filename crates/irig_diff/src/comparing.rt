@@ -1,6 +1,7 @@
 //! The tracks of two dumps are compared, as the words of a command line ask. The patch is printed
 //! by a block, in which its parts wait: it is made before the tracks are read. The ending says
-//! whether the two tracks are the same.
+//! whether the two tracks are the same. If memory runs out, that is reported as a fault of a file,
+//! `File`; `Dump` is a fault of the dump in it.
 
 ghost use Rattle.std.specs.Prelude.{◌≡◌, map, option_map, string_bytes};
 ghost use Rattle.irig_comments.specs.{Framed.framed, Parts.commented_text};
@@ -95,7 +96,7 @@ fn compare_recordings<'a, W: Write>(
     }
 }
 
-/// Prints the patch between two recordings with comments that show their frames.
+/// Prints the patch between two recordings with comments that show their frames in this format.
 fn compare_frames<'a, W: Write>(
     alloc: Global,
     chosen: &Settings<'a>,

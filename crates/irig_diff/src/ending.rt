@@ -11,7 +11,7 @@ pub enum Ending<'a> {
     Usage(UsageFault<OptionFault>),
     /// The track at this path was not read.
     Unread(&'a str, TrackFault),
-    /// The patch between the two tracks was printed. It says whether they are the same.
+    /// The patch between the two tracks was printed. True if they are the same.
     Compared(bool),
     /// The output failed.
     Unprinted,

@@ -25,8 +25,8 @@ pub fn settings_of<'a>(asked: &Asked<'a>) -> Result<Settings<'a>, OptionFault>
     }
 }
 
-/// The format of the frames that are shown, if they are asked for. An option of the format alone is
-/// a fault.
+/// The format of the frames that are shown; `None` if they are not asked for. An option of the
+/// format alone is a fault then, `Alone`.
 fn frames_of(asked: &Asked<'_>) -> Result<Option<Format>, OptionFault>
     ensures frames { IfOk result (AreFrames asked.now) }
     ensures fault { IfErr result (HasFault asked.now) }

@@ -10,8 +10,8 @@ use irig_print::{PrintFault, put_all};
 use irig_text::{ENOUGH, Text};
 use std::io::Write;
 
-/// Prints a text. Its parts wait in the block, and what it holds before is lost. Returns whether
-/// the text has no byte.
+/// Prints a text. Its parts wait in the block, and what the block holds before is lost. Returns
+/// whether the text has no byte.
 pub fn print<W: Write, T: Text>(
     out: &mut W,
     text: &mut T,
