@@ -1,6 +1,8 @@
 //! The command line, read by `clap`. Its matches are what `clap` found in its words. Only memory
 //! can run out for a `Command` or an `Arg`. The options come in this order: `taking`, `reading`,
-//! `placing`, `writing`, `marking`, each of which adds some to those before.
+//! `placing`, `writing`, `marking`, each of which adds some to those before. A `UsageFault` is
+//! `Words` if `clap` does not accept the words, or they ask for help, and `Value` if an option has
+//! a value that it cannot have.
 
 ghost use Rattle.std.specs.Prelude.{◌≡◌, IfErr, IfOk, map, string_bytes};
 ghost use Rattle.clap.specs.Words.{HasMatchesOf, app_of, found_of};

@@ -12,7 +12,7 @@ pub enum Ending<'a> {
     Usage(UsageFault<OptionFault>),
     /// The track at this path was not read.
     Unread(&'a str, TrackFault),
-    /// All lines were printed. The column of each has a number, or not.
+    /// All lines were printed. True if the column of each has a number.
     Aligned(bool),
     /// The table was printed.
     Listed,

@@ -1,6 +1,6 @@
 //! Lines are aligned with the track of a dump, as the words of a command line ask. A frame is
 //! believed if another one near it supports its time: moments have their times from such frames
-//! alone. `doubted` is how many others have a time.
+//! alone. `doubted` is how many others have a time, and `timed` whether some frame is believed.
 
 ghost use Rattle.std.specs.Prelude.{map, string_bytes};
 ghost use Rattle.irig_time.specs.Ending.{AlignsAs, EndsBy, ListsAs, Obeys, RunsAs};

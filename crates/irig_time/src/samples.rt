@@ -74,7 +74,8 @@ pub fn columns_of<'a>(asked: &Asked<'a>) -> Result<Columns<'a>, OptionFault>
     })
 }
 
-/// The column that is asked for: a number, or a name if it is none.
+/// The column that is asked for: a number from 1, which becomes one from 0, or a name if it is no
+/// number.
 fn column_of<'a>(asked: &Asked<'a>) -> Result<Column<'a>, OptionFault>
     ensures column { IfOk result (IsColumn asked.now) }
     ensures named { IfOk result (λ c. IfSome c.named (λ n. names_column asked.now ≡ true)) }
@@ -104,7 +105,8 @@ fn is_column_name(text: &[u8]) -> bool
     !text.is_empty() && whole(text).is_none()
 }
 
-/// How many lines are the header. A column that is given by its name needs one.
+/// How many lines are the header: 0 if that is not given. A column that is given by its name
+/// (`named`) needs one.
 pub fn header_of(asked: &Asked<'_>, named: Option<&[u8]>) -> Result<u64, OptionFault>
     requires { IfSome named (λ n. names_column asked.now ≡ true) }
     ensures header { IfOk result (λ header.
@@ -125,7 +127,7 @@ pub fn header_of(asked: &Asked<'_>, named: Option<&[u8]>) -> Result<u64, OptionF
     Ok(header as u64)
 }
 
-/// What parts columns, if it is given.
+/// What parts columns; `None` if it is not given, which is white space.
 fn comma_of(asked: &Asked<'_>) -> Result<Option<u8>, OptionFault>
     ensures comma { IfOk result (IsComma asked.now) }
     ensures fault { IfErr result (λ fault. HasFault asked.now Comma) }
@@ -150,7 +152,8 @@ pub struct Dates {
     pub form: Form,
 }
 
-/// How a time is written. The century is that of the year, if one is given.
+/// How a time is written. The century is that of the year, if one is given, else 20, of 2000 to
+/// 2099.
 pub fn dates_of(asked: &Asked<'_>) -> Result<Dates, OptionFault>
     ensures dates { IfOk result (λ d. HasDates asked.now d.century d.year d.form) }
     ensures sound { IfOk result (λ d. (d.century ≤ 99) × IfSome d.year (λ y. y ≤ 9998)) }

@@ -1,5 +1,5 @@
-//! What the texts of single values mean. Each function returns `None` if a text means no such
-//! value.
+//! What the texts of single values mean. Each function that gives an option returns `None` if a
+//! text means no such value.
 
 ghost use Rattle.std.specs.Prelude.{◌≡◌, ◌≤◌, ◌<◌, ◌^◌, IfSome, Some};
 ghost use Rattle.std.specs.Str.{bytes_eq};
@@ -36,7 +36,7 @@ fn within(first: u128, last: u128, number: u128) -> Option<u128>
     }
 }
 
-/// The n of the unit with this name: 10^n picoseconds are one.
+/// The n of the unit with this name: 10^n picoseconds are one of the unit.
 pub fn places_named(name: &[u8]) -> Option<usize>
     ensures { result ≡ places_named name.now }
 {
@@ -47,7 +47,7 @@ pub fn places_named(name: &[u8]) -> Option<usize>
     }
 }
 
-/// The n of the unit with this letter before its s: 10^n picoseconds are one.
+/// The n of the unit with this letter before its s: 10^n picoseconds are one of the unit.
 fn prefix_places(prefix: u8) -> Option<usize>
     ensures { result ≡ prefix_places prefix }
 {
@@ -60,7 +60,8 @@ fn prefix_places(prefix: u8) -> Option<usize>
     }
 }
 
-/// A number in the unit of 10^`places` picoseconds, in picoseconds.
+/// A number in the unit of 10^`places` picoseconds, in picoseconds rounded down. `None` also if it
+/// is further than 2^119 picoseconds from zero.
 pub fn offset_named(places: usize, text: &[u8]) -> Option<Picos>
     ensures value { result ≡ offset_named places text.now }
     ensures range { IfSome result (λ v. v.size ≤ 2 ^ 119) }
@@ -83,7 +84,7 @@ fn near(picos: Picos) -> Option<Picos>
     }
 }
 
-/// The byte that can part columns, if the text is one.
+/// The byte that can part columns, if the text is just one.
 pub fn comma_named(text: &[u8]) -> Option<u8>
     ensures { result ≡ comma_named text.now }
 {
