@@ -27,7 +27,7 @@ use irig_script::{Reply, obey_command};
 use std::alloc::Global;
 
 /// Obeys an edit. If it is refused, nothing has changed. What is known of the pulses of former
-/// frames stays true. An edit answers nothing else.
+/// frames stays true. An edit gives no other answer, so the last case does not come.
 fn edit(
     session: &mut Session,
     known: &mut Vec<Option<usize>>,

@@ -2,9 +2,9 @@
 //! read well (the former ones), and `known` has for each of them the marker at which its pulses are
 //! known to rise as they did. Markers and elements count from 0, and places in `old`. A pulse is an
 //! anchor if it rises where the recording has one. A former frame is passed if the frames that were
-//! looked at have one that begins when it does. The faults: `Lost` if none does, `Moved` if the
-//! pulses of that one do not rise as they did, `Misplaced` of a frame that was not fine, or if none
-//! was.
+//! looked at have one that begins when it does. The faults: `Lost` if none does; `Moved` if one
+//! does, and its pulses do not rise as they did; `Misplaced` if a frame that was not fine has a
+//! pulse that nothing holds, or if none was fine and one has too few anchors.
 
 ghost use Rattle.std.specs.Prelude.{◌≡◌, ◌↔◌, ◌+◌, ◌<◌, ◌≤◌, ◌∷◌, List, IsTrue, None, Option, Some};
 ghost use Rattle.std.specs.Prelude.{IfErr, IfOk, OnErr, OnOk, drop, get_or, length, slice_get};

@@ -106,8 +106,8 @@ fn is_own_to(format: Format, before: &Shown, after: &Shown, after2: Option<Shown
     }
 }
 
-/// How many microseconds `many` frame periods take on the clock of two frames; 0 if these are less
-/// than a period apart.
+/// How many microseconds `many` frame periods take on the clock of two frames; 0 if their times are
+/// less than a period apart.
 fn long_by(format: Format, one: &Shown, other: &Shown, many: u128) -> u128
     requires { many < 2 ^ 61 }
     ensures { result ≡ long_by format one.now other.now many }

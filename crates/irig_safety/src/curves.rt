@@ -101,9 +101,9 @@ fn is_turning(format: Format, sides: &Sides) -> bool
         && is_mean(format, sides)
 }
 
-/// What a bend is divided by: `all`, `seen_over`, which is in the difference of the clocks, and 100
-/// twice, since a frame has 100 elements. `all` is twice the frame periods from the middle of the
-/// two before to the middle of the two after: over these the clock changes evenly.
+/// What a bend is divided by: `all`, times `seen_over`, which is in the difference of the clocks,
+/// times 100 twice, since a frame has 100 elements. `all` is twice the frame periods from the
+/// middle of the two before to the middle of the two after: over these the clock changes evenly.
 fn turned_over(format: Format, sides: &Sides) -> u128
     requires before { periods format sides.now.before2 sides.now.before ≤ 500 }
     requires across { periods format sides.now.before sides.now.after ≤ 500 }

@@ -11,7 +11,7 @@ use crate::shown::Shown;
 use std::alloc::{AllocError, Global};
 
 /// The former frames where they are now: each where the first frame is that has its time, after the
-/// one that the frame before it was found at. One without such a frame is where it was.
+/// one at which a former frame was last found. One without such a frame is where it was.
 pub fn moved_in(alloc: Global, old: &[Shown], new: &[Shown]) -> Result<Vec<Shown>, AllocError>
     ensures { IfOk result (λ moved. moved.items ≡ moved_in old.now new.now) }
 {

@@ -27,8 +27,8 @@ pub struct Witnesses {
 }
 
 /// Whether the frame `before` a frame leads to it, or it leads to the one `after` it. If both are
-/// there and do not contradict each other, it strays by no more than half an interval more than
-/// these two do from each other. False if neither is there.
+/// there, and their distance shows as many periods as their times, it strays by no more than half
+/// an interval more than these two do from each other. False if neither is there.
 fn is_led(format: Format, before: Option<Shown>, after: Option<Shown>, frame: &Shown) -> bool
     ensures { result ≡ is_led format before after frame.now }
 {
