@@ -56,8 +56,7 @@ pub fn is_shore_before(format: Format, before: Three, frame: &Shown) -> bool
     }
 }
 
-/// Whether the first of three frames after a frame is there and does not agree with it, and the
-/// second or the third of them agrees with the first.
+/// As `is_shore_before`, of three frames after a frame instead of before it.
 fn is_shore_after(format: Format, frame: &Shown, after: Three) -> bool
     ensures { result ≡ is_shore_after format frame.now after.0 after.1 after.2 }
 {
