@@ -31,7 +31,8 @@ fn put_before(block: &mut Vec<u8>, before: &Option<Shown>) -> Result<(), AllocEr
     }
 }
 
-/// Writes the frame after: only what is reported of it, if there is one before.
+/// Writes the frame after, or `none`. If there is a frame before, at the same place, only what is
+/// reported of the frame after is written.
 fn put_after(
     block: &mut Vec<u8>,
     before: &Option<Shown>,

@@ -79,7 +79,7 @@ impl<'a> LinesLeft<'a> {
 }
 
 /// The next change, if its comment comes next: no stretch is left, or the next one ends at or after
-/// the place of the frame.
+/// the place of the frame. `None` if no change is left, or the stretch comes first.
 fn first_change(change: &Option<Sides>, stretch: &Option<Pulse>) -> Option<Sides>
     ensures { result ≡ first_change change.now stretch.now }
 {

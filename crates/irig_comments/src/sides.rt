@@ -20,7 +20,8 @@ pub struct Sides {
 }
 
 impl Sides {
-    /// Whether only one side has a frame, or something else is reported of the other.
+    /// Whether only one side has a frame, or both have one and something else is reported of the
+    /// one than of the other.
     pub(crate) fn differ(&self) -> bool
         ensures { result ≡ differs self.now }
     {
@@ -32,7 +33,8 @@ impl Sides {
         }
     }
 
-    /// Their place: when the markers rise, in microseconds, both at once if there are two.
+    /// Their place: when the markers rise, in microseconds, both at once if there are two. 0 if
+    /// there is none, which does not come.
     pub(crate) fn place(&self) -> u64
         ensures { result ≡ place self.now }
     {
@@ -52,7 +54,7 @@ fn is_same(one: &Verdict, other: &Verdict) -> bool
     are_same(one, other)
 }
 
-/// Whether two reports are equal, part by part.
+/// Whether two reports are equal, part by part; a broken frame and one that is read are not.
 fn are_same(one: &Verdict, other: &Verdict) -> bool
     ensures { result ≡ same_verdict one.now other.now }
 {
@@ -113,7 +115,7 @@ fn is_same_control(one: Option<u64>, other: Option<u64>) -> bool
     }
 }
 
-/// Whether the same is noted.
+/// Whether the same is noted of two frames: with the field or the element, if the note has one.
 fn is_same_note(one: &Note, other: &Note) -> bool
     ensures { result ≡ same_note one.now other.now }
 {

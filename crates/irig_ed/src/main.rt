@@ -23,6 +23,8 @@ use std::process::ExitCode;
 use std::rt::Runtime;
 use std::{env, io};
 
+// Gets the files of the system, and serves the words of the command line. The status is 2 if memory
+// for the files is missing.
 fn main(rt: HostRuntime) -> ExitCode {
     let Ok(mut files) = system_files(&rt) else {
         return tell_no_words(&rt, &io::Error::from(io::ErrorKind::OutOfMemory));

@@ -28,6 +28,8 @@ use std::process::ExitCode;
 use std::rt::Runtime;
 use std::{env, io};
 
+// Gets the files of the system and the words of the command line; then the script on the input is
+// run. The status is 2 if one of these cannot be had.
 fn main(rt: HostRuntime) -> ExitCode {
     let Ok(mut files) = system_files(&rt) else {
         return program().tell(&rt, 2, &io::Error::from(io::ErrorKind::OutOfMemory));

@@ -100,7 +100,8 @@ fn place_of_force(session: &Session, address: &Address) -> Place
     }
 }
 
-/// The place of a pulse that is inserted.
+/// The place of a pulse that is inserted: before it are those that rise up to its end `to`, since
+/// it must not touch one.
 fn place_of_insert(session: &Session, to: &Time) -> Place
     ensures { (from : SomeTime) (new : Machine)
         → Obeys (Command.Insert from to.now) session.now Silent new
@@ -112,7 +113,8 @@ fn place_of_insert(session: &Session, to: &Time) -> Place
     }
 }
 
-/// The place of frames that are generated: a hundred pulses for each.
+/// The place of frames that are generated: a hundred pulses for each, from the first that does not
+/// rise before the start on.
 fn place_of_regen(session: &Session, start: &Time, frames: u64) -> Place
     ensures { (moment : MomentView) (control : ℕ) (new : Machine)
         → Obeys (Command.Regen start.now frames moment control) session.now Silent new
@@ -124,7 +126,8 @@ fn place_of_regen(session: &Session, start: &Time, frames: u64) -> Place
     }
 }
 
-/// How many pulses rise before a time, in microseconds.
+/// How many pulses rise before a time, in microseconds. `find` counts those that rise up to a time,
+/// also at it.
 fn rising_before(session: &Session, time: u64) -> usize
     ensures { result ≡ length (rising_before time session.now.state.pulses) }
 {

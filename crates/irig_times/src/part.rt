@@ -40,6 +40,7 @@ pub struct Place {
 }
 
 /// How many parts begin with the pulse of a number, from 0, or before it. The parts are in order.
+/// The format is for the contract alone.
 pub fn parts_up_to(parts: &[Part], format: Format, number: usize) -> usize
     requires { (n : ℕ) × AreParts format 0 n parts.now }
     ensures parted { PartsAt parts.now number result }
@@ -58,7 +59,8 @@ pub fn parts_up_to(parts: &[Part], format: Format, number: usize) -> usize
     low
 }
 
-/// The element that the pulse of a number, from 0, is, if the time of its frame is known.
+/// The element that the pulse of a number, from 0, is, if the time of its frame is known; else
+/// `None`. The format is for contracts alone.
 pub fn place_of(parts: &[Part], format: Format, number: usize) -> Option<Place>
     requires { (n : ℕ) × AreParts format 0 n parts.now }
     ensures { MatchOption result
