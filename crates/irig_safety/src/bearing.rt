@@ -146,7 +146,7 @@ pub fn is_later(format: Format, one: &Shown, other: &Shown) -> bool
         && from + periods(format, one, other) * period(format) == to
 }
 
-/// How many microseconds after a frame another begins.
+/// How many microseconds after `one` the other frame begins; 0 if it does not begin later.
 pub fn distance(one: &Shown, other: &Shown) -> u128
     ensures value { result ≡ distance one.now other.now }
     ensures small { result < 2 ^ 64 }
@@ -154,7 +154,7 @@ pub fn distance(one: &Shown, other: &Shown) -> u128
     u128::from(other.rise.saturating_sub(one.rise))
 }
 
-/// How far two numbers are apart.
+/// How far two numbers are apart, whichever is greater.
 pub fn apart(one: u128, other: u128) -> u128
     ensures value { result ≡ apart one other }
     ensures within { (one < 2 ^ 125) → (other < 2 ^ 125) → result < 2 ^ 125 }

@@ -106,7 +106,7 @@ fn tenth(format: Format) -> u128
     u128::from(format.interval() / 10)
 }
 
-/// How many microseconds a time is after another.
+/// How many microseconds the time `to` is after `from`; 0 if it is not later.
 pub fn between(from: u64, to: u64) -> u128
     ensures value { result ≡ to - from }
     ensures small { result < 2 ^ 64 }

@@ -156,7 +156,7 @@ impl Original {
     }
 }
 
-/// Whether a pulse rises when one of others does, or rises when one falls and falls when one rises.
+/// Whether the recorded pulses hold a pulse that is there, as in `Original::holds`.
 fn is_anchor(recorded: &[Pulse], pulse: Pulse, place: &mut usize) -> bool
     requires rising { IsNonDecreasingBy (λ (p : SomePulse). p.rise) recorded.now }
     requires falling { IsNonDecreasingBy (λ (p : SomePulse). p.fall) recorded.now }
