@@ -21,7 +21,8 @@ use irig_safety::{Fault, Original, Shown, check_safe, check_unspoiled, moved_in}
 use std::alloc::Global;
 
 /// Whether what the frames show may stay: it is safe by what they showed at first, and none is
-/// spoiled of those that read well before. Returns the frames that read well now.
+/// spoiled of those that read well before. Returns the frames that read well now; or `NotSafe` with
+/// the first fault, or that memory ran out.
 pub fn check(
     alloc: Global,
     session: &Session,

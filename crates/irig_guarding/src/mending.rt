@@ -1,6 +1,8 @@
 //! Repairs that are tried, and kept if they are safe. `known` has for each frame of the recording
 //! that read well the marker at which its pulses are known to rise as they did; after an error it
-//! is not used. `before` is the frames that read well before the repair.
+//! is not used. `before` is the frames that read well before the repair. A `Reason` is why a repair
+//! is not kept: `NoRepair` if it is no edit and no group of edits, `Refused` if the editor refuses
+//! a line, `NotSafe` with the first fault of the frames that it leads to, or `OutOfMemory`.
 
 ghost use Rattle.std.specs.Prelude.{◌≡◌, ◌≢◌, ◌∷◌, ◌++◌, [], ℕ, List, None, IfErr, IfOk, OnErr, OnOk};
 ghost use Rattle.irig_edit.specs.{Session.Calls.Call, Session.Session.work_in};
@@ -90,7 +92,8 @@ fn mend_by(
     }
 }
 
-/// Obeys lines in a group up to the first that stops it.
+/// Obeys lines in a group, up to the first that is refused or is no edit and no comment: `Err` is
+/// its reason.
 fn mend_all(
     session: &mut Session,
     known: &mut Vec<Option<usize>>,
@@ -110,7 +113,8 @@ fn mend_all(
     Ok(())
 }
 
-/// Ends the open group if what the frames show may stay. Returns the frames that read well.
+/// Ends the open group if what the frames show may stay, and returns the frames that read well. If
+/// not, the group stays open.
 fn end_safely(
     alloc: Global,
     session: &mut Session,

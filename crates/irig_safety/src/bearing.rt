@@ -228,7 +228,7 @@ pub fn agrees(format: Format, one: &Shown, other: &Shown) -> bool
 }
 
 /// Whether `from` and `frame` stray by no more than half an interval more than `one` and `other`
-/// do, or the distance of those two does not fit their times.
+/// do, or the distance of `one` and `other` does not fit their times.
 pub fn is_within(format: Format, one: &Shown, other: &Shown, from: &Shown, frame: &Shown) -> bool
     ensures { result ≡ is_within format one.now other.now from.now frame.now }
 {

@@ -1,5 +1,6 @@
 //! The rises and falls of recorded pulses. They are asked for in rising order most of the time, so
-//! the place that is looked at first saves a search.
+//! the place that is looked at first saves a search. Places count from 0, and times are in
+//! microseconds.
 
 ghost use Rattle.std.specs.Prelude.{◌≡◌, ◌<◌, ◌≤◌, ℕ, get_or, length};
 ghost use Rattle.std.specs.List.Sorted.{IsNonDecreasingBy};

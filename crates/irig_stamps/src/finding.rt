@@ -1,6 +1,8 @@
 //! The column with a name, in the header of the lines. The header is the first `settings.header`
 //! lines, and the name is looked for in its last one. Columns are parted by `settings.comma`, or if
-//! it is `None` by white space.
+//! it is `None` by white space. The faults: `NoHeader` if that line is not there, `LongHeader` if
+//! it does not end in the first 1 MiB, `NoColumn` and `TwoColumns` if none or two columns have the
+//! name.
 
 ghost use Rattle.std.specs.Prelude.{◌≡◌, ◌≤◌, ◌<◌, ◌+◌, ℕ, List, length, Option, Ok, Err, IfErr, IfOk, Bool};
 ghost use Rattle.std.specs.Prelude.{if◌then◌else◌, ◌==◌};

@@ -1,6 +1,6 @@
 //! The point of a decimal number, moved. `whole` is the digits before the point and `fraction`
 //! those after it, as ASCII. The result is a whole number: what is after the moved point is
-//! dropped, or rounds it up by one if `up`.
+//! dropped, or rounds it up by one if `up` and it is not 0.
 
 ghost use Rattle.std.specs.Prelude.{◌≡◌, ◌≤◌, ◌^◌, ◌+◌, ◌*◌, ◌-◌, ◌∷◌, ℕ, suc, List, min};
 ghost use Rattle.std.specs.Prelude.{drop, false, true, ◌&&◌, ◌||◌};

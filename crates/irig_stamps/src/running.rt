@@ -23,7 +23,7 @@ use std::io::{Read, Write};
 
 /// Takes `before`, the bytes of the lines that were read already, reads the rest to its end, and
 /// prints each line with its time before it. Returns whether the column of each has a number, but
-/// for the header.
+/// for the header; or why the run is broken off, after what was printed until then.
 pub fn run<R: Read, W: Write>(
     alloc: Global,
     before: &[u8],

@@ -176,7 +176,7 @@ fn is_denied_before(pulses: &mut Lens<'_>, format: Format, to: &Part) -> bool
 }
 
 /// Whether the time jumps between two frames; before the first one, if there is no `from`; or after
-/// the last one, if there is no `to`.
+/// the last one, if there is no `to`. False if there is neither.
 pub fn is_jump_between(
     pulses: &mut Lens<'_>,
     format: Format,
