@@ -79,7 +79,8 @@ impl<C: FileSystem> Disk for Files<C> {
         self.system.read_window(alloc, path, wire, window)
     }
 
-    // Writes a text to the file that a path leads to: a regular one is replaced whole.
+    // Writes a text to the file that a path leads to: a regular one, or none yet, is replaced
+    // whole.
     fn put<T: Text>(
         &mut self,
         path: &str,
@@ -89,7 +90,8 @@ impl<C: FileSystem> Disk for Files<C> {
         put_file(&mut self.system, &mut self.dir, path, text, room)
     }
 
-    // Whether two paths lead to one regular file.
+    // Whether two paths lead to one regular file: false if one leads to none, or to what is no
+    // regular file. `Err` if the system does not say what is there.
     fn is_same(&self, one: &str, other: &str) -> Result<bool, ShelfFault> {
         is_same_file(&self.system, one, other)
     }

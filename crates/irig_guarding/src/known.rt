@@ -124,8 +124,8 @@ fn followed(
 
 /// The marker that is known after the pulses from `place.at` on became `place.come` others: the
 /// same for a frame whose 100 pulses end before them, moved with its pulses for one that begins
-/// after them, and none between. `before` and `after` are how many pulses there were and are. More
-/// others than a `u64` has would not fit the sums.
+/// after them, and none between. `before` and `after` are how many pulses there were and are, so
+/// `before` + `come` - `after` of them went. More others than a `u64` has would not fit the sums.
 fn followed_by(marker: usize, place: &Place, before: usize, after: usize) -> Option<usize>
     ensures { Follows place.now.at place.now.come before after (Some marker) result }
 {

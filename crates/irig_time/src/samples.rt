@@ -75,7 +75,7 @@ pub fn columns_of<'a>(asked: &Asked<'a>) -> Result<Columns<'a>, OptionFault>
 }
 
 /// The column that is asked for: a number from 1, which becomes one from 0, or a name if it is no
-/// number.
+/// number. `Column` if it is neither, or too great.
 fn column_of<'a>(asked: &Asked<'a>) -> Result<Column<'a>, OptionFault>
     ensures column { IfOk result (IsColumn asked.now) }
     ensures named { IfOk result (λ c. IfSome c.named (λ n. names_column asked.now ≡ true)) }

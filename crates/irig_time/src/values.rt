@@ -94,8 +94,8 @@ pub fn comma_named(text: &[u8]) -> Option<u8>
     }
 }
 
-/// Whether a byte of ASCII can part columns: none of a number, a time, a word or a name, and no end
-/// of a line.
+/// Whether a byte is one of ASCII that can part columns: none of a number, a time, a word or a
+/// name, and no end of a line.
 fn is_parting(byte: u8) -> bool
     ensures { result ≡ is_parting byte }
 {
