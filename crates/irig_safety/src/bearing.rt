@@ -42,7 +42,8 @@ fn is_next(one: u32, other: u32) -> bool
     (u64::from(one) + 1) % 100 == u64::from(other)
 }
 
-/// Whether the second year is the first one or the one after it, or neither is known.
+/// Whether the second year is the first one or the one after it, or neither is known. False if just
+/// one is known.
 fn is_near_year(one: Option<u32>, other: Option<u32>) -> bool
     ensures { result ≡ is_near_year one other }
 {
@@ -65,9 +66,10 @@ fn year(is_long: bool) -> u128
     }
 }
 
-/// By how many hundredths of a second the year of other fields begins after that of these: 0 if it
-/// is the same year. Without years it is the next one if the clock would go back else. A year is
-/// long if its number is a multiple of 4, or without years if `one` is on its day 366.
+/// By how many hundredths of a second the year of `other` begins after that of `one`: 0 if it is
+/// the same year. Without years it is the next one if the clock would go back else. A year is long
+/// if its number is a multiple of 4, or without years if `one` is on its day 366. 0 if just one
+/// year is known.
 fn turn(one: &Fields, other: &Fields) -> u128
     ensures value { result ≡ turn_of one.now.year other.now.year one.now other.now }
     ensures small { result < 2 ^ 32 }
@@ -104,7 +106,7 @@ fn inserted(one: &Fields, other: &Fields) -> u128
     }
 }
 
-/// The time of a frame on the clock of the year of another, in hundredths of a second.
+/// The time of `other` on the clock of the year of `one`, in hundredths of a second.
 fn clock_after(one: &Shown, other: &Shown) -> u128
     ensures value { result ≡ clock_after one.now other.now }
     ensures small { result < 2 ^ 61 }
@@ -112,7 +114,7 @@ fn clock_after(one: &Shown, other: &Shown) -> u128
     clock(&other.fields) + turn(&one.fields, &other.fields) + inserted(&one.fields, &other.fields)
 }
 
-/// How many whole frame periods the time of a frame is after that of another; 0 if it is not after
+/// How many whole frame periods the time of `other` is after that of `one`; 0 if it is not after
 /// it.
 pub fn periods(format: Format, one: &Shown, other: &Shown) -> u128
     ensures value { result ≡ periods format one.now other.now }
@@ -166,7 +168,8 @@ pub fn apart(one: u128, other: u128) -> u128
     }
 }
 
-/// By how many microseconds the distance of two frames differs from that of their times.
+/// By how many microseconds the distance of two frames differs from that of their times, in whole
+/// periods.
 pub fn stray(format: Format, one: &Shown, other: &Shown) -> u128
     ensures value { result ≡ stray format one.now other.now }
     ensures small { result < 2 ^ 90 }

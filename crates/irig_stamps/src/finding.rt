@@ -168,7 +168,8 @@ fn find_in(settings: &Settings<'_>, name: &[u8], bytes: &[u8]) -> Result<usize, 
     place_of(settings.comma, name, line)
 }
 
-/// The column of a line with a name, from 0; `NoColumn` if none has it, `TwoColumns` if two do.
+/// The column of a line with a name, from 0, of the first 65,536; `NoColumn` if none has it,
+/// `TwoColumns` if two do.
 fn place_of(comma: Option<u8>, name: &[u8], line: &[u8]) -> Result<usize, RunFault>
     ensures { IsPlace (has_name comma name.now line.now) 65536 result }
 {
