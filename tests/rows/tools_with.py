@@ -245,6 +245,16 @@ def of_other_code():
     yield same("and the rest is used", mended(pulses, slow(few))[2], set())
 
 
+def of_another(frame, *places):
+    """A frame has the control functions of another one, and pulses of its time are lost."""
+    pulses = code()
+    names = tools_rare.timecode.encode("B", 4, tools_rare.timecode.generated("B", (DAY, MIDDAY), frame, sent(frame + 12)))
+    for element in range(50, 78):
+        rise = pulses[100 * frame + element][0]
+        pulses[100 * frame + element] = [rise, rise + 10000 * tools_rare.WIDTHS[names[element]] // 10]
+    return without(pulses, *(100 * frame + each for each in places))
+
+
 def of_contrary():
     """A frame that has too much otherwise is not used."""
     pulses = without(code(), LOST)
@@ -254,6 +264,12 @@ def of_contrary():
                ["3 control functions that are recorded here are others"])
     _, _, guesses, remarks = mended(pulses, slow(flipped(code(), 1065, 1067)))
     yield same("two", (guesses, len(remarks)), (set(), 2))
+    for name, frame, filled in (("the last frame", FRAMES - 1, set()), ("a frame between", 7, {701, 706, 780})):
+        wanted, _, _, remarks = mended(of_another(frame, 1, 6, 80), slow(code()))
+        yield same("%s can be from before the clock was set" % name, wanted.keys(), filled)
+        yield same("%s: what is said" % name, ["control functions that are recorded here are others" in each for each in remarks], [True])
+    two = without(of_another(1, 1, 6, 80), 6, 7)
+    yield same("one of the first two, and then both", mended(two, slow(code()))[0].keys(), set())
 
 
 def of_rules():

@@ -58,9 +58,12 @@ class Faults:
         self.contrary: Set[FrameNumber] = set()  # frames that show another time, too clearly to be damage
         self.remarks: List[Remark] = []
         self.usual = times.usual() if self.layout.steady else {}
+        doubted = self._doubted()
         for number, text in times.texts.items():
             self._compare_control(number, text)
-            if number not in times.sound:
+            if number in doubted:
+                self.contrary.add(number)
+            elif number not in times.sound:
                 self._look_at(number, text, times.expected(number))
         for place in track.strays:
             told = track.told[place - track.first]
@@ -72,6 +75,14 @@ class Faults:
         found, kept = copy.copy(self), [place for place in self.wanted if frame_of(place) not in self.left]
         found.wanted = {place: self.wanted[place] for place in kept if place not in places}
         return found
+
+    def _doubted(self) -> Set[FrameNumber]:
+        """The frames at an end of the recording, before the first sound one or after the last, if of one of them another recording has
+        too much otherwise: their time is counted from the sound ones, and a clock that was set there looks just so."""
+        first, last = min(self.times.sound, default=0), max(self.times.sound, default=0)
+        before = any(number < first for number in self.elsewhere.contrary)
+        after = any(number > last for number in self.elsewhere.contrary)
+        return {number for number in self.times.texts if (before and number < first) or (after and number > last)}
 
     def _look_at(self, number: FrameNumber, text: str, expected: str) -> None:
         """Compares a frame with what follows for it."""
