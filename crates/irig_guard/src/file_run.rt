@@ -1,8 +1,7 @@
 //! A script run under guard on the file of a dump, as the words of a command line ask. The room is
-//! the memory that writes use: it is taken before a dump is read, so none runs out of it. A read
-//! has two faults: the outer one is of the file, the inner one, `VcdFault`, of the dump in it.
-//! `Parts` are the recording of a wire and the text of the journal, if the dump has one. A
-//! `ShelfFault` says only that it cannot be found out where a path leads.
+//! the memory of writes, taken before a dump is read. The outer fault of a read is of the file, the
+//! inner one, `VcdFault`, of the dump in it. `Parts` are the recording of a wire and the text of the
+//! journal, if there is one. A `ShelfFault`: it cannot be found out where a path leads.
 
 ghost use Rattle.std.specs.Prelude.{◌≡◌, ℕ, [], IfOk, IfSome, IsTrue, List, false, is_some, map};
 ghost use Rattle.std.specs.Prelude.{option_map, string_bytes, true};
@@ -160,8 +159,7 @@ fn run_beside<'a, D: Disk, R: Read, W: Write>(
     }
 }
 
-/// Whether the path to write leads to the dump; false if there is none. `Err` if that cannot be
-/// found out.
+/// Whether the path to write, if there is one, leads to the dump. `Err`: it cannot be found out.
 fn is_over<D: Disk>(chosen: &Settings<'_>, disk: &D) -> Result<bool, ShelfFault>
     ensures apart { IsTrue D.is_told → IfOk result (λ over. over ≡ false
         → IsApart chosen.now (D.disk disk.now)) }
