@@ -10,12 +10,15 @@ from unittest import mock
 import mending
 from built import DIFF
 from cases import case
-from irig_tools import changes
+from irig_tools import changes, damage
 from irig_tools.editor import Listing
+from irig_tools.overview import sheet_of
+from irig_tools.sheet import Changes
 from random_input import damages
 from rows.in_process import run
 from rows.tools_apply import END, both, glitch, in_folder, nanoseconds, recorded, same, text_of
 from rows.tools_outputs import contents, filled, shell
+from rows.tools_with import Track
 
 RANDOM = 20  # damaged recordings
 PAGE = ["--page", "page.html", "--apply", "new.vcd"]
@@ -252,6 +255,14 @@ def dropped(top):
     return in_folder(lambda: list(holds()), rec=damages.dump(recorded(glitch), END))
 
 
+def gone():
+    """A place at which nothing was changed is on the page of a repair only if something is damaged there now."""
+    seen = damage.look(Track(recorded(glitch)), lambda text: None)
+    for name, there, wanted in (("still damaged", seen.damages, len(seen.damages)), ("no longer damaged", [], 0)):
+        sheet = sheet_of("rec.vcd", "irig", seen, (), seen.listing, Changes(), there)
+        yield same("a place without a repair, " + name, len(sheet.places), wanted)
+
+
 def counted():
     """Of more stretches than are listed it is known where they are, and what they are now; of very many, those near each other
     are one."""
@@ -277,4 +288,4 @@ def cases(top):
     found += [case("mend: changes: damaged %d" % seed, damaged, top, seed) for seed in range(RANDOM)]
     found += [case("mend: changes: irig_mend " + row[0], commanded, top, *row) for row in COMMANDS]
     found += [case("mend: changes: " + part.__name__, part, top) for part in (troubled, unguarded, unwritten, dropped)]
-    return found + [case("mend: changes: " + part.__name__, part) for part in (proposed, counted)]
+    return found + [case("mend: changes: " + part.__name__, part) for part in (proposed, gone, counted)]

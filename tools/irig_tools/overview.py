@@ -36,7 +36,7 @@ def sheet_of(name: str, wire: str, seen: Seen, script: Sequence[Repair] = (), af
     kind = "%s %d" % (layout.kind, layout.expression)
     said = tuple(each.seen for each in notes)
     if changes:
-        places = [_made(place) for place in places]
+        places = _kept([_made(place) for place in places], script, there)
         places = sorted(places + _still_there(seen, there, places), key=lambda place: place.at)
     length = seen.listing.length
     return Sheet(name, length, layout.interval, kind, _stretches(seen.findings, length), tuple(places), lines, said, changes, wire=wire,
@@ -88,6 +88,14 @@ def _of_day(part: Part, span: Span, place: PlaceNumber) -> int:
 def _made(place: Place) -> Place:
     """A place without a repair that was proposed for it and not made."""
     return place if place.after != place.before else replace(place, after=None)
+
+
+def _kept(places: Sequence[Place], script: Sequence[Repair], there: Sequence[Damage]) -> List[Place]:
+    """The places but those at which nothing was changed and where nothing is damaged now: a step next to other damage can go with it.
+    If a repair moves what comes after it, what is damaged now has other times, so all places are kept."""
+    left = Stretches((each.at, max(each.at, each.until)) for each in there)
+    moved = any(repair.moves for repair in script)
+    return [each for each in places if moved or each.after is not None or left.meets(each.at, each.end)]
 
 
 def _still_there(seen: Seen, there: Sequence[Damage], places: Sequence[Place]) -> List[Place]:
