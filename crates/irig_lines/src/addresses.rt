@@ -1,5 +1,7 @@
-//! Addresses, ranges and times of a script, read. A text that is none is a `BadLine`. Pulses count
-//! from 1, and times are in microseconds.
+//! Addresses, ranges and times of a script, read. A text that is none is a `BadLine`, the only
+//! error of a line. Pulses count from 1, and times are in microseconds. An address is what it
+//! counts from, its base, and an offset of so many pulses, which may be below 0. The cursor is a
+//! pulse: the one where a script stands.
 
 ghost use Rattle.std.specs.Prelude.{◌≡◌, ◌<◌};
 ghost use Rattle.irig_saved.specs.Letters.{letter_word};
@@ -22,7 +24,7 @@ pub fn letter(word: &[u8]) -> Result<Letter, BadLine>
     Letter::named(word).ok_or(BadLine)
 }
 
-/// A time: a number of microseconds, or a mark.
+/// A time: a number of microseconds, or an apostrophe and the letter of a mark, whose time it is.
 pub fn time(word: &[u8]) -> Result<Time, BadLine>
     ensures { Finds (IsTime word.now) result }
 {
@@ -32,7 +34,8 @@ pub fn time(word: &[u8]) -> Result<Time, BadLine>
     }
 }
 
-/// What an address counts from: the text before its offset. No text is the cursor.
+/// What an address counts from: the text before its offset. It is `.` or no text, the cursor; `$`,
+/// the last pulse; an apostrophe and the letter of a mark; or the number of a pulse.
 fn base(text: &[u8]) -> Result<Base, BadLine>
     ensures { Finds (IsBase text.now) result }
 {
@@ -44,7 +47,8 @@ fn base(text: &[u8]) -> Result<Base, BadLine>
     }
 }
 
-/// The offset of an address: the text from its sign on. No text is 0, and a sign alone is 1.
+/// The offset of an address: the text from its sign on, which may be missing. No text is 0, and a
+/// sign alone is 1 or -1.
 fn offset(text: &[u8]) -> Result<i64, BadLine>
     ensures { Finds (IsOffset text.now) result }
 {
@@ -56,7 +60,7 @@ fn offset(text: &[u8]) -> Result<i64, BadLine>
     }
 }
 
-/// An address.
+/// An address: a base and an offset, either of which may be missing, but not both.
 pub fn address(text: &[u8]) -> Result<Address, BadLine>
     ensures { Finds (IsAddress text.now) result }
 {
@@ -70,7 +74,7 @@ pub fn address(text: &[u8]) -> Result<Address, BadLine>
     })
 }
 
-/// An address without an offset.
+/// The address of a base without an offset.
 fn at(base: Base) -> Address
     ensures { result ≡ at base }
 {

@@ -1,5 +1,5 @@
 //! The arguments of a line: times, moments, control functions and words that are known. A text that
-//! is none is a `BadLine`.
+//! is none is a `BadLine`, the only error of a line. Times are in microseconds.
 
 ghost use Rattle.std.specs.Prelude.{◌≡◌, Some};
 ghost use Rattle.irig_moment.specs.Written.{moment_of};
@@ -15,7 +15,7 @@ use crate::words::{no_word, split_word, two_words};
 use irig_codes::{Element, Kind, element_named, kind_named};
 use irig_moment::Moment;
 
-/// Two times.
+/// Two times, which are all words of a text.
 pub fn times(arguments: &[u8]) -> Result<(Time, Time), BadLine>
     ensures { Finds (λ t. AreTimes (words_of arguments.now) t.0 t.1) result }
 {
@@ -23,7 +23,7 @@ pub fn times(arguments: &[u8]) -> Result<(Time, Time), BadLine>
     Ok((time(a)?, time(b)?))
 }
 
-/// The moment of a word.
+/// The moment that a word is: a day and a time of day, as a script writes them.
 pub fn moment(word: &[u8]) -> Result<Moment, BadLine>
     ensures { Finds (λ m. moment_of word.now ≡ Some m) result }
 {

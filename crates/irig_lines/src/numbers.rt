@@ -1,4 +1,4 @@
-//! Numbers of a script. A text that is none is a `BadLine`.
+//! Numbers of a script. A text that is none is a `BadLine`, the only error of a line.
 
 ghost use Rattle.std.specs.Prelude.{◌≡◌, ◌<◌, ◌^◌, IfOk};
 ghost use Rattle.irig_lines.specs.Findings.{Finds};
@@ -49,7 +49,8 @@ pub fn distance(word: &[u8]) -> Result<i64, BadLine>
     }
 }
 
-/// A number after a sign: below zero after a minus.
+/// A number after a sign: below zero if the sign is a minus. The contract needs the number below
+/// 2^63, so that it fits; one of 18 digits is.
 pub fn signed(sign: u8, number: u64) -> i64
     requires { number < 2 ^ 63 }
     ensures sign { IsSigned sign result }

@@ -1,6 +1,9 @@
 //! What a word asks for with a range and arguments. `front` is the text before the word, which is a
-//! range, an address or nothing, and `arguments` is the text after it. `BadLine` if one of them is
-//! not valid for the word.
+//! range, an address or nothing, and `arguments` is the text after it. `BadLine`, the only error of
+//! a line, says that one of them is not valid for the word. Times are in microseconds, and pulses
+//! count from 1.
+//!
+//! Where `let Ok(..) else` returns `BadLine`, `?` would do the same; the proof of it takes longer.
 
 ghost use Rattle.std.specs.Prelude.{◌≡◌, [], OnOk, OnErr};
 ghost use Rattle.irig_lines.specs.{Findings.Finds, Addresses.IsRange, Commands.Asks};
@@ -25,35 +28,36 @@ pub fn no_range(front: &[u8]) -> Result<(), BadLine>
     }
 }
 
-/// What an address asks for that has no word after it.
+/// What the address `front` asks for if no word is after it: to show its pulse.
 pub fn show(front: &[u8]) -> Result<Command, BadLine>
     ensures { Finds (Asks Keyword.Missing front.now []) result }
 {
     Ok(Command::Show(address(front)?))
 }
 
-/// What a range asks for before `list`.
+/// What the range `front` asks for before `list`, which takes no arguments.
 pub fn list(front: &[u8], arguments: &[u8]) -> Result<Command, BadLine>
     ensures { Finds (Asks Keyword.List front.now (words_of arguments.now)) result }
 {
     Ok(Command::List(ranged(front, arguments)?))
 }
 
-/// What a range asks for before `delete`.
+/// What the range `front` asks for before `delete`, which takes no arguments.
 pub fn delete(front: &[u8], arguments: &[u8]) -> Result<Command, BadLine>
     ensures { Finds (Asks Keyword.Delete front.now (words_of arguments.now)) result }
 {
     Ok(Command::Delete(ranged(front, arguments)?))
 }
 
-/// What a range asks for before `join`.
+/// What the range `front` asks for before `join`, which takes no arguments.
 pub fn join(front: &[u8], arguments: &[u8]) -> Result<Command, BadLine>
     ensures { Finds (Asks Keyword.Join front.now (words_of arguments.now)) result }
 {
     Ok(Command::Join(ranged(front, arguments)?))
 }
 
-/// What a range and the arguments of `shift` ask for.
+/// What the range `front` and the arguments of `shift` ask for: to move its pulses by a distance in
+/// microseconds, which may be below 0.
 pub fn shift(front: &[u8], arguments: &[u8]) -> Result<Command, BadLine>
     ensures { Finds (Asks Keyword.Shift front.now (words_of arguments.now)) result }
 {
@@ -61,7 +65,8 @@ pub fn shift(front: &[u8], arguments: &[u8]) -> Result<Command, BadLine>
     Ok(Command::Shift(range(front)?, distance(by)?))
 }
 
-/// What an address and the arguments of `split` ask for.
+/// What an address and the arguments of `split` ask for: to make its pulse low from time `a` to
+/// time `b`. No address is the cursor's.
 pub fn split(front: &[u8], arguments: &[u8]) -> Result<Command, BadLine>
     ensures { Finds (Asks Keyword.Split front.now (words_of arguments.now)) result }
 {
@@ -69,7 +74,8 @@ pub fn split(front: &[u8], arguments: &[u8]) -> Result<Command, BadLine>
     Ok(Command::Split(address_or_cursor(front)?, a, b))
 }
 
-/// What an address and the arguments of `force` ask for.
+/// What an address and the arguments of `force` ask for: to give its pulse the width of an element.
+/// No address is the cursor's.
 pub fn force(front: &[u8], arguments: &[u8]) -> Result<Command, BadLine>
     ensures { Finds (Asks Keyword.Force front.now (words_of arguments.now)) result }
 {
@@ -77,7 +83,8 @@ pub fn force(front: &[u8], arguments: &[u8]) -> Result<Command, BadLine>
     Ok(Command::Force(address_or_cursor(front)?, element(name)?))
 }
 
-/// What the arguments of `insert` ask for, if there is no range.
+/// What the arguments of `insert` ask for, if there is no range: a pulse from time `a` to time `b`,
+/// in microseconds.
 pub fn insert(front: &[u8], arguments: &[u8]) -> Result<Command, BadLine>
     ensures { Finds (Asks Keyword.Insert front.now (words_of arguments.now)) result }
 {
@@ -90,7 +97,8 @@ pub fn insert(front: &[u8], arguments: &[u8]) -> Result<Command, BadLine>
     Ok(Command::Insert(a, b))
 }
 
-/// What the arguments of `invert` ask for, if there is no range.
+/// What the arguments of `invert` ask for, if there is no range: to invert the level from time `a`
+/// to time `b`, in microseconds.
 pub fn invert(front: &[u8], arguments: &[u8]) -> Result<Command, BadLine>
     ensures { Finds (Asks Keyword.Invert front.now (words_of arguments.now)) result }
 {
@@ -103,7 +111,8 @@ pub fn invert(front: &[u8], arguments: &[u8]) -> Result<Command, BadLine>
     Ok(Command::Invert(a, b))
 }
 
-/// What the arguments of `format` ask for, if there is no range.
+/// What the arguments of `format` ask for, if there is no range: to read frames as those of a kind
+/// of time code and an expression, which is a digit 0 to 7.
 pub fn format(front: &[u8], arguments: &[u8]) -> Result<Command, BadLine>
     ensures { Finds (Asks Keyword.Format front.now (words_of arguments.now)) result }
 {
@@ -114,7 +123,8 @@ pub fn format(front: &[u8], arguments: &[u8]) -> Result<Command, BadLine>
     Ok(Command::Format(kind(name)?, expression(digit)?))
 }
 
-/// What the arguments of `mark` ask for, if there is no range.
+/// What the arguments of `mark` ask for, if there is no range: to set the mark of a letter to a
+/// time.
 pub fn set_mark(front: &[u8], arguments: &[u8]) -> Result<Command, BadLine>
     ensures { Finds (Asks Keyword.Mark front.now (words_of arguments.now)) result }
 {
@@ -125,7 +135,7 @@ pub fn set_mark(front: &[u8], arguments: &[u8]) -> Result<Command, BadLine>
     Ok(Command::Mark(letter(name)?, time(at)?))
 }
 
-/// What the argument of `unmark` asks for, if there is no range.
+/// What the argument of `unmark` asks for, if there is no range: to clear the mark of a letter.
 pub fn unmark(front: &[u8], arguments: &[u8]) -> Result<Command, BadLine>
     ensures { Finds (Asks Keyword.Unmark front.now (words_of arguments.now)) result }
 {
@@ -136,7 +146,7 @@ pub fn unmark(front: &[u8], arguments: &[u8]) -> Result<Command, BadLine>
     Ok(Command::Unmark(letter(name)?))
 }
 
-/// What the arguments of `regen` ask for, if there is no range.
+/// What the arguments of `regen` ask for, if there is no range: the frames that `frames` reads.
 pub fn regen(front: &[u8], arguments: &[u8]) -> Result<Command, BadLine>
     ensures { Finds (Asks Keyword.Regen front.now (words_of arguments.now)) result }
 {
@@ -146,7 +156,7 @@ pub fn regen(front: &[u8], arguments: &[u8]) -> Result<Command, BadLine>
     frames(arguments)
 }
 
-/// The range before a word that takes no argument.
+/// The range `front` before a word that takes no argument.
 fn ranged(front: &[u8], arguments: &[u8]) -> Result<Range, BadLine>
     ensures { Finds (λ r. IsRange front.now r × (words_of arguments.now ≡ [])) result }
 {
@@ -155,7 +165,7 @@ fn ranged(front: &[u8], arguments: &[u8]) -> Result<Range, BadLine>
 }
 
 /// What the arguments of `regen` ask for: a time, how many frames, the moment of the first one, and
-/// maybe control functions.
+/// maybe control functions, as a number whose lowest bit is the first of them.
 fn frames(arguments: &[u8]) -> Result<Command, BadLine>
     ensures { Finds (Asks Keyword.Regen [] (words_of arguments.now)) result }
 {

@@ -1,4 +1,6 @@
-//! Lines of a script as commands.
+//! Lines of a script as commands. `BadLine`, the only error of a line, says that it is not valid.
+//!
+//! Where `let Ok(..) else` returns `BadLine`, `?` would do the same; the proof of it takes longer.
 
 ghost use Rattle.std.specs.Prelude.{◌≡◌, ◌++◌, ◌&&◌, ◌||◌, not, ℕ, List, [], true, IfOk, OnErr};
 ghost use Rattle.irig_lines.specs.Commands.{Asks, IsAlone};
@@ -46,7 +48,7 @@ fn in_text(text: &[u8]) -> Result<Command, BadLine>
 }
 
 /// Cuts a text into a range and what is after it: before the first white space or small letter. A
-/// letter after an apostrophe does not count, since it is the name of a mark.
+/// letter just after an apostrophe does not count, since it is the name of a mark.
 fn split_range(text: &[u8]) -> (&[u8], &[u8])
     ensures whole { text.now ≡ result.0.now ++ result.1.now }
     ensures cut { (range : List ℕ) → (rest : List ℕ) → (r : Range) → text.now ≡ range ++ rest
@@ -62,14 +64,15 @@ fn split_range(text: &[u8]) -> (&[u8], &[u8])
     (&text[..at], &text[at..])
 }
 
-/// Whether a byte ends a range. `quoted` says that an apostrophe is before it.
+/// Whether a byte ends a range. `quoted` says that an apostrophe is just before it.
 fn ends_range(quoted: bool, byte: u8) -> bool
     ensures { result ≡ (is_space byte || (not quoted && is_letter byte)) }
 {
     is_space(byte) || !quoted && byte.is_ascii_lowercase()
 }
 
-/// What a range (`front`), a word and the arguments after it ask for.
+/// What a range (`front`), a word and the arguments after it ask for. The words that are not named
+/// here are those that are alone in a line.
 fn asked(front: &[u8], word: Keyword, arguments: &[u8]) -> Result<Command, BadLine>
     ensures { Finds (Asks word front.now (words_of arguments.now)) result }
 {

@@ -3,7 +3,8 @@
 ghost use Rattle.std.specs.Prelude.{◌≡◌, map};
 ghost use Rattle.irig_lines.specs.Tables.{found};
 
-/// What a text means by the first row that has it, if there is one.
+/// What a text means: the second of the first row whose first it is. `None` if there is no such
+/// row.
 pub fn found<T: Copy>(text: &[u8], rows: &[(&[u8], T)]) -> Option<T>
     ensures { result ≡ found text.now (map (λ row. (row.0.now, row.1)) rows.now) }
 {

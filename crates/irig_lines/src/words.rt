@@ -1,4 +1,5 @@
-//! The words of a line. A text with other words than asked for is a `BadLine`.
+//! The words of a line, between white space. A text with more or fewer words than asked for is a
+//! `BadLine`, the only error of a line.
 
 ghost use Rattle.std.specs.Prelude.{◌≡◌, ℕ, List, [], ◌∷◌, IfOk, OnOk, OnErr};
 ghost use Rattle.irig_lines.specs.Words.{words_of, word_and, before, onward};
@@ -7,7 +8,8 @@ ghost use Rattle.irig_lines.specs.declared.cutting.Until.TheVariants.{Blank, Tex
 use crate::command::BadLine;
 use crate::cutting::{Until, cut};
 
-/// The first word of a text, and what is after it; an empty word if there is none.
+/// The first word of a text, and what is after it, from the white space on. If there is no word,
+/// both are empty.
 pub fn split_word(text: &[u8]) -> (&[u8], &[u8])
     ensures word { result.0.now ≡ before Blank (onward Text text.now) }
     ensures rest { result.1.now ≡ onward Blank (onward Text text.now) }

@@ -2,7 +2,10 @@
 //!
 //! Two edges are a pulse: a rise and a fall. If the last edge is a rise, it waits in `rise`, and
 //! `is_open` is true. A recording has at most 2^22 pulses, so 2^23 edges; one edge more is kept, to
-//! know that there are too many.
+//! know that there are too many. Times are in microseconds.
+//!
+//! The pulses are in a buffer with a gap, its room for more. The gap is always after all pulses, so
+//! `gap_at` is how many there are.
 
 ghost use Rattle.std.specs.Prelude.{◌≡◌, ◌≤◌, ◌<◌, ◌+◌, ◌^◌, ◌↔◌, ◌∷◌, [], ◌++◌, true, false, not};
 ghost use Rattle.std.specs.Prelude.{◌*◌, length, IsTrue, OnErr, OnOk};
@@ -73,7 +76,8 @@ impl Edges {
         self.pulses.gap_at() < PULSES_LIMIT
     }
 
-    /// Adds an edge after the others. Only a fall takes memory. It fails only if memory runs out.
+    /// Adds an edge, a time, after the others. Only a fall takes memory. It fails only if memory
+    /// runs out.
     pub fn push(&mut self, edge: u64) -> Result<(), AllocError>
         requires { length self.old ≤ 2 ^ 23 }
         ensures { OnOk result (self.new ≡ self.old ++ edge ∷ []) }
@@ -89,8 +93,8 @@ impl Edges {
         Ok(())
     }
 
-    /// Adds a fall and the next rise after the others, the last of which is a rise. It fails only
-    /// if memory runs out.
+    /// Adds a fall and the next rise, two times, after the others, the last of which is a rise. It
+    /// fails only if memory runs out.
     #[inline(always)]
     pub fn close_and_open(&mut self, fall: u64, rise: u64) -> Result<(), AllocError>
         requires risen { is_even_long self.old ≡ false }
@@ -103,8 +107,8 @@ impl Edges {
         Ok(())
     }
 
-    /// The pulses of the edges, none of which is copied. The last edge is a fall. The place of the
-    /// buffer is after them all.
+    /// The pulses of the edges, none of which is copied. The last edge has to be a fall. The gap of
+    /// the buffer is after them all.
     pub fn into_pulses(self) -> Gap<Pulse>
         requires { is_even_long self ≡ true }
         ensures edges { edges_of result.items ≡ self }
@@ -133,8 +137,8 @@ fn put(pulses: &mut Gap<Pulse>, pulse: Pulse) -> Result<(), AllocError>
     Ok(())
 }
 
-/// Makes a full block twice as large, and adds the room of a first block. It never has more room
-/// than the most pulses and a first block. If memory runs out, nothing changes.
+/// Makes room in a full buffer: twice as much as before and that of a first block, but never more
+/// than for the most pulses and a first block. If memory runs out, nothing changes.
 #[inline(never)]
 fn grow(pulses: &mut Gap<Pulse>) -> Result<(), AllocError>
     requires few { length pulses.old.items ≤ 2 ^ 22 }

@@ -2,7 +2,8 @@
 //!
 //! `code` is that of the wire that is read. A clock is a time of the dump, in its unit. The trace
 //! follows the level of the wire and keeps its edges. `journals` has the places of the journals so
-//! far, and `pending` what is open after the last token: a value without its code, or a comment.
+//! far, and `pending` what is open after the last token: a value without its code, or a comment. An
+//! error is the first fault of the changes, or that memory ran out.
 
 ghost use Rattle.std.specs.Prelude.{◌≡◌, ◌≤◌, ◌^◌, ◌∷◌, [], Option, None, Err, length, IfOk, OnOk};
 ghost use Rattle.irig_vcd.specs.Code.Token.{kind_view, word_of};
@@ -33,7 +34,7 @@ fn is_hash(kind: Kind) -> bool
     matches!(kind, Kind::Hash)
 }
 
-/// What is after the first byte of a word.
+/// What is after the first byte of a word; nothing if it is empty.
 fn digits_of(word: &[u8]) -> &[u8]
     ensures { result.now ≡ rest_of word.now }
 {
@@ -44,8 +45,8 @@ fn digits_of(word: &[u8]) -> &[u8]
 }
 
 /// Takes a token with those that go with it, and gives the time then: a token of a time sets it,
-/// and a value of the wire goes into the trace. A function of its own for the machine too: the loop
-/// over the tokens that are read in one step keeps its registers.
+/// and a value of the wire goes into the trace at `clock`. A function of its own for the machine
+/// too: the loop over the tokens that are read in one step keeps its registers.
 #[inline(never)]
 fn take(
     token: Token<'_>,
@@ -77,7 +78,7 @@ fn take(
 }
 
 /// Takes the first tokens, if something is open before them: the code of a value, or the rest of a
-/// comment.
+/// comment. The value is one at the time `clock`.
 fn resume(
     tokens: &mut Tokens,
     unit: Unit,
@@ -136,8 +137,9 @@ pub fn follow(
     }
 }
 
-/// Follows the tokens that are left, and gives the time then. First come those that are taken in
-/// one step, then one of any kind, and so on. If something is still open, no token is left.
+/// Follows the tokens that are left, from a time on, and gives the time then. First come those that
+/// are taken in one step, then one of any kind, and so on. If something is still open, no token is
+/// left.
 #[inline(always)]
 fn follow_on(
     tokens: &mut Tokens,

@@ -2,7 +2,8 @@
 //!
 //! A window is the part of the dump, in microseconds, that is kept. Bytes are held until they are
 //! read: until at least `wanted` of them are there, so that the same bytes are not read again for
-//! each small part. The unit is that of the dump's times.
+//! each small part. The unit is that of the dump's times. An error is a fault of the dump,
+//! `OutOfMemory` among them.
 
 ghost use Rattle.std.specs.Prelude.{◌≡◌, ◌≤◌, ◌<◌, ◌+◌, ◌*◌, ◌++◌, ◌^◌, ◌⊎◌, ◌↔◌, [], ℕ, List};
 ghost use Rattle.std.specs.Prelude.{Option, Some, None, Ok, Err, IfOk, IfErr, IfSome, IsTrue, OnOk};
@@ -175,8 +176,8 @@ fn put_part(progress: &mut Progress, part: &[u8]) -> Result<(), VcdFault>
 }
 
 /// Reads the bytes that are held up to the last white space, and lets them go, as no word goes on
-/// after it. It reads nothing while the declarations are not whole: `read_to` has an inner error
-/// then, which more bytes may mend.
+/// after it. It reads nothing while `read_to` has an inner error: that is a fault of the
+/// declarations, which more bytes may mend. Then `let_go(0)` only sets how many bytes it waits for.
 fn read_held(progress: &mut Progress) -> Result<(), VcdFault>
     requires reader { IsReader progress.old }
     ensures reader { OnOk result (IsReader progress.new) }
@@ -208,8 +209,8 @@ fn read_held(progress: &mut Progress) -> Result<(), VcdFault>
     }
 }
 
-/// Reads all bytes that are held, which are the last ones of the dump, and returns the unit. Now it
-/// is a fault if the declarations are not whole.
+/// Reads all bytes that are held, which are the last ones of the dump, and returns the unit. Now a
+/// fault of the declarations, the inner error of `read_to`, is one of the dump.
 fn read_rest(progress: &mut Progress) -> Result<Unit, VcdFault>
     requires reader { IsReader progress.old }
     ensures window { progress.new.reading.trace.window ≡ progress.old.reading.trace.window }
@@ -241,7 +242,8 @@ fn read_rest(progress: &mut Progress) -> Result<Unit, VcdFault>
     }
 }
 
-/// What was read, if nothing comes after it: the recording, and the journal that was gathered.
+/// What was read, if nothing comes after it: the recording, and the journal that was gathered, if
+/// there is one.
 fn finish(
     reading: Reading,
     journal: Vec<u8>,

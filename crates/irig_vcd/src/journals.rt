@@ -70,9 +70,10 @@ impl Journals {
         }
     }
 
-    /// Goes past the `$end` of a comment whose first word was read, and keeps its place if it is a
-    /// journal. `journal` is where that begins, in bytes of the dump from 0. Returns what is open
-    /// then: the comment, if its `$end` is not among the tokens.
+    /// Goes past the `$end` of a comment whose first word was read, and keeps the comment's place
+    /// if it is a journal. `journal` is where that begins, in bytes of the dump from 0, or `None`
+    /// if it is none. Returns what is open then: the comment, if its `$end` is not among the
+    /// tokens.
     pub fn take_rest(&mut self, journal: Option<usize>, tokens: &mut Tokens) -> Pending
         ensures read { (code : List ℕ) (unit : ℕ) (s : Scan) → Keeps s self.old (pending.Rest journal)
             → Reaches code unit s tokens.old None tokens.new self.new result }
@@ -104,8 +105,8 @@ impl Journals {
         self.take_rest(journal_at(first), tokens)
     }
 
-    /// The place of the first journal so far, if there is one. If it is still open, by what is
-    /// pending, it goes up to `top`, in bytes of the dump.
+    /// The place of the first journal so far, if there is one. If it is still open, as `pending`
+    /// says, it goes up to `top`, in bytes of the dump from 0.
     pub fn so_far(self, pending: Pending, top: usize) -> Option<Place>
         ensures { place_view result ≡ so_far (place_view self.first) pending top }
     {
@@ -118,8 +119,8 @@ impl Journals {
         }
     }
 
-    /// `bytes`, which were gathered of the first journal, if there is one. A second one is a fault,
-    /// at line 1.
+    /// `bytes`, which were gathered of the first journal, if there is one. `BadJournal(1)` if there
+    /// is a second one.
     pub fn one(self, bytes: Vec<u8>) -> Result<Option<Vec<u8>>, VcdFault>
         ensures one { (all : List Comment) (dump : List ℕ) → Holds all self
             → IfSome self.first (λ p. text_at dump (Some p) ≡ Some bytes.items)
@@ -137,7 +138,7 @@ impl Journals {
         }
     }
 
-    /// The text of the one journal, if there is one. A second one is a fault, at line 1.
+    /// The text of the one journal, if there is one. `BadJournal(1)` if there is a second one.
     pub fn text<'a>(self, source: &'a [u8]) -> Result<Option<&'a [u8]>, VcdFault>
         requires within { LiesIn source.now self }
         ensures one { (all : List Comment) → Holds all self

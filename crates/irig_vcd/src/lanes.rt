@@ -1,8 +1,9 @@
-//! Digits, sixteen at a time.
+//! Digits, sixteen at a time, each as its value, 0 to 9. Places are those of bytes in `source`,
+//! from 0.
 //!
 //! Two neighbours a and b are one word a + 2^k b. That times base 2^k + 1 has base a + b in its
-//! upper half, which the shift leaves. So digits become numbers of two, four and eight digits.
-//! The first of sixteen digits is in the lowest byte.
+//! upper half, which the shift leaves. So digits become numbers of two, four and eight digits. The
+//! first of sixteen digits is in the lowest byte.
 
 ghost use Rattle.std.specs.Prelude.{◌≡◌, ◌≤◌, ◌<◌, ◌+◌, ◌-◌, ◌*◌, ◌^◌, ◌++◌, ℕ, length, drop, map};
 ghost use Rattle.std.specs.Prelude.{replicate, slice_index};
@@ -58,7 +59,8 @@ fn eights(fours: u32x4) -> [u64; 2]
     [eight(pairs[0]), eight(pairs[1])]
 }
 
-/// The number that sixteen digits spell.
+/// The number that sixteen digits spell, the first of them the highest. A digit is its value, 0 to
+/// 9, not its byte in a text.
 #[inline(always)]
 pub fn sixteen(digits: u8x16) -> u64
     requires digits { AllBelowBase 10 digits }
@@ -69,7 +71,7 @@ pub fn sixteen(digits: u8x16) -> u64
     parts[0] * 100_000_000 + parts[1]
 }
 
-/// A bit for each byte that is no digit. Bit k is for byte k.
+/// A bit for each byte of a text that shows no digit. Bit k is for byte k.
 #[inline(always)]
 fn no_digits(bytes: u8x16) -> u64
     ensures { result ≡ mask_l (map shows_none bytes) }
@@ -79,7 +81,7 @@ fn no_digits(bytes: u8x16) -> u64
         .to_bitmask()
 }
 
-/// The last `count` lanes, with 0 in the others.
+/// The last `count` of sixteen lanes, with 0 in the others.
 #[inline(always)]
 fn last_lanes(lanes: u8x16, count: usize) -> u8x16
     requires { count ≤ 16 }
@@ -88,7 +90,7 @@ fn last_lanes(lanes: u8x16, count: usize) -> u8x16
     lanes & u8x16::from_slice(&KEEP[count..])
 }
 
-/// How many digits there are from a place on, at most 15; 0 if there are more.
+/// How many bytes from a place on show digits, at most 15; 0 if there are more.
 #[inline(always)]
 fn digits_count(source: &[u8], from: usize) -> usize
     requires { from + 16 ≤ length source.now }
@@ -107,7 +109,7 @@ fn digits_count(source: &[u8], from: usize) -> usize
 /// there is none, or more than 15.
 ///
 /// It reads the sixteen bytes from the place on, to count the digits, and the sixteen up to their
-/// end, so that they are the last lanes.
+/// end, so that they are the last lanes. So the place is 16 or more.
 #[inline(always)]
 pub fn lanes_end(source: &[u8], from: usize) -> (usize, u64)
     requires back { 16 ≤ from }

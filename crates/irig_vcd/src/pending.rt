@@ -12,8 +12,9 @@ pub struct Value {
     pub level: Result<Option<bool>, VcdFault>,
 }
 
-/// What is open after a word: nothing, a value, a comment of no word so far, or a comment with its
-/// first word. Of a journal that one's place is kept, in bytes of the dump from 0.
+/// What is open after a word: nothing, a value without its code, a comment whose first word is
+/// still to come, or a comment with its first word. `Rest` has the place of that word, in bytes of
+/// the dump from 0, if it begins a journal.
 #[derive(Clone, Copy)]
 pub enum Pending {
     Nothing,
@@ -22,7 +23,8 @@ pub enum Pending {
     Rest(Option<usize>),
 }
 
-/// Whether a dump may end here: nothing may be open. Else what is at fault.
+/// Whether a dump may end here: nothing may be open. The error is `BadToken` at an open value, and
+/// `Unclosed` for an open comment.
 pub fn closed(pending: Pending) -> Result<(), VcdFault>
     ensures { (now : Open) → Means pending now → IsClosed result (left_open now) }
 {

@@ -1,4 +1,8 @@
 //! How far a dump that comes in parts is read.
+//!
+//! A fault may be of what was read so far only because the dump is cut there: then it is an inner
+//! error, which more of the dump can mend. An outer error is a fault whatever comes. The
+//! declarations are whole if the section that ends them is there.
 
 ghost use Rattle.std.specs.Prelude.{◌≡◌, ◌≤◌, ◌<◌, ◌+◌, ◌*◌, ◌++◌, ◌^◌, [], ℕ, List, Option, Some};
 ghost use Rattle.std.specs.Prelude.{None, Ok, Err, IfOk, IfErr, OnErr, OnOk, false, length, take};
@@ -36,9 +40,9 @@ pub struct Progress {
 }
 
 impl Progress {
-    /// Reads the bytes that are held, up to a place, and returns the unit. If the declarations are
-    /// not whole it reads nothing; the inner error is what is at fault if no more comes. The outer
-    /// error is a fault whatever comes.
+    /// Reads the bytes that are held, up to the place `whole`, from 0, and returns the unit. The
+    /// inner error is any fault of the declarations: nothing is read then, since more of the dump
+    /// may mend it or bring another in its place. The outer error is a fault whatever comes.
     pub fn read_to(&mut self, whole: usize) -> Result<Result<Unit, VcdFault>, VcdFault>
         requires within { whole ≤ vec_len self.old.held }
         requires ready { IsReady self.old.unit self.old.reading }
@@ -94,8 +98,8 @@ impl Progress {
         }
     }
 
-    /// Gathers the bytes of the first journal among those that are held, up to a place: those were
-    /// read, and not yet gathered. It fails only if memory runs out.
+    /// Gathers the bytes of the first journal among those that are held, up to the place `whole`,
+    /// from 0. These were read, and not yet gathered. It fails only if memory runs out.
     pub fn gather(&mut self, whole: usize) -> Result<(), AllocError>
         requires within { whole ≤ vec_len self.old.held }
         requires short { self.old.gone + vec_len self.old.held ≤ 2 ^ 48 }
@@ -127,8 +131,8 @@ impl Progress {
         }
     }
 
-    /// Lets the first `count` bytes go, which are read. It wants twice the others before it reads
-    /// again.
+    /// Lets the first `count` bytes go, which are read. Then it waits until twice as many bytes are
+    /// held as stay.
     pub fn let_go(&mut self, count: usize)
         requires within { count ≤ vec_len self.old.held }
         requires short { self.old.gone + vec_len self.old.held ≤ 2 ^ 48 }
@@ -157,7 +161,7 @@ fn name(wire: &Option<Vec<u8>>) -> Option<&[u8]>
     }
 }
 
-/// Drops bytes from the front.
+/// Drops the first `count` bytes.
 fn drop_front(bytes: &mut Vec<u8>, count: usize)
     requires { count ≤ vec_len bytes.old }
     ensures { bytes.new.items ≡ drop count bytes.old.items }
@@ -167,9 +171,10 @@ fn drop_front(bytes: &mut Vec<u8>, count: usize)
     bytes.truncate(left);
 }
 
-/// Reads the declarations and what is after them in a part, keeps the code, and returns the unit.
-/// If the declarations are not whole it reads nothing; the inner error is what is at fault if no
-/// more comes. The outer error is a fault whatever comes.
+/// Reads the declarations and what is after them in a part, which is the front of the dump, keeps
+/// the code, and returns the unit. The inner error is any fault of the declarations: nothing is
+/// read then, since more of the dump may mend it or bring another in its place. The outer error is
+/// a fault whatever comes.
 fn begin(
     wire: Option<&[u8]>,
     code: &mut Vec<u8>,
@@ -203,7 +208,8 @@ fn begin(
     }
 }
 
-/// Reads what is after the declarations in a part, which comes after `gone` bytes of the dump.
+/// Reads what is after the declarations in a part, which comes after `gone` bytes of the dump. An
+/// error is a fault whatever comes.
 fn go_on(
     unit: Unit,
     code: &[u8],

@@ -1,8 +1,10 @@
 //! Pulses that are read in one step: a rise and a fall, each a time line and a level line.
 //!
-//! `code` is that of the wire that is read, of one byte. A clock is a time of the dump; its `whole`
-//! is in microseconds here. A stretch goes up to its `limit` in microseconds: its edges are kept,
-//! or none is in the window that is read. `tokens.at` is the place of the next byte.
+//! `code` is that of the wire that is read, of one byte. `unit` is that of the dump's times: a
+//! microsecond or less. A clock is a time of the dump, cut in two: `whole` is in microseconds, and
+//! `rest` is what is left, in units. A stretch goes up to its `limit` in microseconds: its edges
+//! are kept, or none is in the window that is read. `tokens.at` is the place of the next byte;
+//! places are those of bytes in `source`, from 0.
 
 ghost use Rattle.std.specs.Prelude.{◌≡◌, ◌≤◌, ◌<◌, ◌+◌, ◌^◌, ◌∷◌, [], true, false, length};
 ghost use Rattle.std.specs.Prelude.{slice_index, IfSome, IfOk, OnErr};
@@ -27,8 +29,8 @@ pub struct Edge {
     pub end: usize,
 }
 
-/// Whether a newline, a value, a code and a newline are at a place. The four bytes are compared as
-/// one number.
+/// Whether a newline, a value, a code and a newline are at a place: the end of a time line, and a
+/// level line. The four bytes are compared as one number.
 #[inline(always)]
 fn is_line(source: &[u8], at: usize, value: u8, code: u8) -> bool
     requires { at + 4 ≤ length source.now }
@@ -43,8 +45,12 @@ fn is_line(source: &[u8], at: usize, value: u8, code: u8) -> bool
     stands == line
 }
 
-/// The edge at a place, to this level and of this code. `None` if its two lines are not there: a
-/// time, and the value with this code.
+/// The edge at a place, in bytes from 0, to this level and of this code. `None` if its two lines
+/// are not there: a time, and the value with this code. A time without digits or with more than 15
+/// is none: `lanes_end` then ends where it began.
+///
+/// The unit says how many of the digits are below a microsecond: they are the clock's `rest`, the
+/// others its `whole`. The place is 16 or more, since `lanes_end` reads back.
 #[inline(always)]
 fn edge_at(source: &[u8], at: usize, high: bool, code: u8, unit: Unit) -> Option<Edge>
     requires back { 16 ≤ at }
@@ -70,8 +76,9 @@ fn edge_at(source: &[u8], at: usize, high: bool, code: u8, unit: Unit) -> Option
     })
 }
 
-/// The rise and the fall at a place, each in a later microsecond than what is before it, and none
-/// after a limit; `after` and `limit` are microseconds. `None` if something else is there.
+/// The rise and the fall at a place, 16 or more, each in a later microsecond than what is before
+/// it, and none after a limit; `after` and `limit` are microseconds. `None` if something else is
+/// there.
 #[inline(always)]
 fn pulse_at(
     source: &[u8],
@@ -102,9 +109,11 @@ fn pulse_at(
     Some((rise, fall))
 }
 
-/// Takes the pulses here, after a time, and returns the time of the last fall. It stops at what is
-/// no pulse, and at an edge in the microsecond of the one before it. It reads sixteen bytes at a
-/// time from before a place, so nothing in the first sixteen. It fails only if memory runs out.
+/// Takes the pulses here, after the time `from`, and returns the time of the last fall, or `from`
+/// if there is none. It stops at what is no pulse, at an edge in the microsecond of the one before
+/// it, where fewer bytes are left than a pulse may have, and where no more edges are kept. It reads
+/// sixteen bytes at a time from before a place, so nothing in the first sixteen. It fails only if
+/// memory runs out.
 #[inline(always)]
 fn pulses_in(
     tokens: &mut Tokens,
@@ -147,8 +156,9 @@ fn pulses_in(
     Ok(clock)
 }
 
-/// Takes the pulses here, after a time in microseconds, and returns the time of the last fall. A
-/// function of its own for the machine: its state stays in registers.
+/// Takes the pulses here as `pulses_in` does, of a dump in microseconds: after the time `from`, and
+/// returns the time of the last fall. A function of its own for the machine: its state stays in
+/// registers.
 #[inline(never)]
 fn pulses_in_micros(
     tokens: &mut Tokens,
@@ -175,8 +185,10 @@ fn pulses_in_micros(
     Ok(clock.whole)
 }
 
-/// Takes the pulses here, after a time, and returns the time of the last fall. In microseconds and
-/// in nanoseconds the machine knows beforehand by which number it cuts the times.
+/// Takes the pulses here, after the time `from`, and returns the time of the last fall, or `from`
+/// if there is none. The unit is given as a constant if it is a microsecond (9) or a nanosecond
+/// (6): then the machine knows beforehand by which number it cuts the times. It fails only if
+/// memory runs out.
 #[inline(never)]
 pub fn pulses(
     tokens: &mut Tokens,

@@ -1,6 +1,7 @@
 //! What was read after the declarations.
 //!
-//! `code` is that of the wire that is read, and `unit` that of the dump's times.
+//! `code` is that of the wire that is read, and `unit` that of the dump's times. A clock is a time
+//! in that unit. The trace follows the level of the wire and keeps its edges.
 
 ghost use Rattle.std.specs.Prelude.{◌≡◌, ◌≤◌, ◌^◌, ℕ, List, None, Err, IfOk, OnOk};
 ghost use Rattle.irig_vcd.specs.{Code.Journals.Holds, Code.Reached.IsOn, Code.Scanned.HasScanned};
@@ -30,7 +31,7 @@ pub struct Reading {
 }
 
 impl Reading {
-    /// Nothing is read yet.
+    /// Nothing is read yet; only the edges in the window will be kept, or all without one.
     pub fn new(alloc: Global, window: Option<Window>) -> Reading
         ensures start { (unit : ℕ) → StandsAt unit start result }
         ensures time { (unit : ℕ) → IsOn unit result.trace result.clock }
@@ -45,7 +46,7 @@ impl Reading {
     }
 
     /// Reads tokens of the changes, after those that were read before. They may be those of a part:
-    /// what is open after the last is kept. A fault is one whatever comes after them.
+    /// what is open after the last is kept. An error is a fault whatever comes after them.
     pub fn read(&mut self, tokens: &mut Tokens, unit: Unit, code: &[u8]) -> Result<(), VcdFault>
         requires time { IsOn unit self.old.trace self.old.clock }
         ensures time { OnOk result (IsOn unit self.new.trace self.new.clock) }

@@ -1,8 +1,8 @@
 //! The tokens of a wire's changes that are taken in one step.
 //!
 //! A clock is a time of the dump, in its unit. The trace follows the level of the wire and keeps
-//! its edges. A code is plain if it has 1 to 18 printable bytes. All else is left to the way for
-//! any token, which is slower.
+//! its edges. A code is plain if it has 1 to 18 printable bytes. `is_quick` says that whole pulses
+//! are taken in one step. All else is left to the way for any token, which is slower.
 
 ghost use Rattle.std.specs.Prelude.{◌≡◌, ◌↔◌, ◌≤◌, ◌<◌, List, Option, true, length, slice_index};
 ghost use Rattle.std.specs.Prelude.{IfOk, OnErr};
@@ -44,7 +44,8 @@ pub fn is_quick(is_plain: bool, unit: Unit, code: &[u8]) -> bool
 }
 
 /// Takes the tokens here that are taken in one step, up to the first that is not, and gives the
-/// time then.
+/// time then. `from` is the time before them. An error is a time that may not come there, or that
+/// memory ran out.
 #[inline(always)]
 pub fn follow_short(
     is_plain: bool,
@@ -96,7 +97,7 @@ fn has_sign(source: &[u8], at: usize) -> bool
 }
 
 /// Takes the pulses here, if they are taken in one step, and returns the time then. A pulse begins
-/// at a low level with the number sign of its time.
+/// at a low level with the number sign of its time. It fails only if memory runs out.
 #[inline(always)]
 fn ahead(
     is_quick: bool,
@@ -129,7 +130,8 @@ fn ahead(
     Ok(clock)
 }
 
-/// Takes a value that was read in one step, with the pulses after it, and gives the time then.
+/// Takes a value that was read in one step, with the pulses after it, and gives the time then. It
+/// fails only if memory runs out.
 #[inline(always)]
 fn take_bit(
     high: bool,

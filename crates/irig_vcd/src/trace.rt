@@ -52,8 +52,9 @@ impl Trace {
         }
     }
 
-    /// Continues to a time. If that is a later microsecond of the window, an edge is kept at the
-    /// last time if the level changed there. It fails only if memory runs out.
+    /// Continues to a time, which is not before the last. If it is in a later microsecond of the
+    /// window, an edge is kept at the last time if the level changed there. It fails only if memory
+    /// runs out.
     fn advance(&mut self, time: u64) -> Result<(), AllocError>
         requires { self.old.time ≤ time }
         ensures ok { OnOk result
@@ -101,10 +102,10 @@ impl Trace {
         !self.now
     }
 
-    /// Up to where pulses are taken in one step from here on, if the level is low. They are not in
-    /// the window before its begin or from its end on. Within it they are kept if a rise waits for
-    /// its fall, which is at the last time. Else it is `None`: the next change is to be taken in
-    /// the usual way.
+    /// The stretch from here on in which pulses are taken in one step. The level is low. No edge is
+    /// in the window before its begin or from its end on. Within it edges are kept if a rise waits
+    /// for its fall, which is at the last time. Else it is `None`: the next change is to be taken
+    /// in the usual way.
     #[inline(always)]
     pub fn stretch(&self) -> Option<Stretch>
         requires { self.now.now ≡ false }
@@ -200,8 +201,9 @@ pub fn differ(level: bool, other: bool) -> bool
     level != other
 }
 
-/// Adds an edge after the others, if `is_edge` says that there is one. If there is one too many
-/// already, it adds none and asks for no memory. It fails only if memory runs out.
+/// Adds an edge, a microsecond of the window, after the others, if `is_edge` says that there is
+/// one. If there is one too many already, it adds none and asks for no memory. It fails only if
+/// memory runs out.
 fn keep(edges: &mut Edges, is_edge: bool, edge: u64) -> Result<(), AllocError>
     ensures ok { OnOk result
         ((all : List ℕ) → edges.old ≡ take edges_kept all

@@ -35,7 +35,7 @@ impl Unit {
         Unit { exponent }
     }
 
-    /// Whether it is a microsecond.
+    /// Whether it is a microsecond, 10^9 femtoseconds.
     #[inline(always)]
     pub fn is_microsecond(self) -> bool
         ensures { result ≡ (self == 9) }
@@ -43,7 +43,7 @@ impl Unit {
         self.exponent == 9
     }
 
-    /// Whether it is a nanosecond.
+    /// Whether it is a nanosecond, 10^6 femtoseconds.
     #[inline(always)]
     pub fn is_nanosecond(self) -> bool
         ensures { result ≡ (self == 6) }
@@ -58,7 +58,7 @@ impl Unit {
         self.exponent <= 9
     }
 
-    /// How many digits of a number of units are below one microsecond.
+    /// How many digits of a number of units are below one microsecond: none if the unit is longer.
     #[inline(always)]
     pub fn digits_below(self) -> u8
         ensures value { result ≡ 9 - self }
@@ -67,8 +67,8 @@ impl Unit {
         9u8.saturating_sub(self.exponent)
     }
 
-    /// The largest whole part of a time that is within 2^40 microseconds: that number over
-    /// `factor`, rounded down.
+    /// The largest whole part of a time that is within 2^40 microseconds: 2^40 over `factor`,
+    /// rounded down.
     #[tactic(auto, unfolding(crate::specs::Code::Time::limit_of))]
     pub fn limit(self) -> u64
         ensures { result ≡ limit_of self }

@@ -12,8 +12,8 @@ pub struct Window {
     pub to: u64,
 }
 
-/// The microsecond of a window that a time falls on: 0 before the window, its length after it.
-/// Without a window it is the time.
+/// The microsecond of a window, from 0 at its begin, that a time of the dump falls on: 0 before the
+/// window, its length after it. Without a window it is the time.
 #[inline(always)]
 pub fn moved(window: Option<Window>, time: u64) -> u64
     ensures { result ≡ moved window time }
