@@ -1,5 +1,6 @@
-//! Days and years, by the day numbers of jiff: how many days a day comes after the first one of its
-//! calendar.
+//! Days and years, by the day numbers of jiff, which reckons the calendar: how many days a day
+//! comes after the first one that jiff has. Years are 1 to 9998, or 9999 for the days after the
+//! last moment.
 
 ghost use Rattle.std.specs.Prelude.{◌≡◌, ◌+◌, ◌≤◌, ◌<◌, IfSome};
 ghost use Rattle.irig_moment.specs.Calendar.{new_year_of, year_of, place_of, ordinal_day_of};
@@ -11,7 +12,7 @@ use jiff_core::civil::{Date, days_in_month, days_in_year};
 /// The last year of a moment; the first is 1.
 const LAST_YEAR: u32 = 9_998;
 
-/// The day number of 1 January of a year.
+/// The day number of 1 January of a year, 1 to 9999.
 fn new_year(year: u32) -> u32
     requires low { 1 ≤ year }
     requires high { year ≤ 9999 }

@@ -10,8 +10,8 @@ ghost use Rattle.irig_moment.specs.{Calendar.new_year_of, Generated.period_of, G
 use crate::calendar::year_and_place;
 use irig_codes::{Fields, Format};
 
-/// How long a frame of the format takes, in hundredths of a second. The format itself counts
-/// microseconds.
+/// How long a frame of the format takes, in hundredths of a second: 10,000 microseconds each, in
+/// which the format itself counts.
 pub fn period(format: Format) -> u32
     ensures value { result ≡ period_of format }
     ensures least { 1 ≤ result }

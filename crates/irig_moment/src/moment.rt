@@ -63,8 +63,8 @@ impl Moment {
         }
     }
 
-    /// Whether a frame of the format begins at the moment. One begins at each full minute, and then
-    /// one each frame period.
+    /// Whether a frame of the format begins at the moment. One begins at each full minute, 6,000
+    /// hundredths, and then one each frame period.
     pub fn starts(&self, format: Format) -> bool
         ensures { result ≡ starts_in format self.now }
     {

@@ -51,7 +51,7 @@ pub fn put_pulse(text: &mut Vec<u8>, pulse: Pulse) -> Result<(), AllocError>
     put_numbered(text, rise, &[pulse.fall])
 }
 
-/// Writes the line of a toggle from `a` to `b`.
+/// Writes the line of a toggle from time `a` to time `b`.
 fn put_toggle(text: &mut Vec<u8>, a: u64, b: u64) -> Result<(), AllocError>
     ensures { OnOk result (text.new.items
         ≡ text.old.items ++ (single_line (Toggle a b) ++ 10 ∷ [])) }
@@ -59,8 +59,8 @@ fn put_toggle(text: &mut Vec<u8>, a: u64, b: u64) -> Result<(), AllocError>
     put_numbered(text, b"toggle", &[a, b])
 }
 
-/// Writes the line of a shift of the pulses `i` to `j` by `by`, with the marks of the letters that
-/// are true.
+/// Writes the line of a shift of the pulses `i` to `j` by `by` microseconds, with the marks of the
+/// letters that are true in `marks`.
 fn put_shift(text: &mut Vec<u8>, i: u64, j: u64, by: i64, marks: &Letters) -> Result<(), AllocError>
     ensures { OnOk result (text.new.items
         ≡ text.old.items ++ (single_line (Shift i j by marks.now) ++ 10 ∷ [])) }
@@ -82,7 +82,8 @@ fn put_shifted(text: &mut Vec<u8>, i: u64, j: u64, by: i64) -> Result<(), AllocE
     put_word(text, buffer.format(by).as_bytes())
 }
 
-/// Writes a space and the letters of the marks that move, or `-` if none does.
+/// Writes a space and the letters of the marks that move, without spaces between, or `-` if none
+/// does.
 fn put_moved(text: &mut Vec<u8>, marks: &Letters) -> Result<(), AllocError>
     ensures { OnOk result (text.new.items ≡ text.old.items ++ 32 ∷ moved_word marks.now) }
 {

@@ -1,4 +1,5 @@
-//! Lines and words, cut from a text at the byte that `bstr` finds.
+//! Lines and words, cut from a text at the byte that `find_byte` of `bstr` finds: the first of its
+//! value.
 
 ghost use Rattle.std.specs.Prelude.{◌≡◌, ◌++◌, ◌∷◌, MatchOption};
 ghost use Rattle.irig_saved.specs.Reading.{Lacks, CutAt};

@@ -1,7 +1,8 @@
 //! Lines of a saved journal.
 //!
 //! Each function reads a line without its newline, and answers `None` if the line has another form.
-//! Words have one space between them. Pulses count from 1; times are in microseconds.
+//! Words have one space between them; `head` is the first, which has no space in it. Pulses count
+//! from 1; times are in microseconds.
 
 ghost use Rattle.std.specs.Prelude.{◌≡◌, ◌<◌, ◌+◌, ◌++◌, ◌∷◌, [], ℕ, List, MatchOption, decimal};
 ghost use Rattle.std.specs.Prelude.{codes};
@@ -33,7 +34,7 @@ fn behind<'a>(head: &[u8], text: &'a [u8]) -> Option<&'a [u8]>
     if first == head { Some(rest) } else { None }
 }
 
-/// The number in a line of the word `head` and a number.
+/// The number in a line of the word `head` and one number.
 pub fn counted(head: &[u8], text: &[u8]) -> Option<u64>
     requires { IsWordy head.now }
     ensures { Decodes IsNumber (λ n. numbered head.now (n ∷ [])) text.now result }
@@ -45,7 +46,7 @@ pub fn counted(head: &[u8], text: &[u8]) -> Option<u64>
 }
 
 /// The format in a line of the word `head`, a kind and an expression, 0 to 7. The kind may not
-/// permit that.
+/// permit that expression.
 pub fn format(head: &[u8], text: &[u8]) -> Option<(Kind, u8)>
     requires { IsWordy head.now }
     ensures { Decodes IsFormat (λ f. line head.now (words_of_format f)) text.now result }
@@ -54,7 +55,8 @@ pub fn format(head: &[u8], text: &[u8]) -> Option<(Kind, u8)>
     Some((kind_named(name)?, expression(rest)?))
 }
 
-/// The time in the line of a mark, if it is the mark of this letter.
+/// The time in the line of a mark, if it is the mark of this letter, a byte of a text from `a` to
+/// `z`.
 pub fn mark(letter_byte: u8, text: &[u8]) -> Option<u64>
     requires { (32 < letter_byte) × (letter_byte < 127) }
     ensures { Decodes IsNumber
@@ -157,8 +159,8 @@ fn set_mark(text: &[u8]) -> Option<(Letter, Option<u64>)>
     Some((Letter::named(name)?, time(rest)?))
 }
 
-/// The first and the last pulse that move, by how much, and the marks that move with them, in the
-/// line of a shift.
+/// The first and the last pulse that move, by how much in microseconds, and the marks that move
+/// with them, in the line of a shift.
 fn shift(text: &[u8]) -> Option<(u64, u64, i64, Letters)>
     ensures { Decodes IsShift (λ t. line (codes "shift") (words_of_shift t)) text.now result }
 {
@@ -175,7 +177,7 @@ fn shift(text: &[u8]) -> Option<(u64, u64, i64, Letters)>
     Some((i, j, by, marks))
 }
 
-/// A distance and the marks that move by it, at the end of a line.
+/// A distance in microseconds and the marks that move by it, at the end of a line.
 fn move_in(text: &[u8]) -> Option<(i64, Letters)>
     ensures { Decodes IsMove
         (λ t. line (signed_decimal t.0) (moved_word t.1 ∷ [])) text.now result }

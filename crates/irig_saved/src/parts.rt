@@ -2,7 +2,10 @@
 //!
 //! `Stop::At` has the rest of the text from the line on that does not belong there; `Stop::Memory`
 //! says that memory ran out. No memory is asked for by a count in the text alone, but for each line
-//! that was read.
+//! that was read. A line of another form is none: then a function of `lines` answers `None`.
+//!
+//! Where `match` or `let Ok(..) else` returns an error, `?` would do the same; the proof of it
+//! takes longer.
 
 ghost use Rattle.std.specs.Prelude.{◌≡◌, ◌<◌, ◌+◌, ◌∷◌, [], codes, length};
 ghost use Rattle.irig_saved.specs.Ranges.{IsNumber, IsSingle, IsChange, IsStep, AreSteps};
@@ -139,7 +142,8 @@ pub fn steps(alloc: Global, count: u64, text: &[u8]) -> Result<(Steps, &[u8]), S
     Ok((steps, rest))
 }
 
-/// Reads a line of the word `head` and how many steps there are, and then the steps.
+/// Reads a line of the word `head`, which has no space in it, and how many steps there are, and
+/// then the steps.
 pub fn counted_steps<'a>(
     alloc: Global,
     head: &[u8],
@@ -171,8 +175,8 @@ pub fn marks(text: &[u8]) -> (Marks, &[u8])
     (marks, rest)
 }
 
-/// Reads the time of the mark of this letter, if its line is at the head of a text. Else it is
-/// `None`, and nothing was read.
+/// Reads the time of the mark of this letter, a byte of a text, if its line is at the head of a
+/// text. Else it is `None`, and nothing was read.
 fn marked(letter_byte: u8, text: &[u8]) -> (Option<u64>, &[u8])
     requires { (32 < letter_byte) × (letter_byte < 127) }
     ensures { Leads letter_byte (result.0 ∷ []) text.now result.1.now }

@@ -1,4 +1,4 @@
-//! The lines of a splice's pulses, in parts.
+//! The lines of a splice's pulses, in parts: those that they have in the text of a saved journal.
 
 ghost use Rattle.std.specs.Prelude.{◌≡◌, ◌≤◌, ◌<◌, ◌++◌, [], IfOk, OnOk, false, true, vec_len};
 ghost use Rattle.irig_saved.specs.{Lines.text_of, SavedText.pulse_lines, SavedText.put_of};
@@ -9,7 +9,8 @@ use crate::single::Single;
 use std::alloc::AllocError;
 use std::marker::Model;
 
-/// The lines of the pulses that a splice inserts, from one of them on. None if there is no splice.
+/// The lines of the pulses that a splice inserts, from that of the pulse `next` on, from 0. There
+/// are none if there is no splice.
 #[derive(Drop)]
 pub(crate) struct PulseLines<'s> {
     pulses: Option<&'s Pulses>,

@@ -86,8 +86,8 @@ impl Pulses {
     }
 
     /// Replaces the `count` pulses of a track from `at` on, from 0, by these, and keeps those that
-    /// went. This takes no memory: `taken` is empty, with places for them, and has the places of
-    /// these then. The Span says which pulses of the track changed.
+    /// went. This takes no memory: `taken` is empty, with places for those that go, and is empty
+    /// with the places of these pulses then. The `Span` says which pulses of the track changed.
     pub fn exchange(
         &mut self,
         track: &mut Track,

@@ -1,7 +1,9 @@
 //! Reads a saved journal.
 //!
 //! A journal has a line that names it, its format, its cursor, its marks, and the steps back and
-//! forward. A step is a change and the cursor of the state that it leads to.
+//! forward. A step is a change and the cursor of the state that it leads to. `Stop` says why a part
+//! was not read: `At` has the rest of the text from the line at fault on, and `Memory` says that
+//! memory ran out.
 
 ghost use Rattle.std.specs.Prelude.{◌≡◌, ◌==◌, ◌<◌, ◌≤◌, ◌+◌, ◌-◌, ◌^◌, ◌++◌, ◌∷◌, [], ℕ, List};
 ghost use Rattle.std.specs.Prelude.{length, take, codes, count_by, MatchOption, MatchResult, IfOk};
@@ -91,8 +93,9 @@ fn saved(alloc: Global, text: &[u8]) -> Result<(Saved, &[u8]), Stop<'_>>
     Ok((saved, rest))
 }
 
-/// The format (a kind and an expression) and the cursor in the first lines of a text, and what is
-/// after them. An error has the rest from the first line with which the text begins no journal.
+/// The format (a kind and an expression, which it may not permit) and the cursor in the first lines
+/// of a text, and what is after them. An error has the rest from the first line with which the text
+/// begins no journal.
 fn head(text: &[u8]) -> Result<((Kind, u8), u64, &[u8]), &[u8]>
     ensures { MatchResult result
         (λ r. IsFormat r.0 × IsNumber r.1 × (text.now ≡ head_text r.0 r.1 r.2.now))
@@ -141,8 +144,8 @@ fn format_line(text: &[u8]) -> Option<((Kind, u8), &[u8])>
     }
 }
 
-/// The cursor in the first line of a text, and what is after it. `None` if it is no line of a
-/// cursor.
+/// The cursor in the first line of a text, a pulse from 1, or 0, and what is after the line. `None`
+/// if it is no line of a cursor.
 fn cursor_line(text: &[u8]) -> Option<(u64, &[u8])>
     ensures { FirstLine IsNumber (λ n. numbered (codes "cursor") (n ∷ [])) text.now result }
 {

@@ -1,4 +1,4 @@
-//! The lines of a change, in parts.
+//! The lines of a change, in parts: those that it has in the text of a saved journal.
 
 ghost use Rattle.std.specs.Prelude.{◌≡◌, ◌≤◌, ◌<◌, ◌++◌, [], IfOk, OnOk, false, true, vec_len};
 ghost use Rattle.irig_saved.specs.{Lines.text_of, SavedText.single_lines};

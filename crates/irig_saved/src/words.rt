@@ -1,7 +1,7 @@
 //! Words of a saved journal.
 //!
-//! Each function answers `None` for any other word. A number is written again and compared, as
-//! `parse` also takes a sign and leading zeros.
+//! Each function answers `None` for any other word. A number is written again and compared with the
+//! word, as `parse` also takes a sign and leading zeros, which a journal has not.
 
 ghost use Rattle.std.specs.Prelude.{◌≡◌, ◌≤◌, decimal, length};
 ghost use Rattle.std.specs.Fmt.{signed_decimal};
@@ -56,7 +56,7 @@ pub fn expression(word: &[u8]) -> Option<u8>
     if value <= 7 { Some(value as u8) } else { None }
 }
 
-/// The time in microseconds that a word is, or no time if it is `-`.
+/// The time in microseconds that a word is, or no time, `Some(None)`, if it is `-`.
 pub fn time(word: &[u8]) -> Option<Option<u64>>
     ensures { Decodes IsTime time_word word.now result }
 {
@@ -69,7 +69,7 @@ pub fn time(word: &[u8]) -> Option<Option<u64>>
     Some(Some(time))
 }
 
-/// The marks whose letters a word has, in rising order and each once; none if it is `-`.
+/// The marks whose letters a word has, in rising order and each once; if it is `-`, no mark.
 pub fn moved(word: &[u8]) -> Option<Letters>
     ensures { Decodes AreLetters moved_word word.now result }
 {

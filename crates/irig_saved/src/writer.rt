@@ -1,7 +1,8 @@
 //! Writes lines of a saved journal: those at its head, and those before changes.
 //!
 //! Each function adds to `text`, and fails only if memory runs out. A cursor is the number of a
-//! pulse, from 1, or 0 before the first.
+//! pulse, from 1, or 0 before the first. A mark is a time in microseconds. `past` and `count` are
+//! how many steps or changes come.
 
 ghost use Rattle.std.specs.Prelude.{◌≡◌, ◌++◌, ◌+◌, ◌<◌, ◌∷◌, [], OnOk, codes, decimal};
 ghost use Rattle.irig_codes.specs.Words.{kind_word};

@@ -1,5 +1,7 @@
 //! The command line, read by `clap`. Its matches are what `clap` found in its words. Only memory
-//! can run out for a `Command` or an `Arg`.
+//! can run out for a `Command`, which is what `clap` knows of a command line, or an `Arg`.
+//!
+//! Where `let Ok(..) else` returns an error, `?` would do the same; the proof of it takes longer.
 
 ghost use Rattle.std.specs.Prelude.{◌≡◌, IfErr, IfOk, None, false, codes, map, string_bytes};
 ghost use Rattle.clap.specs.Words.{Rule, app_of, found_of, new_app, rule_of, with_rule};
@@ -20,7 +22,8 @@ static LETTERS: [&str; 4] = ["A", "B", "E", "G"];
 /// The digits that `--expression` takes; some formats permit fewer.
 static DIGITS: [&str; 8] = ["0", "1", "2", "3", "4", "5", "6", "7"];
 
-/// What the words of a command line ask for, the program's name being the first.
+/// What the words of a command line ask for, the program's name being the first. An error says
+/// which mistake they have, that they ask for help, or that memory ran out.
 pub fn settings<'a>(alloc: Global, words: &'a [String]) -> Result<Settings<'a>, UsageFault>
     ensures { Reads (map string_bytes words.entry.now) result }
 {
@@ -37,7 +40,8 @@ pub fn not_text(alloc: Global) -> Error
     irig_words::not_text(command(alloc))
 }
 
-/// What the matches of a command line that `clap` accepts ask for.
+/// What the matches of a command line that `clap` accepts ask for. The letter is then one of a
+/// format, so only the expression can be wrong.
 fn chosen_of<'a>(matches: &ArgMatches<'a>) -> Result<Settings<'a>, UsageFault>
     ensures { Chooses (found_of matches.now) result }
 {
@@ -57,7 +61,8 @@ fn chosen_of<'a>(matches: &ArgMatches<'a>) -> Result<Settings<'a>, UsageFault>
     })
 }
 
-/// The matches of a command line that is accepted.
+/// The matches of a command line that is accepted. An error is a mistake in its words, the help
+/// that they ask for, or that memory ran out.
 fn parse_words<'a>(alloc: Global, words: &'a [String]) -> Result<ArgMatches<'a>, Error>
     ensures parsed { IfOk result (IsParsed (map string_bytes words.entry.now)) }
     ensures refused { IfErr result (MayRefuse (map string_bytes words.entry.now)) }
@@ -65,7 +70,7 @@ fn parse_words<'a>(alloc: Global, words: &'a [String]) -> Result<ArgMatches<'a>,
     matches_of(command(alloc)?, words)
 }
 
-/// The command line of the program.
+/// The command line of the program: the options of `reading`, where to write, and the track.
 fn command<'a>(alloc: Global) -> Result<Command<'a>, AllocError>
     ensures { IfOk result (λ c. IsCommand (app_of c)) }
 {
@@ -114,7 +119,7 @@ fn lettered<'a>(alloc: Global) -> Result<Command<'a>, AllocError>
     ))
 }
 
-/// An option `--name` with one of these values.
+/// An option `--name` with one of these values. Its help calls the value `value`.
 fn choice_arg<'a>(
     alloc: Global,
     name: &'a str,

@@ -1,4 +1,4 @@
-//! Bytes in memory as a text in parts.
+//! Bytes in memory as a text in parts. A block is where a text's bytes are put until they go on.
 
 ghost use Rattle.std.specs.Prelude.{◌≡◌};
 

@@ -1,4 +1,4 @@
-//! The arguments of a command line.
+//! The arguments of a command line, as `clap` takes them. `help` says what one is for.
 
 ghost use Rattle.std.specs.Prelude.{◌≡◌, None, false};
 ghost use Rattle.clap.specs.Words.{rule_of};
@@ -7,7 +7,7 @@ ghost use Rattle.irig_words.specs.Arguments.{flag, needed, option};
 use clap::{Arg, ArgAction};
 use std::alloc::Global;
 
-/// An option `--name` with a value.
+/// An option `--name` with a value, which its help calls `value`.
 pub fn option_arg<'a>(alloc: Global, name: &'a str, value: &'a str, help: &'a str) -> Arg<'a>
     ensures rule { rule_of result ≡ option name.entry.now None }
     ensures local { result.global ≡ false }

@@ -1,4 +1,5 @@
-//! What a command takes, and what it refuses.
+//! What a command takes, and what it refuses. A `Command` is what `clap` knows of a command line;
+//! one that is an error could not be made, as memory ran out.
 
 ghost use Rattle.std.specs.Prelude.{◌≡◌, IfErr, IfOk, map, string_bytes, true};
 ghost use Rattle.clap.specs.Words.{HasMatchesOf, app_of, is_simple_and_free};
@@ -32,7 +33,8 @@ pub fn not_text(command: Result<Command<'_>, AllocError>) -> Error
     }
 }
 
-/// What `clap` says of an argument that is not UTF-8; an error if memory runs out for it.
+/// What `clap` says of an argument that is not UTF-8; an error if memory ran out for the command or
+/// runs out for what is said.
 fn said_of_bytes(command: Result<Command<'_>, AllocError>) -> Result<Error, AllocError>
     ensures { IfOk result IsMistake }
 {
@@ -42,7 +44,7 @@ fn said_of_bytes(command: Result<Command<'_>, AllocError>) -> Result<Error, Allo
     }
 }
 
-/// The error of a command for an argument that is not UTF-8.
+/// The error of a command for an argument that is not UTF-8. It fails only if memory runs out.
 fn error_of_bytes(command: &mut Command<'_>) -> Result<Error, AllocError>
     ensures { IfOk result IsMistake }
 {

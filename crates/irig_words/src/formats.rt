@@ -17,7 +17,8 @@ pub enum FormatFault {
     Expression,
 }
 
-/// The format with a letter and an expression: B and 2, if they are not given.
+/// The format with a letter and an expression: B and 2, where they are not given. An error says
+/// which of them is wrong.
 pub fn format_named(letter: Option<&str>, number: Option<&str>) -> Result<Format, FormatFault>
     ensures format { IfOk result (IsFormat (given letter.entry) (given number.entry)) }
     ensures fault { IfErr result (HasFormatFault (given letter.entry) (given number.entry)) }
@@ -44,7 +45,7 @@ pub fn text_or<'a>(value: Option<&'a str>, other: &'a str) -> &'a [u8]
     }
 }
 
-/// The number of a text that is one digit.
+/// The number of a text that is one digit, 0 to 9. `None` for any other text.
 fn digit_named(text: &[u8]) -> Option<u8>
     ensures { result ≡ digit_named text.now }
 {

@@ -1,5 +1,6 @@
 //! What a program says of itself, and the statuses with which it ends. `rt` prints on standard
-//! error. Status 2 is a mistake in the command line.
+//! error; if that fails, nothing else can be said, so it is passed over. Status 2 is a mistake in
+//! the command line.
 
 ghost use Rattle.std.specs.Prelude.{◌≡◌};
 ghost use Rattle.std.specs.Process.{exit_status};
@@ -72,8 +73,8 @@ impl<'a> Program<'a> {
         }
     }
 
-    /// Says why a command line asks for nothing. If the words ask for help, it is printed on its
-    /// output.
+    /// Says why a command line asks for nothing, and returns the status. If the words ask for help,
+    /// it is printed on `help`, the program's output.
     pub fn explain<R: Eprint, F: Display, H: Write>(
         &self,
         rt: &R,
@@ -89,7 +90,8 @@ impl<'a> Program<'a> {
         }
     }
 
-    /// Prints the help on its output if the words ask for it; else says which mistake they have.
+    /// Prints the help on `help`, the program's output, if the words ask for it; else says which
+    /// mistake they have. `clap` has its own standard error for mistakes alone.
     fn answer<R: Eprint, H: Write>(&self, rt: &R, error: &Error, help: &mut H) -> ExitCode
         ensures mistake { IsMistake error.now → EndsWith 2 (H.contents help.old)
             (H.contents help.new) (exit_status result) }
@@ -102,7 +104,8 @@ impl<'a> Program<'a> {
         self.print_help(rt, help)
     }
 
-    /// Prints the help. The exit status says whether all of it was printed.
+    /// Prints the help on `help`, the program's output. The exit status says whether all of it was
+    /// printed.
     fn print_help<R: Eprint, H: Write>(&self, rt: &R, help: &mut H) -> ExitCode
         ensures { Helps self.now.help.now self.now.status (H.contents help.old)
             (H.contents help.new) (exit_status result) }

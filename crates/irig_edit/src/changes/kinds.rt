@@ -21,8 +21,8 @@ use irig_codes::{Format, Kind};
 use irig_saved::{Letters, Marks};
 use irig_track::{Span, Track};
 
-/// Turns a toggle: inverts the level from `a` to `b`. Returns the pulses that it touched. The same
-/// toggle leads back.
+/// Turns a toggle: inverts the level from time `a` to time `b`. Returns the pulses that it touched.
+/// The same toggle leads back.
 pub(crate) fn turn_toggle(track: &mut Track, a: u64, b: u64) -> Span
     requires can { CanToggle track.old.micros a b track.old.pulses }
     requires spare { 0 < track.old.spare }
@@ -74,8 +74,8 @@ pub(crate) fn turn_shift(
     span
 }
 
-/// Turns the setting of a mark, whose letter counts from 0: mark and time change places, so `time`
-/// is what leads back. `None` is a mark that is not set.
+/// Turns the setting of a mark, whose letter is a number from 0, for a: mark and time change
+/// places, so `time` is what leads back. `None` is a mark that is not set.
 pub(crate) fn turn_mark(marks: &mut Marks, letter: usize, time: &mut Option<u64>)
     requires { letter < 26 }
     ensures marks { marks.new ≡ slice_set marks.old letter time.old }
@@ -86,7 +86,8 @@ pub(crate) fn turn_mark(marks: &mut Marks, letter: usize, time: &mut Option<u64>
     *time = before;
 }
 
-/// The format of a kind and an expression that it permits.
+/// The format of a kind and an expression that it permits, as the contract needs; so there is no
+/// error.
 pub(crate) fn permitted(kind: Kind, expression: u8) -> Format
     requires { IsTrue (is_permitted kind expression) }
     ensures { (result.kind ≡ kind) × (result.expression ≡ expression) }

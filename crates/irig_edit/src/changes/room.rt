@@ -64,7 +64,8 @@ impl Present {
         self.can_shift(i, j, by) && all_may_move(&self.marks, letters, by, self.track.length())
     }
 
-    /// Whether a single change can be made.
+    /// Whether a single change, whose pulses count from 1, can be made within the limits. A number
+    /// 0 is no pulse, so it cannot.
     pub(crate) fn allows(&self, single: &Single) -> bool
         ensures { IsTrue result ↔ FitsSingle self.now.state single.now }
     {
@@ -130,7 +131,8 @@ impl Present {
     }
 
     /// Makes places in the track for the pulses that a single change inserts. A toggle brings one
-    /// pulse more than it takes, at most, and on the way another one.
+    /// pulse more than it takes, at most, and on the way another one. It fails only if memory runs
+    /// out.
     fn reserve_put(&mut self, single: &Single) -> Result<(), AllocError>
         ensures state { self.new.state ≡ self.old.state }
         ensures index { self.new.index ≡ self.old.index }

@@ -1,4 +1,6 @@
 //! A single change of a state, with room for its turn.
+//!
+//! To turn a change is to make it and to leave the change that leads back in it.
 
 ghost use Rattle.std.specs.Prelude.{◌≡◌, ◌≤◌, ◌+◌, ◌*◌, [], OnErr, OnOk};
 ghost use Rattle.irig_edit.specs.Changes.Single.{goes, held_in};

@@ -1,8 +1,9 @@
 //! Single changes turned in place, with the frames repaired at their places.
 //!
 //! To turn a change is to make it and to leave the change that leads back in it. The index holds
-//! the frames of the track; `repair` reads those again that the pulses of a span may have changed.
-//! Times are in microseconds. A change counts pulses from 1, a track from 0.
+//! the frames of the track; a span says which pulses a turn touched, and `repair` reads the frames
+//! again that these may have changed. Times are in microseconds. A change counts pulses from 1, a
+//! track from 0.
 //!
 //! What is marked "Read for .." does nothing: it only lets the proof use what a type promises.
 
@@ -102,8 +103,8 @@ impl Present {
         self.index.repair(&mut self.track.lens(), self.format, span);
     }
 
-    /// Turns a toggle from `a` to `b`, which leads back itself. On the way there can be one pulse
-    /// more, so there is room for one.
+    /// Turns a toggle from time `a` to time `b`, which leads back itself. On the way there can be
+    /// one pulse more than before and after, so there has to be room for one.
     fn toggle(&mut self, a: u64, b: u64)
         requires can { CanToggle self.old.state.micros a b self.old.state.pulses }
         requires before { HoldsState (places_in self.old) 1 self.old.state }
@@ -119,7 +120,8 @@ impl Present {
         self.index.repair(&mut self.track.lens(), self.format, span);
     }
 
-    /// Turns a shift: `single` is one. Its distance becomes its opposite, which leads back.
+    /// Turns a shift: `single` is one, so no other kind comes. Its distance becomes its opposite,
+    /// which leads back.
     fn turn_shift(&mut self, single: &mut Single)
         requires shift { IsShift single.old }
         requires fits { FitsSingle self.old.state single.old }
@@ -142,8 +144,8 @@ impl Present {
         }
     }
 
-    /// Moves the pulses `i` to `j`, from 0, by `by`, with the marks of the letters that are true in
-    /// `letters`. Returns the distance of the way back.
+    /// Moves the pulses `i` to `j`, from 0, by `by` microseconds, with the marks of the letters
+    /// that are true in `letters`. Returns the distance of the way back.
     fn shift(&mut self, i: usize, j: usize, by: i64, letters: &Letters) -> i64
         requires can { CanShift self.old.state.micros i j by self.old.state.pulses }
         requires marks { AllMayMove self.old.state.micros by letters.now self.old.state.marks }

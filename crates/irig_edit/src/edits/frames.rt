@@ -17,7 +17,7 @@ use irig_saved::Pulses;
 use irig_track::Pulse;
 use std::alloc::{AllocError, Global};
 
-/// How long this many frames of a format are together.
+/// How long this many frames of a format, 10,000 at most, are together, in microseconds.
 pub(crate) fn span(format: Format, frames: u64) -> u64
     requires { frames ≤ 10000 }
     ensures value { result ≡ 100 * frames * interval_of format.kind }
@@ -53,7 +53,7 @@ pub(crate) fn pulses_of(
 }
 
 /// Adds the pulses of frame `k`, from 0, after those of `pulses`, by its elements. Frame 0 begins
-/// at `start`.
+/// at `start`, in microseconds. The buffer has room for them.
 fn put_frame(pulses: &mut Gap<Pulse>, format: Format, start: u64, k: u64, elements: &[Element; 100])
     requires last { pulses.old.place ≡ length pulses.old.items }
     requires room { length pulses.old.items + 100 ≤ pulses.old.capacity }

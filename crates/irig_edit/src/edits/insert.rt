@@ -16,7 +16,8 @@ use crate::session::session::Session;
 use crate::state::present::Present;
 use irig_track::Pulse;
 
-/// The number that a pulse from `a` to `b` gets, if it can be inserted.
+/// The number that a pulse from time `a` to time `b` gets, if it can be inserted: one more than how
+/// many pulses rise at or before `b`.
 fn plan(present: &Present, a: u64, b: u64) -> Result<usize, Refusal>
     ensures { MatchResult result
         (λ i. Plans (Insert a b) present.now.state i 0 (pulse a b ∷ []) i)

@@ -14,8 +14,8 @@ use crate::session::session::Session;
 use crate::state::present::Present;
 use irig_saved::Single;
 
-/// Whether the level can be inverted from `a` to `b`: the times are in order and within the length,
-/// and there are not too many pulses afterwards.
+/// Whether the level can be inverted from time `a` to time `b`: they are in order and within the
+/// length, and there are not too many pulses afterwards.
 fn plan(present: &Present, a: u64, b: u64) -> Result<(), Refusal>
     ensures refused { IfErr result (λ e. judgement_of (Invert a b) present.now.state ≡ Some e) }
     ensures allowed { OnOk result (judgement_of (Invert a b) present.now.state ≡ None) }
@@ -32,12 +32,11 @@ fn plan(present: &Present, a: u64, b: u64) -> Result<(), Refusal>
 }
 
 impl Session {
-    /// Inverts the level from `a` to `b`, in microseconds: an edge that is at one of them
-    /// goes, and if none is there one comes. The cursor goes to the last pulse that rises at or
-    /// before `b`, which is known only after the change.
+    /// Inverts the level from `a` to `b`, in microseconds: an edge that is at one of them goes, and
+    /// if none is there one comes. The cursor goes to the last pulse that rises at or before `b`,
+    /// which is known only after the change; so the change leaves it at 0 first.
     ///
-    /// E1 unless `a < b` and `b` is within the length; E5 if there would be more than 2^22
-    /// pulses.
+    /// E1 unless `a < b` and `b` is within the length; E5 if there would be more than 2^22 pulses.
     pub fn invert(&mut self, a: u64, b: u64) -> Result<(), Refusal>
         ensures step { Steps (Make (Invert a b)) self.old result self.new }
         ensures looks { LooksAfter (Make (Invert a b)) self.old result self.new }

@@ -14,7 +14,7 @@ use crate::session::session::Session;
 use crate::state::present::Present;
 use irig_track::Pulse;
 
-/// The pulse that pulses `i` to `j` are joined into, if they are there.
+/// The pulse that pulses `i` to `j` are joined into, if they are there and `i` is before `j`.
 fn plan(present: &Present, i: usize, j: usize) -> Result<Pulse, Refusal>
     ensures plan { MatchResult result
         (λ p. Plans (Join i j) present.now.state i (j + 1 - i) (p ∷ []) i)

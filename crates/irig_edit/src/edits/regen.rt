@@ -48,7 +48,8 @@ fn end_of(present: &Present, start: u64, frames: u64) -> Option<u64>
     Some(start + span)
 }
 
-/// How many pulses rise before a time, in microseconds.
+/// How many pulses rise before a time, in microseconds: at or before the microsecond before it, if
+/// there is one.
 fn rising_before(present: &Present, time: u64) -> usize
     ensures count { result ≡ length (rising_before time present.now.state.pulses) }
     ensures within { result ≤ length present.now.state.pulses }
@@ -60,7 +61,7 @@ fn rising_before(present: &Present, time: u64) -> usize
 }
 
 /// Whether a pulse rises before `time` and falls at it or after it. `risen` is how many pulses rise
-/// before it: the last of these is the only one that can.
+/// before `time`: the last of these is the only one that can fall so late.
 fn is_met(present: &Present, risen: usize, time: u64) -> bool
     requires count { risen ≡ length (rising_before time present.now.state.pulses) }
     requires within { risen ≤ length present.now.state.pulses }

@@ -19,7 +19,7 @@ use crate::state::present::Present;
 use irig_saved::Single;
 
 /// Whether the pulses `i` to `j`, moved by `by`, leave the track: the first rises before 0, or the
-/// last falls after the length. It compares sums, as these numbers cannot go below 0.
+/// last falls after the length. It compares sums, as times and lengths cannot go below 0.
 fn leaves(present: &Present, i: usize, j: usize, by: i64) -> bool
     requires { (1 ≤ i) × (i ≤ j) × (j ≤ length present.now.state.pulses) }
     ensures { result ≡ leaves i j by present.now.state }
@@ -35,7 +35,8 @@ fn leaves(present: &Present, i: usize, j: usize, by: i64) -> bool
     }
 }
 
-/// Whether the pulses `i` to `j` can be moved by `by`; if not, why.
+/// Whether the pulses `i` to `j` can be moved by `by`; if not, why. What else could forbid it is
+/// tested before, so if `can_shift`, which counts pulses from 0, says no, they touch others.
 fn judge(present: &Present, i: usize, j: usize, by: i64) -> Result<(), Refusal>
     ensures refused { IfErr result (λ e. judgement_of (Shift i j by) present.now.state ≡ Some e) }
     ensures allowed { OnOk result (judgement_of (Shift i j by) present.now.state ≡ None) }

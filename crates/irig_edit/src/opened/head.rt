@@ -1,7 +1,8 @@
 //! What a saved journal says above its steps: format, cursor and marks.
 //!
 //! The text of a journal: line 1 names it, line 2 is the format, line 3 the cursor, and from line 4
-//! on each mark that is set has a line. Then comes the line that counts the steps back.
+//! on each mark that is set has a line. Then comes the line that counts the steps back. Marks are
+//! times in microseconds.
 
 ghost use Rattle.std.specs.Prelude.{◌≡◌, ◌+◌, ◌≤◌, Err, IfOk, IfErr, MatchResult, None, Some, []};
 ghost use Rattle.std.specs.Prelude.{length};
@@ -20,8 +21,9 @@ use irig_vcd::VcdFault;
 use std::alloc::Global;
 
 /// The state of a recording with format, cursor and marks of a journal, with no steps yet, and the
-/// number of the line after its marks. `BadJournal` has the number of the line at fault, from 1.
-/// Format, cursor and marks are judged before it takes memory.
+/// number, from 1, of the line after its marks. `BadJournal` has the number of the line at fault,
+/// from 1. Format, cursor and marks are judged before it takes memory, so that only `OutOfMemory`
+/// is left then.
 pub(crate) fn start(
     alloc: Global,
     recording: Recording,

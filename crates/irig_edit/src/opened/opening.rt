@@ -26,11 +26,12 @@ use std::alloc::Global;
 
 impl Session {
     /// The session of a dump's wire, as `irig_vcd::read` takes it. A dump without a journal opens
-    /// in this format, as `open` does; else format, marks, cursor, past and future are those of the
+    /// in `format`, as `open` does; else format, marks, cursor, past and future are those of the
     /// journal. The bytes are dropped before the session takes its memory.
     ///
-    /// A fault of the dump; V13 with the number of the line at fault of the journal, from 1. Memory
-    /// runs out only for an edge of the wire before the first fault, or as in `open_parts`.
+    /// An error is a fault of the dump, or V13 with the number of the line at fault of the journal,
+    /// from 1. Memory runs out only for an edge of the wire before the first fault, or as in
+    /// `open_parts`.
     pub fn open_dump(
         alloc: Global,
         bytes: Vec<u8>,
@@ -54,11 +55,12 @@ impl Session {
     }
 
     /// The session of a recording and the text of the journal, as `irig_vcd` reads them from a
-    /// dump: `open_dump` without its bytes. The text is dropped before the session takes its
-    /// memory.
+    /// dump: `open_dump` without its bytes. Without a journal it opens in `format`. The text is
+    /// dropped before the session takes its memory.
     ///
-    /// V13 with the number of the line at fault of the journal, from 1. Memory runs out only for the
-    /// lines of its steps, or after all its lines, its format, cursor and marks are found right.
+    /// V13 with the number of the line at fault of the journal, from 1. Memory runs out only for
+    /// the lines of its steps, or after all its lines, its format, cursor and marks are found
+    /// right.
     pub fn open_parts(
         alloc: Global,
         recording: Recording,
@@ -111,7 +113,8 @@ fn parts_of(
     }
 }
 
-/// The journal that this text is. V13 if it is none; its steps are not tried.
+/// The journal that this text is. V13 if it is none; its steps are not tried. A `Fault` of its form
+/// is the number of a line, or that memory ran out.
 fn journal_of(alloc: Global, text: &[u8]) -> Result<Saved, VcdFault>
     requires short { length text.now ≤ 2 ^ 28 }
     ensures saved { IfOk result (IsTextOf text.now) }

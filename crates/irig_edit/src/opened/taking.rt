@@ -3,7 +3,7 @@
 //! A step is a change and the cursor that it leads to. The steps of a journal are tried on the
 //! state that was read: steps back lead to former states, steps forward to states that were undone.
 //! To take a step is to make its change as an edit. After all are taken they are undone again, so
-//! that they lie ahead, to be redone.
+//! that they lie ahead, to be redone. V13 is `VcdFault::BadJournal`.
 //!
 //! What is marked "Read for .." does nothing: it only lets the proof use what a type promises.
 
@@ -31,10 +31,10 @@ use irig_saved::{Change, Saved, SavedStep, Single, Steps};
 use irig_vcd::VcdFault;
 use std::alloc::{AllocError, Global};
 
-/// Why steps were not all taken.
+/// Why steps were not all taken. Lines count from the first that is taken.
 #[derive(Drop)]
 pub(crate) enum NotTaken {
-    /// One can't be: this many lines of steps are before it, and this many up to its end.
+    /// One cannot be taken: `before` lines of steps are before it, and `behind` up to its end.
     At { before: usize, behind: usize },
     /// Memory ran out.
     Memory,
@@ -125,8 +125,8 @@ impl Walk {
         }
     }
 
-    /// Takes steps, the last of the list first. An error says how many lines of steps it had
-    /// passed.
+    /// Takes steps, the last of the list first. An error says how many lines of steps were before
+    /// the one that cannot be taken.
     fn take_all(&mut self, alloc: Global, mut steps: Steps) -> Result<(), NotTaken>
         requires ahead { self.old.future ≡ [] }
         requires lines { length (steps_lines (reverse steps)) < 2 ^ 63 }

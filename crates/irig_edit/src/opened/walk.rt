@@ -78,8 +78,8 @@ impl Walk {
         }
     }
 
-    /// Makes one group of the newest `count` steps back, which leads to this cursor if it is
-    /// undone. It takes memory only if `count` is 0.
+    /// Makes one group of the newest `count` steps back. If it is undone, the cursor is what it is
+    /// now. It takes memory only if `count` is 0.
     pub(crate) fn gather(&mut self, count: usize) -> Result<(), AllocError>
         requires { count ≤ length self.old.past }
         ensures { OnOk result (self.new ≡ walk self.old.state self.old.cursor

@@ -1,7 +1,7 @@
 //! The lines of single changes, in parts.
 //!
 //! A line is one of the text of a saved journal; a change has one, and a splice one more for each
-//! pulse that it inserts.
+//! pulse that it inserts. A `Turn` has a change in `single`.
 
 ghost use Rattle.std.specs.Prelude.{◌≡◌, ◌≤◌, ◌<◌, ◌++◌, [], IfOk, OnOk, false, reverse, true};
 ghost use Rattle.std.specs.Prelude.{vec_len};

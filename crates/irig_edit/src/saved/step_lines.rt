@@ -68,7 +68,8 @@ impl<'s> StepLines<'s> {
 }
 
 /// Writes the first lines of the next step to the block, and puts the lines of its changes into
-/// `changes`, which was empty. Returns whether no step was left; then nothing is written.
+/// `changes`, which was empty. Returns whether no step was left; then nothing is written. There is
+/// a next step if their number is not 0. It fails only if memory runs out.
 fn begin_next<'s>(
     changes: &mut ChangeLines<'s>,
     left: &mut StepsLeft<'s, Turn>,
@@ -89,7 +90,8 @@ fn begin_next<'s>(
 }
 
 /// Writes the first line of a step, which has its cursor, and of a group the second, which counts
-/// its changes. Returns the lines of the changes, which are still to be written.
+/// its changes. Returns the lines of the changes, which are still to be written. It fails only if
+/// memory runs out.
 fn begin_step<'s>(text: &mut Vec<u8>, kept: Step<'s, Turn>) -> Result<ChangeLines<'s>, AllocError>
     requires alone { kept.is_group ≡ false → length kept.changes.now ≡ 1 }
     ensures { IfOk result (λ left. text.new.items ++ left ≡ text.old.items ++ text_of (step_lines

@@ -1,4 +1,5 @@
-//! The text of a saved session, in parts.
+//! The text of a saved session, in parts: the dump, the lines of the journal before its steps, the
+//! steps back, the steps forward, and the end. A stage is how far it has come.
 
 ghost use Rattle.std.specs.Prelude.{◌≡◌, ◌≤◌, ◌++◌, ℕ, List, [], IfOk, OnOk, false, reverse, true};
 ghost use Rattle.std.specs.Prelude.{vec_len};
@@ -97,7 +98,7 @@ impl Text for SavedText<'_> {
 }
 
 /// Adds the dump or the steps of a stage to a block until it has `enough` bytes. Returns whether
-/// none of it is left and the block has fewer.
+/// none of it is left and the block has fewer. It fails only if memory runs out.
 fn fill_stage(
     stage: Stage,
     dump: &mut TrackText<'_>,
@@ -123,6 +124,7 @@ fn fill_stage(
 
 /// Writes what comes between a stage and the next, and goes on to that: after the dump the head of
 /// the journal, after the steps back the line that counts the steps forward, and in the end `$end`.
+/// It fails only if memory runs out.
 fn end_stage(
     stage: &mut Stage,
     text: &mut Vec<u8>,
@@ -145,7 +147,7 @@ fn end_stage(
 }
 
 /// Writes the beginning of the comment that holds the journal, up to the line that counts the steps
-/// back.
+/// back. It fails only if memory runs out.
 fn put_opening(
     text: &mut Vec<u8>,
     present: &Present,

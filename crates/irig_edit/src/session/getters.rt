@@ -1,4 +1,4 @@
-//! What a session shows of its present state.
+//! What a session shows of its present state. A step is what one undo reverses.
 
 ghost use Rattle.std.specs.Prelude.{◌≡◌, ◌≤◌, ◌+◌, ◌-◌, length, Some, IfSome, IfOk, slice_get};
 ghost use Rattle.irig_recording.specs.FileText.{file_text};
@@ -52,7 +52,8 @@ impl Session {
         self.present.format()
     }
 
-    /// The time of a mark in microseconds, if it is set. The letter is one of a to z.
+    /// The time of a mark in microseconds, if it is set. The letter is a byte of a text, `a` to
+    /// `z`.
     pub fn mark_time(&self, letter: u8) -> Option<u64>
         requires { (97 ≤ letter) × (letter ≤ 122) }
         ensures { slice_get self.now.state.marks (letter - 97) ≡ Some result }

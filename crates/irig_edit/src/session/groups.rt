@@ -1,6 +1,7 @@
 //! Groups: several edits that are one step.
 //!
-//! A refused call changes nothing. A step is what one undo reverses.
+//! A refused call changes nothing. A step is what one undo reverses. E12 is `GroupOpen`, and E13 is
+//! `NoGroup`.
 //!
 //! A look is one read of a pulse to keep the frames; `last_looks` is how many the last change,
 //! undo, redo or abort took.

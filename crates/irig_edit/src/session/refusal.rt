@@ -5,9 +5,10 @@ ghost use Rattle.irig_edit.specs.declared.session.refusal.Refusal.TheVariants.{O
 
 use std::alloc::AllocError;
 
-/// Why a call of a session is refused. The session is then as it was, redo list included.
+/// Why a call of a session is refused, with its number. The session is then as it was, the steps to
+/// redo included.
 ///
-/// If several hold, the first in this order is answered; out of memory is the last of all.
+/// If several hold, the first in this order is answered; so out of memory, E11, is the last of all.
 #[derive(Clone, Copy, PartialEq, Eq)]
 pub enum Refusal {
     /// E1: times are not in order, or lie beyond the length, or would come to lie there.

@@ -1,7 +1,8 @@
 //! A track under edit.
 //!
-//! A look is one read of a pulse to keep the frames; `last_looks` is how many the last change, undo
-//! or redo took.
+//! A step is what one undo reverses. E and a number is a `Refusal`, which has its number there. A
+//! look is one read of a pulse to keep the frames; `last_looks` is how many the last change, undo,
+//! redo or abort took.
 
 ghost use Rattle.std.specs.Prelude.{◌≡◌, ◌≤◌, ◌<◌, ◌-◌, length, IfOk, OnOk, OnErr, IsErrOf, None};
 ghost use Rattle.std.specs.Prelude.{Ok};
@@ -85,10 +86,10 @@ impl Session {
         self.change(Single::SetFormat { kind, expression }, cursor)
     }
 
-    /// Sets the mark of a letter a to z to a time in microseconds, or clears it, as a step; the
-    /// cursor stays.
+    /// Sets the mark of a letter to a time in microseconds, or clears it if that is `None`, as a
+    /// step; the cursor stays. The letter is a byte of a text, `a` to `z`.
     ///
-    /// E1 if the time is beyond the length.
+    /// E1, `OutOfRange`, if the time is beyond the length.
     pub fn mark(&mut self, letter: u8, time: Option<u64>) -> Result<(), Refusal>
         requires { (97 ≤ letter) × (letter ≤ 122) }
         ensures step { Steps (Make (SetMark (letter - 97) time)) self.old result self.new }
@@ -104,7 +105,8 @@ impl Session {
 
     /// Undoes the newest step. This takes no memory.
     ///
-    /// E9 if there is none; E14 if it was made before the open group was begun.
+    /// E9, `NothingToUndo`, if there is none; E14, `GroupFloor`, if it was made before the open
+    /// group was begun.
     pub fn undo(&mut self) -> Result<(), Refusal>
         ensures step { Steps Undo self.old result self.new }
         ensures looks { LooksAfter Undo self.old result self.new }
@@ -122,7 +124,7 @@ impl Session {
 
     /// Redoes the step that was undone last. This takes no memory.
     ///
-    /// E10 if there is none.
+    /// E10, `NothingToRedo`, if there is none.
     pub fn redo(&mut self) -> Result<(), Refusal>
         ensures step { Steps Redo self.old result self.new }
         ensures looks { LooksAfter Redo self.old result self.new }
@@ -139,7 +141,7 @@ impl Session {
 
     /// Moves the cursor to a pulse, from 1. This takes no memory, and is no step.
     ///
-    /// E2 unless the pulse is there.
+    /// E2, `NoPulse`, unless the pulse is there.
     pub fn go(&mut self, pulse: usize) -> Result<(), Refusal>
         ensures step { Steps (Go pulse) self.old result self.new }
         ensures looks { LooksAfter (Go pulse) self.old result self.new }
@@ -152,7 +154,7 @@ impl Session {
     }
 
     /// Replaces `count` pulses from `first` on, from 1, by the pulses of `put`, as a step that
-    /// leaves the cursor at `cursor`. Only memory can run out, E11.
+    /// leaves the cursor at `cursor`, a pulse from 1, or 0. Only memory can run out, E11.
     pub(crate) fn splice(
         &mut self,
         first: usize,

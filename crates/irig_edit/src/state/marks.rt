@@ -34,7 +34,8 @@ fn moved_if(mark: Option<u64>, named: bool, by: i64) -> Option<u64>
     }
 }
 
-/// Moves the marks of the letters that are true in `letters` by `by`, in microseconds.
+/// Moves the marks of the letters that are true in `letters` by `by`, in microseconds: 0 if it
+/// would come before 0.
 pub(crate) fn move_marks(marks: &mut Marks, letters: &Letters, by: i64)
     requires { AllByRecursion (IsMark (2 ^ 40)) marks.old }
     ensures { marks.new ≡ marks_moved by letters.now marks.old }
@@ -65,7 +66,8 @@ pub(crate) fn letters_from(marks: &Marks, low: u64, high: u64) -> Letters
     letters
 }
 
-/// Whether a mark is set, and moved by `by` stays from 0 to the length, all in microseconds.
+/// Whether a mark is set and, moved by `by`, stays from 0 to the length `micros`, all in
+/// microseconds.
 fn may_move(mark: Option<u64>, by: i64, micros: u64) -> bool
     requires within { IsMark micros mark }
     requires short { micros ≤ 2 ^ 40 }
@@ -84,8 +86,8 @@ fn may_move(mark: Option<u64>, by: i64, micros: u64) -> bool
     }
 }
 
-/// Whether each mark named may be moved by `by`: it is set, and stays from 0 to the length, all in
-/// microseconds.
+/// Whether each mark whose letter is true in `letters` may be moved by `by`: it is set, and stays
+/// from 0 to the length `micros`, all in microseconds.
 pub(crate) fn all_may_move(marks: &Marks, letters: &Letters, by: i64, micros: u64) -> bool
     requires within { AllByRecursion (IsMark micros) marks.now }
     requires short { micros ≤ 2 ^ 40 }

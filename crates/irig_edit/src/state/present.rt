@@ -166,6 +166,8 @@ impl Present {
     }
 
     /// How many more looks it has counted than `before`.
+    ///
+    /// That is how many it had counted at some time before.
     pub(crate) fn looks_since(&self, before: u64) -> u64
         ensures { result ≡ self.now.index.looks - before }
     {
