@@ -1,7 +1,8 @@
 //! A new file next to its target, under a name that is free.
 //!
 //! The target is the name that the text is to have. A stem is what the name of a new file begins
-//! with; a number is after it. A hidden file is its owner's alone.
+//! with; a number is after it, from 0. A hidden file is its owner's alone. An error is
+//! `NamesTaken`, the fault of a call (`Failed`), or that memory ran out (`Memory`).
 
 ghost use Rattle.std.specs.Prelude.{◌≡◌, ◌≢◌, ◌↔◌, [], string_bytes, IfOk, IfErr, MatchOption};
 ghost use Rattle.std.specs.Prelude.{OnOk, IsErrOf, IsTrue};
@@ -47,7 +48,7 @@ pub(crate) fn make_beside<F: Folder>(
 }
 
 /// Makes a new file, under the name with a number, if that is free and is not the target's. `None`
-/// if not: the next number is to be tried.
+/// if it is not: the next number is to be tried.
 fn make_at<F: Folder>(
     folder: &mut F,
     dir: &F::Dir,
@@ -79,9 +80,9 @@ fn make_at<F: Folder>(
     }
 }
 
-/// Writes the name of a new file: the stem, and how many others were tried before it. Returns
-/// whether it is a single name in a folder, and not the target's own. It fails only if memory runs
-/// out.
+/// Writes the name of a new file to `name`: the stem, and the number, which is how many others were
+/// tried before. Returns whether it is a single name in a folder, and not the target's own. It
+/// fails only if memory runs out.
 fn put_name(name: &mut String, target: &str, stem: &str, number: u32) -> Result<bool, AllocError>
     ensures name { OnOk result (string_bytes name.new ≡ name_after stem.now number) }
     ensures apart { IfOk result (λ apart. IsTrue apart

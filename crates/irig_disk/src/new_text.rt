@@ -71,7 +71,7 @@ impl<'n, F: Folder> NewText<'n, F> {
         }
     }
 
-    /// Writes a part, and counts its bytes, up to 2^64 - 1 in all. After a fault, which may have
+    /// Writes a part, and counts its bytes, up to 2^64 - 1 in all. After an error, which may have
     /// written some of it, give the text up.
     pub fn append(&mut self, folder: &mut F, part: &[u8]) -> Result<F::Appended, F::Fault>
         ensures dir { self.new.dir.now ≡ self.old.dir.now }
@@ -148,7 +148,8 @@ impl<'n, F: Folder> NewText<'n, F> {
     }
 }
 
-/// Gives a text its mode and its name, or removes its file if that fails.
+/// Gives a text its mode and its name, or removes its file if that fails. The error says what is
+/// left then.
 fn place_or_clear<F: Folder>(folder: &mut F, new: &NewText<'_, F>) -> Result<(), PutFault<F::Fault>>
     ensures ok { IsTrue F.is_told → WhileWriting F.disk folder.old (F.place new.now.dir.now new.now.beside.now) (F.place new.now.dir.now new.now.target.now)
         (F.number new.now.file) (first_mode F.usual_mode new.now.mode) (λ start text.
@@ -244,8 +245,8 @@ fn keep<F: Folder>(folder: &mut F, dir: &F::Dir, count: u64) -> Result<Kept, Put
     }
 }
 
-/// Removes the new file of a text that did not get its name, after a fault. The answer says what is
-/// left: that fault, and one of the removal if there was one.
+/// Removes the new file, `beside`, of a text that did not get its name, after a fault. The answer
+/// says what is left: `Failed` with the fault, or `LeftBehind` if the removal failed, too.
 fn clear<F: Folder>(
     folder: &mut F,
     dir: &F::Dir,

@@ -2,7 +2,8 @@
 //!
 //! A new file gets the text; then it takes the target's name. A block is memory in which parts of
 //! the text wait to be written together. `None` instead of the fault of a call says that memory ran
-//! out, or that the text has more than 2^64 - 1 bytes.
+//! out, or that the text has more than 2^64 - 1 bytes. `PutFault` says what a write that did not
+//! succeed leaves.
 
 ghost use Rattle.std.specs.Prelude.{◌≡◌, ◌<◌, ◌≤◌, ◌++◌, ◌+◌, ◌^◌, ℕ, List, [], false, true};
 ghost use Rattle.std.specs.Prelude.{length, IfOk, IfErr, IfSome, OnOk, OnErr, OnSome, IsOk, IsSome};
@@ -20,9 +21,9 @@ use crate::kept::Kept;
 use crate::new_text::NewText;
 use irig_text::{ENOUGH, Text};
 
-/// Writes a text at the target, a name in an open folder, with a mode (`None`: the usual one). The new file has the stem and
-/// a number as its name until it takes the target's. That name is written to `name`, and the parts
-/// of the text wait in the block; what both hold before is lost.
+/// Writes a text at the target, a name in an open folder, with a mode (`None`: the usual one). The
+/// new file has the stem and a number as its name until it takes the target's. That name is written
+/// to `name`, and the parts of the text wait in the block; what both hold before is lost.
 pub fn put_text<F: Folder, T: Text>(
     folder: &mut F,
     dir: &F::Dir,
@@ -53,8 +54,8 @@ pub fn put_text<F: Folder, T: Text>(
     put_begun(folder, begun, text, block)
 }
 
-/// Writes the text to the new file, if it was made, and gives that the target's name, or removes it
-/// after a fault.
+/// Writes the text to the new file, if it was made, and gives the file the target's name, or
+/// removes it after a fault.
 fn put_begun<F: Folder, T: Text>(
     folder: &mut F,
     begun: Result<NewText<'_, F>, PutFault<F::Fault>>,
@@ -106,7 +107,7 @@ fn finish_or_give_up<F: Folder>(
     }
 }
 
-/// Writes all of a text to the new file. `None` is a fault of no call.
+/// Writes all of a text to the new file. The error `None` is a fault of no call.
 fn append_all<F: Folder, T: Text>(
     folder: &mut F,
     new: &mut NewText<'_, F>,
@@ -134,8 +135,8 @@ fn append_all<F: Folder, T: Text>(
     }
 }
 
-/// Writes the next block of a text to the new file, and returns whether it was the last one. `None`
-/// is a fault of no call.
+/// Writes the next block of a text to the new file, and returns whether it was the last one. The
+/// error `None` is a fault of no call.
 fn append_next<F: Folder, T: Text>(
     folder: &mut F,
     new: &mut NewText<'_, F>,

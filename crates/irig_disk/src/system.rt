@@ -32,7 +32,8 @@ pub struct SystemFolder<'a, R: Files> {
 }
 
 impl<'a, R: Files> SystemFolder<'a, R> {
-    /// The names of folders that a runtime opens. The memory of their paths is taken here.
+    /// The names of folders that a runtime opens. The memory of their paths is taken here. It fails
+    /// only if memory runs out.
     pub fn new(alloc: Global, runtime: &'a R) -> Result<Self, AllocError>
         ensures runtime { IfOk result (λ folder. folder.runtime.now ≡ runtime.now) }
         ensures room { IfOk result (λ folder. PATH ≤ path_buf_cap folder.one) }
@@ -61,7 +62,7 @@ pub struct SystemDir<F: Drop> {
 }
 
 impl<F: Drop> SystemDir<F> {
-    /// No folder, with room for the path of one.
+    /// No folder, with room for the path of one. It fails only if memory runs out.
     pub fn new(alloc: Global) -> Result<SystemDir<F>, AllocError>
         ensures { IfOk result (λ dir. PATH ≤ path_buf_cap dir.path) }
     {
@@ -71,7 +72,8 @@ impl<F: Drop> SystemDir<F> {
         })
     }
 
-    /// Opens the folder at a path, instead of the one before.
+    /// Opens the folder at a path, instead of the one before. An error is that of the system, or
+    /// that memory ran out for the path.
     pub fn open<R: Files<File = F>>(&mut self, runtime: &R, path: &str) -> Result<(), SystemFault>
         ensures { OnOk result (IsSome self.new.file) }
     {

@@ -1,4 +1,5 @@
-//! A call that was done on a folder in memory.
+//! A call that was done on a folder in memory. A mode says who may read and write a file, as on a
+//! system.
 
 /// A call that was done. A file's number is how many calls were done before it was made.
 #[derive(Drop)]

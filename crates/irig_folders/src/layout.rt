@@ -27,7 +27,8 @@ pub struct Other {
     pub takes_answers: bool,
 }
 
-/// Which folders there are, which files are no regular ones, and how many links a path may follow.
+/// Which folders there are, which files are no regular ones, and how many links a path may follow
+/// (`limit`).
 #[derive(Drop)]
 pub struct Layout {
     pub folders: Vec<FolderPath>,
@@ -65,7 +66,8 @@ pub fn other_at<'o>(others: &'o [Other], number: usize) -> Option<&'o Other>
     other_at(rest, number)
 }
 
-/// The number of the file that the program's answers go to. `None` if they go to none of them.
+/// The number of the file that the program's answers go to. `None` if they go to no file of the
+/// list.
 pub fn output_at(others: &[Other]) -> Option<usize>
     ensures { result ≡ output_in others.now }
 {

@@ -2,7 +2,7 @@
 //!
 //! A log of calls has the newest first, and begins with an empty folder. The number of a file is
 //! how many calls were done before it was made. `calls` is a log, and `older` what it has before
-//! its newest call.
+//! its newest call. A sync is a call that keeps something over a crash.
 
 ghost use Rattle.std.specs.Prelude.{◌≡◌, ◌++◌, IfOk, IsTrue};
 ghost use Rattle.irig_disk.specs.Held.{Held};

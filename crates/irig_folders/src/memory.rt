@@ -78,7 +78,7 @@ fn name_before<'n>(call: &'n Call, name: &'n [u8]) -> Option<&'n [u8]>
     }
 }
 
-/// Adds a call to a log, as the newest.
+/// Adds a call to a log, as the newest. It fails only if memory runs out.
 fn add(calls: &mut Vec<Call>, call: Call) -> Result<(), MemoryFault>
     ensures ok { OnOk result (calls.new.items ≡ call ∷ calls.old.items) }
     ensures err { OnErr result (calls.new.items ≡ calls.old.items) }
@@ -111,8 +111,8 @@ impl Memory {
         &self.calls
     }
 
-    /// Lets the calls from number `from` on fail, up to number `to`, which is not included. The
-    /// calls count from here, from 0.
+    /// Lets the calls from number `from` on fail, up to number `to`, which is not included. Calls
+    /// count from this moment on, from 0.
     pub fn fail(&mut self, from: u64, to: u64)
         ensures calls { self.new.calls ≡ self.old.calls }
         ensures done { self.new.done ≡ 0 }
@@ -140,7 +140,8 @@ impl Memory {
 }
 
 impl Memory {
-    /// Adds a new file with a mode to the log. Its name has to be free.
+    /// Adds a new file with a mode to the log. Its name has to be free. It fails only if memory
+    /// runs out.
     fn add_file(&mut self, name: &str, mode: u32) -> Result<MemoryFile, MemoryFault>
         ensures ok { leads_in self.old.calls.items name.now ≡ None → IfOk result
             (λ file. Made (disk_of self.old.calls.items) (disk_of self.new.calls.items)

@@ -28,7 +28,8 @@ impl From<AllocError> for MemoryFault {
 impl<T: Drop> From<AllocFailed<T>> for MemoryFault {
     ghost from_gives = { λ _ fault. fault ≡ NoMemory };
 
-    // The same, of a call that gives back what it could not store, which is dropped.
+    // Memory runs out as a fault of the folder, in a call that gives back what it could not store;
+    // that is dropped.
     fn from(_: AllocFailed<T>) -> Self {
         MemoryFault::NoMemory
     }

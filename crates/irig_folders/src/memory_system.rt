@@ -1,7 +1,8 @@
 //! The files of one folder in memory, for tests. It is the folder `.`, and has no links.
 //!
-//! A file is known by its number; its id is 0 and that number. The answers of the program go to no
-//! file here.
+//! A file is known by its number, which is how many calls were done before it was made; its id is 0
+//! and that number. The answers of the program go to no file here. `Parts` are the recording of a
+//! dump and its journal.
 
 ghost use Rattle.std.specs.Prelude.{◌≡◌, None, ⊤};
 ghost use Rattle.std.proofs.Common.{ap};
@@ -95,7 +96,8 @@ impl FileSystem for Memory {
     ghost ids_differ = { λ _ one other same. ap (λ id. id.1) same };
 
     // Reads the dump in a file. The outer error is that it cannot be read, is too long, or memory
-    // runs out; the inner one is a fault of the dump.
+    // runs out; the inner one is a fault of the dump. `wire` is the name of the wire to be read, if
+    // one is given.
     fn read(
         &self,
         alloc: Global,
@@ -111,7 +113,8 @@ impl FileSystem for Memory {
         read_whole(alloc, bytes.as_slice(), wire)
     }
 
-    // As `read`, but only a window of the dump.
+    // Reads a window of the dump in a file: the part from one microsecond to another. The errors
+    // are those of `read`.
     fn read_window(
         &self,
         alloc: Global,

@@ -3,7 +3,8 @@
 //!
 //! A place is what a name leads to: the front of its folder, and the name after it. The number of a
 //! file is how many calls were done before it was made. A call that was to fail answers `Planned`;
-//! each call can also fail as memory runs out.
+//! each call can also fail as memory runs out, which is `NoMemory`. `NoSuchName` says that no file
+//! has the name, unless its call says more.
 
 ghost use Rattle.std.specs.Prelude.{◌++◌, string_bytes, true};
 ghost use Rattle.std.proofs.lemmas.List.{append_cancel_left};
@@ -19,7 +20,7 @@ use crate::tree_paths::both;
 use irig_disk::Folder;
 use std::alloc::Global;
 
-/// A call that changes nothing.
+/// A call that changes nothing, by its method.
 #[derive(Clone, Copy, PartialEq, Eq)]
 pub enum Plain {
     Describe,

@@ -1,7 +1,8 @@
 //! Where paths lead in folders in memory.
 //!
 //! A place is what a name leads to: the front of its folder, and the name after it. What fails with
-//! `AllocError` fails only if memory runs out.
+//! `AllocError` fails only if memory runs out. `other_at` gives the file of a number that is no
+//! regular one.
 
 ghost use Rattle.std.specs.Prelude.{◌≡◌, ◌++◌, IfOk, IsErrOf, None, option_copied, option_map};
 ghost use Rattle.std.specs.Prelude.{string_bytes};
@@ -82,7 +83,7 @@ pub fn link_text<'t>(tree: &'t Tree, path: &str) -> Result<Option<&'t str>, Allo
     Ok(text_in(other_at(&tree.layout.others, file)))
 }
 
-/// The path to which links lead from a path, at most this many of them. `None` if they are more.
+/// The path to which links lead from a path, at most `links` of them. `None` if they are more.
 pub fn end_at(tree: &Tree, path: PathBuf, links: u64) -> Result<Option<PathBuf>, AllocError>
     ensures { IfOk result (λ end. option_map path_buf_bytes end ≡ end_of
         (text_at tree.now.layout.folders.items

@@ -1,4 +1,5 @@
-//! What the files of folders in memory are read as.
+//! What the files of folders in memory are read as. An error of `DumpFileFault` is that a file
+//! cannot be read, that it is too long, or that memory ran out.
 
 ghost use Rattle.std.specs.Prelude.{◌≡◌, IfErr, IfOk, IsErrOf, None, Ok, Some};
 ghost use Rattle.irig_folders.specs.{Log.holds_in, TreeFiles.held_at};

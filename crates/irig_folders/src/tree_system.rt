@@ -1,7 +1,8 @@
 //! The single calls on paths of folders in memory, for tests.
 //!
-//! A file is known by its number; its id is 0 and that number. `blind` names a call that is to
-//! fail.
+//! A file is known by its number, which is how many calls were done before it was made; its id is 0
+//! and that number. `blind` names a call that is to fail, with `Planned`. `Parts` are the recording
+//! of a dump and its journal.
 
 ghost use Rattle.std.specs.Prelude.{◌≡◌, ◌≢◌, ◌↔◌, IfOk, IsTrue, None, Some, false, true};
 ghost use Rattle.std.specs.Prelude.{is_none, option_copied, option_map};
@@ -167,7 +168,8 @@ impl FileSystem for Tree {
 
     ghost ids_differ = { λ _ one other same. ap (λ id. id.1) same };
 
-    // Reads the dump in a file. The outer error is of the file, the inner one of the dump.
+    // Reads the dump in a file. The outer error is of the file, the inner one of the dump. `wire`
+    // is the name of the wire to be read, if one is given.
     fn read(
         &self,
         alloc: Global,
@@ -178,7 +180,8 @@ impl FileSystem for Tree {
         read_of(read_whole(alloc, bytes.as_slice(), wire))
     }
 
-    // As `read`, but only a window of the dump.
+    // Reads a window of the dump in a file: the part from one microsecond to another. The errors
+    // are those of `read`.
     fn read_window(
         &self,
         alloc: Global,

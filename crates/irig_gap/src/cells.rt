@@ -1,5 +1,5 @@
-//! One block of memory as a row of places, each empty or holding an item. Every pointer of this
-//! crate is here.
+//! One block of memory as a row of places, each empty or holding an item; they count from 0. Every
+//! pointer of this crate is here. A deed is the right to give a block back.
 
 ghost use Rattle.std.specs.Prelude.{◌≡◌, ℕ, ◌+◌, ◌*◌, ◌^◌, ◌<◌, ◌≤◌, List, Option, Some, None};
 ghost use Rattle.std.specs.Prelude.{length, replicate, get_or, slice_set, IfOk, ◌-◌, ◌++◌, take};
@@ -60,7 +60,7 @@ pub(crate) fn allocate<T, A: Allocator>(
     }
 }
 
-/// Gives a block back. The items in it are forgotten.
+/// Gives the block of `len` places back, whose deed this is. The items in it are forgotten.
 pub(crate) fn deallocate<T, A: Allocator>(alloc: &A, len: usize, cells: Cells<T>, deed: Deed<T, A>)
     requires { (deed.at ≡ cells.start) × (deed.len ≡ len) × (length cells.slots ≡ len)
         × (deed.alloc ≡ alloc.now) }
@@ -113,7 +113,7 @@ pub(crate) fn nowhere<T>(near: &u8, len: usize) -> Cells<T>
 }
 
 impl<T> Cells<T> {
-    /// The item in a full place.
+    /// The item in the full place `index`.
     pub(crate) fn get(&self, index: usize) -> &T
         requires { IsFull self.now.slots index }
         ensures { get_or self.now.slots index None ≡ Some result.now }
@@ -121,7 +121,7 @@ impl<T> Cells<T> {
         unsafe { &*self.start.add(index) }
     }
 
-    /// Writes an item to a place. What the place held is forgotten.
+    /// Writes an item to the place `index`. What the place held is forgotten.
     pub(crate) fn write(&mut self, index: usize, item: T)
         requires { index < length self.old.slots }
         ensures slots { self.new.slots ≡ slice_set self.old.slots index (Some item) }

@@ -1,8 +1,9 @@
 //! The capacity of a gap buffer grows: where its block is, or in another one.
 //!
 //! *The place* of a gap buffer is where items come and go; *places* of its block hold one item
-//! each. Those left of `gap` hold the items left of it, those from `after` on the others. On an
-//! error nothing has changed.
+//! each, and the capacity is how many of these there are. Those left of `gap` hold the items left
+//! of the place, those from `after` on the others. An error is that memory ran out; then nothing
+//! has changed.
 
 ghost use Rattle.std.specs.Prelude.{◌≡◌, ◌+◌, ◌-◌, ◌/◌, ◌^◌, ◌<◌, ◌≤◌, length, max, min, OnOk};
 ghost use Rattle.std.specs.Prelude.{OnErr, map, Some};
@@ -44,8 +45,8 @@ impl<T: Copy> Gap<T> {
         }
     }
 
-    /// Makes the capacity `wanted`, and no more. If no item is right of the place, the block can grow
-    /// where it is.
+    /// Makes the capacity `wanted`, and no more. If no item is right of the place, the block can
+    /// grow where it is: whether it did shows in the capacity.
     pub fn grow(&mut self, wanted: usize) -> Result<(), AllocError>
         requires { self.old.capacity < wanted }
         ensures ok { OnOk result (self.new ≡ gap_view self.old.items self.old.place wanted) }

@@ -2,9 +2,13 @@
 //!
 //! The past has the steps that can be undone, the future those that can be redone. The nearest step
 //! of a side is the one that is undone or redone next, the farthest the last one. A list of the
-//! past begins with the farthest, which is the oldest. To turn a step is to make its change, and to
-//! leave the change that leads back in it. A floor is the begin of the open group: an undo does not
-//! go below it. `known` does nothing: it only lets the proof use what holds of the state.
+//! past begins with the farthest, which is the oldest. An `Entry` of it has how many changes a step
+//! has, and the cursor of the state it leads to. To turn a step is to make its change, and to leave
+//! the change that leads back in it.
+//!
+//! A floor is the begin of the open group, an `Opening`: how many steps the past had, and the
+//! cursor. An undo does not go below it. `known` does nothing: it only lets the proof use what
+//! holds of the state.
 
 ghost use Rattle.std.specs.Prelude.{◌≡◌, ◌↔◌, ◌<◌, ◌≤◌, ◌⊎◌, ◌∷◌, ◌^◌, [], ℕ, IsErr, IsErrOf};
 ghost use Rattle.std.specs.Prelude.{IsNone, IsSome, IfSome, OnErr, OnOk, None, Some, drop, length};
@@ -80,7 +84,7 @@ impl<R: Reversible> Journal<R> {
 
     /// Makes one group of the newest `count` steps, which leads to `cursor`. It is for steps that
     /// are taken from elsewhere, as a saved session is opened. It takes memory only for a group of
-    /// none. The only error is `OutOfMemory`; no step changes then.
+    /// none. The only error is `OutOfMemory`; no step changes then. No group may be open.
     pub fn gather(&mut self, state: &R, count: usize, cursor: usize) -> Result<(), JournalFault>
         requires within { count ≤ length (past_of R.delta self.old) }
         requires no_group { self.old.floor ≡ None }
@@ -151,7 +155,7 @@ impl<R: Reversible> Journal<R> {
 }
 
 /// Makes one step of those after the first `at` of the list, if they are more than one. It leads to
-/// where the first of them leads: before the group. It takes no memory.
+/// where the first of these leads: before the group. It takes no memory.
 fn end_beyond(entries: &mut Vec<Entry>, at: usize)
     requires within { at ≤ vec_len entries.old }
     requires few { counts_of entries.old.items < 2 ^ 64 }

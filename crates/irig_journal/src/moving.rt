@@ -1,10 +1,11 @@
 //! Steps turned, and moved from one side of the present to the other. Nothing here takes memory.
 //!
-//! The past has the steps that can be undone, the future those that can be redone. The nearest step
-//! of a side is the one that is undone or redone next, the farthest the last one. To turn a change
-//! is to make it to the state, and to leave the change that leads back. Each side has its places
-//! before, so `unwrap` finds no error. `known` does nothing: it only lets the proof use what holds
-//! of the state.
+//! The past has the steps that can be undone, the future those that can be redone. A side has the
+//! changes of its steps in one list, and in another, `entries`, the number of them and the cursor
+//! of each step. The nearest step of a side is the one that is undone or redone next, the farthest
+//! the last one. To turn a change is to make it to the state, and to leave the change that leads
+//! back. Each side has its places before, so `unwrap` finds no error. `known` does nothing: it only
+//! lets the proof use what holds of the state.
 
 ghost use Rattle.std.specs.Prelude.{◌≡◌, ◌+◌, ◌<◌, ◌≤◌, ◌∷◌, [], reverse, vec_capacity, vec_len};
 ghost use Rattle.irig_journal.specs.History.{step, stepped_back};
@@ -53,8 +54,8 @@ pub(crate) fn turn_new<R: Reversible>(
 }
 
 /// Turns the nearest step of one side, and moves it to the other: from the past it is an undo, from
-/// the future a redo. `cursor` becomes that of the state it leads to, and the step gets the former
-/// one.
+/// the future a redo. `cursor` becomes that of the state the step leads to, and the step gets the
+/// former one.
 pub(crate) fn turn_nearest<R: Reversible>(
     from: &mut Side<R::Change>,
     to: &mut Side<R::Change>,

@@ -1,4 +1,4 @@
-//! The begin of a group of steps.
+//! The begin of a group of steps. A cursor is a number that the caller keeps with the state.
 
 ghost use Rattle.std.specs.Prelude.{◌↔◌, IsTrue};
 ghost use Rattle.irig_journal.specs.Openings.{AtFloor};

@@ -15,7 +15,7 @@ use crate::side::Side;
 use std::alloc::AllocError;
 
 /// Makes room for a change, its undo and its redo: on both sides, and in the state. What they hold
-/// stays, also on an error.
+/// stays, also on an error. The change is one that can be made.
 pub(crate) fn reserve_change<R: Reversible>(
     past: &mut Side<R::Change>,
     future: &mut Side<R::Change>,

@@ -1,4 +1,6 @@
-//! The steps on both sides of the present, one after another, and past and future changed over.
+//! The steps on both sides of the present, one after another, and past and future changed over. The
+//! past has the steps that can be undone, the future those that can be redone. Each has a list that
+//! ends with the step nearest to the present.
 
 ghost use Rattle.std.specs.Prelude.{◌≡◌, ℕ, None, reverse};
 ghost use Rattle.irig_journal.specs.Journal.{AreReady, future_of, machine_of, past_of};

@@ -11,7 +11,7 @@ pub enum Size {
 }
 
 impl Size {
-    /// How many changes that are.
+    /// How many changes the step has.
     pub(crate) fn count(self) -> usize
         ensures { result ≡ count_of self }
     {

@@ -1,7 +1,7 @@
 //! The steps of one side of a journal, one after another.
 //!
-//! The lists of a side end with the nearest step. Its changes are in one list, and in another each
-//! step has their number and its cursor (`Entry`).
+//! The lists of a side end with the nearest step. The changes of its steps are in one list, and in
+//! another each step has their number and its cursor (`Entry`).
 //!
 //! What is marked "Read for .." does nothing: it only lets the proof use what a type promises.
 
@@ -55,7 +55,7 @@ impl<'j, C> StepsLeft<'j, C> {
     }
 }
 
-/// The first entry, or the last one if not `first`, and the others. `None` if there is none.
+/// The first entry if `first`, else the last one, and the others. `None` if there is none.
 fn entry_at_end(entries: &[Entry], first: bool) -> Option<(&Entry, &[Entry])>
     ensures { MatchOption result (entries.now ≡ [])
         (λ p. entries.now ≡ with_end first (p.0.now ∷ []) p.1.now) }
@@ -67,7 +67,7 @@ fn entry_at_end(entries: &[Entry], first: bool) -> Option<(&Entry, &[Entry])>
     }
 }
 
-/// The first `count` changes, or the last ones if not `first`, and the others.
+/// The first `count` changes if `first`, else the last ones, and the others, in this order.
 fn changes_at_end<C>(changes: &[C], count: usize, first: bool) -> (&[C], &[C])
     requires { count ≤ length changes.now }
     ensures parts { changes.now ≡ with_end first result.0.now result.1.now }

@@ -1,4 +1,4 @@
-//! A shelf in memory.
+//! A shelf in memory. A shelf is where texts are written; one write may be set to fail.
 
 ghost use Rattle.std.specs.Prelude.{◌≡◌, ◌++◌, ◌∷◌, [], length, map, Some, IfOk, IsErr, IsFalse};
 ghost use Rattle.std.specs.Prelude.{IsTrue, OnErr, OnOk};
@@ -32,7 +32,7 @@ impl Model for MemoryShelf {
 }
 
 impl MemoryShelf {
-    /// An empty shelf. The write of this number, from 1, fails.
+    /// An empty shelf. The write of number `fail`, from 1, fails; with `None` none is set to fail.
     pub fn new(alloc: Global, fail: Option<u64>) -> MemoryShelf
         ensures { result ≡ shelf_view [] 0 0 fail }
     {
@@ -62,8 +62,8 @@ impl Shelf for MemoryShelf {
 
     ghost since_then = { λ _ _ _ _ _. tt };
 
-    // Keeps a copy of the text and returns how many bytes it has. An error keeps nothing: memory
-    // ran out, or this is the write that is to fail.
+    // Keeps a copy of the text and returns how many bytes it has. An error, `ShelfFault`, keeps
+    // nothing: memory ran out, or this is the write that is to fail. Both are counted.
     fn put<T: Text>(&mut self, text: &mut T) -> Result<u64, ShelfFault>
         ensures count { IfOk result (λ count. count ≡ length (T.rest text.old)) }
         ensures ok { OnOk result

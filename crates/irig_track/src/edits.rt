@@ -3,7 +3,8 @@
 //! None of them takes memory or can fail: the test and the room come before.
 //!
 //! Times are in microseconds. The limits: pulses do not touch and lie within the length, and there
-//! are at most 2^22. The place of a gap buffer is where items come and go.
+//! are at most 2^22. The place of a gap buffer is where items come and go. A `Span` says that from
+//! pulse `at` on, from 0, `old` pulses became `new`.
 //!
 //! What is marked "Read for .." does nothing: it only lets the proof use what a type promises.
 
@@ -80,9 +81,9 @@ impl Track {
         }
     }
 
-    /// Whether moving the pulses `i` to `j`, both included and from 0, by `by` leaves a track
-    /// within the limits. It is false, too, if one of them is not there. It compares sums, as these
-    /// numbers cannot go below 0.
+    /// Whether moving the pulses `i` to `j`, both included and from 0, by `by` microseconds leaves
+    /// a track within the limits. It is false, too, if one of them is not there. It compares sums,
+    /// as times cannot go below 0.
     pub fn can_shift(&self, i: usize, j: usize, by: i64) -> bool
         ensures { IsTrue result ↔ CanShift self.now.micros i j by self.now.pulses }
     {
@@ -178,7 +179,7 @@ impl Track {
     }
 
     /// The time, in microseconds, before which a pulse has to fall that is put in just before pulse
-    /// `at`, from 0: that pulse's rise, or one after the length.
+    /// `at`, from 0: the rise of pulse `at`, or one after the length if that is not there.
     fn free_to(&self, at: usize) -> u64
         requires { at ≤ length self.now.pulses }
         ensures time { result ≡

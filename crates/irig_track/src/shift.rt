@@ -1,5 +1,7 @@
 //! Moves pulses in time.
 //!
+//! A distance is in microseconds, and below 0 if it goes back to earlier times.
+//!
 //! What is marked "Read for .." does nothing: it only lets the proof use what a type promises.
 
 ghost use Rattle.std.specs.Prelude.{◌≡◌, ◌+◌, ◌-◌, ◌^◌, ◌<◌, ◌≤◌, length, map};
@@ -11,7 +13,7 @@ ghost use Rattle.irig_track.specs.{Edges.edges_of, Splices.spliced, Splices.piec
 use irig_gap::Gap;
 use irig_recording::Pulse;
 
-/// By how many microseconds a distance goes on: 0 if it goes back.
+/// By how many microseconds a distance goes on, to later times: 0 if it goes back.
 pub(crate) fn ahead_of(by: i64) -> u64
     ensures distance { result ≡ ahead by }
     ensures within { result < 2 ^ 63 }
@@ -28,7 +30,7 @@ pub(crate) fn back_of(by: i64) -> u64
 }
 
 /// Moves `count` pulses from `at` on, from 0: by `on` microseconds later, and then by `off`
-/// earlier. One of the two is 0; no time comes before 0.
+/// earlier. One of these two is 0; no time comes before 0.
 pub(crate) fn move_pulses(pulses: &mut Gap<Pulse>, at: usize, count: usize, on: u64, off: u64)
     requires there { at + count ≤ length pulses.old.items }
     requires short { UpTo (2 ^ 40) (edges_of pulses.old.items) }

@@ -11,8 +11,9 @@ ghost use Rattle.irig_track.specs.Splices.{spliced, piece};
 use irig_gap::Gap;
 use irig_recording::Pulse;
 
-/// Replaces the `count` pulses from `at` on by all those of `put`, which is empty then. The
-/// replaced ones go to `taken`, which is empty before. If as many come as go, no other pulse moves.
+/// Replaces the `count` pulses from `at` on, from 0, by all those of `put`, which is empty then.
+/// The replaced ones go to `taken`, which is empty before. If as many come as go, no other pulse
+/// moves.
 pub(crate) fn replace(
     pulses: &mut Gap<Pulse>,
     at: usize,
@@ -45,8 +46,8 @@ pub(crate) fn replace(
     }
 }
 
-/// As `replace`, if as many come as go: each of the `count` pulses is replaced in its place, so the
-/// gap stays where it is.
+/// As `replace`, if as many come as go: each of the `count` pulses from `at` on is replaced in its
+/// place, so the gap stays where it is. `put` has `count` pulses, so `None` does not come.
 fn exchange(
     pulses: &mut Gap<Pulse>,
     at: usize,
@@ -80,7 +81,8 @@ fn exchange(
     }
 }
 
-/// Takes `count` pulses right of the gap of `from`, and moves them to the left of that of `to`.
+/// Takes `count` pulses right of the gap of `from`, and moves them to the left of the gap of `to`.
+/// They are there, so `None` does not come.
 fn carry(from: &mut Gap<Pulse>, count: usize, to: &mut Gap<Pulse>)
     requires there { from.old.place + count ≤ length from.old.items }
     requires room { length to.old.items + count ≤ to.old.capacity }

@@ -1,7 +1,8 @@
 //! Toggles two times among the pulses right of a gap.
 //!
 //! After the first time there is an odd number of edges: pulses left of the gap, a rise that waits
-//! for its fall, and pulses right of the gap.
+//! for its fall, and pulses right of the gap. `next` is the first pulse right of it, and `put_last`
+//! adds one just left of it.
 //!
 //! To toggle a time: an edge there goes, or if there was none one comes. Times are in microseconds.
 
@@ -42,8 +43,9 @@ fn begin(pulses: &mut Gap<Pulse>, a: u64) -> u64
     }
 }
 
-/// Goes on to the last pulse that rises before `b`, and returns the rise that waits there. One edge
-/// more is before them, so each rise on the way becomes a fall and each fall a rise.
+/// Goes on to the last pulse that rises before time `b`, from the rise `start`, and returns the
+/// rise that waits there. One edge more is before these pulses, so each rise on the way becomes a
+/// fall and each fall a rise.
 fn go_on(pulses: &mut Gap<Pulse>, start: u64, b: u64) -> u64
     requires rises { RisesFrom 0 (waiting pulses.old start) }
     requires left { Under b (edges_of (left_of pulses.old)) }
@@ -89,8 +91,8 @@ fn finish(pulses: &mut Gap<Pulse>, rise: u64, b: u64)
     }
 }
 
-/// Toggles `a` and `b`. The pulses that reach `a` or come later are right of the gap; in the end
-/// those that rise after `b` are.
+/// Toggles `a` and `b`, of which `a` is earlier. The pulses that reach `a` or come later are right
+/// of the gap; in the end those that rise after `b` are.
 pub(crate) fn toggle_right(pulses: &mut Gap<Pulse>, a: u64, b: u64)
     requires order { a < b }
     requires rises { RisesFrom 0 (edges_of pulses.old.items) }

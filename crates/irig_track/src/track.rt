@@ -57,7 +57,8 @@ impl Track {
         Ok(Track { micros, pulses })
     }
 
-    /// The recording with the track's length and edges: a copy. It fails only if memory runs out.
+    /// The recording with the track's length and edges: a copy. They are within its limits, so
+    /// `unwrap` finds one. It fails only if memory runs out.
     pub fn recording(&self, alloc: Global) -> Result<Recording, AllocError>
         ensures exact { IfOk result (λ r.
             r ≡ recording_view self.now.micros (edges_of self.now.pulses)) }
@@ -83,7 +84,8 @@ impl Track {
     }
 
     /// The text of the recording with the track's length and edges, as `irig_recording::text`
-    /// writes it: a dump. It fails only if memory runs out.
+    /// writes it: a dump. At first it asks for 36 bytes a pulse and 140 for the rest. It fails only
+    /// if memory runs out.
     pub fn text(&self, alloc: Global) -> Result<Vec<u8>, AllocError>
         ensures { IfOk result (λ text. text.items
             ≡ file_text (recording_view self.now.micros (edges_of self.now.pulses))) }
@@ -159,7 +161,7 @@ impl Track {
     }
 
     /// How many pulses end before `time`, in microseconds. So it is also the number, from 0, of the
-    /// first that reaches it. Only the last that rises by then can.
+    /// first that reaches `time`. Only the last that rises at or before it can be that one.
     pub(crate) fn first_reaching(&self, time: u64) -> usize
         ensures { result ≡ ended_before time self.now.pulses }
     {
@@ -171,8 +173,8 @@ impl Track {
         }
     }
 
-    /// Whether a pulse rises or falls at `time`, in microseconds. Only the last that rises by then
-    /// can have an edge there.
+    /// Whether a pulse rises or falls at `time`, in microseconds. Only the last that rises at or
+    /// before it can have an edge there.
     pub(crate) fn is_edge_at(&self, time: u64) -> bool
         ensures { result ≡ is_edge time self.now.pulses }
     {

@@ -1,7 +1,8 @@
 //! The text of a track, in parts.
 //!
 //! The text is a dump: header lines, two lines for each edge, and one for the length if no edge is
-//! there. The writer writes them, and has the last time that it wrote.
+//! there. The writer writes them, and has the last time that it wrote. What fails, fails only if
+//! memory runs out.
 
 ghost use Rattle.std.specs.Prelude.{◌≡◌, ◌≤◌, ◌<◌, ◌++◌, drop, length, vec_len, IfOk, IsSome};
 ghost use Rattle.irig_recording.specs.{FileText.file_text, Recording.recording_view};
@@ -115,9 +116,9 @@ fn put_header(
     }
 }
 
-/// Writes the lines of the pulses from the one at `first` on, and after the last pulse the line of
-/// the length, until a text has `enough` bytes. Returns the number of the pulse that comes next,
-/// from 0; `None` after the line of the length.
+/// Writes the lines of the pulses from the one of number `first` on, from 0, and after the last
+/// pulse the line of the length, until a text has `enough` bytes. Returns the number of the pulse
+/// that comes next, from 0; `None` after the line of the length.
 fn put_lines(
     writer: &mut TextWriter,
     text: &mut Vec<u8>,
@@ -138,8 +139,8 @@ fn put_lines(
     Ok(None)
 }
 
-/// Writes the lines of the pulses from the one at `first` on, until a text has `enough` bytes.
-/// Returns the number of the pulse after them, from 0.
+/// Writes the lines of the pulses from the one of number `first` on, from 0, until a text has
+/// `enough` bytes. Returns the number of the pulse after them, from 0.
 fn put_pulses(
     writer: &mut TextWriter,
     text: &mut Vec<u8>,

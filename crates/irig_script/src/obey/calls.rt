@@ -1,6 +1,6 @@
 //! Commands as calls of the session: addresses and times are taken as it is before them. Pulses
 //! count from 1 here; the number 0 stands for one that is not there, and the session refuses it.
-//! Times are in microseconds. A refused edit changes nothing.
+//! Times are in microseconds. A refused edit changes nothing; the reply then has why, a `Refusal`.
 
 ghost use Rattle.std.specs.Prelude.{◌≡◌};
 ghost use Rattle.irig_lines.specs.declared.command.Command.{Command};
@@ -14,7 +14,7 @@ use irig_lines::{Address, Range, Time};
 use irig_moment::Moment;
 use irig_saved::Letter;
 
-/// The reply to an edit.
+/// The reply to an edit: `Silent`, or that it was refused and why.
 fn reply_to(outcome: Result<(), Refusal>) -> Reply
     ensures { result ≡ reply_to outcome }
 {
@@ -24,7 +24,8 @@ fn reply_to(outcome: Result<(), Refusal>) -> Reply
     }
 }
 
-/// Moves the cursor to a pulse, and lists that one alone.
+/// Moves the cursor to a pulse, and lists that pulse alone: the reply has how many come before it,
+/// and 1.
 pub fn show(session: &mut Session, address: Address) -> Reply
     ensures { Obeys (Command.Show address) session.old result session.new }
 {
@@ -35,8 +36,8 @@ pub fn show(session: &mut Session, address: Address) -> Reply
     }
 }
 
-/// Lists the pulses of a range. Refused if it has a pulse that is not there, or ends before it
-/// begins.
+/// Lists the pulses of a range: the reply has how many come before them, and how many they are.
+/// Refused if it has a pulse that is not there, or ends before it begins.
 pub fn list(session: &Session, range: Range) -> Reply
     ensures { Obeys (Command.List range) session.now result session.now }
 {
@@ -72,7 +73,7 @@ pub fn join(session: &mut Session, range: Range) -> Reply
     reply_to(session.join(i, j))
 }
 
-/// Makes the level low between two times inside of a pulse, so that it becomes two.
+/// Makes the level low from one time to another inside of a pulse, so that it becomes two.
 pub fn split(session: &mut Session, address: Address, from: Time, to: Time) -> Reply
     ensures { Obeys (Command.Split address from to) session.old result session.new }
 {
@@ -89,7 +90,7 @@ pub fn force(session: &mut Session, address: Address, element: Element) -> Reply
     reply_to(session.force(i, element))
 }
 
-/// Inserts a pulse.
+/// Inserts a pulse from one time to another.
 pub fn insert(session: &mut Session, from: Time, to: Time) -> Reply
     ensures { Obeys (Command.Insert from to) session.old result session.new }
 {
@@ -97,7 +98,7 @@ pub fn insert(session: &mut Session, from: Time, to: Time) -> Reply
     reply_to(session.insert(a, b))
 }
 
-/// Inverts the level between two times.
+/// Inverts the level from one time to another.
 pub fn invert(session: &mut Session, from: Time, to: Time) -> Reply
     ensures { Obeys (Command.Invert from to) session.old result session.new }
 {
@@ -105,8 +106,8 @@ pub fn invert(session: &mut Session, from: Time, to: Time) -> Reply
     reply_to(session.invert(a, b))
 }
 
-/// Generates this many frames from a time on. The first has the moment `from`; the lowest bit of
-/// `control` is the first control function.
+/// Generates `frames` frames from the time `start` on. The first has the moment `from`; the lowest
+/// bit of `control` is the first control function.
 pub fn regen(session: &mut Session, start: Time, frames: u64, from: Moment, control: u64) -> Reply
     ensures { Obeys (Command.Regen start frames from control) session.old result session.new }
 {

@@ -1,4 +1,6 @@
-//! A script run on a dump.
+//! A script run on a dump. The screen is the output with the witness that watches it, and the shelf
+//! is where the lines `write` and `save` write. An error is a fault of the dump, then no line was
+//! read, or a fault of the run. `Status` says whether a line was refused.
 
 ghost use Rattle.std.specs.Prelude.{◌≡◌, ◌≢◌, ◌⊎◌, ◌≤◌, ◌^◌, ℕ, List, Option, length, Ok, Err};
 ghost use Rattle.std.specs.Prelude.{IfSome, MatchResult};
@@ -92,7 +94,7 @@ pub fn run_on_parts<R: Read, W: Write, N: Witness, S: Shelf>(
     }
 }
 
-/// Obeys a script on the session of a dump.
+/// Obeys a script on the session of a dump, as `engine::run` does.
 fn run_opened<R: Read, W: Write, N: Witness, S: Shelf>(
     mut session: Session,
     script: &mut R,
@@ -112,7 +114,7 @@ fn run_opened<R: Read, W: Write, N: Witness, S: Shelf>(
     as_run(engine::run(&mut session, script, screen, shelf))
 }
 
-/// How a run on a dump ended, by how the run of the script ended.
+/// How a run on a dump ended, by how the run of the script ended: a fault becomes one of the run.
 fn as_run(ended: Result<Status, RunFault>) -> Result<Status, DumpRunFault>
     ensures { MatchResult ended (λ status. result ≡ Ok status) (λ fault. result ≡ Err (Run fault)) }
 {

@@ -1,5 +1,10 @@
 //! The run of a script. `line` is the bytes of a line that have come so far, and `status` says
-//! whether a line was refused.
+//! whether a line was refused. The screen is the output with the witness that watches it, and the
+//! shelf is where the lines `write` and `save` write. `PrintFault` says that a write of the output
+//! failed.
+//!
+//! Where `match` or `let Ok(..) else` returns an error, `?` would do the same; the proof of it
+//! takes longer.
 
 ghost use Rattle.std.specs.Prelude.{◌≡◌, ◌<◌, ◌≤◌, ◌^◌, ◌++◌, ◌∷◌, [], ℕ, List, Option, IfOk};
 ghost use Rattle.std.specs.Prelude.{IfErr, OnErr, length, take};
@@ -31,8 +36,9 @@ const READ_LIMIT: usize = 4096;
 /// The most reads of a script.
 const READS_LIMIT: u64 = 4_294_967_296;
 
-/// Obeys a script to its end, or to its line `quit`. Each line is answered before the next is
-/// read.
+/// Obeys a script to its end, or to its line `quit`, and returns whether a line was refused. Each
+/// line is answered before the next is read. An error is that a read failed, that a write of the
+/// output failed, or that there were 2^32 reads.
 pub fn run<R: Read, W: Write, N: Witness, S: Shelf>(
     session: &mut Session,
     script: &mut R,
@@ -113,7 +119,8 @@ fn read_part<R: Read>(script: &mut R, buffer: &mut [u8; READ_LIMIT]) -> Result<u
     }
 }
 
-/// The bytes that a read gave; at the end of the script, the newline that its last line lacks.
+/// The bytes that a read of `count` bytes gave. If it gave none the script ends, and they are the
+/// newline that its last line lacks; none if no byte of that line has come.
 fn with_end<'a>(buffer: &'a [u8; READ_LIMIT], count: usize, line: &Line) -> &'a [u8]
     requires { count ≤ length buffer.now }
     ensures { (text : List ℕ) → Holds text line.now
@@ -129,6 +136,7 @@ fn with_end<'a>(buffer: &'a [u8; READ_LIMIT], count: usize, line: &Line) -> &'a 
 }
 
 /// Obeys the bytes that come after a line's front, and returns whether the script ends in them.
+/// Bytes after its end are passed over.
 fn obey_part<W: Write, N: Witness, S: Shelf>(
     line: &mut Line,
     bytes: &[u8],

@@ -38,7 +38,7 @@ impl Line {
         self.long = false;
     }
 
-    /// Takes one more byte. Of a line that is too long only the front is kept.
+    /// Takes one more byte, which is no newline. Of a line that is too long only the front is kept.
     pub fn push(&mut self, byte: u8)
         requires { byte ≢ 10 }
         ensures { (text : List ℕ) → Holds text self.old → Holds (text ++ byte ∷ []) self.new }
@@ -58,7 +58,7 @@ impl Line {
         self.len == 0
     }
 
-    /// The line, unless it is too long.
+    /// The line, unless it is too long: then `None`.
     pub fn text(&self) -> Option<&[u8]>
         ensures whole { IfSome result (λ bytes. (text : List ℕ) → Holds text self.now
             → (bytes.now ≡ text) × (length text ≤ 1000)) }

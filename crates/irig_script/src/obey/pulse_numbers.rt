@@ -1,4 +1,6 @@
-//! The numbers of the pulses that addresses and ranges mean in a session, and its times.
+//! The numbers of the pulses that addresses and ranges mean in a session, and its times. Pulses
+//! count from 1, and 0 stands for one that is not there. An address is what it counts from, its
+//! base, and an offset of so many pulses.
 
 ghost use Rattle.std.specs.Prelude.{◌≡◌, ◌+◌, ◌-◌};
 ghost use Rattle.irig_track.specs.Shifts.{ahead, back};
@@ -18,7 +20,8 @@ fn mark(session: &Session, letter: &Letter) -> Option<u64>
 }
 
 /// The number, from 1, that an address counts from; `None` if that is a mark which is not set. A
-/// mark stands for the last pulse that rises at or before it, 0 if none does.
+/// mark stands for the last pulse that rises at or before it, 0 if none does. The cursor can be 0,
+/// too.
 fn base(session: &Session, base: &Base) -> Option<u64>
     ensures { result ≡ base_of base.now (present_in session.now) }
 {
@@ -33,7 +36,8 @@ fn base(session: &Session, base: &Base) -> Option<u64>
     }
 }
 
-/// The number that is `by` and `offset` after another; 0 if it would be less.
+/// The number `number + by + offset`; 0 if it would be less. It has more bits, so that the sum
+/// fits.
 fn counted(number: u64, by: u64, offset: i64) -> u128
     ensures { result ≡ number + by + ahead offset - back offset }
 {
@@ -46,7 +50,7 @@ fn counted(number: u64, by: u64, offset: i64) -> u128
     }
 }
 
-/// The pulse that is `by` pulses after an address, from 1; 0 if there is none.
+/// The pulse that is `by` pulses after the one of an address, from 1; 0 if there is none.
 fn pulse_at(session: &Session, by: u64, address: &Address) -> usize
     ensures { result ≡ pulse_at by address.now (present_in session.now) }
 {
@@ -68,7 +72,7 @@ pub fn number_at(session: &Session, address: &Address) -> usize
     pulse_at(session, 0, address)
 }
 
-/// The first and the last pulse of a range, from 1; 0 if there is none.
+/// The first and the last pulse of a range, from 1; 0 for one that is not there.
 pub fn ends(session: &Session, range: &Range) -> (usize, usize)
     ensures { result ≡ (
       first_of range.now (present_in session.now),
@@ -84,8 +88,8 @@ pub fn ends(session: &Session, range: &Range) -> (usize, usize)
     }
 }
 
-/// The first and the last pulse that are joined, from 1; 0 if there is none. One address joins its
-/// pulse and the next.
+/// The first and the last pulse that are joined, from 1; 0 for one that is not there. One address
+/// joins its pulse and the next.
 pub fn join_ends(session: &Session, range: &Range) -> (usize, usize)
     ensures { result ≡ (
       first_of range.now (present_in session.now),

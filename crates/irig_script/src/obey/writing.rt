@@ -1,4 +1,4 @@
-//! The lines `write` and `save`.
+//! The lines `write` and `save`. A shelf is where texts are written.
 
 ghost use Rattle.std.specs.Prelude.{◌∷◌, []};
 ghost use Rattle.irig_edit.specs.{Saved.SavedSession.saved_text, Session.Session.work_in};
@@ -24,8 +24,8 @@ pub fn write_dump<S: Shelf>(session: &Session, shelf: &mut S) -> Reply
     write(&mut session.text_parts(), shelf)
 }
 
-/// Writes the text of the track with its journal. It takes no memory, and is a call of its own for
-/// the same reason.
+/// Writes the text of the track with its journal. It takes no memory, and is a call of its own, so
+/// that no other line pays for the room that the text has on the stack.
 #[inline(never)]
 pub fn write_saved<S: Shelf>(session: &Session, shelf: &mut S) -> Reply
     ensures answer { Writes (saved_text (work_in session.now)) result }

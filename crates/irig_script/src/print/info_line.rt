@@ -1,4 +1,5 @@
-//! The line that the command `info` prints.
+//! The line that the command `info` prints. A row is this line in memory, while it is put together;
+//! it has room for 256 bytes. `PrintFault` says that a write of the output failed.
 
 ghost use Rattle.std.specs.Prelude.{◌≡◌, ◌≤◌, ◌+◌, ◌++◌, [], codes, length, decimal};
 ghost use Rattle.irig_codes.specs.Words.{kind_word};
@@ -45,7 +46,7 @@ fn put_track(row: &mut Row, session: &Session)
     put_count(row, b" ", format.expression() as u64);
 }
 
-/// Writes a word and a number.
+/// Writes a word and a number. There is room for 20 digits after the word.
 fn put_count(row: &mut Row, word: &[u8], count: u64)
     requires room { length row.old + length word.now ≤ 236 }
     ensures text { row.new ≡ row.old ++ word.now ++ decimal count }

@@ -1,4 +1,5 @@
-//! The listing of the frames.
+//! The listing of the frames. Lines wait in a block until it is full; a row is one line, while it
+//! is put together. `PrintFault` says that a write of the output failed.
 
 ghost use Rattle.std.specs.Prelude.{◌≡◌, ◌≤◌, ◌-◌, Some, length, slice_get};
 ghost use Rattle.irig_index.specs.declared.record.Record.{Record};
@@ -27,7 +28,8 @@ pub fn print_frames<W: Write>(session: &Session, out: &mut W) -> Result<(), Prin
     block.flush(out)
 }
 
-/// Writes the line of a frame, from 1, into the row.
+/// Writes the line of the frame with a number, from 1, into the row: its number, that of the pulse
+/// with which it begins, from 1, the rise of this pulse in microseconds, and what it says.
 fn put_record(row: &mut Row, session: &Session, number: usize)
     requires { (1 ≤ number) × (number ≤ length (frames_of session.now.state)) }
     ensures { (r : Record) → slice_get (frames_of session.now.state) (number - 1) ≡ Some r

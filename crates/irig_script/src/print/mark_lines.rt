@@ -1,4 +1,5 @@
-//! The listing of the marks.
+//! The listing of the marks. Lines wait in a block until it is full; a row is one line, while it is
+//! put together. `PrintFault` says that a write of the output failed.
 
 ghost use Rattle.std.specs.Prelude.{◌≡◌};
 ghost use Rattle.irig_print.specs.Front.{Prints};

@@ -1,4 +1,5 @@
-//! The listing of pulses.
+//! The listing of pulses. A line has at most `LINE_ROOM` bytes, which are 72. `PrintFault` says
+//! that a write of the output failed.
 
 ghost use Rattle.std.specs.Prelude.{◌≡◌, ◌≤◌, ◌-◌, ◌*◌, length, drop};
 ghost use Rattle.irig_script.specs.Print.Listings.{list_text};
@@ -14,7 +15,7 @@ const FEW: usize = 14;
 /// The bytes of a block of a longer listing: 227 lines have room in it.
 const BLOCK: usize = 16384;
 
-/// Prints a line for each of this many pulses after the first `before`.
+/// Prints a line for each of `count` pulses after the first `before`.
 pub fn print_pulses<W: Write>(
     session: &Session,
     before: usize,
@@ -48,8 +49,8 @@ fn print_many<W: Write>(
     print_in_blocks(session, before, count, &mut [0; BLOCK], out)
 }
 
-/// Prints a line for each of this many pulses after the first `before`, as far as the track has
-/// them. What has room in `block` goes out at a time.
+/// Prints a line for each of `count` pulses after the first `before`, as far as the track has them.
+/// What has room in `block`, at least one line, goes out at a time.
 fn print_in_blocks<W: Write>(
     session: &Session,
     before: usize,
@@ -74,9 +75,9 @@ fn print_in_blocks<W: Write>(
     Ok(())
 }
 
-/// Writes the lines of this many pulses up to the one of number `last`, from 1, so that they end
-/// where the bytes do, and gives where they start. They are written from the last to the first:
-/// so no digit has to be counted or moved before it is written.
+/// Writes the lines of `count` pulses up to the one of number `last`, from 1, so that they end
+/// where the bytes do, and gives the place, from 0, where they start. They are written from the
+/// last to the first: so no digit has to be counted or moved before it is written.
 fn write_pulses(bytes: &mut [u8], session: &Session, last: usize, count: usize) -> usize
     requires room { 72 * count ≤ length bytes.old }
     requires there { (count ≤ last) × (last ≤ length session.now.state.pulses) }

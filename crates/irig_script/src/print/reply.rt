@@ -1,4 +1,4 @@
-//! What is answered to a line of a script.
+//! What is answered to a line of a script. `PrintFault` says that a write of the output failed.
 
 ghost use Rattle.std.specs.Prelude.{◌≡◌, ◌++◌, ◌∷◌, [], true, decimal};
 ghost use Rattle.irig_script.specs.Print.Printed.{refusal_text, reply_text};
@@ -67,7 +67,7 @@ pub fn print<W: Write>(reply: Reply, session: &Session, out: &mut W) -> Result<(
     }
 }
 
-/// The line that says why a line of the script is refused.
+/// The line that says why a line of the script is refused. The reply is a refusal.
 fn refused_line(reply: Reply) -> &'static [u8]
     requires { is_refusal reply ≡ true }
     ensures { (m : Machine) → result.now ≡ reply_text m reply }
@@ -102,7 +102,7 @@ fn refusal_line(why: Refusal) -> &'static [u8]
     }
 }
 
-/// Prints a number and a newline.
+/// Prints a number and a newline: the digits end before place 23, from 0, where the newline is.
 fn put_number<W: Write>(out: &mut W, number: u64) -> Result<(), PrintFault>
     ensures { Prints (W.contents out.old) (W.contents out.new) (decimal number ++ 10 ∷ []) result }
 {

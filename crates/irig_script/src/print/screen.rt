@@ -1,4 +1,4 @@
-//! An output with the witness that watches it.
+//! An output with the witness that watches it. `PrintFault` says that a write of the output failed.
 
 ghost use Rattle.std.specs.Prelude.{◌≡◌, ◌∷◌, []};
 ghost use Rattle.irig_script.specs.Print.Printed.{reply_text};

@@ -25,5 +25,6 @@ pub struct NoWitness;
 impl Witness for NoWitness {
     ghost seen = { λ _. None };
 
+    // Does nothing.
     fn see<W: Write, S: Shelf>(&mut self, _: &W, _: &S) {}
 }
