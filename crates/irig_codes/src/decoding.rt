@@ -31,7 +31,7 @@ pub fn decode(format: Format, frame: &[Element; 100]) -> (Fields, Note)
     decode_ones(format, Ones::of(frame))
 }
 
-/// As `decode`, by the elements that are One, whatever frame they were gathered from.
+/// As `decode`, by which elements are One, whatever frame they were gathered from.
 pub fn decode_ones(format: Format, ones: Ones) -> (Fields, Note)
     ensures { (frame : List Element) → length frame ≡ 100 → ones_of frame ≡ ones
         → result ≡ decoded format frame }

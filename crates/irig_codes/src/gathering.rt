@@ -7,8 +7,8 @@ ghost use Rattle.irig_codes.specs.{Ones.ones_of, Ones.raised, Reading.counts};
 use crate::ones::Ones;
 use std::marker::Model;
 
-/// Which elements of a frame are One, so far. Each new element is the top bit and moves the others
-/// one place down, so no weight has to be kept.
+/// Which elements of a frame are One, so far. Each new element is bit 99, the top one, and moves
+/// the others one place down, so no weight has to be kept.
 #[derive(Clone, Copy)]
 pub struct Gathering {
     bits: u128,
@@ -33,8 +33,8 @@ impl Gathering {
         Gathering { bits: 0 }
     }
 
-    /// These, and one element more, which is the next one of the frame. After 100 of them the first
-    /// is bit 0.
+    /// These elements, and one more, which is the next one of the frame. After 100 of them the
+    /// first is bit 0.
     #[inline(always)]
     pub fn and(self, is_one: bool) -> Gathering
         ensures { (frame : List Element) (e : Element) → length frame < 100 → raised frame ≡ self

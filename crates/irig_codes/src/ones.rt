@@ -43,8 +43,8 @@ impl Ones {
         Ones { bits }
     }
 
-    /// The number that `count` elements from element `from` on make, from 0: the first is its
-    /// lowest bit, and a One is 1.
+    /// The number that `count` elements from element `from` on make; elements count from 0. The
+    /// first of them is its lowest bit, and a One is 1.
     #[inline(always)]
     pub fn bits(self, from: u8, count: u8) -> u64
         requires within { from < 100 }
@@ -54,8 +54,8 @@ impl Ones {
         ((self.bits >> from) % (1 << count)) as u64
     }
 
-    /// The lowest element that is One and not in a mask, in which element k is bit k. `None` if
-    /// there is none.
+    /// The lowest element, from 0, that is One and not in a mask, in which element k is bit k.
+    /// `None` if there is none.
     #[inline(always)]
     pub fn lowest_outside(self, mask: u128) -> Option<u8>
         ensures { IsLowestOutside self mask result }

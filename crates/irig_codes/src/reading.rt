@@ -65,7 +65,8 @@ fn year_tens(kind: Kind, year: bool, ones: Ones) -> u64
     }
 }
 
-/// The straight binary seconds of the day, if they are there: 17 bits, in two runs.
+/// The straight binary seconds of the day, if they are `there`: 17 bits, in two runs. The first run
+/// has nine, so the second counts 512.
 fn sbs(there: bool, ones: Ones) -> u64
     ensures { result ≡ sbs_in there ones }
 {
@@ -77,7 +78,7 @@ fn sbs(there: bool, ones: Ones) -> u64
 }
 
 /// The number of the nine control elements from `from` on as the low bits, and `after`, the number
-/// of those after them, as the others.
+/// of those after them, as the others: nine bits higher, so it counts 512. It has at most 36 bits.
 #[inline(always)]
 fn nine_at(ones: Ones, from: u8, after: u64) -> u64
     requires within { from < 100 }
@@ -98,7 +99,7 @@ fn from_70(ones: Ones) -> u64
     nine_at(ones, 70, nine_at(ones, 80, nine_at(ones, 90, 0)))
 }
 
-/// The control elements as one number, if they are there, the first one as the lowest bit. Their
+/// The control elements as one number, if they are `there`, the first one as the lowest bit. Their
 /// first element and their count depend on the kind and the year.
 fn control(kind: Kind, there: bool, year: bool, ones: Ones) -> u64
     ensures { result ≡ control_in kind there year ones }

@@ -6,7 +6,7 @@ ghost use Rattle.irig_codes.specs.{Slots.slots_at, Used.masks_of, Used.used_of};
 use crate::format::{Format, Kind};
 use crate::table;
 
-/// The masks of the expressions 0 to 7 of a kind.
+/// The masks of the expressions 0 to 7 of a kind, in this order.
 fn masks(kind: Kind) -> &'static [u128; 8]
     ensures { result.now ≡ masks_of kind }
 {

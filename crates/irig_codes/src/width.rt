@@ -1,4 +1,6 @@
-//! Elements of a frame, by the widths of pulses and the steps between them.
+//! Elements of a frame, by the widths of pulses and the steps between them. The interval of a
+//! format is the time from the rise of one element to that of the next; it is a multiple of 20
+//! microseconds, so that its tenths and twentieths are whole.
 
 ghost use Rattle.std.specs.Prelude.{◌≡◌, ◌<◌};
 ghost use Rattle.irig_codes.specs.Format.{interval_of};
@@ -24,8 +26,8 @@ pub fn class(format: Format, width: u64) -> Option<Element>
     class_in(format.interval(), width)
 }
 
-/// As `class`, by the interval of the format in microseconds: a loop over pulses asks for that
-/// once. A width below a twentieth of it, or from nineteen on, is bad.
+/// As `class`, by the interval of the format in microseconds: a loop over pulses asks for the
+/// interval once. A width below a twentieth of it, or from nineteen on, is bad.
 #[inline(always)]
 pub fn class_in(interval: u64, width: u64) -> Option<Element>
     requires { HasTwentieths interval }

@@ -1,7 +1,9 @@
-//! What a pulse means, straight from its width and the interval of the format. A loop over
-//! pulses asks for the interval once.
+//! What a pulse means, straight from its width and the interval of the format. A loop over pulses
+//! asks for the interval once.
 //!
-//! Width and interval are in microseconds. The interval is the time from one rise to the next.
+//! Width and interval are in microseconds. The interval is the time from one rise to the next; it
+//! is a multiple of 20, so that its twentieths are whole. A width below the lower bound wraps when
+//! that is taken from it, so one comparison tests both bounds.
 
 ghost use Rattle.std.specs.Prelude.{◌≡◌, true, unwrap_or};
 ghost use Rattle.irig_codes.specs.declared.width.Element.TheVariants.{Zero};
@@ -9,7 +11,7 @@ ghost use Rattle.irig_codes.specs.{Reading.counts, Width.HasTwentieths, Width.cl
 ghost use Rattle.irig_index.specs.Marker.{is_digit, is_position};
 
 /// Whether a width is that of a position identifier: from 13 twentieths of the interval to below
-/// 19. A width below wraps, so one comparison tests both bounds.
+/// 19.
 #[inline(always)]
 pub fn is_position(interval: u64, width: u64) -> bool
     requires { HasTwentieths interval }
@@ -31,7 +33,7 @@ pub fn is_digit(interval: u64, width: u64) -> bool
     width.wrapping_sub(twentieth) < 12 * twentieth
 }
 
-/// Whether a digit of this width is One, not Zero.
+/// Whether a digit of this width is One, from 7 twentieths of the interval on, not Zero.
 #[inline(always)]
 pub fn is_one(interval: u64, width: u64) -> bool
     requires interval { HasTwentieths interval }

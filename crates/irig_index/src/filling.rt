@@ -48,8 +48,8 @@ pub fn count_markers(lens: &mut Lens<'_>, looks: &mut u64, format: Format) -> us
     count
 }
 
-/// Puts the records of the markers after the places `from` to `to`, that one not included, left of
-/// the gap. If there is room for them it does not grow; else it fails if memory runs out.
+/// Puts the records of the markers after the places `from` to `to`, `to` not included, left of the
+/// gap. If there is room for them it does not grow; else it fails if memory runs out.
 pub fn fill(
     records: &mut Gap<Stored>,
     lens: &mut Lens<'_>,
@@ -83,7 +83,7 @@ pub fn fill(
     Ok(())
 }
 
-/// As `fill`, into room that is there: the gap does not grow.
+/// As `fill`, into room that is there: the gap does not grow, so `unwrap` finds no error.
 pub fn refill(
     records: &mut Gap<Stored>,
     lens: &mut Lens<'_>,
@@ -106,9 +106,9 @@ pub fn refill(
     fill(records, lens, looks, format, from, to).unwrap();
 }
 
-/// Checks the frame of the last marker up to the pulse `from` again, unless that frame ends there:
-/// the pulses after `from` have changed. Returns whether the next record is of a marker up to
-/// `last`.
+/// Checks the frame of the last marker up to the pulse `from` again, unless that frame ends there,
+/// with its marker 99 pulses or more before: the pulses after `from` have changed. Returns whether
+/// the next record is of a marker up to the pulse `last`.
 pub fn retell_up_to(
     records: &mut Gap<Stored>,
     pulses: usize,
@@ -138,8 +138,8 @@ pub fn retell_up_to(
     more
 }
 
-/// Checks the frame of the last of the first `count` markers again, unless that marker is one up to
-/// `settled`: such a frame ends before what has changed.
+/// Checks the frame of the last of the first `count` markers again, unless that marker is a pulse
+/// up to `settled`: such a frame ends before what has changed.
 fn retell(
     records: &mut Gap<Stored>,
     pulses: usize,
@@ -174,8 +174,8 @@ fn retell(
     set_record(records, pulses, count - 1, Stored::new(marker, verdict));
 }
 
-/// Up to which place a repair seeks markers: that of the first pulse after the edit, or of the last
-/// pulse.
+/// Up to which place a repair seeks markers: the first pulse after the edit, or the last pulse of
+/// the track.
 pub fn last_place(lens: &Lens<'_>, edit: Span) -> usize
     requires { edit.at + edit.new ≤ length lens.now.track.pulses }
     ensures least { result ≡ min (length lens.now.track.pulses - 1) (edit.at + edit.new) }
@@ -185,7 +185,7 @@ pub fn last_place(lens: &Lens<'_>, edit: Span) -> usize
     last.min(edit.at + edit.new)
 }
 
-/// The first place from `from` to `to` with a marker after it, or `to`.
+/// The first place from `from` on, below `to`, with a marker after it; `to` if there is none.
 pub fn next_marked(
     lens: &mut Lens<'_>,
     looks: &mut u64,
@@ -208,7 +208,7 @@ pub fn next_marked(
 }
 
 /// The place from which on the next marker is sought, none later than `to`. A verdict on the frame
-/// of `marker` has looked at the pulses up to there, and none of them is a marker.
+/// of `marker` has looked at the pulses after it up to there, and none of these is a marker.
 fn next_place(marker: usize, verdict: Verdict, to: usize) -> usize
     requires { marker ≤ to }
     ensures order { marker ≤ result }

@@ -51,7 +51,7 @@ pub fn verdict(
 }
 
 /// How many looks a verdict took: one for each pulse after the marker up to the one that fails. If
-/// the track ended there, that one is not there to be looked at.
+/// the track ended before that one, it is not there to be looked at.
 pub fn looks_of(verdict: Verdict) -> u64
     ensures { result ≡ looks_of verdict }
 {
@@ -100,7 +100,8 @@ fn check(lens: &mut Lens<'_>, format: Format, at: usize, first: Pulse) -> Verdic
     read(format, ones)
 }
 
-/// The verdict on a frame in which no pulse fails, by which of its elements are One.
+/// The verdict on a frame in which no pulse fails, by which of its elements are One: `gathered` has
+/// all 100.
 fn read(format: Format, gathered: Gathering) -> Verdict
     ensures verdict { (frame : List Element) → length frame ≡ 100 → raised frame ≡ gathered
         → result ≡ Read (decoded format frame).0 (decoded format frame).1 }
@@ -111,8 +112,9 @@ fn read(format: Format, gathered: Gathering) -> Verdict
 }
 
 /// Whether an element of this width is One, and how many digits are left after it before the next
-/// position identifier. `None` if it must not be there: if no digit is left only a position
-/// identifier may be, and else only a digit.
+/// position identifier. `digits` is how many are left before it. `None` if it must not be there: if
+/// no digit is left only a position identifier may be, after which nine digits come, and else only
+/// a digit.
 #[inline(always)]
 fn told(interval: u64, width: u64, digits: u64) -> Option<(bool, u64)>
     requires { HasTwentieths interval }

@@ -1,8 +1,8 @@
-//! Records by their place among all, whichever side of the gap they are on.
+//! Records by their place among all, from 0, whichever side of the gap they are on.
 //!
 //! Records are in rising order of their markers, which are numbers of pulses from 0. Those left of
 //! the gap count from the front of the track; those right of it count from its back, so `pulses`,
-//! how many it has, gives their numbers.
+//! how many it has, gives their numbers. `last` is the number of a pulse.
 
 ghost use Rattle.std.specs.Prelude.{◌≡◌, ℕ, ◌+◌, ◌<◌, ◌≤◌, false, length, take, drop, slice_set};
 ghost use Rattle.irig_index.specs.Sides.{shown, EndsUpTo, BeginsAfter};
@@ -66,7 +66,7 @@ pub fn is_up_to(records: &Gap<Stored>, pulses: usize, k: usize, last: usize) -> 
 }
 
 /// Writes a record over the one at place `k`, from 0. Right of the gap a marker is kept by how many
-/// pulses are from it to the end, so it is turned there.
+/// pulses are from it to the end, so its number is turned there.
 pub fn set_record(records: &mut Gap<Stored>, pulses: usize, k: usize, found: Stored)
     requires { k < length records.old.items }
     ensures shown { shown pulses records.new ≡ slice_set (shown pulses records.old) k found }

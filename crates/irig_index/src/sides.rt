@@ -2,7 +2,7 @@
 //!
 //! Records are in rising order of their markers, which are numbers of pulses from 0. Those left of
 //! the gap count from the front of the track; those right of it count from its back, so `pulses`,
-//! how many it has, gives their numbers.
+//! how many it has, gives their numbers. `first` and `last` are numbers of pulses, from the front.
 //!
 //! What is marked "Read for .." does nothing: it only lets the proof use what a type promises.
 
@@ -52,8 +52,8 @@ pub fn clear(records: &mut Gap<Stored>)
     }
 }
 
-/// Removes the records of the markers after `first`, up to `last`, and leaves the gap in their
-/// place. Those left of the gap go first, so that it does not have to pass them.
+/// Removes the records of the markers after `first`, up to `last`, and leaves the gap where they
+/// were. Those left of the gap go first, so that it does not have to pass them.
 pub fn cut_out(records: &mut Gap<Stored>, pulses: usize, first: usize, last: usize)
     requires { first ≤ last }
     ensures sides { (start middle rest : List Record)
@@ -66,7 +66,7 @@ pub fn cut_out(records: &mut Gap<Stored>, pulses: usize, first: usize, last: usi
     drop_up_to(records, pulses, last);
 }
 
-/// Moves the gap to the place after the records of the markers up to `last`.
+/// Moves the gap to after the records of the markers up to `last`.
 fn part(records: &mut Gap<Stored>, pulses: usize, last: usize)
     ensures shown { shown pulses records.new ≡ shown pulses records.old }
     ensures left { EndsUpTo last (left_of records.new) }
@@ -111,7 +111,7 @@ fn drop_up_to(records: &mut Gap<Stored>, pulses: usize, last: usize)
     }
 }
 
-/// Whether the record left of the gap is of a marker after `last`.
+/// Whether the record left of the gap is of a marker after `last`. `false` if there is none.
 pub fn ends_after(records: &Gap<Stored>, last: usize) -> bool
     ensures left { result ≡ false → EndsUpTo last (left_of records.now) }
     ensures some { result ≡ true → 0 < records.now.place }
@@ -120,7 +120,8 @@ pub fn ends_after(records: &Gap<Stored>, last: usize) -> bool
     place > 0 && records.get(place - 1).marker() > last
 }
 
-/// Whether the record left of the gap is of a marker after `first`, up to `last`.
+/// Whether the record left of the gap is of a marker after `first`, up to `last`. `false` if there
+/// is none.
 fn ends_within(records: &Gap<Stored>, first: usize, last: usize) -> bool
     ensures { result ≡ true → EndsWithin first last records.now.items records.now.place }
 {
@@ -132,7 +133,7 @@ fn ends_within(records: &Gap<Stored>, first: usize, last: usize) -> bool
     marker > first && marker <= last
 }
 
-/// Whether the record right of the gap is of a marker up to `last`.
+/// Whether the record right of the gap is of a marker up to `last`. `false` if there is none.
 pub fn begins_up_to(records: &Gap<Stored>, pulses: usize, last: usize) -> bool
     ensures right { result ≡ false → BeginsAfter last (right_of pulses records.now) }
     ensures some { result ≡ true → BeginsUpTo last (right_of pulses records.now) }

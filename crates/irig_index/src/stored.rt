@@ -1,8 +1,8 @@
 //! A record as an index keeps it.
 //!
-//! A marker is the number of the pulse with which a frame begins.
-//! A verdict is `Read`, with the fields and the note of a sound frame, or `Broken`, with the least
-//! element that fails, 1 to 99, and why.
+//! A marker is the number of the pulse with which a frame begins, from 0. A verdict is `Read`, with
+//! the fields and the note of a sound frame, or `Broken`, with the least element that fails, 1 to
+//! 99, and why.
 
 ghost use Rattle.std.specs.Prelude.{◌≡◌, ◌-◌, ◌^◌, ◌<◌, unwrap_or};
 ghost use Rattle.irig_index.specs.Kept.{IsNarrow, kept_of, part_of, verdict_kept};
@@ -59,7 +59,7 @@ impl Stored {
         self.marker
     }
 
-    /// The same verdict, of a marker with another number.
+    /// The record of the same verdict and of a marker with another number.
     #[inline(always)]
     pub fn at(self, marker: usize) -> Stored
         ensures { result ≡ record { marker = marker; verdict = self.verdict } }
@@ -154,7 +154,7 @@ fn verdict(kept: Kept) -> Verdict
     }
 }
 
-/// A part of two digits in a byte, or 255 for `None`.
+/// A part of two digits in a byte, or 255 for `None`. The part is below 255.
 #[inline(always)]
 fn byte(part: Option<u32>) -> u8
     requires { unwrap_or part 0 < 255 }

@@ -3,6 +3,7 @@
 //! The four lines are `#RISE`, `1!`, `#FALL` and `0!`. Most pulses come soon after the one before,
 //! so their times have the same digits but for the last four. These digits are written over the old
 //! ones, and all else is kept.
+//!
 //! The lines of an edge end with four bytes, a newline, the level, the code and a newline; the last
 //! four digits of its time come just before these.
 
@@ -22,8 +23,8 @@ static PAIRS: [u8; 200] = *b"\
     6061626364656667686970717273747576777879\
     8081828384858687888990919293949596979899";
 
-/// The four lines of a pulse at the front of a buffer, `long` bytes for each edge. `base` has the
-/// digits of its times, in microseconds, with 0 for the last four.
+/// The four lines of a pulse at the front of a buffer, `long` bytes for the two lines of each edge.
+/// `base` has the digits of its times, in microseconds, with 0 for the last four.
 #[derive(Drop)]
 pub struct KeptPulse {
     bytes: [u8; 56],
@@ -32,7 +33,7 @@ pub struct KeptPulse {
 }
 
 impl KeptPulse {
-    /// The lines of a pulse at 10,000 microseconds.
+    /// The lines of a pulse whose edges are both at 10,000 microseconds, to be written over.
     pub fn new() -> KeptPulse
         ensures { HoldsPulse result }
     {
@@ -55,9 +56,10 @@ impl KeptPulse {
         self.catch_up_to(rise) && self.is_near(fall)
     }
 
-    /// Makes new lines, with both edges at a time in microseconds. They are made in `line`: a time
-    /// ends before byte 21, and the bytes 21 to 24 are a newline, the level, the code and a
-    /// newline. So the lines of an edge are those from the start of the time to byte 24.
+    /// Makes new lines, with both edges at a time in microseconds of 5 to 15 digits. They are made
+    /// in `line`: a time ends before byte 21, from 0, and the bytes 21 to 24 are a newline, the
+    /// level, the code and a newline. So the lines of an edge are those from the start of the time
+    /// to byte 24.
     pub fn renew(&mut self, line: &mut [u8], time: u64)
         requires some { 10000 ≤ time }
         requires few { time < 10 ^ 15 }
@@ -76,9 +78,9 @@ impl KeptPulse {
         self.base = time - time % 10000;
     }
 
-    /// Writes the lines of a pulse whose times, in microseconds, have the digits that are kept. A
-    /// fixed number of bytes is written, which is fast, and those too many are removed. It fails
-    /// only if memory runs out.
+    /// Writes the lines of a pulse whose times, in microseconds, have the digits that are kept. The
+    /// last four of each begin 8 bytes before the end of its lines. A fixed number of bytes, 48, is
+    /// written, which is fast, and those too many are removed. It fails only if memory runs out.
     #[inline(always)]
     pub fn put(&mut self, text: &mut Vec<u8>, rise: u64, fall: u64) -> Result<(), AllocError>
         requires holds { HoldsPulse self.old }
@@ -127,7 +129,8 @@ impl KeptPulse {
     }
 
     /// Counts up by one the digits in front of the last four, in both times, if that changes only
-    /// one digit: one that is not 9. Returns whether it did.
+    /// one digit: one that is not 9. It is 9 bytes before the end of its lines. Returns whether it
+    /// did.
     #[inline(always)]
     fn count_up(&mut self) -> bool
         requires holds { HoldsPulse self.old }
@@ -149,7 +152,8 @@ impl KeptPulse {
     }
 }
 
-/// Copies the 24 bytes of a line from `start` on to the place `at` of a buffer.
+/// Copies the 24 bytes of a line from byte `start` on, from 0, to the place `at` of a buffer, from
+/// 0. There is room for them.
 fn put_part(bytes: &mut [u8], at: usize, line: &[u8], start: usize)
     requires room { at + 24 ≤ length bytes.old }
     requires some { start + 24 ≤ length line.now }
@@ -159,7 +163,7 @@ fn put_part(bytes: &mut [u8], at: usize, line: &[u8], start: usize)
     bytes[at..at + 24].copy_from_slice(&line[start..start + 24]);
 }
 
-/// Writes the four digits of a number below 10,000 at a place of a buffer.
+/// Writes the four digits of a number below 10,000 at the place `at` of a buffer, from 0.
 #[inline(always)]
 fn put_four(bytes: &mut [u8], at: usize, number: u64)
     requires few { number < 10000 }
@@ -171,7 +175,7 @@ fn put_four(bytes: &mut [u8], at: usize, number: u64)
     put_two(bytes, at + 2, number % 100);
 }
 
-/// Writes the two digits of a number below 100 at a place of a buffer.
+/// Writes the two digits of a number below 100 at the place `at` of a buffer, from 0.
 #[inline(always)]
 fn put_two(bytes: &mut [u8], at: usize, number: u64)
     requires few { number < 100 }

@@ -1,4 +1,5 @@
-//! A length and the pulses of a level.
+//! A length and the pulses of a level. The pulses are in a gap buffer: its place is where items
+//! come and go.
 
 ghost use Rattle.std.specs.Prelude.{◌≡◌, ◌≤◌, ◌↔◌, ◌^◌, IsTrue, IsSome, IfOk, IfSome, OnErr, true};
 ghost use Rattle.std.specs.Prelude.{length, ◌≢◌, ◌*◌, ◌+◌, []};
@@ -86,7 +87,7 @@ impl Recording {
     }
 
     /// The pulses, in order, without a copy, and the place after them all. Their block is not much
-    /// larger.
+    /// larger than they need.
     pub fn into_pulses(self) -> Gap<Pulse>
         ensures exact { edges_of result.items ≡ self.edges }
         ensures place { result.place ≡ length result.items }
@@ -113,7 +114,8 @@ fn pulses_of(alloc: Global, edges: &[u64]) -> Result<Gap<Pulse>, AllocError>
     Ok(kept.into_pulses())
 }
 
-/// Whether these are the length and the edges of a recording, both in microseconds.
+/// Whether these are the length and the edges of a recording, both in microseconds: no limit is
+/// passed, and the edges rise in pairs.
 fn is_recording(length: u64, edges: &[u64]) -> bool
     ensures { IsTrue result ↔ IsRecording length edges.now }
 {

@@ -120,7 +120,8 @@ impl TextWriter {
 }
 
 /// The canonical dump of a recording, as `docs/FORMATS.md` says: nine lines, two for each edge
-/// above 0, and one for the length if no edge is there. `read` gives the recording back.
+/// above 0, and one for the length if no edge is there. At first it asks for 36 bytes a pulse and
+/// 140 for the rest. `read` of `irig_vcd` gives the recording back.
 pub fn text(alloc: Global, recording: &Recording) -> Result<Vec<u8>, AllocError>
     ensures written { IfOk result (λ text. text.items ≡ file_text recording.now) }
     ensures short { IfOk result (λ text. length text.items ≤ 2 ^ 28) }
@@ -178,8 +179,9 @@ fn put_header(text: &mut Vec<u8>, high: bool) -> Result<(), AllocError>
     Ok(())
 }
 
-/// Writes the two lines of an edge, by a buffer in which the time ends at byte 21 and the level
-/// comes after it. A fixed number of bytes is written, which is fast. Those too many are removed.
+/// Writes the two lines of an edge, in microseconds, by a buffer in which the time ends before byte
+/// 21, from 0, and its newline, the level, the code and a newline come then. A fixed number of
+/// bytes is written, which is fast. Those too many are removed.
 #[inline(always)]
 fn put_lines(text: &mut Vec<u8>, line: &mut [u8], edge: u64, high: bool) -> Result<(), AllocError>
     requires room { 48 ≤ length line.old }
@@ -198,8 +200,8 @@ fn put_lines(text: &mut Vec<u8>, line: &mut [u8], edge: u64, high: bool) -> Resu
     Ok(())
 }
 
-/// Writes a number sign and the digits of a time into a buffer, so that they end at byte 21.
-/// Returns where they start.
+/// Writes a number sign and the digits of a time, in microseconds, into a buffer, so that they end
+/// before byte 21, from 0. Returns the byte at which the sign is.
 pub(crate) fn put_digits(line: &mut [u8], time: u64) -> usize
     requires room { 21 ≤ length line.old }
     ensures within { result ≤ length line.new }
