@@ -3,6 +3,8 @@
 //! The target is the name that the text is to have. A stem is what the name of a new file begins
 //! with; a number is after it, from 0. A hidden file is its owner's alone. An error is
 //! `NamesTaken`, the fault of a call (`Failed`), or that memory ran out (`Memory`).
+//!
+//! Where `match` hands an error on, `?` would do the same; the proof of it takes longer.
 
 ghost use Rattle.std.specs.Prelude.{◌≡◌, ◌≢◌, ◌↔◌, [], string_bytes, IfOk, IfErr, MatchOption};
 ghost use Rattle.std.specs.Prelude.{OnOk, IsErrOf, IsTrue};

@@ -3,6 +3,8 @@
 //! The target is the name that the text is to have. A stem is what the name of a new file begins
 //! with; a number is after it. A hidden file is its owner's alone. The new file is `beside` the
 //! target until it takes that name. To sync is to ask the system to keep something over a crash.
+//!
+//! Where `match` hands an error on, `?` would do the same; the proof of it takes longer.
 
 ghost use Rattle.std.specs.Prelude.{◌≡◌, ◌++◌, ◌+◌, ◌-◌, ◌^◌, ℕ, List, [], length, min, take, IfOk};
 ghost use Rattle.std.specs.Prelude.{IfErr, OnOk, OnErr, IsErrOf, IsTrue};

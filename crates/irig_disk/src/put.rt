@@ -4,6 +4,8 @@
 //! the text wait to be written together. `None` instead of the fault of a call says that memory ran
 //! out, or that the text has more than 2^64 - 1 bytes. `PutFault` says what a write that did not
 //! succeed leaves.
+//!
+//! Where `match` hands an error on, `?` would do the same; the proof of it takes longer.
 
 ghost use Rattle.std.specs.Prelude.{◌≡◌, ◌<◌, ◌≤◌, ◌++◌, ◌+◌, ◌^◌, ℕ, List, [], false, true};
 ghost use Rattle.std.specs.Prelude.{length, IfOk, IfErr, IfSome, OnOk, OnErr, OnSome, IsOk, IsSome};

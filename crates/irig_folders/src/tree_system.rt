@@ -3,6 +3,8 @@
 //! A file is known by its number, which is how many calls were done before it was made; its id is 0
 //! and that number. `blind` names a call that is to fail, with `Planned`. `Parts` are the recording
 //! of a dump and its journal.
+//!
+//! Where `match` hands an error on, `?` would do the same; the proof of it takes longer.
 
 ghost use Rattle.std.specs.Prelude.{◌≡◌, ◌≢◌, ◌↔◌, IfOk, IsTrue, None, Some, false, true};
 ghost use Rattle.std.specs.Prelude.{is_none, option_copied, option_map};

@@ -1,5 +1,7 @@
 //! One block of memory as a row of places, each empty or holding an item; they count from 0. Every
 //! pointer of this crate is here. A deed is the right to give a block back.
+//!
+//! Where `match` hands an error on, `?` would do the same; the proof of it takes longer.
 
 ghost use Rattle.std.specs.Prelude.{◌≡◌, ℕ, ◌+◌, ◌*◌, ◌^◌, ◌<◌, ◌≤◌, List, Option, Some, None};
 ghost use Rattle.std.specs.Prelude.{length, replicate, get_or, slice_set, IfOk, ◌-◌, ◌++◌, take};

@@ -4,6 +4,8 @@
 //! each, and the capacity is how many of these there are. Those left of `gap` hold the items left
 //! of the place, those from `after` on the others. An error is that memory ran out; then nothing
 //! has changed.
+//!
+//! Where `let .. else` hands an error on, `?` would do the same; the proof of it takes longer.
 
 ghost use Rattle.std.specs.Prelude.{◌≡◌, ◌+◌, ◌-◌, ◌/◌, ◌^◌, ◌<◌, ◌≤◌, length, max, min, OnOk};
 ghost use Rattle.std.specs.Prelude.{OnErr, map, Some};

@@ -3,6 +3,8 @@
 //! The past has the steps that can be undone, the future those that can be redone. A place is room
 //! in a list for one item. Each side has a place for every step of both, as a step can move to the
 //! other side. An error is that memory ran out.
+//!
+//! Where `let .. else` hands an error on, `?` would do the same; the proof of it takes longer.
 
 ghost use Rattle.std.specs.Prelude.{◌≡◌, ◌⊎◌, ◌+◌, ◌<◌, ◌≤◌, OnErr, OnOk, vec_capacity, vec_len};
 ghost use Rattle.irig_journal.specs.Held.{Alone};

@@ -3,6 +3,8 @@
 //! Each function reads a line without its newline, and answers `None` if the line has another form.
 //! Words have one space between them; `head` is the first, which has no space in it. Pulses count
 //! from 1; times are in microseconds.
+//!
+//! Where `let .. else` hands `None` on, `?` would do the same; the proof of it takes longer.
 
 ghost use Rattle.std.specs.Prelude.{◌≡◌, ◌<◌, ◌+◌, ◌++◌, ◌∷◌, [], ℕ, List, MatchOption, decimal};
 ghost use Rattle.std.specs.Prelude.{codes};

@@ -1,4 +1,6 @@
 //! The lines of a splice's pulses, in parts: those that they have in the text of a saved journal.
+//!
+//! Where `match` hands an error on, `?` would do the same; the proof of it takes longer.
 
 ghost use Rattle.std.specs.Prelude.{◌≡◌, ◌≤◌, ◌<◌, ◌++◌, [], IfOk, OnOk, false, true, vec_len};
 ghost use Rattle.irig_saved.specs.{Lines.text_of, SavedText.pulse_lines, SavedText.put_of};

@@ -4,6 +4,8 @@
 //! follows the level of the wire and keeps its edges. `journals` has the places of the journals so
 //! far, and `pending` what is open after the last token: a value without its code, or a comment. An
 //! error is the first fault of the changes, or that memory ran out.
+//!
+//! Where `match` hands an error on, `?` would do the same; the proof of it takes longer.
 
 ghost use Rattle.std.specs.Prelude.{◌≡◌, ◌≤◌, ◌^◌, ◌∷◌, [], Option, None, Err, length, IfOk, OnOk};
 ghost use Rattle.irig_vcd.specs.Code.Token.{kind_view, word_of};

@@ -4,6 +4,8 @@
 //! read: until at least `wanted` of them are there, so that the same bytes are not read again for
 //! each small part. The unit is that of the dump's times. An error is a fault of the dump,
 //! `OutOfMemory` among them.
+//!
+//! Where `match` hands an error on, `?` would do the same; the proof of it takes longer.
 
 ghost use Rattle.std.specs.Prelude.{◌≡◌, ◌≤◌, ◌<◌, ◌+◌, ◌*◌, ◌++◌, ◌^◌, ◌⊎◌, ◌↔◌, [], ℕ, List};
 ghost use Rattle.std.specs.Prelude.{Option, Some, None, Ok, Err, IfOk, IfErr, IfSome, IsTrue, OnOk};

@@ -3,6 +3,8 @@
 //! A fault may be of what was read so far only because the dump is cut there: then it is an inner
 //! error, which more of the dump can mend. An outer error is a fault whatever comes. The
 //! declarations are whole if the section that ends them is there.
+//!
+//! Where `match` hands an error on, `?` would do the same; the proof of it takes longer.
 
 ghost use Rattle.std.specs.Prelude.{◌≡◌, ◌≤◌, ◌<◌, ◌+◌, ◌*◌, ◌++◌, ◌^◌, [], ℕ, List, Option, Some};
 ghost use Rattle.std.specs.Prelude.{None, Ok, Err, IfOk, IfErr, OnErr, OnOk, false, length, take};

@@ -5,6 +5,8 @@
 //! `rest` is what is left, in units. A stretch goes up to its `limit` in microseconds: its edges
 //! are kept, or none is in the window that is read. `tokens.at` is the place of the next byte;
 //! places are those of bytes in `source`, from 0.
+//!
+//! Where `let .. else` hands `None` on, `?` would do the same; the proof of it takes longer.
 
 ghost use Rattle.std.specs.Prelude.{◌≡◌, ◌≤◌, ◌<◌, ◌+◌, ◌^◌, ◌∷◌, [], true, false, length};
 ghost use Rattle.std.specs.Prelude.{slice_index, IfSome, IfOk, OnErr};

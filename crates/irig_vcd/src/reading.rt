@@ -2,6 +2,8 @@
 //!
 //! `code` is that of the wire that is read, and `unit` that of the dump's times. A clock is a time
 //! in that unit. The trace follows the level of the wire and keeps its edges.
+//!
+//! Where `match` hands an error on, `?` would do the same; the proof of it takes longer.
 
 ghost use Rattle.std.specs.Prelude.{◌≡◌, ◌≤◌, ◌^◌, ℕ, List, None, Err, IfOk, OnOk};
 ghost use Rattle.irig_vcd.specs.{Code.Journals.Holds, Code.Reached.IsOn, Code.Scanned.HasScanned};

@@ -3,6 +3,8 @@
 //! A clock is a time of the dump, in its unit. The trace follows the level of the wire and keeps
 //! its edges. A code is plain if it has 1 to 18 printable bytes. `is_quick` says that whole pulses
 //! are taken in one step. All else is left to the way for any token, which is slower.
+//!
+//! Where `match` hands an error on, `?` would do the same; the proof of it takes longer.
 
 ghost use Rattle.std.specs.Prelude.{◌≡◌, ◌↔◌, ◌≤◌, ◌<◌, List, Option, true, length, slice_index};
 ghost use Rattle.std.specs.Prelude.{IfOk, OnErr};

@@ -1,5 +1,7 @@
 //! What a command takes, and what it refuses. A `Command` is what `clap` knows of a command line;
 //! one that is an error could not be made, as memory ran out.
+//!
+//! Where `match` hands an error on, `?` would do the same; the proof of it takes longer.
 
 ghost use Rattle.std.specs.Prelude.{◌≡◌, IfErr, IfOk, map, string_bytes, true};
 ghost use Rattle.clap.specs.Words.{HasMatchesOf, app_of, is_simple_and_free};

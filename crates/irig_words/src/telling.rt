@@ -91,7 +91,7 @@ impl<'a> Program<'a> {
     }
 
     /// Prints the help on `help`, the program's output, if the words ask for it; else says which
-    /// mistake they have. `clap` has its own standard error for mistakes alone.
+    /// mistake they have. `use_stderr` says that it is a mistake.
     fn answer<R: Eprint, H: Write>(&self, rt: &R, error: &Error, help: &mut H) -> ExitCode
         ensures mistake { IsMistake error.now → EndsWith 2 (H.contents help.old)
             (H.contents help.new) (exit_status result) }

@@ -3,6 +3,8 @@
 //! The text of a journal: line 1 names it, line 2 is the format, line 3 the cursor, and from line 4
 //! on each mark that is set has a line. Then comes the line that counts the steps back. Marks are
 //! times in microseconds.
+//!
+//! Where `match` hands an error on, `?` would do the same; the proof of it takes longer.
 
 ghost use Rattle.std.specs.Prelude.{◌≡◌, ◌+◌, ◌≤◌, Err, IfOk, IfErr, MatchResult, None, Some, []};
 ghost use Rattle.std.specs.Prelude.{length};

@@ -2,6 +2,8 @@
 //!
 //! A journal (`Saved`) has a format, a cursor, marks, and the steps back and forward. V13 is
 //! `VcdFault::BadJournal`, with the number of the journal's line at fault, from 1.
+//!
+//! Where `match` hands an error on, `?` would do the same; the proof of it takes longer.
 
 ghost use Rattle.std.specs.Prelude.{◌≡◌, ◌≤◌, ◌^◌, ◌⊎◌, ℕ, List, Option, Ok, Err, IfOk, IfErr};
 ghost use Rattle.std.specs.Prelude.{IfSome, None, length};

@@ -6,6 +6,8 @@
 //! that they lie ahead, to be redone. V13 is `VcdFault::BadJournal`.
 //!
 //! What is marked "Read for .." does nothing: it only lets the proof use what a type promises.
+//!
+//! Where `match` hands an error on, `?` would do the same; the proof of it takes longer.
 
 ghost use Rattle.std.specs.Prelude.{◌≡◌, ◌+◌, ◌≤◌, ◌<◌, ◌^◌, ◌++◌, List, [], Err, IfErr, IfOk};
 ghost use Rattle.std.specs.Prelude.{MatchBool, MatchResult, None, OnOk, length, reverse};

@@ -2,6 +2,8 @@
 //!
 //! A step is a change, or a group of them, and the cursor of the state that it leads to. A line is
 //! one of the text of a saved journal.
+//!
+//! Where `match` hands an error on, `?` would do the same; the proof of it takes longer.
 
 ghost use Rattle.std.specs.Prelude.{◌≡◌, ◌≤◌, ◌<◌, ◌++◌, [], IfOk, OnOk, false, length, true};
 ghost use Rattle.std.specs.Prelude.{vec_len};

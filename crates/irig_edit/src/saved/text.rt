@@ -1,5 +1,7 @@
 //! The text of a saved session, in parts: the dump, the lines of the journal before its steps, the
 //! steps back, the steps forward, and the end. A stage is how far it has come.
+//!
+//! Where `match` hands an error on, `?` would do the same; the proof of it takes longer.
 
 ghost use Rattle.std.specs.Prelude.{◌≡◌, ◌≤◌, ◌++◌, ℕ, List, [], IfOk, OnOk, false, reverse, true};
 ghost use Rattle.std.specs.Prelude.{vec_len};

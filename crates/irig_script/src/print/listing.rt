@@ -1,5 +1,7 @@
 //! The listing of the frames. Lines wait in a block until it is full; a row is one line, while it
 //! is put together. `PrintFault` says that a write of the output failed.
+//!
+//! Where `let .. else` hands an error on, `?` would do the same; the proof of it takes longer.
 
 ghost use Rattle.std.specs.Prelude.{◌≡◌, ◌≤◌, ◌-◌, Some, length, slice_get};
 ghost use Rattle.irig_index.specs.declared.record.Record.{Record};

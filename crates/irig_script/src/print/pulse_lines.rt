@@ -1,5 +1,7 @@
 //! The listing of pulses. A line has at most `LINE_ROOM` bytes, which are 72. `PrintFault` says
 //! that a write of the output failed.
+//!
+//! Where `let .. else` hands an error on, `?` would do the same; the proof of it takes longer.
 
 ghost use Rattle.std.specs.Prelude.{◌≡◌, ◌≤◌, ◌-◌, ◌*◌, length, drop};
 ghost use Rattle.irig_script.specs.Print.Listings.{list_text};
