@@ -2,7 +2,8 @@
 //!
 //! A runtime makes the calls of the system. Each answer is a type of its own, so that a call that
 //! was not made has none. Paths are built in `one` and `other`, whose memory is there before. The
-//! contracts say nothing of what the disk holds.
+//! contracts say nothing of what the disk holds. A `SystemFault` is the error of the system, or
+//! that a path is longer than the memory for it and no more is there.
 
 ghost use Rattle.std.specs.Prelude.{◌≡◌, ◌≤◌, ◌↔◌, IfErr, IfOk, IsOk, IsSome, IsTrue, OnOk, false};
 ghost use Rattle.std.specs.Fs.{asks_create_new, asks_write};
@@ -207,7 +208,8 @@ impl<R: Files> Folder for SystemFolder<'_, R> {
         }
     }
 
-    // Asks the system to keep the names of a folder over a crash. The folder has to be open.
+    // Asks the system to keep the names of a folder over a crash. The folder has to be open, else
+    // it is not found.
     fn sync_names(&mut self, dir: &SystemDir<R::File>) -> Result<NamesSynced, SystemFault> {
         let Some(folder) = &dir.file else {
             return Err(SystemFault(io::Error::from(ErrorKind::NotFound)));

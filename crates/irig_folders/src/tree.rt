@@ -63,7 +63,8 @@ impl Tree {
         }
     }
 
-    /// Adds a path of a folder, whose places begin with the front.
+    /// Adds a path of a folder, whose places begin with the front. It fails only if memory runs
+    /// out.
     pub fn add_path(&mut self, path: &str, front: &str) -> Result<(), MemoryFault> {
         let path = String::from_str(self.alloc, path)?;
         let front = String::from_str(self.alloc, front)?;
@@ -150,8 +151,9 @@ impl Folder for Tree {
 
     ghost only_now = { λ t. log_only_now t.memory.calls.items };
 
-    // Makes a new file under a name in a folder if it is free; `None`: it is taken. It fails if the
-    // number of the new file is kept for one that is no regular one.
+    // Makes a new file under a name in a folder if it is free; `None`: it is taken. It fails with
+    // `NoSuchName` if the number that the new file would get is kept for one that is no regular
+    // one.
     fn make(
         &mut self,
         dir: &TreeDir,
@@ -180,7 +182,8 @@ impl Folder for Tree {
         self.memory.sync_file(file)
     }
 
-    // Gives a file of a folder another name, instead of the file that had it.
+    // Gives a file of a folder another name, instead of the file that had it. `NoSuchName`: no file
+    // has the first name.
     fn rename(&mut self, dir: &TreeDir, from: &str, to: &str) -> Result<(), MemoryFault> {
         let old_place = both(self.alloc, dir.front.as_str(), from)?;
         let new_place = both(self.alloc, dir.front.as_str(), to)?;
@@ -188,7 +191,7 @@ impl Folder for Tree {
             .rename(&(), old_place.as_str(), new_place.as_str())
     }
 
-    // Frees a name in a folder.
+    // Frees a name in a folder. `NoSuchName`: no file has it.
     fn remove(&mut self, dir: &TreeDir, name: &str) -> Result<(), MemoryFault> {
         let place = both(self.alloc, dir.front.as_str(), name)?;
         self.memory.remove(&(), place.as_str())

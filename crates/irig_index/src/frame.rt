@@ -63,7 +63,8 @@ pub fn looks_of(verdict: Verdict) -> u64
 }
 
 /// As `verdict`, with the looks counted by the lens alone: the verdict shows how many they are. The
-/// marker is element 0, and each pulse after it has to be in step and of a class that may be there.
+/// marker is element 0, which is no One, and each pulse after it has to be in step and of a class
+/// that may be there.
 fn check(lens: &mut Lens<'_>, format: Format, at: usize, first: Pulse) -> Verdict
     requires track { IsTrack lens.old.track.micros lens.old.track.pulses }
     requires first { slice_get lens.old.track.pulses at ≡ Some first }

@@ -10,7 +10,8 @@ ghost use Rattle.irig_moment.specs.Written.{time_at, fine_time_at, ordinal_date,
 
 use crate::calendar::{civil_day, ordinal_day};
 
-/// Whether a text has a form: a digit for each 0 of the form, and else the same character.
+/// Whether a text has a form: a digit where the form has 0, and the form's character everywhere
+/// else.
 pub fn has_form(form: &[u8], text: &[u8]) -> bool
     ensures value { result ≡ has_form_of form.now text.now }
     ensures long { IsTrue result → length text.now ≡ length form.now }
@@ -26,7 +27,7 @@ pub fn has_form(form: &[u8], text: &[u8]) -> bool
     true
 }
 
-/// Whether a byte fits a character of a form: a digit for 0, and else the same character.
+/// Whether a byte fits a character of a form: a digit if that is 0, and else that character.
 fn fits_form(form: u8, byte: u8) -> bool
     ensures { result ≡ fits_form_of form byte }
 {

@@ -61,7 +61,8 @@ impl Edges {
         self.is_open
     }
 
-    /// Whether there is one edge more than a recording may have.
+    /// Whether there is one edge more than a recording may have: a rise after as many pulses as it
+    /// may have.
     pub fn is_full(&self) -> bool
         ensures { IsTrue result ↔ (2 ^ 23 < length self.now) }
     {

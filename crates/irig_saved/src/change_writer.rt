@@ -71,7 +71,7 @@ fn put_shift(text: &mut Vec<u8>, i: u64, j: u64, by: i64, marks: &Letters) -> Re
     Ok(())
 }
 
-/// Writes the line of a shift up to its distance.
+/// Writes the front of the line of a shift: the pulses `i` to `j`, and by how many microseconds.
 fn put_shifted(text: &mut Vec<u8>, i: u64, j: u64, by: i64) -> Result<(), AllocError>
     ensures { OnOk result (text.new.items ≡ text.old.items
         ++ line (codes "shift") (decimal i ∷ decimal j ∷ signed_decimal by ∷ [])) }
@@ -109,7 +109,7 @@ fn put_set_format(text: &mut Vec<u8>, kind: Kind, expression: u8) -> Result<(), 
     put_formatted(text, b"setformat", kind, expression)
 }
 
-/// Writes the line that sets the mark of a letter to a time, or clears it.
+/// Writes the line that sets the mark of a letter to a time, or clears it if that is `None`.
 fn put_set_mark(text: &mut Vec<u8>, letter: u8, time: Option<u64>) -> Result<(), AllocError>
     requires { letter < 26 }
     ensures { OnOk result (text.new.items

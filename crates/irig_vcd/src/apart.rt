@@ -63,8 +63,8 @@ fn dark_count(source: &[u8], from: usize) -> usize
     found.trailing_zeros() as usize
 }
 
-/// The end of the bytes above a space from a place on, or a place among them if few
-/// bytes are left. A function of its own for the machine too: the loop over the tokens keeps its
+/// The end of the bytes above a space from a place on, or a place among them if fewer than 16 bytes
+/// are left. A function of its own for the machine too: the loop over the tokens keeps its
 /// registers.
 #[inline(never)]
 fn dark_end(source: &[u8], from: usize) -> usize

@@ -96,10 +96,10 @@ impl DumpReader {
             && count <= LIMIT - progress.gone - progress.held.len()
     }
 
-    /// Reads the next part of the dump, or holds it until there is enough to read. A fault is one
-    /// of the dump, whatever comes after the part. Memory runs out only for the bytes that are held,
-    /// for an edge before the first fault, and, if there is no fault so far, for the code and a
-    /// journal.
+    /// Reads the next part of the dump, or holds it until there is enough to read. With it the dump
+    /// has at most 2^48 bytes so far. A fault is one of the dump, whatever comes after the part.
+    /// Memory runs out only for the bytes that are held, for an edge before the first fault, and,
+    /// if there is no fault so far, for the code of the wire and the first journal.
     pub fn put(self, part: &[u8]) -> Result<DumpReader, VcdFault>
         requires short { bytes_read self + length part.now ≤ 2 ^ 48 }
         ensures read { IfOk result (λ r. (wire : Option (List ℕ)) (bytes : List ℕ)

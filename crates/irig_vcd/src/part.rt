@@ -6,7 +6,8 @@ ghost use Rattle.irig_vcd.specs.{Code.Joins.ends_inside, Words.is_space};
 
 use crate::token::is_space;
 
-/// How many bytes there are up to the last white space, with it. No word goes on after them.
+/// How many bytes there are up to the last white space, with it; 0 if there is none. No word goes
+/// on after them.
 pub fn whole_len(bytes: &[u8]) -> usize
     ensures within { result ≤ length bytes.now }
     ensures outside { ends_inside false (take result bytes.now) ≡ false }

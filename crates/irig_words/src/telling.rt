@@ -31,7 +31,8 @@ pub struct Program<'a> {
 }
 
 impl<'a> Program<'a> {
-    /// Says on standard error why the program ends with a status, and returns the status.
+    /// Says on standard error, after the program's name, why it ends with a status, and returns the
+    /// status.
     pub fn tell<R: Eprint, T: Display>(&self, rt: &R, status: u8, why: &T) -> ExitCode
         ensures { exit_status result ≡ status }
     {
@@ -40,8 +41,8 @@ impl<'a> Program<'a> {
         ExitCode::from(status)
     }
 
-    /// Says on standard error why the program ends with a status, with the path that it is about,
-    /// and returns the status.
+    /// Says on standard error, after the program's name and the path that it is about, why the
+    /// program ends with a status, and returns the status.
     pub fn tell_of<R: Eprint, T: Display>(
         &self,
         rt: &R,

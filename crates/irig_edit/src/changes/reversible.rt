@@ -72,7 +72,8 @@ impl Reversible for Present {
         self.allows(&turn.single)
     }
 
-    // Makes the room that the turn and its turn back take. State and change stay what they are.
+    // Makes the room that the turn and its turn back take. State and change stay what they are. It
+    // fails only if memory runs out.
     fn prepare(&mut self, turn: &mut Turn) -> Result<(), AllocError> {
         self.room_for(turn)
     }

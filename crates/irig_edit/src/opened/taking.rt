@@ -44,8 +44,8 @@ pub(crate) enum NotTaken {
 
 impl Walk {
     /// Takes steps, the last of the list first, and undoes them again: the state is as before, and
-    /// they are ahead. If one cannot be taken, or memory runs out, nothing is said of what it
-    /// leaves.
+    /// they are ahead. No step may be ahead before. If one cannot be taken, or memory runs out,
+    /// nothing is said of what it leaves.
     fn follow(&mut self, alloc: Global, steps: Steps) -> Result<(), NotTaken>
         requires ahead { self.old.future ≡ [] }
         requires lines { length (steps_lines (reverse steps)) < 2 ^ 63 }

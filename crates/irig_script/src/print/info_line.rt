@@ -27,7 +27,7 @@ pub fn print_info<W: Write>(session: &Session, out: &mut W) -> Result<(), PrintF
 }
 
 /// Writes the length of the track in microseconds, how many pulses and frames it has, and their
-/// format.
+/// format. The row is empty before.
 fn put_track(row: &mut Row, session: &Session)
     requires { row.old ≡ [] }
     ensures text { row.new ≡ codes "length " ++ decimal session.now.state.micros
