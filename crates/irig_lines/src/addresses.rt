@@ -47,8 +47,8 @@ fn base(text: &[u8]) -> Result<Base, BadLine>
     }
 }
 
-/// The offset of an address: the text from its sign on, which may be missing. No text is 0, and a
-/// sign alone is 1 or -1.
+/// The offset of an address: the text from its sign on, or no text if it has no sign. No text is 0,
+/// and a sign alone is 1 or -1.
 fn offset(text: &[u8]) -> Result<i64, BadLine>
     ensures { Finds (IsOffset text.now) result }
 {

@@ -63,7 +63,8 @@ impl Shelf for MemoryShelf {
     ghost since_then = { λ _ _ _ _ _. tt };
 
     // Keeps a copy of the text and returns how many bytes it has. An error, `ShelfFault`, keeps
-    // nothing: memory ran out, or this is the write that is to fail. Both are counted.
+    // nothing: memory ran out, or this is the write that is to fail. Each write is counted, and
+    // each that failed.
     fn put<T: Text>(&mut self, text: &mut T) -> Result<u64, ShelfFault>
         ensures count { IfOk result (λ count. count ≡ length (T.rest text.old)) }
         ensures ok { OnOk result

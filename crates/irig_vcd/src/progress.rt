@@ -1,7 +1,7 @@
 //! How far a dump that comes in parts is read.
 //!
-//! A fault may be of what was read so far only because the dump is cut there: then it is an inner
-//! error, which more of the dump can mend. An outer error is a fault whatever comes. The
+//! A fault of the declarations may be there only because the dump is cut: so each of them is an
+//! inner error, which more of the dump may mend. An outer error is a fault whatever comes. The
 //! declarations are whole if the section that ends them is there.
 //!
 //! Where `match` hands an error on, `?` would do the same; the proof of it takes longer.

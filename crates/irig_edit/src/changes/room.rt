@@ -64,8 +64,8 @@ impl Present {
         self.can_shift(i, j, by) && all_may_move(&self.marks, letters, by, self.track.length())
     }
 
-    /// Whether a single change, whose pulses count from 1, can be made within the limits. A number
-    /// 0 is no pulse, so it cannot.
+    /// Whether a single change, whose pulses count from 1, can be made within the limits. A change
+    /// from pulse 0 on, which is none, cannot.
     pub(crate) fn allows(&self, single: &Single) -> bool
         ensures { IsTrue result ↔ FitsSingle self.now.state single.now }
     {

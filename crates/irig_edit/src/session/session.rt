@@ -1,6 +1,6 @@
 //! A track under edit.
 //!
-//! A step is what one undo reverses. E and a number is a `Refusal`, which has its number there. A
+//! A step is what one undo reverses. E and a number names a `Refusal`, which has the numbers. A
 //! look is one read of a pulse to keep the frames; `last_looks` is how many the last change, undo,
 //! redo or abort took.
 

@@ -34,8 +34,8 @@ fn moved_if(mark: Option<u64>, named: bool, by: i64) -> Option<u64>
     }
 }
 
-/// Moves the marks of the letters that are true in `letters` by `by`, in microseconds: 0 if it
-/// would come before 0.
+/// Moves the marks of the letters that are true in `letters` by `by`, in microseconds. A mark that
+/// would come before 0 is 0 then.
 pub(crate) fn move_marks(marks: &mut Marks, letters: &Letters, by: i64)
     requires { AllByRecursion (IsMark (2 ^ 40)) marks.old }
     ensures { marks.new ≡ marks_moved by letters.now marks.old }

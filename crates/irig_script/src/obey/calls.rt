@@ -125,7 +125,7 @@ pub fn set_format(session: &mut Session, kind: Kind, expression: u8) -> Reply
     }
 }
 
-/// Sets a mark to a time.
+/// Sets the mark of a letter to a time.
 pub fn mark(session: &mut Session, letter: Letter, at: Time) -> Reply
     ensures { Obeys (Command.Mark letter at) session.old result session.new }
 {
@@ -133,7 +133,7 @@ pub fn mark(session: &mut Session, letter: Letter, at: Time) -> Reply
     reply_to(session.mark(letter.byte(), Some(time)))
 }
 
-/// Clears a mark.
+/// Clears the mark of a letter.
 pub fn unmark(session: &mut Session, letter: Letter) -> Reply
     ensures { Obeys (Command.Unmark letter) session.old result session.new }
 {

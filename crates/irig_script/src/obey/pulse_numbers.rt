@@ -102,8 +102,8 @@ pub fn join_ends(session: &Session, range: &Range) -> (usize, usize)
     }
 }
 
-/// A time in microseconds; that of a mark which is not set is beyond every length, so it is
-/// refused.
+/// A time in microseconds; that of a mark which is not set is beyond every length, so the session
+/// refuses it.
 pub fn time(session: &Session, time: &Time) -> u64
     ensures { result ≡ time_of time.now (present_in session.now) }
 {
