@@ -269,7 +269,8 @@ impl Folder for Memory {
         add(&mut self.calls, Call::SyncFile(file.number))
     }
 
-    // Gives a file another name, instead of the file that had it. `NoSuchName`: none has the first.
+    // Gives a file another name, instead of the file that had it. `NoSuchName`: no file has the
+    // first name.
     fn rename(&mut self, _: &(), from: &str, to: &str) -> Result<(), MemoryFault> {
         if self.is_planned() {
             return Err(MemoryFault::Planned);

@@ -37,7 +37,7 @@ pub fn place_at(tree: &Tree, path: &str) -> Result<Option<String>, AllocError>
     Ok(Some(place))
 }
 
-/// A text with another after it.
+/// A text with another after it, as one.
 pub fn both(alloc: Global, one: &str, other: &str) -> Result<String, AllocError>
     ensures { IfOk result (λ all. string_bytes all ≡ one.now ++ other.now) }
 {
@@ -46,7 +46,7 @@ pub fn both(alloc: Global, one: &str, other: &str) -> Result<String, AllocError>
     Ok(all)
 }
 
-/// A path of a text.
+/// The path that has this text.
 pub fn path_of(alloc: Global, text: &str) -> Result<PathBuf, AllocError>
     ensures { IfOk result (λ path. path_buf_bytes path ≡ text.now) }
 {

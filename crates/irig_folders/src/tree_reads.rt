@@ -41,7 +41,7 @@ fn held_bytes(tree: &Tree, alloc: Global, file: usize) -> Result<Vec<u8>, DumpFi
 }
 
 /// What is read of bytes in memory. `CannotBeRead`, which cannot come of these, is answered as
-/// memory that ran out.
+/// memory that ran out: so it says only that no file is at a path.
 pub fn read_of<T: Drop>(read: Result<T, DumpFileFault>) -> Result<T, DumpFileFault>
     ensures ok { IfOk result (λ value. read ≡ Ok value) }
     ensures long { IsErrOf result TooLong → IsErrOf read TooLong }

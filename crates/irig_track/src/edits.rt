@@ -42,9 +42,9 @@ impl Track {
         stands(put, self.free_from(at), self.free_to(at + count))
     }
 
-    /// Replaces the `count` pulses from `at` on by the pulses of `put`. The replaced ones go to
-    /// `taken`, whose place is then after them. `at` counts from 0. The Span has `at`, and how many
-    /// went and came.
+    /// Replaces the `count` pulses from `at` on, from 0, by the pulses of `put`, which is empty
+    /// then. The replaced ones go to `taken`, which is empty before and whose place is after them
+    /// then. The Span has `at`, and how many went and came.
     pub fn splice(
         &mut self,
         at: usize,

@@ -55,8 +55,8 @@ pub(crate) fn start(
 }
 
 /// The format of a journal, and the number of the line after its marks, from 1. The format has to
-/// be permitted, the cursor within the pulses and no mark beyond the length. Else it is the number
-/// of the first line at fault.
+/// be permitted, the cursor within the pulses and no mark beyond the length. Else the error is the
+/// number of the first line at fault, from 1.
 fn head_of(recording: &Recording, saved: &Saved) -> Result<(Format, usize), usize>
     ensures { MatchResult result
         (λ head. (head_fault (state_of recording.now saved.now) saved.now ≡ None)

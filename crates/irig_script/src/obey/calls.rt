@@ -82,7 +82,7 @@ pub fn split(session: &mut Session, address: Address, from: Time, to: Time) -> R
     reply_to(session.split(i, a, b))
 }
 
-/// Gives a pulse the width of an element.
+/// Gives a pulse the nominal width of an element.
 pub fn force(session: &mut Session, address: Address, element: Element) -> Reply
     ensures { Obeys (Command.Force address element) session.old result session.new }
 {
