@@ -83,8 +83,9 @@ impl Tree {
         self.add_in_place(place, None, true)
     }
 
-    /// Adds a file that is written in place, not by a new one, and keeps its name. `NoSuchName`:
-    /// its place is taken.
+    /// Adds a file that is written in place, not by a new one, and keeps its name. `text` is where
+    /// it leads, if it is a link; `takes_answers` says that the program's answers go to it.
+    /// `NoSuchName`: its place is taken.
     fn add_in_place(
         &mut self,
         place: &str,

@@ -31,8 +31,8 @@ pub fn count_up_to(records: &Gap<Stored>, pulses: usize, last: usize) -> usize
     low
 }
 
-/// A number of records that are of markers up to `last`: all those left of the gap, or 0. The gap
-/// is often where the search ends.
+/// A number that is not above how many records are of markers up to `last`: that of those left of
+/// the gap, if all of them are, or 0. The gap is often where the search ends.
 fn least_up_to(records: &Gap<Stored>, pulses: usize, last: usize) -> usize
     ensures within { result ≤ records.now.place }
     ensures before { EndsUpTo last (take result (shown pulses records.now)) }

@@ -1,7 +1,7 @@
 //! Addresses, ranges and times of a script, read. A text that is none is a `BadLine`, the only
 //! error of a line. Pulses count from 1, and times are in microseconds. An address is what it
-//! counts from, its base, and an offset of so many pulses, which may be below 0. The cursor is a
-//! pulse: the one where a script stands.
+//! counts from, its base, and an offset, a number of pulses, which may be below 0. The cursor is
+//! the pulse at which a script is.
 
 ghost use Rattle.std.specs.Prelude.{◌≡◌, ◌<◌};
 ghost use Rattle.irig_saved.specs.Letters.{letter_word};

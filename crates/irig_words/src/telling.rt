@@ -57,8 +57,9 @@ impl<'a> Program<'a> {
         ExitCode::from(status)
     }
 
-    /// Says why the words of the command line could not be read: one of them is not UTF-8, or the
-    /// system gave none. `command` is the program's own, or it says that memory ran out for it.
+    /// Says why the words of the command line could not be read, and returns the status: one of
+    /// them is not UTF-8, which is `InvalidData`, or the system gave none. `command` is the
+    /// program's own, or it says that memory ran out for it.
     pub fn tell_no_words<R: Eprint>(
         &self,
         rt: &R,

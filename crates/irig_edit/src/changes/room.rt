@@ -107,8 +107,9 @@ impl Present {
 
     /// How many records a turn of a single change may bring, at most, in addition to those there
     /// are. A frame begins by a pulse and the one before it. So a change can also bring frames that
-    /// begin at the pulses on its two edges: 2. All numbers here are upper bounds, and need not be
-    /// reached: that for a toggle is of what the pulses that rise between its times can become.
+    /// begin at the pulses on its two edges: 2. All numbers here are upper bounds, which do not
+    /// have to be reached: that for a toggle is of what the pulses that rise between its times can
+    /// become.
     fn records_for(&self, single: &Single) -> usize
         requires fits { FitsSingle self.now.state single.now }
         ensures records { result ≡ records_for self.now.state single.now }

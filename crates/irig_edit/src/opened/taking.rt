@@ -162,7 +162,8 @@ impl Walk {
     }
 
     /// Takes a step, and returns whether it can be taken. If not, nothing is said of what it
-    /// leaves. Memory is taken only after its first change is found right.
+    /// leaves. It fails only if memory runs out, which is taken only after its first change is
+    /// found right.
     fn take(&mut self, alloc: Global, step: SavedStep) -> Result<bool, AllocError>
         requires ahead { self.old.future ≡ [] }
         ensures { MatchResult result
@@ -182,8 +183,8 @@ impl Walk {
         Ok(true)
     }
 
-    /// Makes the change of a step, stays at its cursor, and returns whether the change can be made.
-    /// Nothing is said of what is left if it cannot.
+    /// Makes the change of a step, and returns whether it can be made; the cursor stays where it
+    /// is. If it cannot, nothing is said of what is left. It fails only if memory runs out.
     fn make(&mut self, alloc: Global, change: Change) -> Result<bool, AllocError>
         requires ahead { self.old.future ≡ [] }
         ensures { MatchResult result

@@ -1,6 +1,6 @@
 //! The numbers of the pulses that addresses and ranges mean in a session, and its times. Pulses
-//! count from 1, and 0 stands for one that is not there. An address is what it counts from, its
-//! base, and an offset of so many pulses.
+//! count from 1, and 0 is the number of one that is not there. An address is what it counts from,
+//! its base, and an offset, a number of pulses.
 
 ghost use Rattle.std.specs.Prelude.{◌≡◌, ◌+◌, ◌-◌};
 ghost use Rattle.irig_track.specs.Shifts.{ahead, back};
