@@ -25,6 +25,31 @@ module _ (recorded pulses : List Pulse) (marker : ℕ) where
   pub next_past : (j : ℕ) → 100 ≤ j → next_anchor recorded pulses marker (100 - j) j ≡ None
   next_past j past = let none : 100 - j ≡ 0 = omega (arith, past) in ap (λ n. next_anchor recorded pulses marker n j) none
 
+  from_if : (c : Bool) (j i : ℕ) (rest : Option ℕ) → (if c then Some j else rest) ≡ Some i → (rest ≡ Some i → j ≤ i) → j ≤ i
+  from_if true j i rest e h = let both : Some j ≡ Some i = e in let same : j ≡ i = cc in omega (arith, same)
+  from_if false j i rest e h = h e
+
+  next_from : (n j i : ℕ) → next_anchor recorded pulses marker n j ≡ Some i → j ≤ i
+  next_from zero j i e = let bad : None ≡ Some i = e in absurd (cc)
+  next_from (suc n) j i e =
+      from_if (is_anchored recorded pulses marker j) j i (next_anchor recorded pulses marker n (j + 1)) e
+      (λ k. let later = next_from n (j + 1) i k in omega (arith, later))
+
+  -- an element is an anchor if it is the first from itself on, and else it is none
+  pub is_next : (j : ℕ) → j < 100 → next_anchor recorded pulses marker (100 - j) j ≡ Some j → is_anchored recorded pulses marker j ≡ true
+  is_next j few e = go (is_anchored recorded pulses marker j) refl
+    where
+      go : (b : Bool) → is_anchored recorded pulses marker j ≡ b → is_anchored recorded pulses marker j ≡ true
+      go true on = on
+      go false off = let past = next_from (100 - (j + 1)) (j + 1) j (sym (next_over j few off) ∙ e) in absurd (omega (arith, past))
+
+  pub not_next : (j : ℕ) → j < 100 → (next_anchor recorded pulses marker (100 - j) j ≡ Some j → ⊥) → is_anchored recorded pulses marker j ≡ false
+  not_next j few other = go (is_anchored recorded pulses marker j) refl
+    where
+      go : (b : Bool) → is_anchored recorded pulses marker j ≡ b → is_anchored recorded pulses marker j ≡ false
+      go true on = absurd (other (next_here j few on))
+      go false off = off
+
   pub last_here : (j : ℕ) → is_anchored recorded pulses marker j ≡ true → last_anchor recorded pulses marker (j + 1) ≡ Some j
   last_here j on = let one : j + 1 ≡ suc j = omega arith in ap (last_anchor recorded pulses marker) one ∙ (rw on refl)
 
@@ -46,6 +71,16 @@ pub record IsPlacedUpTo (f : FormatView) (recorded pulses : List Pulse) (marker 
   pub last_is : last ≡ last_anchor recorded pulses marker n
   pub next_is : next ≡ next_anchor recorded pulses marker (100 - n) n
   pub few : IfSome next (λ k. k < 100)
+
+-- the next anchor is this element, or another one or none
+pub at_next : (f : FormatView) (recorded pulses : List Pulse) (marker : ℕ) (w : Witnesses) (y : Shown) (n : ℕ) (last next : Option ℕ) (r : Bool) → n < 100
+    → (r ≡ true → next ≡ Some n) → r ≡ true → IsPlacedUpTo f recorded pulses marker w y n last next → is_anchored recorded pulses marker n ≡ true
+at_next f recorded pulses marker w y n last next r few at t h = is_next recorded pulses marker n few (sym h.next_is ∙ at t)
+
+pub not_at_next : (f : FormatView) (recorded pulses : List Pulse) (marker : ℕ) (w : Witnesses) (y : Shown) (n : ℕ) (last next : Option ℕ) (r : Bool) → n < 100
+    → (next ≡ Some n → r ≡ true) → r ≡ false → IsPlacedUpTo f recorded pulses marker w y n last next → is_anchored recorded pulses marker n ≡ false
+not_at_next f recorded pulses marker w y n last next r few at off h =
+    not_next recorded pulses marker n few (λ e. let bad : true ≡ false = sym (at (h.next_is ∙ e)) ∙ off in cc)
 
 split : (j k : ℕ) → j < k + 1 → (j < k) ⊎ (j ≡ k)
 split j k less = elim (cases_lt j k) [

@@ -4,7 +4,7 @@
 //! elements count from 0. `near` is the frames of the recording next to a frame, two on each side,
 //! and `place` the pulse of the recording that is looked at first: no answer depends on it.
 
-ghost use Rattle.std.specs.Prelude.{◌≡◌, ◌↔◌, ◌-◌, ◌≤◌, ◌<◌, ◌^◌, IfSome, IsTrue};
+ghost use Rattle.std.specs.Prelude.{◌≡◌, ◌↔◌, ◌-◌, ◌≤◌, ◌<◌, ◌^◌, IfSome, IsTrue, Some};
 ghost use Rattle.irig_safety.specs.Anchors.{anchors_among, held_after, held_before, is_anchored};
 ghost use Rattle.irig_safety.specs.Anchors.{is_held, next_anchor};
 ghost use Rattle.irig_safety.specs.Lines.{marker_after, marker_before};
@@ -50,11 +50,11 @@ pub fn are_placed(session: &Session, opened: &Original, near: &Witnesses, frame:
     let ends = ends_of(session, near, frame);
     let mut place = 0;
     let mut last = None;
-    let mut next = next_anchor(session, opened, frame.marker, 0, place);
+    let mut next = next_anchor(session, opened, frame.marker, 0, &mut place);
     for element in 0..100 {
-        if is_anchored(session, opened, frame.marker, element, &mut place) {
+        if is_at(next, element) {
             last = Some(element);
-            next = next_anchor(session, opened, frame.marker, element + 1, place);
+            next = next_anchor(session, opened, frame.marker, element + 1, &mut place);
         } else if !is_held(session, near, &ends, frame, element, last, next) {
             return false;
         }
@@ -97,22 +97,28 @@ fn is_anchored(
     opened.holds(pulse_at(session, marker, element), place)
 }
 
+/// Whether an anchor, by its element if there is one, is this element.
+fn is_at(anchor: Option<usize>, element: usize) -> bool
+    ensures { IsTrue result ↔ (anchor ≡ Some element) }
+{
+    anchor == Some(element)
+}
+
 /// The element of the first anchor of a frame from the element `from` on; `None` if none is there.
 fn next_anchor(
     session: &Session,
     opened: &Original,
     marker: usize,
     from: usize,
-    place: usize,
+    place: &mut usize,
 ) -> Option<usize>
     requires { from ≤ 100 }
     ensures value { result
         ≡ next_anchor opened.now.pulses session.now.state.pulses marker (100 - from) from }
     ensures few { IfSome result (λ k. k < 100) }
 {
-    let mut place = place;
     for element in from..100 {
-        if is_anchored(session, opened, marker, element, &mut place) {
+        if is_anchored(session, opened, marker, element, place) {
             return Some(element);
         }
     }
