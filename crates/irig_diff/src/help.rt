@@ -12,26 +12,19 @@ pub fn program<'a>() -> Program<'a>
 {
     Program {
         name: "irig_diff",
-        help: help_text(),
+        help: "Usage: irig_diff [OPTIONS] <BEFORE> <AFTER>\n\n\
+            Arguments:\n  \
+            <BEFORE>  the dump of the track before\n  \
+            <AFTER>   the dump of the track after\n\n\
+            Options:\n      \
+            --wire <NAME>          the wire of BEFORE\n      \
+            --wire-after <NAME>    the wire of AFTER\n      \
+            --frames               show in comments what the lines do to the frames\n      \
+            --format <FORMAT>      A, B, E or G: B\n      \
+            --expression <NUMBER>  of the format: 2\n  \
+            -h, --help                 Print help\n",
         // The status if its output fails.
         status: 2,
         fault: "output failed",
     }
-}
-
-/// What is printed if the words ask for help.
-fn help_text<'a>() -> &'a str
-    ensures { result.now ≡ help_text }
-{
-    "Usage: irig_diff [OPTIONS] <BEFORE> <AFTER>\n\n\
-     Arguments:\n  \
-     <BEFORE>  the dump of the track before\n  \
-     <AFTER>   the dump of the track after\n\n\
-     Options:\n      \
-     --wire <NAME>          the wire of BEFORE\n      \
-     --wire-after <NAME>    the wire of AFTER\n      \
-     --frames               show in comments what the lines do to the frames\n      \
-     --format <FORMAT>      A, B, E or G: B\n      \
-     --expression <NUMBER>  of the format: 2\n  \
-     -h, --help                 Print help\n"
 }

@@ -2,13 +2,14 @@
 
 use irig_files::DumpFileFault;
 use irig_script::{DumpRunFault, Status};
-use irig_settings::UsageFault;
+use irig_settings::OptionFault;
+use irig_words::UsageFault;
 
 /// How the program ends, before it is reported. A `Status` says whether all lines were accepted.
 #[derive(Drop)]
 pub enum Ending<'a> {
     /// The command line asks for no run.
-    Usage(UsageFault),
+    Usage(UsageFault<OptionFault>),
     /// The file at this path is no dump that can be read.
     Unread(&'a str, DumpFileFault),
     /// The script ran on the dump at this path, and so the run ended; also if the dump is no

@@ -10,14 +10,16 @@ mod statuses;
 
 ghost use Rattle.std.specs.Prelude.{◌≡◌, IfOk, OnErr, map, string_bytes};
 ghost use Rattle.std.specs.Process.{exit_status};
-ghost use Rattle.irig_ed.specs.{Ending.Serves, Ending.ends, Ending.files, Statuses.EndsWith};
+ghost use Rattle.irig_ed.specs.{Ending.Serves, Ending.ends, Ending.files};
 ghost use Rattle.irig_files.specs.{Puts.writes_on, Taken.IsLocked, Writes.LeavesTo};
+ghost use Rattle.irig_words.specs.Telling.{EndsWith};
 
 use file_run::obey_words;
+use help::program;
 use irig_files::{FileSystem, Files, system_files};
 use irig_script::{NoWitness, Screen, Witness};
-use irig_settings::not_text;
-use statuses::{report, tell, tell_mistake};
+use irig_settings::command;
+use statuses::report;
 use std::io::{Read, Write};
 use std::process::ExitCode;
 use std::rt::Runtime;
@@ -27,7 +29,7 @@ use std::{env, io};
 // for the files is missing.
 fn main(rt: HostRuntime) -> ExitCode {
     let Ok(mut files) = system_files(&rt) else {
-        return tell_no_words(&rt, &io::Error::from(io::ErrorKind::OutOfMemory));
+        return program().tell(&rt, 2, &io::Error::from(io::ErrorKind::OutOfMemory));
     };
     // One output is for the answers, and one for the help.
     serve(
@@ -38,18 +40,6 @@ fn main(rt: HostRuntime) -> ExitCode {
         &mut Screen::new(io::writer(&rt), NoWitness),
         &mut io::writer(&rt),
     )
-}
-
-/// Says why the words of the command line could not be read: one is not UTF-8, or the system gave
-/// none.
-fn tell_no_words<R: Eprint + AllocGlobal>(rt: &R, error: &io::Error) -> ExitCode
-    ensures { exit_status result ≡ 2 }
-{
-    if error.kind() == io::ErrorKind::InvalidData {
-        tell_mistake(rt, &not_text(rt.alloc()))
-    } else {
-        tell(rt, error)
-    }
 }
 
 /// The words of the command line, the program's name being the first.
@@ -84,7 +74,7 @@ fn serve<P: Eprint + AllocGlobal, C: FileSystem, R: Read, W: Write, N: Witness, 
 {
     match words {
         Ok(words) => start(rt, words.as_slice(), disk, script, screen, help),
-        Err(error) => tell_no_words(rt, &error),
+        Err(error) => program().tell_no_words(rt, &error, command(rt.alloc())),
     }
 }
 

@@ -12,27 +12,20 @@ pub fn program<'a>() -> Program<'a>
 {
     Program {
         name: "irig_guard",
-        help: help_text(),
+        help: "Usage: irig_guard [OPTIONS] <TRACK>\n\n\
+            Arguments:\n  \
+            <TRACK>  the dump; repairs come on standard input\n\n\
+            Options:\n      \
+            --wire <NAME>          the wire of the dump\n      \
+            --format <FORMAT>      A, B, E or G: B\n      \
+            --expression <NUMBER>  of the format: 2\n      \
+            --moved                frames that are fine may move, in their order\n      \
+            --with <OTHER>         another recording of the same code\n      \
+            --out <PATH>           where the mended track is written\n      \
+            --save                 write the journal with the track\n  \
+            -h, --help                 Print help\n",
         // The status if its output fails.
         status: 4,
         fault: "S6 PrintFailed",
     }
-}
-
-/// What is printed if the words ask for help.
-fn help_text<'a>() -> &'a str
-    ensures { result.now ≡ help_text }
-{
-    "Usage: irig_guard [OPTIONS] <TRACK>\n\n\
-     Arguments:\n  \
-     <TRACK>  the dump; repairs come on standard input\n\n\
-     Options:\n      \
-     --wire <NAME>          the wire of the dump\n      \
-     --format <FORMAT>      A, B, E or G: B\n      \
-     --expression <NUMBER>  of the format: 2\n      \
-     --moved                frames that are fine may move, in their order\n      \
-     --with <OTHER>         another recording of the same code\n      \
-     --out <PATH>           where the mended track is written\n      \
-     --save                 write the journal with the track\n  \
-     -h, --help                 Print help\n"
 }

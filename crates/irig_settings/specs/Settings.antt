@@ -4,11 +4,13 @@ use Rattle.clap.specs.Words.{Text, first_value, found_of}
 use Rattle.clap.specs.declared.parser.matches.Found.{Found}
 use Rattle.clap.specs.declared.parser.matches.ArgMatches.{ArgMatches}
 use Rattle.irig_settings.specs.declared.chosen.Settings.{Settings}
-use Rattle.irig_settings.specs.declared.chosen.UsageFault.{UsageFault}
+use Rattle.irig_settings.specs.declared.chosen.OptionFault.{OptionFault}
+use Rattle.irig_settings.specs.declared.chosen.OptionFault.TheVariants.{BadExpression}
 use Rattle.irig_settings.specs.{Errors.MayRefuse, Options.IsParsed}
-use Rattle.irig_settings.specs.declared.chosen.UsageFault.TheVariants as fault
 use Rattle.irig_words.specs.{Errors.WantsMemory, Formats.HasFormatFault, Formats.IsFormat}
 use Rattle.irig_words.specs.declared.formats.FormatFault.{FormatFault}
+use Rattle.irig_words.specs.declared.usage.UsageFault.{UsageFault}
+use Rattle.irig_words.specs.declared.usage.UsageFault.TheVariants.{Value, Words}
 
 -- the settings are the values of the matches; what is written is the track, if no path is given
 pub record AreValues (f : Found) (s : Settings) : Type 0 where
@@ -19,15 +21,15 @@ pub record AreValues (f : Found) (s : Settings) : Type 0 where
       IsFormat (first_value f (codes "format")) (first_value f (codes "expression")) s.format
 
 -- the answer is that of the matches; an error is that memory ran out
-abbrev pub Chooses : Found → Result Settings UsageFault → Type 0
+abbrev pub Chooses : Found → Result Settings (UsageFault OptionFault) → Type 0
 Chooses f (Ok s) = AreValues f s
-Chooses f (Err fault.BadExpression) = (why : FormatFault)
+Chooses f (Err (Value BadExpression)) = (why : FormatFault)
     × HasFormatFault (first_value f (codes "format")) (first_value f (codes "expression")) why
-Chooses f (Err (fault.Words error)) = WantsMemory error
+Chooses f (Err (Words error)) = WantsMemory error
 
 -- there are matches that a parse of the words may give, and the answer is theirs; or the error is
 -- one that the parse may give
-abbrev pub Reads : List Text → Result Settings UsageFault → Type 0
-Reads words (Err (fault.Words error)) = MayRefuse words error
+abbrev pub Reads : List Text → Result Settings (UsageFault OptionFault) → Type 0
+Reads words (Err (Words error)) = MayRefuse words error
 Reads words result =
     (matches : ArgMatches) × IsParsed words matches × Chooses (found_of matches) result

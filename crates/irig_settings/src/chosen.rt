@@ -1,6 +1,7 @@
 //! What a command line asks for.
 
 use irig_codes::Format;
+use thiserror::Error;
 
 /// What a command line asks for.
 #[derive(Drop)]
@@ -15,11 +16,10 @@ pub struct Settings<'a> {
     pub format: Format,
 }
 
-/// Why there are no settings.
-#[derive(Drop)]
-pub enum UsageFault {
-    /// The words are not those of the command line, or ask for help.
-    Words(clap::Error),
-    /// E6: the format does not permit the expression.
+/// An option with a value that it cannot have.
+#[derive(Clone, Copy, Debug, Error)]
+pub enum OptionFault {
+    /// The format does not permit the expression.
+    #[error("E6 BadExpression")]
     BadExpression,
 }

@@ -9,11 +9,11 @@ ghost use Rattle.irig_settings.specs.Options.{IsCommand, IsReading, IsChoice, Is
 ghost use Rattle.irig_settings.specs.Options.{track};
 ghost use Rattle.irig_settings.specs.Errors.{MayRefuse};
 ghost use Rattle.irig_settings.specs.Settings.{Chooses, Reads};
-ghost use Rattle.irig_words.specs.{Arguments.option, Errors.IsMistake};
+ghost use Rattle.irig_words.specs.Arguments.{option};
 
-use crate::chosen::{Settings, UsageFault};
+use crate::chosen::{OptionFault, Settings};
 use clap::{Arg, ArgMatches, Command, Error};
-use irig_words::{format_named, matches_of, needed_arg, option_arg};
+use irig_words::{UsageFault, format_named, matches_of, needed_arg, option_arg};
 use std::alloc::{AllocError, Global};
 
 /// The letters that `--format` takes.
@@ -24,7 +24,10 @@ static DIGITS: [&str; 8] = ["0", "1", "2", "3", "4", "5", "6", "7"];
 
 /// What the words of a command line ask for, the program's name being the first. An error says
 /// which mistake they have, that they ask for help, or that memory ran out.
-pub fn settings<'a>(alloc: Global, words: &'a [String]) -> Result<Settings<'a>, UsageFault>
+pub fn settings<'a>(
+    alloc: Global,
+    words: &'a [String],
+) -> Result<Settings<'a>, UsageFault<OptionFault>>
     ensures { Reads (map string_bytes words.entry.now) result }
 {
     match parse_words(alloc, words) {
@@ -33,21 +36,14 @@ pub fn settings<'a>(alloc: Global, words: &'a [String]) -> Result<Settings<'a>, 
     }
 }
 
-/// What `clap` says of an argument that is not UTF-8.
-pub fn not_text(alloc: Global) -> Error
-    ensures { IsMistake result }
-{
-    irig_words::not_text(command(alloc))
-}
-
 /// What the matches of a command line that `clap` accepts ask for. The letter is then one of a
 /// format, so only the expression can be wrong.
-fn chosen_of<'a>(matches: &ArgMatches<'a>) -> Result<Settings<'a>, UsageFault>
+fn chosen_of<'a>(matches: &ArgMatches<'a>) -> Result<Settings<'a>, UsageFault<OptionFault>>
     ensures { Chooses (found_of matches.now) result }
 {
     let format = match format_named(matches.get_str("format"), matches.get_str("expression")) {
         Ok(format) => format,
-        Err(_) => return Err(UsageFault::BadExpression),
+        Err(_) => return Err(UsageFault::Value(OptionFault::BadExpression)),
     };
     let Some(track) = matches.get_str("TRACK") else {
         // `clap` accepts no line without the track, so this does not come.
@@ -71,7 +67,7 @@ fn parse_words<'a>(alloc: Global, words: &'a [String]) -> Result<ArgMatches<'a>,
 }
 
 /// The command line of the program: the options of `reading`, where to write, and the track.
-fn command<'a>(alloc: Global) -> Result<Command<'a>, AllocError>
+pub fn command<'a>(alloc: Global) -> Result<Command<'a>, AllocError>
     ensures { IfOk result (λ c. IsCommand (app_of c)) }
 {
     reading(alloc)?

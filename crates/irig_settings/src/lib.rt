@@ -4,5 +4,5 @@
 mod chosen;
 mod command_line;
 
-pub use chosen::{Settings, UsageFault};
-pub use command_line::{not_text, settings};
+pub use chosen::{OptionFault, Settings};
+pub use command_line::{command, settings};
