@@ -28,7 +28,7 @@ printed-frames chosen f b a old new e some p = subst (λ (g : Option FormatView)
 
 -- of the tracks of two files
 pub obeyed : (held : Held) (unread : Unreadable) (chosen : Settings) (b a : RecordingView) (old new : Option (List ℕ)) (e : Ending)
-    → Says None (held chosen.before.now) (name_in chosen.wire) b → Says None (held chosen.after.now) (name_in chosen.wire_after) a
+    → Says chosen.window (held chosen.before.now) (name_in chosen.wire) b → Says chosen.window (held chosen.after.now) (name_in chosen.wire_after) a
     → PrintsIfRoom chosen (text_between chosen.frames b a) b a old new e → Obeys held unread chosen old new e
 obeyed held unread chosen b a old new (ending.Compared same) x y p = record { before = b; after = a; of_before = x; of_after = y; printed = p.0; told = p.1 }
 obeyed held unread chosen b a old new ending.Unprinted x y p = record { before = b; after = a; of_before = x; of_after = y; printed = p }

@@ -2,6 +2,7 @@
 use Rattle.std.specs.Prelude.{◌≡◌, ◌||◌, Bool, true, false, Option, Some, None, is_some}
 use Rattle.irig_codes.specs.Format.{FormatView}
 use Rattle.irig_words.specs.Formats.{HasFormatFault, IsFormat, given}
+use Rattle.irig_words.specs.Windows.{HasWindowFault, IsWindow}
 use Rattle.irig_diff.specs.declared.chosen.OptionFault.{OptionFault}
 use Rattle.irig_diff.specs.{declared.asked.Asked.Asked, declared.chosen.Settings.Settings}
 use Rattle.irig_diff.specs.declared.chosen.OptionFault.TheVariants as fault
@@ -21,10 +22,12 @@ pub record IsChosen (a : Asked) (s : Settings) : Type 0 where
   pub wire : s.wire ≡ a.wire
   pub after : s.after ≡ a.after
   pub wire_after : s.wire_after ≡ a.wire_after
+  pub window : IsWindow (given a.from) (given a.to) s.window
   pub frames : AreFrames a s.frames
 
 -- this option has a value that it cannot have
 abbrev pub HasFault : Asked → OptionFault → Type 0
+HasFault a (fault.Window of_window) = HasWindowFault (given a.from) (given a.to) of_window
 HasFault a (fault.Format of_format) =
     (a.frames ≡ true) × HasFormatFault (given a.format) (given a.expression) of_format
 HasFault a fault.Alone = (a.frames ≡ false) × (names_format a ≡ true)

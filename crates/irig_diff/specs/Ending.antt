@@ -41,13 +41,14 @@ PrintsIfRoom chosen text before after old new (Unread path fault) =
     ((path ≡ chosen.before) ⊎ (path ≡ chosen.after)) × (fault ≡ File OutOfMemory) × (new ≡ old)
 PrintsIfRoom chosen text before after old new ending = PrintsText text before after old new ending
 
--- the patch between the tracks of the settings was printed, and they are the same or not
+-- the patch between the tracks of the settings, or windows of them, was printed, and they are the
+-- same or not
 pub record Compares (held : Held) (chosen : Settings) (old new : Option (List ℕ)) (same : Bool)
     : Type 0 where
   pub before : RecordingView
   pub after : RecordingView
-  pub of_before : Says None (held chosen.before.now) (name_in chosen.wire) before
-  pub of_after : Says None (held chosen.after.now) (name_in chosen.wire_after) after
+  pub of_before : Says chosen.window (held chosen.before.now) (name_in chosen.wire) before
+  pub of_after : Says chosen.window (held chosen.after.now) (name_in chosen.wire_after) after
   pub printed : Appends old new (text_between chosen.frames before after)
   pub told : same ≡ true ↔ before ≡ after
 
@@ -55,19 +56,19 @@ pub record Compares (held : Held) (chosen : Settings) (old new : Option (List �
 pub record Breaks (held : Held) (chosen : Settings) (old new : Option (List ℕ)) : Type 0 where
   pub before : RecordingView
   pub after : RecordingView
-  pub of_before : Says None (held chosen.before.now) (name_in chosen.wire) before
-  pub of_after : Says None (held chosen.after.now) (name_in chosen.wire_after) after
+  pub of_before : Says chosen.window (held chosen.before.now) (name_in chosen.wire) before
+  pub of_after : Says chosen.window (held chosen.after.now) (name_in chosen.wire_after) after
   pub printed : AppendsFront old new (text_between chosen.frames before after)
 
 -- a track of the settings has this fault
 abbrev pub HasFaultAt : Held → Unreadable → Settings → List ℕ → TrackFault → Type 0
 HasFaultAt held unread chosen path fault =
     ((path ≡ chosen.before.now)
-    × HasFault None (held chosen.before.now) (unread chosen.before.now) (name_in chosen.wire)
-    fault)
+    × HasFault chosen.window (held chosen.before.now) (unread chosen.before.now)
+    (name_in chosen.wire) fault)
     ⊎ ((path ≡ chosen.after.now)
-    × HasFault None (held chosen.after.now) (unread chosen.after.now) (name_in chosen.wire_after)
-    fault)
+    × HasFault chosen.window (held chosen.after.now) (unread chosen.after.now)
+    (name_in chosen.wire_after) fault)
 
 -- the same; or memory ran out for the patch between the tracks
 abbrev pub IsUncompared : Held → Unreadable → Settings → List ℕ → TrackFault → Type 0

@@ -1,7 +1,8 @@
--- The command line: four options, a flag and two paths. This project's own.
+-- The command line: six options, a flag and two paths. This project's own.
 use Rattle.std.specs.Prelude.{◌≡◌, codes, None}
 use Rattle.clap.specs.Words.{App, new_app, with_rule}
 use Rattle.irig_words.specs.Arguments.{flag, needed, option}
+use Rattle.irig_words.specs.Windows.{with_window}
 
 -- the wires' names
 abbrev pub wired : App
@@ -10,13 +11,18 @@ wired =
     (with_rule (new_app (codes "irig_diff")) (option (codes "wire") None))
     (option (codes "wire-after") None)
 
+-- and which part of the dumps is read
+abbrev pub taking : App
+taking = with_window wired
+
 -- and how frames are shown
 abbrev pub showing : App
 showing =
-    with_rule (with_rule (with_rule wired (flag (codes "frames"))) (option (codes "format") None))
+    with_rule (with_rule (with_rule taking (flag (codes "frames"))) (option (codes "format") None))
     (option (codes "expression") None)
 
--- the command: the wires' names, how frames are shown, the dump before and the dump after
+-- the command: which part of which wires is read, how frames are shown, the dump before and the
+-- dump after
 abbrev pub the_command : App
 the_command = with_rule (with_rule showing (needed (codes "BEFORE"))) (needed (codes "AFTER"))
 
@@ -24,7 +30,11 @@ the_command = with_rule (with_rule showing (needed (codes "BEFORE"))) (needed (c
 abbrev pub IsWired : App → Type 0
 IsWired app = app ≡ wired
 
--- it names the wires, and says how frames are shown
+-- it says which part of which wires is read
+abbrev pub IsTaking : App → Type 0
+IsTaking app = app ≡ taking
+
+-- and how frames are shown
 abbrev pub IsShowing : App → Type 0
 IsShowing app = app ≡ showing
 

@@ -15,6 +15,8 @@ pub record AreValues (f : Found) (a : Asked) : Type 0 where
   pub after : first_value f (codes "AFTER") ≡ Some a.after.now
   pub wire : first_value f (codes "wire") ≡ option_map (λ w. w.now) a.wire
   pub wire_after : first_value f (codes "wire-after") ≡ option_map (λ w. w.now) a.wire_after
+  pub from : first_value f (codes "from") ≡ option_map (λ w. w.now) a.from
+  pub to : first_value f (codes "to") ≡ option_map (λ w. w.now) a.to
   pub format : first_value f (codes "format") ≡ option_map (λ w. w.now) a.format
   pub expression : first_value f (codes "expression") ≡ option_map (λ w. w.now) a.expression
   pub shown : one_text f (codes "frames") ≡ Some (codes "true") → a.frames ≡ true

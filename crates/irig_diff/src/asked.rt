@@ -10,6 +10,8 @@ pub struct Asked<'a> {
     /// The values of the options that are given.
     pub wire: Option<&'a str>,
     pub wire_after: Option<&'a str>,
+    pub from: Option<&'a str>,
+    pub to: Option<&'a str>,
     pub format: Option<&'a str>,
     pub expression: Option<&'a str>,
     /// Whether `--frames` is given.

@@ -1,7 +1,8 @@
 //! What a command line asks for.
 
 use irig_codes::Format;
-use irig_words::FormatFault;
+use irig_vcd::Window;
+use irig_words::{FormatFault, WindowFault};
 use thiserror::Error;
 
 /// What a command line asks for.
@@ -15,6 +16,8 @@ pub struct Settings<'a> {
     pub after: &'a str,
     /// The name of its wire, if one is given.
     pub wire_after: Option<&'a str>,
+    /// The window of both dumps that is read, if not all is.
+    pub window: Option<Window>,
     /// The format of the frames that comments show, if they are asked for.
     pub frames: Option<Format>,
 }
@@ -22,6 +25,9 @@ pub struct Settings<'a> {
 /// An option with a value that it cannot have.
 #[derive(Clone, Copy, Debug, Error)]
 pub enum OptionFault {
+    /// An option of the window has it.
+    #[error(transparent)]
+    Window(WindowFault),
     /// An option of the format has it.
     #[error(transparent)]
     Format(FormatFault),

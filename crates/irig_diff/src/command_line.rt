@@ -4,7 +4,7 @@
 
 ghost use Rattle.std.specs.Prelude.{◌≡◌, IfErr, IfOk, None, false, map, string_bytes};
 ghost use Rattle.clap.specs.Words.{HasMatchesOf, app_of, found_of, rule_of};
-ghost use Rattle.irig_diff.specs.Options.{IsCommand, IsShowing, IsWired, the_command};
+ghost use Rattle.irig_diff.specs.Options.{IsCommand, IsShowing, IsTaking, IsWired, the_command};
 ghost use Rattle.irig_diff.specs.Settings.{AreValues, Reads};
 ghost use Rattle.irig_words.specs.Arguments.{option};
 ghost use Rattle.irig_words.specs.Errors.{MayRefuse, WantsMemory};
@@ -14,7 +14,7 @@ use crate::asked::Asked;
 use crate::chosen::{OptionFault, Settings};
 use crate::options::settings_of;
 use clap::{Arg, ArgMatches, Command, Error};
-use irig_words::{UsageFault, flag_arg, matches_of, needed_arg, option_arg};
+use irig_words::{UsageFault, flag_arg, matches_of, needed_arg, option_arg, windowed};
 use std::alloc::{AllocError, Global};
 
 /// What the words of a command line ask for, the program's name being the first.
@@ -63,6 +63,8 @@ fn values_of<'a>(matches: &ArgMatches<'a>) -> Result<Asked<'a>, Error>
         after,
         wire: matches.get_str("wire"),
         wire_after: matches.get_str("wire-after"),
+        from: matches.get_str("from"),
+        to: matches.get_str("to"),
         format: matches.get_str("format"),
         expression: matches.get_str("expression"),
         frames: matches.get_flag("frames"),
@@ -86,7 +88,7 @@ pub fn command<'a>(alloc: Global) -> Result<Command<'a>, AllocError>
     showing(alloc)?.arg(before)?.arg(after)
 }
 
-/// The command with all options: the wires, and how frames are shown.
+/// The command with all options: which part of which wires is read, and how frames are shown.
 fn showing<'a>(alloc: Global) -> Result<Command<'a>, AllocError>
     ensures { IfOk result (λ c. IsShowing (app_of c)) }
 {
@@ -97,7 +99,17 @@ fn showing<'a>(alloc: Global) -> Result<Command<'a>, AllocError>
     );
     let format = option_arg(alloc, "format", "FORMAT", "A, B, E or G: B");
     let expression = option_arg(alloc, "expression", "NUMBER", "of the format: 2");
-    wired(alloc)?.arg(frames)?.arg(format)?.arg(expression)
+    taking(alloc)?.arg(frames)?.arg(format)?.arg(expression)
+}
+
+/// The command with the options that say which part of which wires is read.
+fn taking<'a>(alloc: Global) -> Result<Command<'a>, AllocError>
+    ensures { IfOk result (λ c. IsTaking (app_of c)) }
+{
+    let Ok(wired) = wired(alloc) else {
+        return Err(AllocError);
+    };
+    windowed(alloc, wired)
 }
 
 /// The command with the options that name the wires.

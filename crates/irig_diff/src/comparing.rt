@@ -67,11 +67,11 @@ fn compare_with_block<'a, D: Disk, W: Write>(
     ensures { Obeys (D.held disk.now) (D.unread disk.now) chosen.now (W.contents out.old)
         (W.contents out.new) result }
 {
-    let before = match read_track(alloc, disk, chosen.before, chosen.wire, None) {
+    let before = match read_track(alloc, disk, chosen.before, chosen.wire, chosen.window) {
         Ok(before) => before,
         Err(fault) => return Ending::Unread(chosen.before, fault),
     };
-    let after = match read_track(alloc, disk, chosen.after, chosen.wire_after, None) {
+    let after = match read_track(alloc, disk, chosen.after, chosen.wire_after, chosen.window) {
         Ok(after) => after,
         Err(fault) => return Ending::Unread(chosen.after, fault),
     };

@@ -19,6 +19,8 @@ pub fn program<'a>() -> Program<'a>
             Options:\n      \
             --wire <NAME>          the wire of BEFORE\n      \
             --wire-after <NAME>    the wire of AFTER\n      \
+            --from <TIME>          in microseconds, is the new 0: 0\n      \
+            --to <TIME>            in microseconds, ends the part that is read\n      \
             --frames               show in comments what the lines do to the frames\n      \
             --format <FORMAT>      A, B, E or G: B\n      \
             --expression <NUMBER>  of the format: 2\n  \

@@ -6,19 +6,24 @@ ghost use Rattle.irig_diff.specs.Chosen.{AreFrames, HasFault, IsChosen, names_fo
 use crate::asked::Asked;
 use crate::chosen::{OptionFault, Settings};
 use irig_codes::Format;
-use irig_words::format_named;
+use irig_words::{format_named, window_named};
 
 /// What the values of a command line ask for.
 pub fn settings_of<'a>(asked: &Asked<'a>) -> Result<Settings<'a>, OptionFault>
     ensures chosen { IfOk result (IsChosen asked.now) }
     ensures fault { IfErr result (HasFault asked.now) }
 {
+    let window = match window_named(asked.from, asked.to) {
+        Ok(window) => window,
+        Err(fault) => return Err(OptionFault::Window(fault)),
+    };
     match frames_of(asked) {
         Ok(frames) => Ok(Settings {
             before: asked.before,
             wire: asked.wire,
             after: asked.after,
             wire_after: asked.wire_after,
+            window,
             frames,
         }),
         Err(fault) => Err(fault),

@@ -9,7 +9,8 @@ use Rattle.irig_stamps.specs.declared.settings.Settings.{Settings}
 use Rattle.irig_time.specs.Samples.{HasColumns, HasDates, HasName}
 use Rattle.irig_time.specs.Values.{whole_between}
 use Rattle.irig_words.specs.Formats.{IsFormat, given, text_or}
-use Rattle.irig_time.specs.{Windows.IsWindow, declared.samples.Column.Column}
+use Rattle.irig_words.specs.Windows.{IsWindow}
+use Rattle.irig_time.specs.declared.samples.Column.{Column}
 use Rattle.irig_time.specs.{declared.asked.Asked.Asked, declared.chosen.Chosen.Chosen}
 
 -- whether each fine frame is believed
@@ -65,7 +66,7 @@ tells_of_lines a = is_some a.unit || (is_some a.offset || (is_some a.column
 pub record IsChosen (a : Asked) (c : Chosen) : Type 0 where
   pub track : c.track ≡ a.track
   pub wire : c.wire ≡ a.wire
-  pub window : IsWindow a c.window
+  pub window : IsWindow (given a.from) (given a.to) c.window
   pub format : IsFormat (given a.format) (given a.expression) c.format
   pub settings : HasSettings a c.settings
   pub year : lacks_year c.format c.settings ≡ false

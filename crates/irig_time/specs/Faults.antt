@@ -7,16 +7,14 @@ use Rattle.irig_time.specs.Values.{comma_named, form_named, offset_named, places
 use Rattle.irig_time.specs.{Names.is_name, Samples.IsComma, Samples.names_column}
 use Rattle.irig_time.specs.Values.{whole_between}
 use Rattle.irig_words.specs.Formats.{HasFormatFault, IsFormat, given, text_or}
-use Rattle.irig_time.specs.Windows.{EndsEarly, end_of, first_of}
+use Rattle.irig_words.specs.Windows.{HasWindowFault}
 use Rattle.irig_time.specs.declared.asked.Asked.{Asked}
 use Rattle.irig_time.specs.declared.chosen.OptionFault.{OptionFault}
 use Rattle.irig_time.specs.declared.chosen.OptionFault.TheVariants as fault
 
 -- this option has a value that it cannot have
 abbrev pub HasFault : Asked → OptionFault → Type 0
-HasFault a fault.From = first_of a ≡ None
-HasFault a fault.To = end_of a ≡ None
-HasFault a fault.Early = EndsEarly a
+HasFault a (fault.Window of_window) = HasWindowFault (given a.from) (given a.to) of_window
 HasFault a (fault.Format of_format) =
     HasFormatFault (given a.format) (given a.expression) of_format
 HasFault a fault.Unit = places_named (text_or a.unit (codes "us")) ≡ None

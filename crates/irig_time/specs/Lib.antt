@@ -1,6 +1,5 @@
 pub mod Options
 pub mod Values
-pub mod Windows
 pub mod Names
 pub mod Samples
 pub mod Chosen

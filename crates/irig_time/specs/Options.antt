@@ -2,12 +2,12 @@
 use Rattle.std.specs.Prelude.{◌≡◌, codes, None}
 use Rattle.clap.specs.Words.{App, new_app, with_rule}
 use Rattle.irig_words.specs.Arguments.{flag, needed, option}
+use Rattle.irig_words.specs.Windows.{with_window}
 
 -- which part of the dump is read
 abbrev pub taking : App
 taking =
-    with_rule (with_rule (with_rule (new_app (codes "irig_time")) (option (codes "wire") None))
-    (option (codes "from") None)) (option (codes "to") None)
+    with_window (with_rule (new_app (codes "irig_time")) (option (codes "wire") None))
 
 -- and how the track is read
 abbrev pub reading : App

@@ -3,7 +3,7 @@
 use irig_codes::Format;
 use irig_stamps::Settings;
 use irig_vcd::Window;
-use irig_words::FormatFault;
+use irig_words::{FormatFault, WindowFault};
 use thiserror::Error;
 
 /// What a command line asks for.
@@ -26,15 +26,9 @@ pub struct Chosen<'a> {
 /// An option with a value that it cannot have.
 #[derive(Clone, Copy, Debug, Error)]
 pub enum OptionFault {
-    /// No time with which a window begins.
-    #[error("--from: not a whole number of microseconds")]
-    From,
-    /// No time with which a window ends.
-    #[error("--to: not a whole number of microseconds")]
-    To,
-    /// A window that ends before it begins.
-    #[error("--to: before --from")]
-    Early,
+    /// An option of the window has it.
+    #[error(transparent)]
+    Window(WindowFault),
     /// An option of the format has it.
     #[error(transparent)]
     Format(FormatFault),

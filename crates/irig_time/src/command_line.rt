@@ -17,7 +17,7 @@ use crate::asked::Asked;
 use crate::chosen::{Chosen, OptionFault};
 use crate::options::chosen_of;
 use clap::{ArgMatches, Command, Error};
-use irig_words::{UsageFault, flag_arg, matches_of, needed_arg, option_arg};
+use irig_words::{UsageFault, flag_arg, matches_of, needed_arg, option_arg, windowed};
 use std::alloc::{AllocError, Global};
 
 /// What the words of a command line ask for, the program's name being the first.
@@ -172,15 +172,8 @@ fn taking<'a>(alloc: Global) -> Result<Command<'a>, AllocError>
     ensures { IfOk result (λ c. IsTaking (app_of c)) }
 {
     let wire = option_arg(alloc, "wire", "NAME", "the wire of the dump");
-    let from = option_arg(alloc, "from", "TIME", "in microseconds, is the new 0: 0");
-    let to = option_arg(
-        alloc,
-        "to",
-        "TIME",
-        "in microseconds, ends the part that is read",
-    );
-    Command::new(alloc, "irig_time")
-        .arg(wire)?
-        .arg(from)?
-        .arg(to)
+    let Ok(wired) = Command::new(alloc, "irig_time").arg(wire) else {
+        return Err(AllocError);
+    };
+    windowed(alloc, wired)
 }

@@ -12,7 +12,6 @@ mod options;
 mod samples;
 mod statuses;
 mod values;
-mod window;
 
 ghost use Rattle.std.specs.Prelude.{map, string_bytes};
 ghost use Rattle.std.specs.Process.{exit_status};

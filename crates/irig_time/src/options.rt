@@ -10,10 +10,9 @@ use crate::chosen::{Chosen, OptionFault};
 use crate::naming::name_of;
 use crate::samples::{columns_of, dates_of, header_of};
 use crate::values::is_text;
-use crate::window::window_of;
 use irig_codes::Format;
 use irig_stamps::{Form, Settings};
-use irig_words::{format_named, text_or};
+use irig_words::{format_named, text_or, window_named};
 
 /// What the values of a command line ask for.
 pub fn chosen_of<'a>(asked: &Asked<'a>) -> Result<Chosen<'a>, OptionFault>
@@ -21,7 +20,10 @@ pub fn chosen_of<'a>(asked: &Asked<'a>) -> Result<Chosen<'a>, OptionFault>
     ensures sound { IfOk result (λ c. IsSound c.settings) }
     ensures fault { IfErr result (HasFault asked.now) }
 {
-    let window = window_of(asked)?;
+    let window = match window_named(asked.from, asked.to) {
+        Ok(window) => window,
+        Err(fault) => return Err(OptionFault::Window(fault)),
+    };
     let format = match format_named(asked.format, asked.expression) {
         Ok(format) => format,
         Err(fault) => return Err(OptionFault::Format(fault)),

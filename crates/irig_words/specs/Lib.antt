@@ -3,3 +3,4 @@ pub mod Errors
 pub mod Formats
 pub mod Telling
 pub mod Usage
+pub mod Windows

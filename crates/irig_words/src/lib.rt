@@ -6,9 +6,11 @@ mod errors;
 mod formats;
 mod telling;
 mod usage;
+mod windows;
 
 pub use arguments::{flag_arg, needed_arg, option_arg};
 pub use errors::{matches_of, not_text};
 pub use formats::{FormatFault, format_named, text_or};
 pub use telling::Program;
 pub use usage::UsageFault;
+pub use windows::{WindowFault, window_named, windowed};
