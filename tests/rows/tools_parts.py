@@ -216,6 +216,16 @@ def of_vague():
     yield same("a steady clock", len(analysis.examine(listing_of(steady[:530] + steady[730:])).parts[0].faults.wanted), 200)
 
 
+def of_flutter():
+    """In a hole of many turns of a flutter pulses come evenly, to what the flutter moves them; in one of less than half a turn they come
+    as the curve has them."""
+    for elements, share, many, near in ((32, 0.0015, 300, 160), (17, 0.001, 150, 60), (200, 0.01, 40, 250)):
+        sound = wow(tools.recording(40), share, elements)
+        part, = analysis.examine(listing_of(sound[:1530] + sound[1530 + many:])).parts
+        far = [abs(part.track.rise_at(place) - sound[place][0]) for place in part.faults.wanted]
+        yield same("%d elements, a turn of %d" % (many, elements), (len(far), max(far, default=0) < near), (many, True))
+
+
 def of_another_speed():
     """A recorder goes on at another speed within a hole: the elements of a long one are left, as nothing says where in it that was."""
     sound = [[int(0.99 * time) if time < 15000000 else int(1.01 * time - 300000) for time in pulse] for pulse in tools.recording(30)]
@@ -854,6 +864,7 @@ def cases():
         ("sure runs", of_parts), ("tenths", of_tenths), ("other code", of_other_code),
         ("every second pulse", of_every_second), ("ends of runs on a clock that wanders", of_ends),
         ("a long hole on a clock that wanders", of_vague), ("another speed", of_another_speed),
+        ("flutter", of_flutter),
         ("how far off what is filled in can be", of_off),
         ("undamaged", of_undamaged), ("a rise that is off", of_strays), ("a clock that was set", of_set), ("places", of_places),
         ("votes", of_votes),

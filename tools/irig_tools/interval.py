@@ -45,6 +45,12 @@ class Run:
         return plus(self.place, self.last - self.first)
 
 
+def change_between(left: Optional[Run], right: Optional[Run]) -> float:
+    """By how much the interval is another one after a hole than before it, without its sign; 0 if a run has too few pulses for its own."""
+    before, after = left and left.end_interval, right and right.begin_interval
+    return abs(after - before) if before and after else 0
+
+
 def run_of(first: PulseIndex, beyond: PulseIndex, glued: bool = False) -> Run:
     """The pulses from one up to another."""
     return Run(first, plus(beyond, -1), glued=glued)
@@ -188,8 +194,7 @@ class Clock:
     def inside(self, steps: float, left: Optional[Run] = None, right: Optional[Run] = None) -> float:
         """How far a pulse in a hole of that many elements can be off, not counting what rises stray; of a clock that wanders alone. The
         interval can be another one after the hole than before it, as the runs on both sides of it have it."""
-        before, after = left and left.end_interval, right and right.begin_interval
-        return self.wander.inside(steps, abs(after - before) if before and after else 0) if self.wander else 0
+        return self.wander.inside(steps, change_between(left, right)) if self.wander else 0
 
     @property
     def most_off(self) -> float:

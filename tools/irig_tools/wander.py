@@ -78,11 +78,14 @@ class Sides:
         first = self.of(left, -1, left - run[0] + 1, reach)[1]
         return abs(self.of(right, 1, run[1] - right + 1, reach)[1] - first)
 
-    def inside_by(self, run: Ends, left: int, right: int, reach: Reach) -> float:
-        """How far pulses between these two are off from the curve through both ends, at three places."""
+    def inside_by(self, run: Ends, left: int, right: int, reach: Reach, even: bool = False) -> float:
+        """How far pulses between these two are off from the curve through both ends, or from where they are if they come evenly, at
+        three places."""
         end, first = self.of(left, -1, left - run[0] + 1, reach)
         begin, last = self.of(right, 1, run[1] - right + 1, reach)
         many, most = right - left, 0.0
+        if even:
+            first = last = (begin - end) / many
         for part in (1, 2, 3):
             at = left + many * part // 4
             near = range(max(left + 1, at - limits.HALF_SIDE), min(right - 1, at + limits.HALF_SIDE) + 1)
@@ -132,9 +135,9 @@ class Sample:
             holes = [((left - limits.SIDE + 1, run[1]), left, right) for run, left, right in holes]
         return sorted(abs(self.sides.late_by(run, left, right, reach, hop)) for run, left, right in holes)
 
-    def insides(self, steps: int, reach: Reach) -> List[float]:
+    def insides(self, steps: int, reach: Reach, even: bool = False) -> List[float]:
         """How far off pulses in holes of just that many elements are, from the least to the most."""
-        return sorted(self.sides.inside_by(run, left, left + steps, reach) for run, left, _ in self.holes(steps))
+        return sorted(self.sides.inside_by(run, left, left + steps, reach, even) for run, left, _ in self.holes(steps))
 
     def changes(self, steps: int, reach: Reach) -> List[float]:
         """By how much the interval changes over such holes, from the least to the most."""
@@ -170,7 +173,9 @@ class Wander:
         self.hops: Dict[int, Reach] = {}
         self.known: Dict[bool, Dict[int, float]] = {False: {}, True: {}}
         self.spread: Dict[bool, float] = {}
-        self.inner: Dict[int, float] = {}  # how far off pulses in holes of that many elements are
+        self.bent: Dict[int, float] = {}  # how far off pulses in holes of that many elements are by the curve
+        self.inner: Dict[int, float] = {}  # and by the curve or evenly, whichever is nearer
+        self.even: Dict[int, bool] = {}  # whether that is evenly
         self.changed: Dict[int, float] = {}  # by how much the interval changes over them
         for short, table in self.known.items():
             most = 0.0
@@ -184,14 +189,23 @@ class Wander:
                     self.spread[short] = max(median(sample.lates(steps, reach, self.hops[1], short)), off / limits.NINE_OF_TEN)
                 most = max(most, limits.ABOVE_NINE_OF_TEN * off)
                 table[steps] = most
-        most = change = 0.0
+        most = curved = change = 0.0
         for steps in self.known[False]:
-            most = self.inner[steps] = max(most, limits.ABOVE_NINE_OF_TEN * _nine_of_ten(sample.insides(steps, reach)))
+            bent, even = (_nine_of_ten(sample.insides(steps, reach, each)) for each in (False, True))
+            self.even[steps] = even < bent
+            most = self.inner[steps] = max(most, limits.ABOVE_NINE_OF_TEN * min(bent, even))
+            curved = self.bent[steps] = max(curved, limits.ABOVE_NINE_OF_TEN * bent)
             change = self.changed[steps] = max(change, limits.ABOVE_NINE_OF_TEN * _nine_of_ten(sample.changes(steps, reach)))
 
     def hop(self, steps: float) -> Reach:
         """Which pulses say the interval in a hole of that many elements."""
         return self.hops[max((each for each in self.hops if each <= steps), default=1)] if self.hops else self.reach
+
+    def is_even(self, steps: float, change: float) -> bool:
+        """Whether pulses in a hole of that many elements are put in evenly, and not by the curve: if they were nearer then where a hole
+        was tried, and the interval changes no more over this one."""
+        near = max((each for each in self.even if each <= steps), default=0)
+        return self.even.get(near, False) and change <= _between(self.changed, steps, 1)
 
     def over(self, steps: float, short: bool = False) -> float:
         """In microseconds, over that many elements; if `short`, one of both sides has few pulses."""
@@ -200,8 +214,9 @@ class Wander:
     def inside(self, steps: float, change: float) -> float:
         """In microseconds, how far off a pulse in a hole of that many elements can be; in a longer one than was tried it is more by
         the square, as the interval changes meanwhile. If it changes over this hole by more than it does elsewhere, it can do so at once."""
-        at_once = limits.CHANGED_AT_ONCE * steps * change if change > _between(self.changed, steps, 1) else 0.0
-        return max(at_once, _between(self.inner, steps, 2))
+        if change > _between(self.changed, steps, 1):
+            return max(limits.CHANGED_AT_ONCE * steps * change, _between(self.bent, steps, 2))
+        return _between(self.inner, steps, 2)
 
 
 def _between(table: Dict[int, float], steps: float, power: int) -> float:

@@ -5,7 +5,7 @@ from math import floor
 from typing import Dict, List, Optional, Tuple
 
 from . import limits
-from .interval import Clock, Run
+from .interval import Clock, Run, change_between
 from .other_code import OtherCode, other_code, survives
 from .phases import ONLY_P, faults_along
 from .units import ELEMENTS, Microseconds, PlaceNumber, PulseIndex, plus, through
@@ -168,10 +168,13 @@ class Zone:
         return bool(self.clock.wander and self.left and self.right and not self.late and self.right.step > 1)
 
     def _bent_rise(self, place: PlaceNumber) -> float:
-        """When the pulse of a place should rise if the interval at both ends is that of the runs there: a curve of third degree."""
-        left, right = self.left, self.right
-        assert left and right
+        """When the pulse of a place should rise if the interval at both ends is that of the runs there: a curve of third degree. Or
+        evenly, if that was nearer in holes of this length."""
+        left, right, wander = self.left, self.right, self.clock.wander
+        assert left and right and wander
         intervals = left.end_interval or self.interval, right.begin_interval or self.interval
+        if wander.is_even(right.step, change_between(left, right)):
+            intervals = (self.local_interval(),) * 2
         return on_curve((place - left.last_place) / right.step, right.step, (left.end, right.begin), intervals)
 
     def _place_near(self, rise: Microseconds, place: PlaceNumber) -> PlaceNumber:
