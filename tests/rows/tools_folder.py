@@ -42,7 +42,7 @@ ROWS = [
     ["deep/step.vcd", "code", "2", "1", "0", "0", "1", "5", "6", "1"],
     ["cut.vcd", "code", "0", "0", "0", "0", "0", "7", "7", "1"],
     ["deep/rec.vcd", "code", "0", "0", "0", "0", "0", "7", "7", "0"],
-    ["rec.vcd", "top.rx.irig", "1", "1", "0", "0", "0", "6", "7", "0"],
+    ["rec.vcd", "!", "1", "1", "0", "0", "0", "6", "7", "0"],
 ]
 NAMES = ("recording", "wire", "found", "repaired", "undecided", "left", "steps", "sound_before", "sound_after", "status")
 SUMS = "5 recordings: 2 whole, 2 with damage left, 1 not repaired; 3 places found, 2 repaired; 25 frames sound before, 27 after"

@@ -36,7 +36,7 @@ def sheet_of(name: str, wire: str, seen: Seen, script: Sequence[Repair] = (), af
     kind = "%s %d" % (layout.kind, layout.expression)
     said = tuple(each.seen for each in notes)
     if changes:
-        places = _kept([_made(place) for place in places], script, there)
+        places = _those_left([_made(place) for place in places], script, there)
         places = sorted(places + _still_there(seen, there, places), key=lambda place: place.at)
     length = seen.listing.length
     return Sheet(name, length, layout.interval, kind, _stretches(seen.findings, length), tuple(places), lines, said, changes, wire=wire,
@@ -90,7 +90,7 @@ def _made(place: Place) -> Place:
     return place if place.after != place.before else replace(place, after=None)
 
 
-def _kept(places: Sequence[Place], script: Sequence[Repair], there: Sequence[Damage]) -> List[Place]:
+def _those_left(places: Sequence[Place], script: Sequence[Repair], there: Sequence[Damage]) -> List[Place]:
     """The places but those at which nothing was changed and where nothing is damaged now: a step next to other damage can go with it.
     If a repair moves what comes after it, what is damaged now has other times, so all places are kept."""
     left = Stretches((each.at, max(each.at, each.until)) for each in there)
