@@ -14,6 +14,7 @@ from unittest import mock
 from built import TOP
 from cases import case
 from random_input import damages
+from rows import tools
 from rows.in_process import run
 from rows.tools_apply import END, both, glitch, in_folder, nanoseconds, others, recorded, same, text_of
 
@@ -252,6 +253,21 @@ def alone():
     return in_folder(lambda: list(holds()))
 
 
+def several_expressions():
+    """If recordings of one format are read with several expressions, a line says which few differ from most; else there is none."""
+    def holds():
+        with_year = damages.dump(tools.recording(8, expression=7), END)
+        write_all({"in/%s.vcd" % name: damages.dump(tools.recording(8, expression=2), END) for name in "abc"})
+        write_all({"in/d.vcd": with_year, "in/a2.vcd": with_year})
+        status, _, said = run("irig_mend", ["--apply-to", "mended", "in"])
+        yield same("of two", (status, said), (0, "irig_mend: format B: expression 2 in 3 recordings, expression 7 in 2 recordings; "
+                                                 "if all are of one source, give --format B --expression 2 and look at: a2.vcd, d.vcd\n"))
+        yield same("of one", run("irig_mend", ["--apply-to", "one", "--format", "B", "--expression", "2", "in"])[2], "")
+
+    return in_folder(lambda: list(holds()))
+
+
 def cases(top):
     """Each part by its name."""
-    return [case("folder: " + part.__name__, part) for part in (ended, table, not_all_read, goes_on, packed, never_over, alone)]
+    parts = (ended, table, not_all_read, goes_on, packed, never_over, alone, several_expressions)
+    return [case("folder: " + part.__name__, part) for part in parts]

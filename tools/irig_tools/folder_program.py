@@ -15,7 +15,7 @@ from .output import is_standard_output, output
 from .proposal import no_option
 from .record import record_in
 from .recordings import Looked, look_into
-from .results import Result, report_of, table_of_all, worst_first
+from .results import NAMED_AT_MOST, Result, report_of, several_expressions, table_of_all, worst_first
 from .version import version
 
 PROGRAM = "irig_mend"
@@ -24,7 +24,6 @@ APPLY_TO = Option("--apply-to", "FOLDER", "repairs each recording in the folder 
 REPORT = Option("--report", "FILE", "with --apply-to: also writes the table as CSV, with the reasons")
 JOBS = Option("--jobs", "N", "with --apply-to: that many recordings at once, with --apply windows of a long one; if not given, one for "
               "each processor", whole(1))
-MOST_OTHERS = 5  # files that are named
 
 
 def mend_folder(given: Given, rules: Sequence[Option], page: Option) -> int:
@@ -46,6 +45,8 @@ def mend_folder(given: Given, rules: Sequence[Option], page: Option) -> int:
             raise
     results = worst_first([*results, *(Result(name, "", NOT_READ, [why]) for name, why in looked.problems)])
     _write_all(given, page, folder, results)
+    for line in several_expressions(results):
+        complain(line, PROGRAM)
     return FOUND if any(each.needs_a_person for each in results) else ALL_RIGHT
 
 
@@ -65,9 +66,9 @@ def _looked(folder: str, out: str) -> Looked:
         raise Problem("--apply-to %s would write over the recordings that are read" % out)
     looked = look_into(folder, out)
     if looked.others:
-        more = ", .." if len(looked.others) > MOST_OTHERS else ""
+        more = ", .." if len(looked.others) > NAMED_AT_MOST else ""
         complain("%s: %d of the files are no dumps and are left out: %s%s" % (
-            name_of(folder), len(looked.others), ", ".join(looked.others[:MOST_OTHERS]), more), PROGRAM)
+            name_of(folder), len(looked.others), ", ".join(looked.others[:NAMED_AT_MOST]), more), PROGRAM)
     if not looked.recordings and not looked.problems:
         raise Problem("%s: has no recording" % folder)
     return looked

@@ -3,6 +3,7 @@ from __future__ import annotations
 
 import csv
 import io
+from collections import Counter
 from dataclasses import dataclass, field
 from typing import Any, Dict, List, Sequence, Tuple
 
@@ -14,6 +15,7 @@ COUNTS = ("found", "repaired", "guessed", "filled", "off", "undecided", "left", 
 HEADS_OF_TABLE = (
     ("recording", "recording"), ("wire", "wire"), ("format", "format"), ("expression", "expression"), ("places", "found"),
     ("repaired", "repaired"), ("left", "open"), ("frames before", "sound_before"), ("after", "sound_after"), ("status", "status"))
+NAMED_AT_MOST = 5  # recordings in a line
 # those of the report
 REPORTED = ("recording", "result", "wire", "format", "expression", *COUNTS[:-2], "sound_before", "sound_after", "status", "reasons")
 
@@ -101,6 +103,22 @@ def sums(results: Sequence[Result]) -> str:
         counted(len(results), "recording"), len(results) - left - unread, left, unread, counted(total["found"], "place"),
         format(total["repaired"], ","), counted(total["sound_before"], "frame"), format(total["sound_after"], ","),
         "; %d from a run before" % kept if kept else "")
+
+
+def several_expressions(results: Sequence[Result]) -> List[str]:
+    """A line for each format of which recordings were read with several expressions. Control functions that never change can be read
+    as a year, so of recordings of one source some can have a year that was never sent."""
+    lines = []
+    for kind in sorted({each.format for each in results if each.is_read}):
+        numbers = {each.recording: each.expression for each in results if each.is_read and each.format == kind}
+        found = Counter(numbers.values()).most_common()
+        if len(found) > 1:
+            most = found[0][0]
+            few = sorted(name for name, number in numbers.items() if number != most)
+            lines.append("format %s: %s; if all are of one source, give --format %s --expression %s and look at: %s%s" % (
+                kind, ", ".join("expression %s in %s" % (number, counted(count, "recording")) for number, count in found), kind, most,
+                ", ".join(few[:NAMED_AT_MOST]), ", .." if len(few) > NAMED_AT_MOST else ""))
+    return lines
 
 
 def report_of(results: Sequence[Result]) -> bytes:
