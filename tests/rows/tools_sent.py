@@ -298,7 +298,51 @@ def of_set():
         yield same("set, seed %d" % seed, (hurt_now, found.counts_hold(), len(before) > 0), ([], True, True))
 
 
-# 7: rarer damage
+# 7: what a recorder lost next to an end
+
+
+def lost_at(share, shift, count):
+    """A recorder loses intervals, at a share of the recording and some intervals more."""
+    def change(draft):
+        interval = draft.format.interval
+        draft.event("lose", draft.clock.place(draft.first) + share * draft.length + shift * interval, count * interval)
+    return change
+
+
+def beginning(share, frames):
+    """The recording begins at a share of a frame, has that many frames, and its times begin at noon."""
+    def change(draft):
+        draft.first, draft.length, draft.clock = share * draft.format.frame, frames * draft.format.frame, Clock(0.0)
+        draft.sent, draft.time = draft.first + draft.length + 9 * draft.format.frame, 60 * DAY + 12 * HOUR
+    return change
+
+
+def of_lost_at_an_end():
+    """What was recorded next to the loss stays, whatever the rest leads to; what is damaged without a loss is mended."""
+    def narrow(element):
+        def change(draft):
+            number = element_of(draft, 0, element)
+            (rise, _), = draft.wire.pulses[number]
+            draft.wire.pulses[number] = [(rise, rise + 0.2 * draft.format.interval)]
+        return change
+
+    # the one P of the first seven pulses is two elements early; of the last eight two elements late
+    for name, kind, begin, frames, loss, said in (
+            ("seven pulses before a loss", "G", 0.781, 20, lost_at(0, 7.7, 8), "fit another element"),
+            ("eight pulses after a loss", "G", 0.781, 20.048, lost_at(1, -8.7, 8), "fit another element"),
+            ("a frame is lost in the last one", "B", 0.781, 11.32, lost_at(0, 1122.4, 100), "1 element contradicts"),
+            ("a frame is lost in the first one", "B", 0.005, 11.32, lost_at(0, 30.4, 100), "1 element contradicts")):
+        made = Made(77, kind, "2", 0, several(still, beginning(begin, frames)), loss)
+        found = made.mended()
+        yield same(name, (found.status, len(found.says(said)), edges_of(found.text) == edges_of(made.damaged.text), found.counts_hold()),
+                   (1, 1, True, True))
+    for element in (79, 99):
+        made = Made(78, "B", "2", 0, several(still, beginning(0.781, 12)), narrow(element))
+        found = made.mended()
+        yield same("element %d of the first frame" % element, (found.status, made.unlike(found)), (0, (0, 0)))
+
+
+# 8: rarer damage
 
 
 def of_rarer():
@@ -357,7 +401,7 @@ def of_rarer():
     yield same("three neighbours that are fine and wrong", (found.status, good.unlike(found)), (0, (0, 0)))
 
 
-# 8: no fine frame
+# 9: no fine frame
 
 
 def of_unread():
@@ -377,7 +421,7 @@ def of_unread():
             yield same("%s, %s" % (kind, name), (found.status, made.unlike(found)), (0, (0, 0)))
 
 
-# 9: control functions with a rule
+# 10: control functions with a rule
 
 
 def of_parity():
@@ -412,5 +456,5 @@ def cases():
     """Each by its name."""
     return [case("mend: sent: " + name, holds) for name, holds in (
         ("other code", of_other_code), ("damage is seen", of_unseen), ("sound pulses", of_sound), ("clocks that wander", of_wandering),
-        ("late rises", of_late_rises), ("a clock that was set", of_set), ("rarer damage", of_rarer), ("no frame is fine", of_unread),
-        ("parity", of_parity))]
+        ("late rises", of_late_rises), ("a clock that was set", of_set), ("a loss next to an end", of_lost_at_an_end),
+        ("rarer damage", of_rarer), ("no frame is fine", of_unread), ("parity", of_parity))]

@@ -2,9 +2,10 @@
 from __future__ import annotations
 
 from dataclasses import dataclass, field
-from typing import Callable, Iterator, List, Optional, Sequence, Tuple
+from typing import Callable, Iterable, Iterator, List, Optional, Sequence, Tuple
 
 from . import limits
+from .astray import astray
 from .concern import NOTHING, Concern, ends_of_pulses
 from .confirmed import faults_of
 from .copies import settled, take_out
@@ -23,7 +24,7 @@ from .slots import link, parts, sure_parts
 from .steps import Step, apart, cut_by_a_step, step_zones, turned
 from .threshold import level
 from .track import Track
-from .units import ELEMENTS, Hundredths, Microseconds, number_of
+from .units import ELEMENTS, FrameNumber, Hundredths, Microseconds, number_of
 from .witnesses import NO_WITNESSES, Witnesses
 
 START = Microseconds(0)
@@ -167,7 +168,7 @@ def _moved(track: Track, witnesses: Witnesses) -> List[Part]:
         if again != track.runs:
             track = Track(track.layout, track.clock, again)
             times = Times(track, witnesses.inserted(track.layout))
-    return [Part(track, times, copies, faults_of(track, times, witnesses), remarks(track, times))]
+    return [_part(track, times, witnesses, copies=copies)]
 
 
 def _kept(whole: Track, witnesses: Witnesses) -> List[Part]:
@@ -175,15 +176,24 @@ def _kept(whole: Track, witnesses: Witnesses) -> List[Part]:
     inserted = witnesses.inserted(whole.layout)
     times, steps = Times(whole, inserted), step_zones(whole)
     if not steps:
-        return [_part(whole, times, witnesses)]
+        return [_part(whole, times, witnesses, _unsure(whole, times))]
     tracks = [Track(whole.layout, whole.clock, runs) for runs in apart(whole, steps)]
-    found, between = [_part(track, Times(track, inserted), witnesses) for track in tracks], whole.parted_at(steps)
+    pairs = [(track, Times(track, inserted)) for track in tracks]
+    found, between = [_part(*pair, witnesses, _unsure(*pair)) for pair in pairs], whole.parted_at(steps)
     for zone, left, right, part in zip(steps, between, between[1:], found[1:]):
         part.remarks.append(Step(whole, times, zone, left, right).remark(part.faults))
     return found[::-1]
 
 
-def _part(track: Track, times: Times, witnesses: Witnesses) -> Part:
-    """Frames that a step cuts, or near which the times go on elsewhere, stay as they are."""
-    left = {*cut_by_a_step(track), *turned(times)}
-    return Part(track, times, [], faults_of(track, times, witnesses, left), remarks(track, times))
+def _part(track: Track, times: Times, witnesses: Witnesses, left: Iterable[FrameNumber] = (), copies: Sequence[Repair] = ()) -> Part:
+    """Frames that are `left`, and those with pulses at an end that fit another element, stay as they are."""
+    found = astray(track)
+    kept = {*left, *(number for each in found for number in each.frames())}
+    said = remarks(track, times) + [each.remark(track) for each in found]
+    return Part(track, times, list(copies), faults_of(track, times, witnesses, kept), said)
+
+
+def _unsure(track: Track, times: Times) -> Iterator[FrameNumber]:
+    """The frames that a step cuts, and those near which the times go on elsewhere."""
+    yield from cut_by_a_step(track)
+    yield from turned(times)

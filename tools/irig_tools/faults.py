@@ -134,7 +134,8 @@ class Faults:
         # a clock that was set shows another time in both fields that say it
         in_one = not binary.isdisjoint(told) and (binary.isdisjoint(against) or binary.issuperset(against))
         most = limits.MOST_CONTRARY if in_one or self.is_between(number) else limits.CONTRARY_AT_END
-        if len(against) <= (0 if twice_told or self.times.turns_at(number) else most):
+        is_clear = len(against) > (0 if twice_told or self.times.turns_at(number) else most)
+        if not is_clear and not self._can_be_of_a_loss(number, told, against):
             return False
         seen = "%s: %s contradict%s the time that the frames next to it lead to" % (
             self.times.name(number), counted(len(against), "element"), "" if against[1:] else "s")
@@ -142,9 +143,23 @@ class Faults:
         self.remark(first, seen, LEFT_FRAME)
         return True
 
+    def _can_be_of_a_loss(self, number: FrameNumber, told: Sequence[int], against: Sequence[int]) -> bool:
+        """Whether a frame at an end shows just what it would if a recorder had lost whole frames next to what contradicts: in the last
+        frame a later time from there on, in the first one an earlier time up to there."""
+        moment, agreeing = self.times.moment(number), self.times.agreeing
+        if moment is None or not against or not agreeing or min(agreeing) <= number <= max(agreeing):
+            return False
+        way = 1 if number > max(agreeing) else -1
+        shown = [element for element in told if way * element >= way * against[0 if way > 0 else -1]]
+        for frames in range(1, limits.LONGEST_CUT // ELEMENTS + 1):
+            other = self.layout.encode(self.times.calendar.fields(plus(moment, way * frames * self.layout.period)))
+            if all(other[element] == self.times.texts[number][element] for element in shown):
+                return True
+        return False
+
     def is_between(self, number: FrameNumber) -> bool:
-        """Whether frames before this one and after it have a time of their own."""
-        return min(self.times.own, default=number) < number < max(self.times.own, default=number)
+        """Whether frames before this one and after it show the time to which all lead."""
+        return min(self.times.agreeing, default=number) < number < max(self.times.agreeing, default=number)
 
     def _decide(self, place: PlaceNumber, control: bool) -> Optional[str]:
         """Zero or one if nothing follows for a place: by its shape, else by other recordings, else by its neighbours, else a guess

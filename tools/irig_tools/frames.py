@@ -29,6 +29,8 @@ class Times(Votes):
         self.spans = self._find_spans(bases)
         self.spliced = spliced(self, self.spans)
         self.bases = {**bases, **self.spliced}
+        # frames that show the time to which all lead; if none does, those that show any
+        self.agreeing = [number for number, base in self.own.items() if self.bases[number] == base] or list(self.own)
         self._find_sound()
 
     def _find_sound(self) -> None:

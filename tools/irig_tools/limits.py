@@ -121,6 +121,10 @@ SOME_BAD, MOST_BAD = 0.01, 0.3  # the share of bad pulses from which a threshold
 MOST_UNREAD = 5000  # pulses by which the expression is found if no frame is fine: fifty frames
 MOST_EDITS = 10000  # edits in one group, which is undone at once
 
+# pulses at an end (astray)
+FEWEST_ASTRAY = 2  # faults that another element explains: of pulses that fit it so much better nothing decides the place; one is damage
+LONGEST_ASTRAY = 200  # places at an end that are looked at: farther from it a run with another phase is seen
+
 # times of frames, and the second shortest path (frames, spans, pieces)
 LONGEST_CUT = 3000  # elements: the end of a search; after more than that the places are not counted on
 STRAY_ONES, STRAY_SHARE = 2, 0.1  # frames with ones that are not used, and their share: more is another expression
@@ -162,7 +166,7 @@ LIKE_IN_BURST = 0.03  # intervals: the same in a burst of damage, which can look
 NOMINAL = 0.03  # intervals: a width that is no more off is the one of its class: a tenth of the way to the next class
 BURST = 2  # of the two places before and the two after one, at least that many are damaged in a burst: one is by chance
 MOST_CONTRARY = 2  # elements: a frame of which more say another time than its neighbours is no damage: three are no accident
-CONTRARY_AT_END = 1  # the same if no frame before it, or none after it, has a time of its own: two are no accident, a clock can be set
+CONTRARY_AT_END = 1  # the same if no frame before it, or none after it, has the time of the others: two are no accident, a clock can be set
 INTERVAL_SEEN = 0.95  # intervals of a place whose level is looked at: the rest can be an early pulse
 UNLIKE = 0.02  # intervals: a width that is more off is changed if the pulse is edited anyway [2, 0]
 FEWEST_LOST = 8  # lost elements of a frame that is generated again: fewer are fewer lines one by one [7, 8]
