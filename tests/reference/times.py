@@ -185,8 +185,9 @@ def is_whole(kind, time):
 class Counting:
     """The pulses next to frames that are in step with them."""
 
-    def __init__(self, kind, expression, century, pulses):
-        self.kind, self.expression, self.century, self.pulses = kind, expression, century, pulses
+    def __init__(self, kind, expression, century, pulses, length):
+        """`length` is that of the recording, in microseconds."""
+        self.kind, self.expression, self.century, self.pulses, self.length = kind, expression, century, pulses, length
 
     def step(self, place):
         """How long after the one before it a pulse rises; 0 if one of them is not there."""
@@ -217,11 +218,11 @@ class Counting:
             first = TIME_ELEMENTS[self.kind] if self.jumps_before(earlier, frame) else 0
             end = 1 if self.jumps_after(frame, later) else 100
             if not place:
-                found += self.before(frame)
+                found += self.heard_before(frame)
             elif earlier in held and not first:
                 found += self.between(earlier, frame)
             found.append(Part(frame.marker + first, first, max(0, end - first), frame.time))
-        return found + (self.after(fine[-1]) if fine and fine[-1] in held else [])
+        return found + (self.heard_after(fine[-1]) if fine and fine[-1] in held else [])
 
     def head(self, frame, count, time):
         return Part(frame.marker + 100, 0, count, time)
@@ -378,21 +379,44 @@ class Counting:
         if part.time is None or not is_whole(self.kind, part.time):
             return []
         wanted = self.wanted(part.time)
-        told = [k for k in range(part.count) if part.number + k < len(self.pulses) - 1]
-        wrong = any(self.denies(part.number + k, part.element + k, wanted) for k in told)
+        wrong = any(self.denies(part.number + k, part.element + k, wanted) for k in range(self.telling(part)))
         return [] if wrong else [part]
+
+    def telling(self, part):
+        """How many pulses of a part can say another time."""
+        return part.count - (part.number + part.count == len(self.pulses) and part.count > 0)
+
+    def heard_before(self, frame):
+        """What is counted before the first frame. If the recording begins with silence, and these pulses come next, they count only if
+        they have all elements of their time: else a clock that was set there would go unseen."""
+        return [part for part in self.before(frame)
+                if not (part.number == 0 and self.is_silence(self.pulses[0][0])) or self.has_its_time(part)]
+
+    def heard_after(self, frame):
+        """The same after the last frame, if the recording ends with silence."""
+        return [part for part in self.after(frame)
+                if not (part.number + part.count == len(self.pulses) and self.is_silence(self.length - self.pulses[-1][0]))
+                or self.has_its_time(part)]
+
+    def is_silence(self, micros):
+        """Whether some microseconds without a rise are silence: more than two intervals."""
+        return micros > 2 * timecode.INTERVAL[self.kind]
+
+    def has_its_time(self, part):
+        """Whether all elements of the time are among those pulses of a part that can say another time."""
+        return part.element == 0 and self.telling(part) >= TIME_ELEMENTS[self.kind]
 
 
 class Track:
-    """A track of pulses, rise and fall, which gives moments their time."""
+    """A track of pulses, rise and fall, and some microseconds long, which gives moments their time."""
 
-    def __init__(self, options, pulses):
+    def __init__(self, options, pulses, length):
         self.kind = options.kind
         self.century = options.year // 100 if options.year else 20
         self.pulses = pulses
         self.fine = frames_of(options.kind, options.expression, pulses)
         self.frames = believed(options, self.fine)
-        self.counting = Counting(options.kind, options.expression, self.century, pulses)
+        self.counting = Counting(options.kind, options.expression, self.century, pulses, length)
         parts = self.counting.parts(self.fine, self.frames)
         self.points = {part.number + k: (part.element + k, part.time) for part in parts for k in range(part.count)}
 
@@ -499,9 +523,9 @@ def column_named(options, name, text):
     return "two columns of the header have this name" if places else "no column of the header has this name"
 
 
-def table(options, pulses):
+def table(options, pulses, length):
     """The rows of the frames that have a time: the microsecond of the marker, the time, and whether the next frame follows."""
-    track = Track(options, pulses)
+    track = Track(options, pulses, length)
     rows = []
     for frame in track.fine:
         follows_it = "unsupported" if frame not in track.frames else "yes" if track.is_followed(frame) else "no"
@@ -510,20 +534,20 @@ def table(options, pulses):
     return "".join(rows)
 
 
-def is_timed(options, pulses):
+def is_timed(options, pulses, length):
     """Whether a frame is believed."""
-    return bool(Track(options, pulses).frames)
+    return bool(Track(options, pulses, length).frames)
 
 
-def doubted(options, pulses):
+def doubted(options, pulses, length):
     """How many frames have a time and are not believed."""
-    track = Track(options, pulses)
+    track = Track(options, pulses, length)
     return len(track.fine) - len(track.frames)
 
 
-def aligned(options, pulses, text):
+def aligned(options, pulses, length, text):
     """What is printed for the lines, and the status: 1 also if no frame has a time, or some are not believed."""
-    track = Track(options, pulses)
+    track = Track(options, pulses, length)
     lines = text.split(b"\n")
     if not lines[-1]:
         lines.pop()

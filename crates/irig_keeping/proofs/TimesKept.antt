@@ -201,5 +201,5 @@ times_stay old new is_old is_new safe before after century d n x some has still 
 pub counted_times_stay : CountedTimesStay
 unfolding times_stay told_times_stay moment
 counted_times_stay old new is_old is_new safe alone century d n x some has still held which steady goes =
-    keeps_times old.format alone century new.pulses d n x
+    keeps_times old.format alone century new.micros new.pulses d n x
     (times_stay old new is_old is_new safe (believed old.format alone old.pulses) (believed old.format alone new.pulses) century d n x some has still held which) steady goes

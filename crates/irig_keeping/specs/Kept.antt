@@ -77,4 +77,4 @@ CountedTimesStay = (old new : State) → IsTrack old.micros old.pulses → IsTra
     → IsSteady old.format alone century new.pulses still.begins.one.marker
     → HeldGoesOn old.format alone century new.pulses (still.marker + has.told.element)
     has.told.element has.told.fields
-    → IsTimed old.format alone century new.pulses d n x
+    → IsTimed old.format alone century new.micros new.pulses d n x

@@ -133,15 +133,15 @@ ordinal-parts x y h (Some m) (Some n) k a b e =
 module _ (f : FormatView) (s : Settings) (x y : Time) (are : AreTimes f s x y) where
   short : AreShort x y
   short = record {
-    first = (timed_calendar f s.alone s.century are.pulses are.d are.n x are.first).0;
-    second = (timed_calendar f s.alone s.century are.pulses are.d are.m y are.second).0;
+    first = (timed_calendar f s.alone s.century are.micros are.pulses are.d are.n x are.first).0;
+    second = (timed_calendar f s.alone s.century are.micros are.pulses are.d are.m y are.second).0;
     micros = timed_minute f s.alone s.century are.micros are.pulses are.track are.d are.some are.n x are.first;
     also = timed_minute f s.alone s.century are.micros are.pulses are.track are.d are.some are.m y are.second;
   }
 
   same-field : is_some x.year ≡ is_some y.year
-  same-field = (timed_calendar f s.alone s.century are.pulses are.d are.n x are.first).1
-      ∙ sym (timed_calendar f s.alone s.century are.pulses are.d are.m y are.second).1
+  same-field = (timed_calendar f s.alone s.century are.micros are.pulses are.d are.n x are.first).1
+      ∙ sym (timed_calendar f s.alone s.century are.micros are.pulses are.d are.m y are.second).1
 
   same-known : is_some (year_in s x) ≡ is_some (year_in s y)
   same-known = year-known s x y x.year y.year same-field

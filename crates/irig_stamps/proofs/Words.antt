@@ -96,19 +96,20 @@ module _ (f : FormatView) (ps : List Pulse) (s : Settings) where
   time-late micros picos add take track small h late v e x =
       let k = spans-capped picos v add take e h in (
         λ is. absurd (none-some x is),
-        λ is. absurd (late-late s.early v.negative v.size s.offset add take small k.0 k.1 late (none-late f s.alone s.century micros ps track (added s v - taken s v) x is.1)),
+        λ is. absurd (late-late s.early v.negative v.size s.offset add take small k.0 k.1 late
+            (none-late f s.alone s.century micros s.micros ps track (added s v - taken s v) x is.1)),
       )
 
   -- each greatest number has no time, so it stands for all that are further from zero
   pub time-exact : (picos : Picos) (add take : ℕ) (result : Option Time) → s.offset ≤ 2 ^ 119 → Spans picos add take → take ≤ add → add - take < 2 ^ 62
-      → ((x : Time) → (result ≡ Some x) ↔ IsTimed f s.alone s.century ps 1000000 (add - take) x)
+      → ((x : Time) → (result ≡ Some x) ↔ IsTimed f s.alone s.century s.micros ps 1000000 (add - take) x)
       → (v : Picos) → picos ≡ capped v → (x : Time) → (result ≡ Some x) ↔ IsTimeOf f ps s v x
   time-exact picos add take result small h le near is v e x =
       let k = spans-capped picos v add take e h in
       let same = near-same s.early v.negative v.size s.offset add take small k.0 k.1 le near in
       let span : add - take ≡ added s v - taken s v = omega (arith, same.0, same.1) in (
-        λ r. (omega (arith, same.0, same.1, le), subst (λ n. IsTimed f s.alone s.century ps 1000000 n x) span ((is x).0 r)),
-        λ t. (is x).1 (subst (λ n. IsTimed f s.alone s.century ps 1000000 n x) (sym span) t.1),
+        λ r. (omega (arith, same.0, same.1, le), subst (λ n. IsTimed f s.alone s.century s.micros ps 1000000 n x) span ((is x).0 r)),
+        λ t. (is x).1 (subst (λ n. IsTimed f s.alone s.century s.micros ps 1000000 n x) (sym span) t.1),
       )
 
   -- the reason before the start of the track

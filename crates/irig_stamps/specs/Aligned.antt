@@ -1,6 +1,6 @@
 -- Lines that are aligned with a recording. This project's own.
 use Rattle.std.specs.Prelude.{◌≡◌, ◌⊎◌, ℕ, Bool, List, Option, Some, None, Result, Ok, Err, IfOk}
-use Rattle.std.specs.Prelude.{is_some, unwrap_or}
+use Rattle.std.specs.Prelude.{is_some}
 use denote.Ref.{Bor}
 use Rattle.irig_codes.specs.Format.{FormatView}
 use Rattle.irig_index.specs.Frames.{frames}
@@ -8,18 +8,11 @@ use Rattle.irig_recording.specs.declared.pulse.Pulse.{Pulse}
 use Rattle.irig_track.specs.Edges.{edges_of}
 use Rattle.irig_stamps.specs.declared.fault.RunFault.TheVariants.{OutOfMemory}
 use Rattle.irig_stamps.specs.declared.settings.Settings.{Settings}
-use Rattle.irig_stamps.specs.{Dates.doubted, Dates.first_day, Runs.Ends, declared.fault.RunFault.RunFault}
+use Rattle.irig_stamps.specs.{Dates.doubted, Runs.Ends, declared.fault.RunFault.RunFault}
+use Rattle.irig_stamps.specs.TrackSettings.{day_of, with_track}
 use Rattle.irig_stamps.specs.{Named.Finds, declared.outcome.Outcome.Outcome}
 use Rattle.irig_stamps.specs.declared.outcome.Standing.{Standing}
 use Rattle.irig_times.specs.Support.{believed}
-
--- the day of the first frame of a track that is believed
-abbrev pub day_of : FormatView → List Pulse → Settings → Option ℕ
-day_of f ps s = first_day f (believed f s.alone ps) 0 (frames f ps)
-
--- the settings with that day; 0 if none is
-abbrev pub with_first_day : FormatView → List Pulse → Settings → Settings
-with_first_day f ps s = record s { first_day = unwrap_or (day_of f ps s) 0 }
 
 -- whether a frame of a track is believed, and how many have a time and are not
 abbrev pub standing : Bool → ℕ → Standing
@@ -38,19 +31,19 @@ abbrev pub numbers_of : Result Outcome RunFault → Result Bool RunFault
 numbers_of (Ok outcome) = Ok outcome.numbered
 numbers_of (Err fault) = Err fault
 
--- the run ended as it does with the pulses that have these edges
-pub record AlignsPulses (f : FormatView) (edges : List ℕ) (s : Settings)
+-- the run ended as it does with the pulses that have these edges, in a track of some microseconds
+pub record AlignsPulses (f : FormatView) (micros : ℕ) (edges : List ℕ) (s : Settings)
     (lines left from to : Option (List ℕ)) (result : Result Outcome RunFault) : Type 0 where
   pub pulses : List Pulse
   pub are : edges_of pulses ≡ edges
-  pub ends : Ends f pulses (with_first_day f pulses s) lines left from to (numbers_of result)
+  pub ends : Ends f pulses (with_track f micros pulses s) lines left from to (numbers_of result)
   pub stands : IfOk result (λ outcome. outcome.standing ≡ standing_of f pulses s)
 
 -- the same; or memory ran out, and nothing was read or printed
-abbrev pub AlignsNumbered : FormatView → List ℕ → Settings → Option (List ℕ) → Option (List ℕ)
-    → Option (List ℕ) → Option (List ℕ) → Result Outcome RunFault → Type 0
-AlignsNumbered f edges s lines left from to result =
-    AlignsPulses f edges s lines left from to result
+abbrev pub AlignsNumbered : FormatView → ℕ → List ℕ → Settings → Option (List ℕ)
+    → Option (List ℕ) → Option (List ℕ) → Option (List ℕ) → Result Outcome RunFault → Type 0
+AlignsNumbered f micros edges s lines left from to result =
+    AlignsPulses f micros edges s lines left from to result
     ⊎ ((result ≡ Err OutOfMemory) × ((left ≡ lines) × (to ≡ from)))
 
 -- the settings with the number of a column, from 0
@@ -59,22 +52,23 @@ with_column s k = record s { column = k }
 
 -- the run ended as with the number of the column that has the name in the header; or that column is
 -- not known, and nothing was printed
-abbrev pub AlignsNamed : List ℕ → FormatView → List ℕ → Settings → Option (List ℕ)
+abbrev pub AlignsNamed : List ℕ → FormatView → ℕ → List ℕ → Settings → Option (List ℕ)
     → Option (List ℕ) → Option (List ℕ) → Option (List ℕ) → Result Outcome RunFault → Type 0
-AlignsNamed name f edges s lines left from to result =
+AlignsNamed name f micros edges s lines left from to result =
     ((k : ℕ) × (mid : Option (List ℕ)) × (bytes : List ℕ) × Finds s name lines mid bytes (Ok k)
-    × AlignsPulses f edges (with_column s k) lines left from to result)
+    × AlignsPulses f micros edges (with_column s k) lines left from to result)
     ⊎ ((fault : RunFault) × (bytes : List ℕ) × (result ≡ Err fault)
     × (Finds s name lines left bytes (Err fault) × (to ≡ from)))
 
 -- by the number of the column, or by its name
-abbrev pub AlignsBy : Option (Bor (List ℕ)) → FormatView → List ℕ → Settings → Option (List ℕ)
-    → Option (List ℕ) → Option (List ℕ) → Option (List ℕ) → Result Outcome RunFault → Type 0
-AlignsBy None f edges s lines left from to result =
-    AlignsNumbered f edges s lines left from to result
-AlignsBy (Some name) f edges s lines left from to result =
-    AlignsNamed name.now f edges s lines left from to result
+abbrev pub AlignsBy : Option (Bor (List ℕ)) → FormatView → ℕ → List ℕ → Settings
+    → Option (List ℕ) → Option (List ℕ) → Option (List ℕ) → Option (List ℕ)
+    → Result Outcome RunFault → Type 0
+AlignsBy None f micros edges s lines left from to result =
+    AlignsNumbered f micros edges s lines left from to result
+AlignsBy (Some name) f micros edges s lines left from to result =
+    AlignsNamed name.now f micros edges s lines left from to result
 
-abbrev pub Aligns : FormatView → List ℕ → Settings → Option (List ℕ) → Option (List ℕ)
+abbrev pub Aligns : FormatView → ℕ → List ℕ → Settings → Option (List ℕ) → Option (List ℕ)
     → Option (List ℕ) → Option (List ℕ) → Result Outcome RunFault → Type 0
-Aligns f edges s = AlignsBy s.named f edges s
+Aligns f micros edges s = AlignsBy s.named f micros edges s

@@ -11,6 +11,7 @@ pub mod Runs
 pub mod Named
 pub mod HeaderSteps
 pub mod Steps
+pub mod TrackSettings
 pub mod Aligned
 pub mod Front
 pub mod Printed

@@ -17,8 +17,8 @@ pub record AreTimes (f : FormatView) (s : Settings) (x y : Time) : Type 0 where
   pub some : 0 < d
   pub n : ℕ
   pub m : ℕ
-  pub first : IsTimed f s.alone s.century pulses d n x
-  pub second : IsTimed f s.alone s.century pulses d m y
+  pub first : IsTimed f s.alone s.century micros pulses d n x
+  pub second : IsTimed f s.alone s.century micros pulses d m y
   pub century : s.century ≤ 99
   pub year : IfSome s.year (λ y. y ≤ 9998)
 

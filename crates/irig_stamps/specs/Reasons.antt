@@ -18,6 +18,6 @@ why_text Set = codes "set"
 
 -- what is known of a track: the pulses that have a time; and why others have none, if that is asked for
 pub record IsKnownOf (f : FormatView) (s : Settings) (ps : List Pulse) (k : Known) : Type 0 where
-  pub parts : k.parts.items ≡ timed_parts f s.alone s.century ps
+  pub parts : k.parts.items ≡ timed_parts f s.alone s.century s.micros ps
   pub asked : is_some k.whys ≡ s.why
   pub whys : IfSome k.whys (IsKnown f (believed f s.alone ps) s.century ps)

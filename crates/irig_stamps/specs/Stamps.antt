@@ -27,7 +27,8 @@ taken s v = (if v.negative then v.size else 0) + (if s.early then 0 else s.offse
 -- counted from them
 abbrev pub IsTimeOf : FormatView → List Pulse → Settings → Picos → Time → Type 0
 IsTimeOf f ps s v x =
-    (taken s v ≤ added s v) × IsTimed f s.alone s.century ps 1000000 (added s v - taken s v) x
+    (taken s v ≤ added s v)
+    × IsTimed f s.alone s.century s.micros ps 1000000 (added s v - taken s v) x
 
 -- why there is no time of year at the recorder's time v: it is before the start of the track, or by
 -- the pulses around it

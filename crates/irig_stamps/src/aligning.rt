@@ -5,8 +5,8 @@
 ghost use Rattle.std.specs.Prelude.{◌≡◌, ◌≤◌, ◌<◌, ◌^◌, ℕ, List, Option, IfOk, IfSome};
 ghost use Rattle.std.specs.Io.KnownBytes.{Consumes};
 ghost use Rattle.irig_stamps.specs.Aligned.{Aligns, AlignsNamed, AlignsNumbered, numbers_of};
-ghost use Rattle.irig_stamps.specs.Aligned.{standing_of, with_first_day};
-ghost use Rattle.irig_stamps.specs.Runs.{Ends};
+ghost use Rattle.irig_stamps.specs.Aligned.{standing_of};
+ghost use Rattle.irig_stamps.specs.{Runs.Ends, TrackSettings.with_track};
 
 use crate::fault::RunFault;
 use crate::finding::find;
@@ -40,7 +40,7 @@ pub fn align<R: Read, W: Write>(
     requires year { IfSome settings.now.year (λ y. y ≤ 9998) }
     requires header { settings.now.header < 2 ^ 64 }
     requires named { IfSome settings.now.named (λ n. 0 < settings.now.header) }
-    ensures { Aligns format recording.edges settings.now (R.remaining lines.old)
+    ensures { Aligns format recording.micros recording.edges settings.now (R.remaining lines.old)
         (R.remaining lines.new) (W.contents out.old) (W.contents out.new) result }
 {
     let Some(name) = settings.named else {
@@ -62,8 +62,9 @@ fn align_numbered<R: Read, W: Write>(
     requires offset { settings.now.offset ≤ 2 ^ 119 }
     requires year { IfSome settings.now.year (λ y. y ≤ 9998) }
     requires header { settings.now.header < 2 ^ 64 }
-    ensures { AlignsNumbered format recording.edges settings.now (R.remaining lines.old)
-        (R.remaining lines.new) (W.contents out.old) (W.contents out.new) result }
+    ensures { AlignsNumbered format recording.micros recording.edges settings.now
+        (R.remaining lines.old) (R.remaining lines.new) (W.contents out.old) (W.contents out.new)
+        result }
 {
     let Ok(track) = Track::new(recording) else {
         return Err(RunFault::OutOfMemory);
@@ -87,8 +88,9 @@ fn align_named<R: Read, W: Write>(
     requires year { IfSome settings.now.year (λ y. y ≤ 9998) }
     requires header { settings.now.header < 2 ^ 64 }
     requires named { 0 < settings.now.header }
-    ensures { AlignsNamed name.now format recording.edges settings.now (R.remaining lines.old)
-        (R.remaining lines.new) (W.contents out.old) (W.contents out.new) result }
+    ensures { AlignsNamed name.now format recording.micros recording.edges settings.now
+        (R.remaining lines.old) (R.remaining lines.new) (W.contents out.old) (W.contents out.new)
+        result }
 {
     let found = match find(alloc, lines, settings, name) {
         Ok(found) => found,
@@ -121,7 +123,8 @@ fn align_track<R: Read, W: Write>(
     requires year { IfSome settings.now.year (λ y. y ≤ 9998) }
     requires header { settings.now.header < 2 ^ 64 }
     ensures ends { (start : Option (List ℕ)) → Consumes start (R.remaining lines.old) before.now
-        → Ends format track.now.pulses (with_first_day format track.now.pulses settings.now) start
+        → Ends format track.now.pulses
+        (with_track format track.now.micros track.now.pulses settings.now) start
         (R.remaining lines.new) (W.contents out.old) (W.contents out.new) (numbers_of result) }
     ensures stands { IfOk result (λ outcome.
         outcome.standing ≡ standing_of format track.now.pulses settings.now) }
@@ -136,13 +139,14 @@ fn align_track<R: Read, W: Write>(
     };
     let day = first_day(&mut records, &held, format);
     let doubted = doubted(&mut records, &held, format);
-    let Ok(known) = known_of(alloc, &mut lens, &mut records, &held, format, settings) else {
-        return Err(RunFault::OutOfMemory);
-    };
     // If no frame is believed, no line has a time, and nothing asks for the day.
     let settings = Settings {
         first_day: day.unwrap_or(0),
+        micros: track.length(),
         ..*settings
+    };
+    let Ok(known) = known_of(alloc, &mut lens, &mut records, &held, format, &settings) else {
+        return Err(RunFault::OutOfMemory);
     };
     match run(
         alloc, before, lines, out, &mut lens, &known, format, &settings,

@@ -35,6 +35,7 @@ pub fn known_of(
     requires held { held.now ≡ believed format settings.now.alone pulses.old.track.pulses }
     requires each { length held.now ≡ length records.old.records }
     requires century { settings.now.century ≤ 99 }
+    requires length { settings.now.micros ≡ pulses.old.track.micros }
     ensures known { IfOk result (IsKnownOf format settings.now pulses.old.track.pulses) }
     ensures pulses { pulses.new.track ≡ pulses.old.track }
 {

@@ -37,6 +37,8 @@ pub struct Settings<'a> {
     pub year: Option<u32>,
     /// The day of that frame in its year, from 1. `align` finds it.
     pub first_day: u32,
+    /// How long the track is, in microseconds. `align` finds it.
+    pub micros: u64,
     /// Whether each fine frame is believed, and not only those that another one supports.
     pub alone: bool,
     /// Whether a word says why a line has no time.

@@ -55,7 +55,7 @@ fn time_of(
     picos: Picos,
 ) -> Option<Time>
     requires parts { parts.now ≡ timed_parts format settings.now.alone
-        settings.now.century pulses.old.track.pulses }
+        settings.now.century settings.now.micros pulses.old.track.pulses }
     requires century { settings.now.century ≤ 99 }
     requires offset { settings.now.offset ≤ 2 ^ 119 }
     ensures exact { (v : Picos) → picos ≡ capped v → (x : Time) → (result ≡ Some x)

@@ -7,7 +7,7 @@ ghost use Rattle.std.specs.Prelude.{IfSome, OnOk, Option};
 ghost use Rattle.irig_index.specs.{Frames.frames, declared.record.Record.Record};
 ghost use Rattle.irig_times.specs.{Starts.IsStartOf, declared.start.FrameStart.FrameStart};
 ghost use Rattle.irig_times.specs.Support.{believed};
-ghost use Rattle.irig_stamps.specs.Aligned.{with_first_day};
+ghost use Rattle.irig_stamps.specs.TrackSettings.{with_first_day};
 ghost use Rattle.irig_stamps.specs.Tables.{IsTable, Lists, ListsRecording, answer_of, row_of};
 ghost use Rattle.irig_stamps.specs.Tables.{row_text};
 

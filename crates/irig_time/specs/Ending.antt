@@ -14,22 +14,24 @@ use Rattle.irig_time.specs.{declared.chosen.Chosen.Chosen, declared.ending.Endin
 abbrev pub Held : Type 0
 Held = List ℕ → Option (List ℕ)
 
--- the lines were aligned with the pulses that have these edges, of which a frame is believed, or
--- none has a time, or some are not believed; or the run was broken off
-abbrev pub AlignsAs : Chosen → List ℕ → Option (List ℕ) → Option (List ℕ) → Option (List ℕ)
+-- the lines were aligned with the pulses that have these edges, in a track of some microseconds. A
+-- frame is believed, or none has a time, or some are not believed; or the run was broken off
+abbrev pub AlignsAs : Chosen → ℕ → List ℕ → Option (List ℕ) → Option (List ℕ) → Option (List ℕ)
     → Option (List ℕ) → Ending → Type 0
-AlignsAs chosen edges lines left from to (Aligned all) =
-    Aligns chosen.format edges chosen.settings lines left from to (Ok (outcome all (standing true 0)))
-AlignsAs chosen edges lines left from to (Timeless path) =
+AlignsAs chosen micros edges lines left from to (Aligned all) =
+    Aligns chosen.format micros edges chosen.settings lines left from to
+    (Ok (outcome all (standing true 0)))
+AlignsAs chosen micros edges lines left from to (Timeless path) =
     (path ≡ chosen.track) × (all : Bool)
-    × Aligns chosen.format edges chosen.settings lines left from to (Ok (outcome all (standing false 0)))
-AlignsAs chosen edges lines left from to (Doubted path count) =
+    × Aligns chosen.format micros edges chosen.settings lines left from to
+    (Ok (outcome all (standing false 0)))
+AlignsAs chosen micros edges lines left from to (Doubted path count) =
     (path ≡ chosen.track) × (0 < count) × (all : Bool) × (timed : Bool)
-    × Aligns chosen.format edges chosen.settings lines left from to
+    × Aligns chosen.format micros edges chosen.settings lines left from to
     (Ok (outcome all (standing timed count)))
-AlignsAs chosen edges lines left from to (Broken fault) =
-    Aligns chosen.format edges chosen.settings lines left from to (Err fault)
-AlignsAs chosen edges lines left from to _ = ⊥
+AlignsAs chosen micros edges lines left from to (Broken fault) =
+    Aligns chosen.format micros edges chosen.settings lines left from to (Err fault)
+AlignsAs chosen micros edges lines left from to _ = ⊥
 
 -- the same with the table of the pulses that have these edges
 abbrev pub ListsAs : Chosen → List ℕ → Option (List ℕ) → Option (List ℕ) → Ending → Type 0
@@ -46,19 +48,19 @@ ListsAs chosen edges from to (Broken fault) =
 ListsAs chosen edges from to _ = ⊥
 
 -- the table was printed and no line read, if it is asked for; else the lines were aligned
-abbrev pub RunsAs : Bool → Chosen → List ℕ → Option (List ℕ) → Option (List ℕ) → Option (List ℕ)
-    → Option (List ℕ) → Ending → Type 0
-RunsAs true chosen edges lines left from to ending =
+abbrev pub RunsAs : Bool → Chosen → ℕ → List ℕ → Option (List ℕ) → Option (List ℕ)
+    → Option (List ℕ) → Option (List ℕ) → Ending → Type 0
+RunsAs true chosen micros edges lines left from to ending =
     (left ≡ lines) × ListsAs chosen edges from to ending
-RunsAs false chosen edges lines left from to ending =
-    AlignsAs chosen edges lines left from to ending
+RunsAs false chosen micros edges lines left from to ending =
+    AlignsAs chosen micros edges lines left from to ending
 
--- the same with the edges of the wire that the file says
+-- the same with the length and the edges of the wire that the file says
 pub record RunsFile (held : Held) (chosen : Chosen) (lines left from to : Option (List ℕ))
     (ending : Ending) : Type 0 where
   pub recording : RecordingView
   pub of_track : Says chosen.window (held chosen.track.now) (name_in chosen.wire) recording
-  pub ran : RunsAs chosen.table chosen recording.edges lines left from to ending
+  pub ran : RunsAs chosen.table chosen recording.micros recording.edges lines left from to ending
 
 -- what is asked for was done with the track; or it was not read, and nothing was read or printed
 abbrev pub Obeys : Held → Unreadable → Chosen → Option (List ℕ) → Option (List ℕ)

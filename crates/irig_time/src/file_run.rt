@@ -60,8 +60,9 @@ fn run_track<'a, R: Read, W: Write>(
     out: &mut W,
 ) -> Ending<'a>
     requires sound { IsSound chosen.now.settings }
-    ensures { RunsAs chosen.now.table chosen.now recording.edges (R.remaining lines.old)
-        (R.remaining lines.new) (W.contents out.old) (W.contents out.new) result }
+    ensures { RunsAs chosen.now.table chosen.now recording.micros recording.edges
+        (R.remaining lines.old) (R.remaining lines.new) (W.contents out.old) (W.contents out.new)
+        result }
 {
     if chosen.table {
         list_track(alloc, chosen, recording, out)
@@ -99,7 +100,7 @@ fn align_track<'a, R: Read, W: Write>(
     out: &mut W,
 ) -> Ending<'a>
     requires sound { IsSound chosen.now.settings }
-    ensures { AlignsAs chosen.now recording.edges (R.remaining lines.old)
+    ensures { AlignsAs chosen.now recording.micros recording.edges (R.remaining lines.old)
         (R.remaining lines.new) (W.contents out.old) (W.contents out.new) result }
 {
     match align(

@@ -102,6 +102,7 @@ fn settings_of<'a>(asked: &Asked<'a>) -> Result<Settings<'a>, OptionFault>
         century: dates.century,
         year: dates.year,
         first_day: 0,
+        micros: 0,
         alone: stands_alone(asked),
         why: asks_why(asked),
         form: dates.form,

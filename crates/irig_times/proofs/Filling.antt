@@ -14,6 +14,7 @@ use Rattle.irig_times.specs.Sides.{between, borne_at, side_after, side_before, s
 use Rattle.irig_times.specs.Torn.{are_tens, is_torn, tenths_found}
 use Rattle.irig_times.specs.Counted.{filled, kept_at, sides_before, sides_without, with_frame, with_sides}
 use Rattle.irig_times.specs.Jumps.{after_jump, before_jump, is_jump_between}
+use Rattle.irig_times.specs.Silence.{counted_after, counted_before, counts_after, counts_before, heard_after, heard_before}
 use Rattle.irig_times.specs.Follows.{is_later}
 use Rattle.irig_times.specs.Parts.{AreParts, IsFrameTime, IsPart, is_empty}
 use Rattle.irig_times.specs.Laws.{IsOfCalendar}
@@ -239,6 +240,16 @@ module _ (f : FormatView) (ps : List Pulse) where
       let few = behind-few f ps (min b.number 100) b.number in
       alone-fits 0 b.number (tail_of b (behind f ps b.number (min b.number 100)) x) (omega arith) (grind (arith, few)) (grind (arith, few)) cal
 
+-- what counts at an end is what is counted there
+pub heard-before-holds : (P : Part × Part → Type 0) (f : FormatView) (ps : List Pulse) (s : Option (Part × Part)) → IfSome s P → IfSome (heard_before f ps s) P
+heard-before-holds P f ps None h = tt
+heard-before-holds P f ps (Some s) h = cond-holds (λ o. IfSome o P) (counts_before f ps s.0) _ _ (λ on. h) (λ off. tt)
+
+pub heard-after-holds : (P : Part × Part → Type 0) (f : FormatView) (micros : ℕ) (ps : List Pulse) (s : Option (Part × Part)) → IfSome s P
+    → IfSome (heard_after f micros ps s) P
+heard-after-holds P f micros ps None h = tt
+heard-after-holds P f micros ps (Some s) h = cond-holds (λ o. IfSome o P) (counts_after f micros ps s.0) _ _ (λ on. h) (λ off. tt)
+
 -- a part of a part of a frame
 min-few : (k m : ℕ) → min k m ≤ k
 min-few k m = grind arith
@@ -275,7 +286,7 @@ module _ (f : FormatView) where
         is = two.is;
       }
 
-module _ (f : FormatView) (century : ℕ) (ps : List Pulse) where
+module _ (f : FormatView) (century micros : ℕ) (ps : List Pulse) where
   abbrev n : ℕ
   n = length ps
 
@@ -287,9 +298,10 @@ module _ (f : FormatView) (century : ℕ) (ps : List Pulse) where
   before-fit : (before : Option Part) (from : ℕ) (b : Part) → Ends before from → from ≤ b.number → IsPart f b
       → IfSome (sides_before f century ps before b) (Fit f from b.number)
   before-fit None from b ends le is =
-      subst (λ k. IfSome (end_before f ps b) (Fit f k b.number)) (sym ends)
+      subst (λ k. IfSome (counted_before f ps b) (Fit f k b.number)) (sym ends)
+      (heard-before-holds (Fit f 0 b.number) f ps (end_before f ps b)
       (cond-holds (λ o. IfSome o (Fit f 0 b.number)) (is_empty b) _ _ (λ none. tt)
-      (λ some. first-fits f ps b (time_before (frame_period_of f.kind) b.time) (before-is f century b.time is.time)))
+      (λ some. first-fits f ps b (time_before (frame_period_of f.kind) b.time) (before-is f century b.time is.time))))
   before-fit (Some a) from b ends le is =
       subst (λ k. IfSome (sides_before f century ps (Some a) b) (Fit f k b.number)) (sym ends.0)
       (cond-holds (λ o. IfSome o (Fit f (a.number + a.count) b.number)) (is_empty a) _ _ (λ none. tt)
@@ -311,27 +323,29 @@ module _ (f : FormatView) (century : ℕ) (ps : List Pulse) where
   without-fit true before from b ends le is = tt
   without-fit false before from b ends le is = before-fit before from b ends le is
 
-  after-fit : (before : Option Part) (from : ℕ) → Ends before from → from ≤ n → IfSome (end_after f ps before) (Fit f from n)
+  after-fit : (before : Option Part) (from : ℕ) → Ends before from → from ≤ n → IfSome (counted_after f micros ps before) (Fit f from n)
   after-fit None from ends le = tt
   after-fit (Some a) from ends le =
-      subst (λ k. IfSome (end_after f ps (Some a)) (Fit f k n)) (sym ends.0)
+      subst (λ k. IfSome (counted_after f micros ps (Some a)) (Fit f k n)) (sym ends.0)
+      (heard-after-holds (Fit f (a.number + a.count) n) f micros ps (end_after f ps (Some a))
       (cond-holds (λ o. IfSome o (Fit f (a.number + a.count) n)) (is_empty a) _ _ (λ none. tt)
-      (λ some. last-fits f ps a (next_time (frame_period_of f.kind) a.time) (omega (arith, ends.0, le)) (next-is f century a.time ends.1.time)))
+      (λ some. last-fits f ps a (next_time (frame_period_of f.kind) a.time) (omega (arith, ends.0, le)) (next-is f century a.time ends.1.time))))
 
   ended : (s : Option (Part × Part)) (from : ℕ) → IfSome s (Fit f from n) → from ≤ n → AreParts f from n (with_sides s [])
   ended None from fits le = le
   ended (Some s) from fits le = (fits.first, fits.one, (fits.middle, fits.two, fits.last))
 
-  filled-from : (before : Option Part) (from : ℕ) (parts : List Part) → Ends before from → AreParts f from n parts → AreParts f from n (filled f century ps before parts)
-  filled-from before from [] ends are = ended (end_after f ps before) from (after-fit before from ends are) are
+  filled-from : (before : Option Part) (from : ℕ) (parts : List Part) → Ends before from → AreParts f from n parts
+      → AreParts f from n (filled f century micros ps before parts)
+  filled-from before from [] ends are = ended (counted_after f micros ps before) from (after-fit before from ends are) are
   filled-from before from (b ∷ parts) ends are =
       with-fit (sides_without (is_jump_between f century ps before (Some b)) f century ps before b) from b (kept_at f century ps before b (slice_get parts 0))
-      (filled f century ps (Some b) parts) (without-fit (is_jump_between f century ps before (Some b)) before from b ends are.0 are.1) are.0
+      (filled f century micros ps (Some b) parts) (without-fit (is_jump_between f century ps before (Some b)) before from b ends are.0 are.1) are.0
       (kept-cut f century ps before b (slice_get parts 0) are.1)
       (filled-from (Some b) (b.number + b.count) parts (refl, are.1) are.2)
 
   -- with what is counted they are parts of the track
-  pub filled-are : (parts : List Part) → AreParts f 0 n parts → AreParts f 0 n (filled f century ps None parts)
+  pub filled-are : (parts : List Part) → AreParts f 0 n parts → AreParts f 0 n (filled f century micros ps None parts)
   filled-are parts are = filled-from None 0 parts refl are
 
   -- each frame next to which the time does not jump stays
@@ -351,20 +365,20 @@ module _ (f : FormatView) (century : ℕ) (ps : List Pulse) where
 
   pub filled-stays : (before : Option Part) (parts : List Part) (k : ℕ) (p : Part) → slice_get parts k ≡ Some p
       → is_jump_between f century ps (earlier before parts k) (Some p) ≡ false → is_jump_between f century ps (Some p) (slice_get parts (k + 1)) ≡ false
-      → (i : ℕ) × (slice_get (filled f century ps before parts) i ≡ Some p)
+      → (i : ℕ) × (slice_get (filled f century micros ps before parts) i ≡ Some p)
   filled-stays before [] k p here first last = absurd (none-some p here)
   filled-stays before (b ∷ parts) zero p here first last =
       let same : b ≡ p = same_Some b p here in
       let whole : kept_at f century ps before b (slice_get parts 0) ≡ p =
       ap (λ q. kept_at f century ps before q (slice_get parts 0)) same ∙ kept-whole before p (slice_get parts 0) first last in
       with-stays (sides_without (is_jump_between f century ps before (Some b)) f century ps before b) (kept_at f century ps before b (slice_get parts 0))
-      (filled f century ps (Some b) parts) zero p (ap Some whole)
+      (filled f century micros ps (Some b) parts) zero p (ap Some whole)
   filled-stays before (b ∷ parts) (suc k) p here first last =
       let e : suc k + 1 ≡ suc (k + 1) = omega arith in
       let end = subst (λ i. is_jump_between f century ps (Some p) (slice_get (b ∷ parts) i) ≡ false) e last in
       let it = filled-stays (Some b) parts k p here (earlier-same before b parts k p first) end in
       with-stays (sides_without (is_jump_between f century ps before (Some b)) f century ps before b) (kept_at f century ps before b (slice_get parts 0))
-      (filled f century ps (Some b) parts) (suc it.0) p it.1
+      (filled f century micros ps (Some b) parts) (suc it.0) p it.1
     where
       earlier-same : (before : Option Part) (b : Part) (parts : List Part) (k : ℕ) (p : Part) → is_jump_between f century ps (slice_get (b ∷ parts) k) (Some p) ≡ false
           → is_jump_between f century ps (earlier (Some b) parts k) (Some p) ≡ false
@@ -385,12 +399,12 @@ module _ (f : FormatView) (century : ℕ) (ps : List Pulse) where
 
   pub filled-more : (whole : List Part) (before : Option Part) (k : ℕ) (part : Part) (list new all : List Part)
       → slice_get whole k ≡ Some part → new ≡ list ++ with_frame f century ps before part (slice_get whole (k + 1)) []
-      → list ++ filled f century ps before (drop k whole) ≡ all → new ++ filled f century ps (Some part) (drop (k + 1) whole) ≡ all
+      → list ++ filled f century micros ps before (drop k whole) ≡ all → new ++ filled f century micros ps (Some part) (drop (k + 1) whole) ≡ all
   filled-more whole before k part list new all here grows so_far =
-      let rest = filled f century ps (Some part) (drop (k + 1) whole) in
+      let rest = filled f century micros ps (Some part) (drop (k + 1) whole) in
       let next : slice_get (drop (k + 1) whole) 0 ≡ slice_get whole (k + 1) = first-of whole (k + 1) in
-      let step : filled f century ps before (drop k whole) ≡ with_frame f century ps before part (slice_get whole (k + 1)) [] ++ rest =
-      ap (filled f century ps before) (from-at whole k part here)
+      let step : filled f century micros ps before (drop k whole) ≡ with_frame f century ps before part (slice_get whole (k + 1)) [] ++ rest =
+      ap (filled f century micros ps before) (from-at whole k part here)
       ∙ (ap (λ o. with_frame f century ps before part o rest) next ∙ frame-more before part (slice_get whole (k + 1)) rest) in
       ap (λ l. l ++ rest) grows
       ∙ (append_assoc list (with_frame f century ps before part (slice_get whole (k + 1)) []) rest

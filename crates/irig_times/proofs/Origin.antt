@@ -13,11 +13,12 @@ use Rattle.irig_times.specs.Between.{gap, head_left, head_of, is_seam, kept, sid
 use Rattle.irig_times.specs.Sides.{between, borne_at, side_after, side_before, sides_in, sides_of}
 use Rattle.irig_times.specs.Torn.{are_tens, is_torn, tenths_found}
 use Rattle.irig_times.specs.{Counted.filled, Counted.kept_at, Counted.sides_before, Counted.sides_without, Counted.with_sides, Jumps.is_jump_between}
-use Rattle.irig_times.specs.Ends.{after_last, alone, before_first, end_after, is_borne_out}
+use Rattle.irig_times.specs.Ends.{after_last, alone, before_first, end_after, end_before, is_borne_out}
+use Rattle.irig_times.specs.Silence.{counted_after}
 use Rattle.irig_times.specs.Origins.{CountedBack, CountedOn, InFrame, IsBelieved, TimesAreCounted}
 use Rattle.irig_times.specs.Steps.{ahead, behind, is_in_step_at}
 use Rattle.irig_times.specs.Whole.{whole, whole_in, with_part}
-use Rattle.irig_times.proofs.Filling.{Cut, ahead-few, behind-few, head-few, kept-cut, kept-few, tail-few}
+use Rattle.irig_times.proofs.Filling.{Cut, ahead-few, behind-few, head-few, heard-after-holds, heard-before-holds, kept-cut, kept-few, tail-few}
 use Rattle.irig_times.proofs.SideCounts.{borne_at-few, cond-holds}
 use Rattle.irig_times.proofs.NextTimes.{before-later, missing-by-later, next-later}
 use Rattle.irig_times.proofs.{PartPlaces.part-of, WholeFrames.whole-are}
@@ -230,15 +231,16 @@ module _ (f : FormatView) (alone_frames : Bool) (century : ℕ) (ps : List Pulse
       alone-counted (tail_of b (behind f ps b.number (min b.number 100)) x) (tail-counted b hb (min b.number 100) _ x h (at-most b.number 100).0 (at-most b.number 100).1 (omega arith))
 
   before-counted : (before : Option Part) (b : Part) → IfSome before IsSeen → IsSeen b → IfSome (sides_before f century ps before b) BothCounted
-  before-counted None b ha hb = cond-holds (λ o. IfSome o BothCounted) (is_empty b) _ _ (λ none. tt)
-      (λ some. first-counted b (hb some) _ (before-later f century b.time (hb some).time))
+  before-counted None b ha hb = heard-before-holds BothCounted f ps (end_before f ps b) (cond-holds (λ o. IfSome o BothCounted) (is_empty b) _ _ (λ none. tt)
+      (λ some. first-counted b (hb some) _ (before-later f century b.time (hb some).time)))
   before-counted (Some a) b ha hb = cond-holds (λ o. IfSome o BothCounted) (is_empty a) _ _ (λ none. tt)
       (λ first. cond-holds (λ o. IfSome o BothCounted) (is_empty b) _ _ (λ none. tt) (λ last. between-counted a b (ha first) (hb last)))
 
-  after-counted : (before : Option Part) → IfSome before IsSeen → IfSome (end_after f ps before) BothCounted
-  after-counted None h = tt
-  after-counted (Some a) h = cond-holds (λ o. IfSome o BothCounted) (is_empty a) _ _ (λ none. tt)
-      (λ some. last-counted a (h some) _ (next-later f century a.time (h some).time))
+  after-counted : (micros : ℕ) (before : Option Part) → IfSome before IsSeen → IfSome (counted_after f micros ps before) BothCounted
+  after-counted micros None h = tt
+  after-counted micros (Some a) h = heard-after-holds BothCounted f micros ps (end_after f ps (Some a))
+      (cond-holds (λ o. IfSome o BothCounted) (is_empty a) _ _ (λ none. tt)
+      (λ some. last-counted a (h some) _ (next-later f century a.time (h some).time)))
 
   abbrev AllCounted : List Part → Type 0
   AllCounted parts = (k : ℕ) (p : Part) → slice_get parts k ≡ Some p → EachCounted p
@@ -271,17 +273,18 @@ module _ (f : FormatView) (alone_frames : Bool) (century : ℕ) (ps : List Pulse
   without-counted true before b ha hb = tt
   without-counted false before b ha hb = before-counted before b ha hb
 
-  filled-counted : (before : Option Part) (parts : List Part) → IfSome before IsSeen → ((k : ℕ) (p : Part) → slice_get parts k ≡ Some p → IsSeen p)
+  filled-counted : (micros : ℕ) (before : Option Part) (parts : List Part) → IfSome before IsSeen → ((k : ℕ) (p : Part) → slice_get parts k ≡ Some p → IsSeen p)
       → ((k : ℕ) (p : Part) → slice_get parts k ≡ Some p → IsPart f p)
-      → AllCounted (filled f century ps before parts)
-  filled-counted before [] h all are = with-counted (end_after f ps before) [] (after-counted before h) none-there
-  filled-counted before (b ∷ parts) h all are =
+      → AllCounted (filled f century micros ps before parts)
+  filled-counted micros before [] h all are = with-counted (counted_after f micros ps before) [] (after-counted micros before h) none-there
+  filled-counted micros before (b ∷ parts) h all are =
       let hb = all 0 b refl in
       let kept = kept_at f century ps before b (slice_get parts 0) in
-      with-counted (sides_without (is_jump_between f century ps before (Some b)) f century ps before b) (kept ∷ filled f century ps (Some b) parts)
+      with-counted (sides_without (is_jump_between f century ps before (Some b)) f century ps before b) (kept ∷ filled f century micros ps (Some b) parts)
       (without-counted (is_jump_between f century ps before (Some b)) before b h hb)
-      (one-there kept (filled f century ps (Some b) parts) (cut-counted b kept (kept-cut f century ps before b (slice_get parts 0) (are 0 b refl)) (seen-counted b hb))
-      (filled-counted (Some b) parts hb (λ k p here. all (suc k) p here) (λ k p here. are (suc k) p here)))
+      (one-there kept (filled f century micros ps (Some b) parts)
+      (cut-counted b kept (kept-cut f century ps before b (slice_get parts 0) (are 0 b refl)) (seen-counted b hb))
+      (filled-counted micros (Some b) parts hb (λ k p here. all (suc k) p here) (λ k p here. are (suc k) p here)))
 
 -- a whole part is of a record
 record OfRecord (f : FormatView) (rs : List Record) (held : List Bool) (p : Part) : Type 0 where
@@ -331,9 +334,10 @@ whole-is f alone_frames century ps k p here some =
     }
 
 pub times_are_counted : TimesAreCounted
-times_are_counted f alone_frames century ps number element time is =
+times_are_counted f alone_frames century micros ps number element time is =
     let skip = number - is.one.number in
-    let all = filled-counted f alone_frames century ps None (whole_in f (frames f ps) (believed f alone_frames ps)) tt (whole-is f alone_frames century ps)
+    let all = filled-counted f alone_frames century ps micros None (whole_in f (frames f ps) (believed f alone_frames ps)) tt
+    (whole-is f alone_frames century ps)
     (λ k p here. (part-of f (length ps) 0 _ (whole-are f ps (believed f alone_frames ps)) k p here).2) in
     let it = all is.at is.one is.there skip (omega (arith, is.few, is.from)) in
     let here : is.one.number + skip ≡ number = omega (arith, is.from) in

@@ -74,10 +74,10 @@ module _ (f : FormatView) (held : List Bool) (century : ℕ) (ps : List Pulse) w
       (why_in f century ps whole number it.0, record { count = it.0; few = it.1; begun = it.2; is = refl })
 
 pub one_why : OneWhy
-one_why f alone century ps d n v w a b = why-once f (believed f alone ps) century ps (risen_by (n / d) ps) v w a.is b.is
+one_why f alone century micros ps d n v w a b = why-once f (believed f alone ps) century ps (risen_by (n / d) ps) v w a.is b.is
 
 pub none_iff_why : NoneIffWhy
-none_iff_why f alone century ps d n = (
+none_iff_why f alone century micros ps d n = (
   λ none. (let it = why-there f (believed f alone ps) century ps (risen_by (n / d) ps) in (it.0, record { none = none; is = it.1 })),
   λ h. h.1.none,
 )

@@ -7,7 +7,8 @@ use Rattle.irig_codes.specs.Format.{FormatView}
 use Rattle.irig_recording.specs.declared.pulse.Pulse.{Pulse}
 use Rattle.irig_index.specs.Frames.{frames}
 use Rattle.irig_times.specs.{declared.part.Part.Part, Sides.between, Support.believed}
-use Rattle.irig_times.specs.{Ends.end_after, Ends.end_before, Jumps.after_jump, Jumps.before_jump}
+use Rattle.irig_times.specs.{Jumps.after_jump, Jumps.before_jump}
+use Rattle.irig_times.specs.Silence.{counted_after, counted_before}
 use Rattle.irig_times.specs.{Jumps.is_jump_between, declared.time.Time.Time}
 use Rattle.irig_times.specs.{Parts.TellsByParts, Parts.is_empty, Whole.whole_in}
 
@@ -18,7 +19,7 @@ with_sides (Some s) parts = s.0 ∷ s.1 ∷ parts
 
 -- what is counted between a frame and the one before it, if both are believed, or before the first
 abbrev pub sides_before : FormatView → ℕ → List Pulse → Option Part → Part → Option (Part × Part)
-sides_before f century ps None b = end_before f ps b
+sides_before f century ps None b = counted_before f ps b
 sides_before f century ps (Some a) b =
     if is_empty a then None else (if is_empty b then None else between f century ps a b)
 
@@ -41,21 +42,23 @@ with_frame f century ps before b next parts =
     with_sides (sides_without (is_jump_between f century ps before (Some b)) f century ps before b)
     (kept_at f century ps before b next ∷ parts)
 
--- the parts from a frame on, and what is counted before, between and after them
-abbrev pub filled : FormatView → ℕ → List Pulse → Option Part → List Part → List Part
-filled f century ps before [] = with_sides (end_after f ps before) []
-filled f century ps before (b ∷ parts) =
-    with_frame f century ps before b (slice_get parts 0) (filled f century ps (Some b) parts)
+-- the parts from a frame on, and what is counted before, between and after them, in a track of some
+-- microseconds
+abbrev pub filled : FormatView → ℕ → ℕ → List Pulse → Option Part → List Part → List Part
+filled f century micros ps before [] = with_sides (counted_after f micros ps before) []
+filled f century micros ps before (b ∷ parts) =
+    with_frame f century ps before b (slice_get parts 0) (filled f century micros ps (Some b) parts)
 
 -- all parts of a track that have a time, if of each record `held` says whether its frame is believed
-abbrev pub parts_by : FormatView → List Bool → ℕ → List Pulse → List Part
-parts_by f held century ps = filled f century ps None (whole_in f (frames f ps) held)
+abbrev pub parts_by : FormatView → List Bool → ℕ → ℕ → List Pulse → List Part
+parts_by f held century micros ps =
+    filled f century micros ps None (whole_in f (frames f ps) held)
 
 -- all parts of a track that have a time
-abbrev pub timed_parts : FormatView → Bool → ℕ → List Pulse → List Part
-timed_parts f alone century ps = parts_by f (believed f alone ps) century ps
+abbrev pub timed_parts : FormatView → Bool → ℕ → ℕ → List Pulse → List Part
+timed_parts f alone century micros ps = parts_by f (believed f alone ps) century micros ps
 
 -- n / d microseconds after the start of a track it is this time
-abbrev pub IsTimed : FormatView → Bool → ℕ → List Pulse → ℕ → ℕ → Time → Type 0
-IsTimed f alone century ps d n x =
-    TellsByParts f century ps (timed_parts f alone century ps) d n x
+abbrev pub IsTimed : FormatView → Bool → ℕ → ℕ → List Pulse → ℕ → ℕ → Time → Type 0
+IsTimed f alone century micros ps d n x =
+    TellsByParts f century ps (timed_parts f alone century micros ps) d n x

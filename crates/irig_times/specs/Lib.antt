@@ -14,6 +14,7 @@ pub mod Origins
 pub mod PartLaws
 pub mod Parts
 pub mod Sides
+pub mod Silence
 pub mod Starts
 pub mod Steps
 pub mod Support

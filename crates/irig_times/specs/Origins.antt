@@ -55,9 +55,9 @@ pub record CountedBack (f : FormatView) (alone : Bool) (century : ℕ) (ps : Lis
 
 -- each pulse that has a time has it so
 abbrev pub TimesAreCounted : Type 0
-TimesAreCounted = (f : FormatView) (alone : Bool) (century : ℕ) (ps : List Pulse)
+TimesAreCounted = (f : FormatView) (alone : Bool) (century micros : ℕ) (ps : List Pulse)
     (number element : ℕ) (time : Time)
-    → IsPoint (timed_parts f alone century ps) number element time
+    → IsPoint (timed_parts f alone century micros ps) number element time
     → InFrame f alone ps number element time
     ⊎ (CountedOn f alone century ps number element time
     ⊎ CountedBack f alone century ps number element time)

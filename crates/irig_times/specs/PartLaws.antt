@@ -62,8 +62,8 @@ PicosecondsByParts = (f : FormatView) (century micros : ℕ) (ps : List Pulse) (
 
 -- the parts of a track that have a time are parts of it: no pulse is in two of them
 abbrev pub TimedPartsAreParts : Type 0
-TimedPartsAreParts = (f : FormatView) (alone : Bool) (century : ℕ) (ps : List Pulse)
-    → AreParts f 0 (length ps) (timed_parts f alone century ps)
+TimedPartsAreParts = (f : FormatView) (alone : Bool) (century micros : ℕ) (ps : List Pulse)
+    → AreParts f 0 (length ps) (timed_parts f alone century micros ps)
 
 -- the time does not jump next to the frame with this marker: neither between the frame with a time
 -- before it and this one, nor between this one and the next; and no pulse at an end of the track says
@@ -86,11 +86,12 @@ HeldGoesOn f alone century ps number element g =
 -- last element of a frame that no other one that is believed follows, and for frames next to which
 -- the time jumps
 abbrev pub KeepsTimes : Type 0
-KeepsTimes = (f : FormatView) (alone : Bool) (century : ℕ) (ps : List Pulse) (d n : ℕ) (x : Time)
+KeepsTimes = (f : FormatView) (alone : Bool) (century micros : ℕ) (ps : List Pulse) (d n : ℕ)
+    (x : Time)
     → (a : HasTime f century ps (believed f alone ps) d n x)
     → IsSteady f alone century ps a.told.is_element.one.marker
     → HeldGoesOn f alone century ps a.told.number a.told.element a.told.fields
-    → TellsByParts f century ps (timed_parts f alone century ps) d n x
+    → TellsByParts f century ps (timed_parts f alone century micros ps) d n x
 
 -- where each pulse between two moments has a time that goes on, the time never falls: it is later by
 -- the calendar, by less than an interval more than there are pulses between them

@@ -23,21 +23,22 @@ IsWhy f held century ps (suc number) why =
     IsWhyBy f century ps (whole_in f (frames f ps) held) number why
 
 -- n / d microseconds after the start of a track there is no time, and this is why
-pub record HasNoTime (f : FormatView) (alone : Bool) (century : ℕ) (ps : List Pulse) (d n : ℕ)
-    (why : Why) : Type 0 where
-  pub none : (x : Time) → IsTimed f alone century ps d n x → ⊥
+pub record HasNoTime (f : FormatView) (alone : Bool) (century micros : ℕ) (ps : List Pulse)
+    (d n : ℕ) (why : Why) : Type 0 where
+  pub none : (x : Time) → IsTimed f alone century micros ps d n x → ⊥
   pub is : IsWhy f (believed f alone ps) century ps (risen_by (n / d) ps) why
 
 -- a moment has no time for one reason at most
 abbrev pub OneWhy : Type 0
-OneWhy = (f : FormatView) (alone : Bool) (century : ℕ) (ps : List Pulse) (d n : ℕ) (v w : Why)
-    → HasNoTime f alone century ps d n v → HasNoTime f alone century ps d n w → v ≡ w
+OneWhy = (f : FormatView) (alone : Bool) (century micros : ℕ) (ps : List Pulse) (d n : ℕ)
+    (v w : Why)
+    → HasNoTime f alone century micros ps d n v → HasNoTime f alone century micros ps d n w → v ≡ w
 
 -- it has none exactly if there is a reason
 abbrev pub NoneIffWhy : Type 0
-NoneIffWhy = (f : FormatView) (alone : Bool) (century : ℕ) (ps : List Pulse) (d n : ℕ)
-    → ((x : Time) → IsTimed f alone century ps d n x → ⊥)
-    ↔ ((why : Why) × HasNoTime f alone century ps d n why)
+NoneIffWhy = (f : FormatView) (alone : Bool) (century micros : ℕ) (ps : List Pulse) (d n : ℕ)
+    → ((x : Time) → IsTimed f alone century micros ps d n x → ⊥)
+    ↔ ((why : Why) × HasNoTime f alone century micros ps d n why)
 
 -- why there is no time before each of some frames, and after the last
 abbrev pub AreWhys : FormatView → ℕ → List Pulse → List Part → List Why → Type 0

@@ -12,10 +12,10 @@ ghost use Rattle.irig_times.specs.Between.{missing_by, sides, sides_at, sides_by
 ghost use Rattle.irig_times.specs.Between.{tail_left, tail_of};
 ghost use Rattle.irig_times.specs.Counted.{sides_before};
 
-use crate::ends::end_before;
 use crate::missing::{Missing, missing_in, rounded};
 use crate::part::Part;
 use crate::sides::between;
+use crate::silence::counted_before;
 use crate::steps::{follows_at, pulse_at};
 use crate::time::Time;
 use irig_codes::Format;
@@ -235,6 +235,6 @@ pub fn sides_before(
     match from {
         Some(from) if from.is_empty() || to.is_empty() => None,
         Some(from) => between(pulses, format, century, &from, to),
-        None => end_before(pulses, format, to),
+        None => counted_before(pulses, format, to),
     }
 }

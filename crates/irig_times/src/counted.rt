@@ -13,10 +13,10 @@ ghost use Rattle.irig_times.specs.Counted.{with_sides};
 ghost use Rattle.irig_times.specs.Parts.{AreParts};
 
 use crate::between::sides_before;
-use crate::ends::end_after;
 use crate::frame_lens::FrameLens;
 use crate::jumps::{after_jump, before_jump, is_jump_between};
 use crate::part::Part;
+use crate::silence::counted_after;
 use crate::whole::whole_parts;
 use irig_codes::Format;
 use irig_track::Lens;
@@ -38,7 +38,7 @@ pub fn timed_parts(
     requires held { length held.now ≡ length records.old.records }
     requires century { century ≤ 99 }
     ensures parts { IfOk result (λ list. list.items
-        ≡ parts_by format held.now century pulses.old.track.pulses) }
+        ≡ parts_by format held.now century pulses.old.track.micros pulses.old.track.pulses) }
     ensures pulses { pulses.new.track ≡ pulses.old.track }
     ensures same { records.new.records ≡ records.old.records }
 {
@@ -58,7 +58,7 @@ fn counted_parts(
     requires century { century ≤ 99 }
     requires whole { AreParts format 0 (length pulses.old.track.pulses) whole.now }
     ensures parts { IfOk result (λ list. list.items
-        ≡ filled format century pulses.old.track.pulses None whole.now) }
+        ≡ filled format century pulses.old.track.micros pulses.old.track.pulses None whole.now) }
     ensures pulses { pulses.new.track ≡ pulses.old.track }
 {
     // The count is not used: what the call promises bounds the pulses.
@@ -71,7 +71,7 @@ fn counted_parts(
         put_frame(&mut list, pulses, format, century, before, part, next)?;
         before = Some(part);
     }
-    let sides = end_after(pulses, format, before);
+    let sides = counted_after(pulses, format, before);
     put_sides(&mut list, sides)?;
     Ok(list)
 }

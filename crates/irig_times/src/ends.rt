@@ -145,7 +145,7 @@ fn more(count: usize, is_so: bool) -> usize
 
 /// How many pulses of a part can say another time: all, but for the last one of the track, which
 /// the end of the recording can have cut.
-fn telling(pulses: &Lens<'_>, part: &Part) -> usize
+pub fn telling(pulses: &Lens<'_>, part: &Part) -> usize
     requires small { (part.now.number < 2 ^ 32) × (part.now.count ≤ 100) }
     ensures few { result ≤ part.now.count }
     ensures count { result ≡ telling pulses.now.track.pulses part.now }
@@ -183,6 +183,7 @@ fn alone(pulses: &mut Lens<'_>, format: Format, part: Part) -> Option<(Part, Par
     requires few { part.element + part.count ≤ 100 }
     requires small { (part.number < 2 ^ 31) × (part.time.micros < 2 ^ 60) }
     ensures part { result ≡ alone format pulses.old.track.pulses part }
+    ensures small { IfSome result (λ s. (s.0.number < 2 ^ 31) × (s.0.count ≤ 100)) }
     ensures pulses { pulses.new.track ≡ pulses.old.track }
 {
     if is_borne_out(pulses, format, &part) {
@@ -198,6 +199,7 @@ fn alone(pulses: &mut Lens<'_>, format: Format, part: Part) -> Option<(Part, Par
 pub fn end_after(pulses: &mut Lens<'_>, format: Format, from: Option<Part>) -> Option<(Part, Part)>
     requires { IfSome from (λ a. (a.time.micros < 2 ^ 59) × (a.number + a.count < 2 ^ 30)) }
     ensures end { result ≡ end_after format pulses.old.track.pulses from }
+    ensures small { IfSome result (λ s. (s.0.number < 2 ^ 31) × (s.0.count ≤ 100)) }
     ensures pulses { pulses.new.track ≡ pulses.old.track }
 {
     let Some(from) = from else {
@@ -219,6 +221,7 @@ pub fn end_after(pulses: &mut Lens<'_>, format: Format, from: Option<Part>) -> O
 pub fn end_before(pulses: &mut Lens<'_>, format: Format, to: &Part) -> Option<(Part, Part)>
     requires { (to.now.time.micros < 2 ^ 59) × (to.now.number < 2 ^ 30) }
     ensures end { result ≡ end_before format pulses.old.track.pulses to.now }
+    ensures small { IfSome result (λ s. (s.0.number < 2 ^ 31) × (s.0.count ≤ 100)) }
     ensures pulses { pulses.new.track ≡ pulses.old.track }
 {
     if to.is_empty() {

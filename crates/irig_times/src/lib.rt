@@ -14,6 +14,7 @@ mod nearest;
 mod part;
 mod part_law;
 mod sides;
+mod silence;
 mod start;
 mod steps;
 mod support;

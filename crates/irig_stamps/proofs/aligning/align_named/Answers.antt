@@ -1,4 +1,5 @@
 use Rattle.std.proofs.Common.{List, ℕ, inl, subst, sym}
+use Rattle.irig_stamps.specs.{Aligned.numbers_of, Aligned.with_column, Runs.Ends, TrackSettings.with_track}
 use Rattle.std.specs.Io.KnownBytes.{Consumes}
 use Rattle.irig_stamps.proofs.aligning.align_named.Goals as goal
 
@@ -16,7 +17,11 @@ returns g c =
       record {
         pulses = c.in-Ok-new.track.pulses;
         are = c.in-Ok-new.ensures.edges;
-        ends = c.align_track.ensures.ends from read;
+        ends = subst (λ (micros : ℕ). Ends c.args.format c.in-Ok-new.track.pulses
+            (with_track c.args.format micros c.in-Ok-new.track.pulses (with_column c.args.settings.now c.in-Ok.found.column))
+            from (g.R.Read.remaining c.align_track.new.lines) (g.W.Write.contents c.args.out.now) (g.W.Write.contents c.align_track.new.out)
+            (numbers_of c.align_track.result))
+            c.in-Ok-new.ensures.length (c.align_track.ensures.ends from read);
         stands = c.align_track.ensures.stands;
       },
     )

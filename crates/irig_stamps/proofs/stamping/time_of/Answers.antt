@@ -29,4 +29,4 @@ pub time_by-requires-clause-parts : goal.time_by-requires-clause-parts
 time_by-requires-clause-parts c =
     let ps = c.args.pulses.now.track.pulses in
     subst (λ (parts : List Part). AreParts c.args.format 0 (length ps) parts) (sym c.requires.parts)
-    (timed_parts_are c.args.format c.args.settings.now.alone c.args.settings.now.century ps)
+    (timed_parts_are c.args.format c.args.settings.now.alone c.args.settings.now.century c.args.settings.now.micros ps)

@@ -28,8 +28,9 @@ pub returns-in-Ok-3 : goal.returns-in-Ok-3
 returns-in-Ok-3 g c = (
   refl,
   c.in-Ok-3.field-0.numbered,
-  subst (λ (o : Outcome). Aligns c.args.chosen.now.format c.args.recording.edges c.args.chosen.now.settings (g.R.Read.remaining c.args.lines.now)
-      (g.R.Read.remaining c.align.new.lines) (g.W.Write.contents c.args.out.now) (g.W.Write.contents c.align.new.out) (Ok o))
+  subst (λ (o : Outcome). Aligns c.args.chosen.now.format c.args.recording.micros c.args.recording.edges c.args.chosen.now.settings
+      (g.R.Read.remaining c.args.lines.now) (g.R.Read.remaining c.align.new.lines) (g.W.Write.contents c.args.out.now)
+      (g.W.Write.contents c.align.new.out) (Ok o))
       (timeless c.in-Ok.outcome c.in-Ok-3.field-0 (one_outcome _ _ c.align.result c.in-Ok.is c.in-Ok-3.is)
       (omega (arith, c.if-outcome-gt0.false)) c.if-outcome.false)
       c.in-Ok-3.ensures,

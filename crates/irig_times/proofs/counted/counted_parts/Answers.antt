@@ -39,7 +39,8 @@ loop-place-preserved c =
     record {
       track = c.in_ok-put_frame.ensures.pulses ∙ before.track;
       before = (c.loop-place.place, omega arith, here);
-      left = filled-more c.args.format c.args.century c.args.pulses.now.track.pulses c.args.whole.now c.loop-place.before c.loop-place.place _
+      left = filled-more c.args.format c.args.century c.args.pulses.now.track.micros c.args.pulses.now.track.pulses
+          c.args.whole.now c.loop-place.before c.loop-place.place _
           c.loop-place.list.items _ _ here
           (c.in_ok-put_frame.ensures.parts
           ∙ λ i. c.loop-place.list.items ++ with_frame c.args.format c.args.century (before.track i).pulses c.loop-place.before
@@ -47,7 +48,7 @@ loop-place-preserved c =
           before.left;
     }
 
-pub end_after-sides-requires : goal.end_after-sides-requires
-end_after-sides-requires c =
+pub counted_after-sides-requires : goal.counted_after-sides-requires
+counted_after-sides-requires c =
     low c.args.format (length c.args.pulses.now.track.pulses) c.args.whole.now c.requires.whole c.len-count.ensures.track.few c.loop-place.place c.loop-place.before
     c.loop-place.invariant.before

@@ -1,0 +1,170 @@
+//! The pulses at the two ends of a track that count. A clock can be set in silence, and only the
+//! elements of the time show it. So pulses next to silence, at the begin or the end of the
+//! recording, count only if all these elements were recorded there. Pulses and elements count from
+//! 0. A pair of parts is what is counted, and an empty part.
+
+ghost use Rattle.std.specs.Prelude.{◌≡◌, ◌≤◌, ◌<◌, ◌+◌, ◌^◌, IfSome};
+ghost use Rattle.irig_times.specs.Silence.{counted_after, counted_before, counts_after};
+ghost use Rattle.irig_times.specs.Silence.{counts_before, follows_silence, has_its_time};
+ghost use Rattle.irig_times.specs.Silence.{heard_after, heard_before, is_silence};
+ghost use Rattle.irig_times.specs.Silence.{is_silent_after, is_silent_before, precedes_silence};
+
+use crate::ends::{end_after, end_before, telling, time_elements};
+use crate::part::Part;
+use crate::steps::pulse_at;
+use irig_codes::Format;
+use irig_recording::Pulse;
+use irig_track::Lens;
+
+/// Whether some microseconds without a rise are silence: more than two intervals.
+fn is_silence(format: Format, micros: u64) -> bool
+    ensures { result ≡ is_silence format micros }
+{
+    micros > 2 * format.interval()
+}
+
+/// Whether silence is before the first pulse of a track; false if it has none.
+fn is_silent_before(format: Format, first: Option<Pulse>) -> bool
+    ensures { result ≡ is_silent_before format first }
+{
+    match first {
+        Some(first) => is_silence(format, first.rise),
+        None => false,
+    }
+}
+
+/// Whether silence is after the last pulse of a track of some microseconds; false if it has none.
+fn is_silent_after(format: Format, micros: u64, last: Option<Pulse>) -> bool
+    ensures { result ≡ is_silent_after format micros last }
+{
+    match last {
+        Some(last) => is_silence(format, micros.saturating_sub(last.rise)),
+        None => false,
+    }
+}
+
+/// Whether a part begins with the first pulse of a track, and silence is before it.
+fn follows_silence(pulses: &mut Lens<'_>, format: Format, part: &Part) -> bool
+    ensures silent { result ≡ follows_silence format pulses.old.track.pulses part.now }
+    ensures pulses { pulses.new.track ≡ pulses.old.track }
+{
+    if part.number != 0 {
+        return false;
+    }
+    let first = pulse_at(pulses, 0);
+    is_silent_before(format, first)
+}
+
+/// Whether a part ends with the last pulse of a track, and silence is after it.
+fn precedes_silence(pulses: &mut Lens<'_>, format: Format, part: &Part) -> bool
+    requires small { (part.now.number < 2 ^ 32) × (part.now.count ≤ 100) }
+    ensures silent { result ≡ precedes_silence format pulses.old.track.micros
+        pulses.old.track.pulses part.now }
+    ensures pulses { pulses.new.track ≡ pulses.old.track }
+{
+    let many = pulses.len();
+    if part.number + part.count != many {
+        return false;
+    }
+    let micros = pulses.length();
+    let last = pulse_at(pulses, many.saturating_sub(1));
+    is_silent_after(format, micros, last)
+}
+
+/// Whether all elements of the time are among those pulses of a part that can say another time.
+fn has_its_time(pulses: &Lens<'_>, format: Format, part: &Part) -> bool
+    requires small { (part.now.number < 2 ^ 32) × (part.now.count ≤ 100) }
+    ensures { result ≡ has_its_time format pulses.now.track.pulses part.now }
+{
+    part.element == 0 && telling(pulses, part) >= time_elements(format)
+}
+
+/// Whether a part before the first frame counts: it is not next to silence, or it has all elements
+/// of its time.
+fn counts_before(pulses: &mut Lens<'_>, format: Format, part: &Part) -> bool
+    requires small { (part.now.number < 2 ^ 32) × (part.now.count ≤ 100) }
+    ensures counts { result ≡ counts_before format pulses.old.track.pulses part.now }
+    ensures pulses { pulses.new.track ≡ pulses.old.track }
+{
+    !follows_silence(pulses, format, part) || has_its_time(pulses, format, part)
+}
+
+/// Whether a part after the last frame counts.
+fn counts_after(pulses: &mut Lens<'_>, format: Format, part: &Part) -> bool
+    requires small { (part.now.number < 2 ^ 32) × (part.now.count ≤ 100) }
+    ensures counts { result ≡ counts_after format pulses.old.track.micros pulses.old.track.pulses
+        part.now }
+    ensures pulses { pulses.new.track ≡ pulses.old.track }
+{
+    !precedes_silence(pulses, format, part) || has_its_time(pulses, format, part)
+}
+
+/// What is counted before the first frame, if it counts.
+fn heard_before(
+    pulses: &mut Lens<'_>,
+    format: Format,
+    sides: Option<(Part, Part)>,
+) -> Option<(Part, Part)>
+    requires small { IfSome sides (λ s. (s.0.number < 2 ^ 32) × (s.0.count ≤ 100)) }
+    ensures heard { result ≡ heard_before format pulses.old.track.pulses sides }
+    ensures pulses { pulses.new.track ≡ pulses.old.track }
+{
+    let Some((part, next)) = sides else {
+        return None;
+    };
+    if counts_before(pulses, format, &part) {
+        Some((part, next))
+    } else {
+        None
+    }
+}
+
+/// What is counted after the last frame, if it counts.
+fn heard_after(
+    pulses: &mut Lens<'_>,
+    format: Format,
+    sides: Option<(Part, Part)>,
+) -> Option<(Part, Part)>
+    requires small { IfSome sides (λ s. (s.0.number < 2 ^ 32) × (s.0.count ≤ 100)) }
+    ensures heard { result ≡ heard_after format pulses.old.track.micros pulses.old.track.pulses
+        sides }
+    ensures pulses { pulses.new.track ≡ pulses.old.track }
+{
+    let Some((part, next)) = sides else {
+        return None;
+    };
+    if counts_after(pulses, format, &part) {
+        Some((part, next))
+    } else {
+        None
+    }
+}
+
+/// The pulses before the first frame that have a time. `None` if the frame is not believed or
+/// begins the day, if a pulse says another time, or if silence is before them and not all elements
+/// of the time are there.
+pub fn counted_before(pulses: &mut Lens<'_>, format: Format, to: &Part) -> Option<(Part, Part)>
+    requires { (to.now.time.micros < 2 ^ 59) × (to.now.number < 2 ^ 30) }
+    ensures end { result ≡ counted_before format pulses.old.track.pulses to.now }
+    ensures pulses { pulses.new.track ≡ pulses.old.track }
+{
+    let sides = end_before(pulses, format, to);
+    heard_before(pulses, format, sides)
+}
+
+/// The pulses after the last frame that have a time. `None` if the frame is not there, not believed
+/// or ends the day, if a pulse says another time, or if silence is after them and not all elements
+/// of the time are there.
+pub fn counted_after(
+    pulses: &mut Lens<'_>,
+    format: Format,
+    from: Option<Part>,
+) -> Option<(Part, Part)>
+    requires { IfSome from (λ a. (a.time.micros < 2 ^ 59) × (a.number + a.count < 2 ^ 30)) }
+    ensures end { result ≡ counted_after format pulses.old.track.micros pulses.old.track.pulses
+        from }
+    ensures pulses { pulses.new.track ≡ pulses.old.track }
+{
+    let sides = end_after(pulses, format, from);
+    heard_after(pulses, format, sides)
+}
