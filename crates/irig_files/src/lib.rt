@@ -32,5 +32,5 @@ pub use opening::system_files;
 pub use plain_calls::PlainCalls;
 pub use put_file::folder_of;
 pub use room::Room;
-pub use track::{TrackFault, read_track};
+pub use track::{TrackFault, read_in_window, read_track};
 pub use written::Written;

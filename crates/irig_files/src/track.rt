@@ -1,12 +1,15 @@
 //! The track of a wire in the dump at a path. A read of the disk has two faults: the outer one is
-//! of the file, the inner one of the dump in it.
+//! of the file, the inner one of the dump in it. `Parts` are the recording of the wire and the text
+//! of the journal that the dump carries, if it has one.
 
-ghost use Rattle.std.specs.Prelude.{◌≡◌, None, Some};
+ghost use Rattle.std.specs.Prelude.{◌≡◌, IfErr, IfOk};
 ghost use Rattle.irig_vcd.specs.Answer.{name_of};
-ghost use Rattle.irig_files.specs.Tracks.{IsTrackOf, name_in};
+ghost use Rattle.irig_files.specs.Reads.{IsReadIn};
+ghost use Rattle.irig_files.specs.Tracks.{IsTrackOf, IsUnread, name_in};
 
 use crate::disk::Disk;
 use crate::dump_file::DumpFileFault;
+use crate::intake::Parts;
 use irig_recording::Recording;
 use irig_vcd::{VcdFault, Window};
 use std::alloc::Global;
@@ -35,46 +38,32 @@ pub fn read_track<D: Disk>(
     ensures { IsTrackOf window (D.held disk.now path.now) (D.unread disk.now path.now)
         (name_in wire.entry) result }
 {
+    match read_in_window(alloc, disk, path, wire, window) {
+        // The text of the journal is not needed.
+        Ok(Ok((recording, _))) => Ok(recording),
+        Ok(Err(fault)) => Err(TrackFault::Dump(fault)),
+        Err(fault) => Err(TrackFault::File(fault)),
+    }
+}
+
+/// What the dump at a path says of a wire, or says of it in a window if there is one; a journal is
+/// that of the whole dump. `wire` is its name; if none is given, the dump has to have one wire of
+/// one bit.
+pub fn read_in_window<D: Disk>(
+    alloc: Global,
+    disk: &D,
+    path: &str,
+    wire: Option<&str>,
+    window: Option<Window>,
+) -> Result<Result<Parts, VcdFault>, DumpFileFault>
+    ensures read { IfOk result
+        (IsReadIn window (D.held disk.now path.now) (name_in wire.entry)) }
+    ensures unread { IfErr result
+        (IsUnread window (D.held disk.now path.now) (D.unread disk.now path.now)) }
+{
     match window {
-        None => read_all(alloc, disk, path, wire),
-        Some(window) => read_part(alloc, disk, path, wire, window),
-    }
-}
-
-/// The track of a wire in a window of the dump at a path.
-fn read_part<D: Disk>(
-    alloc: Global,
-    disk: &D,
-    path: &str,
-    wire: Option<&str>,
-    window: Window,
-) -> Result<Recording, TrackFault>
-    ensures { IsTrackOf (Some window) (D.held disk.now path.now) (D.unread disk.now path.now)
-        (name_in wire.entry) result }
-{
-    match disk.read_window(alloc, path, bytes_of(wire), window) {
-        // The text of the journal is not needed.
-        Ok(Ok((recording, _))) => Ok(recording),
-        Ok(Err(fault)) => Err(TrackFault::Dump(fault)),
-        Err(fault) => Err(TrackFault::File(fault)),
-    }
-}
-
-/// The whole track of a wire in the dump at a path.
-fn read_all<D: Disk>(
-    alloc: Global,
-    disk: &D,
-    path: &str,
-    wire: Option<&str>,
-) -> Result<Recording, TrackFault>
-    ensures { IsTrackOf None (D.held disk.now path.now) (D.unread disk.now path.now)
-        (name_in wire.entry) result }
-{
-    match disk.read(alloc, path, bytes_of(wire)) {
-        // The text of the journal is not needed.
-        Ok(Ok((recording, _))) => Ok(recording),
-        Ok(Err(fault)) => Err(TrackFault::Dump(fault)),
-        Err(fault) => Err(TrackFault::File(fault)),
+        None => disk.read(alloc, path, bytes_of(wire)),
+        Some(window) => disk.read_window(alloc, path, bytes_of(wire), window),
     }
 }
 

@@ -1,2 +1,3 @@
 pub mod OtherLemmas
 pub mod RunsBy
+pub mod Windows

@@ -1,25 +1,20 @@
 -- An edit on the shelf of a file, as one by the settings.
 use Rattle.std.proofs.Common.{◌≡◌, [], ℕ, List, Option, Some, None, Result, Err, ap, inl, inr, refl, subst, sym}
-use Rattle.std.specs.Prelude.{is_some, not, option_map, if◌then◌else◌}
+use Rattle.std.specs.Prelude.{is_some, not, if◌then◌else◌}
 use denote.Ref.{Bor}
-use Rattle.irig_edit.specs.Opened.Openings.{MayBeShort}
-use Rattle.irig_vcd.specs.{Parts.dump_parts, declared.fault.VcdFault.TheVariants.OutOfMemory, declared.fault.VcdFault.VcdFault}
-use Rattle.irig_vcd.proofs.WholeDump.{fails_now}
+use Rattle.irig_vcd.specs.{Window.parts_in, declared.fault.VcdFault.TheVariants.OutOfMemory, declared.fault.VcdFault.VcdFault}
 use Rattle.irig_script.specs.Obey.Desk.{Desk, desk}
-use Rattle.irig_guarding.specs.{GuardedRun.GuardsOnDump, declared.product.GuardFault.GuardFault, declared.product.GuardFault.TheVariants.Dump, declared.product.Kept.Kept}
+use Rattle.irig_guarding.specs.{declared.product.GuardFault.GuardFault, declared.product.GuardFault.TheVariants.Dump, declared.product.Kept.Kept}
 use Rattle.irig_text.specs.Shelved.{shelved}
 use Rattle.irig_guard.specs.Given.{AreOthersApart, Ends, Files, IsApart, IsApartFrom, IsRead, ends, place_of, product_of}
-use Rattle.irig_guard.specs.{Others.IsOther, Others.ShowsAll, Settings.paths}
+use Rattle.irig_guard.specs.{Others.ShowsAll, Settings.paths}
 use Rattle.irig_safety.specs.{Terms.TermsView, declared.shown.Shown.Shown}
-use Rattle.irig_guard.specs.{RunsBy.RunsBy, declared.chosen.Settings.Settings}
+use Rattle.irig_guard.specs.{RunsBy.RunsBy, Windows.GuardsIn, Windows.MayRunShort, declared.chosen.Settings.Settings}
+use Rattle.irig_guard.proofs.Windows.{fails_in}
 use Rattle.irig_guarding.specs.declared.product.Product.TheVariants as product
 use Rattle.irig_disk.specs.{Disk.Disk, Disk.MayLeave, Held.Held}
-use Rattle.irig_files.specs.{Apart.StaysAt, Puts.texts_at, Writes.Goes, Writes.Write}
-use Rattle.irig_files.proofs.{Apart.stays_apart, Apart.stays_here, Sound.never_parts}
-
--- the wire of the settings
-abbrev wire_in : Settings → Option (List ℕ)
-wire_in chosen = option_map (λ w. w.now) chosen.wire
+use Rattle.irig_files.specs.{Apart.StaysAt, Puts.texts_at, Tracks.name_in, Writes.Goes, Writes.Write}
+use Rattle.irig_files.proofs.{Apart.stays_apart, Apart.stays_here, Sound.never_in}
 
 -- by what repairs are judged besides
 abbrev terms_in : Settings → List Shown → TermsView
@@ -29,10 +24,10 @@ terms_in chosen others = record { moved = chosen.moved; others = others }
 pub runs_by : (given : Files) (chosen : Settings) (source : List ℕ) (out out_new script left : Option (List ℕ)) (texts texts_new : Option (List (List ℕ)))
     (label label_new : List ℕ) (writes new : Option (List Write)) (failures failures_new : ℕ) (result : Result Kept GuardFault)
     → label_new ≡ label → texts ≡ texts_at (given.paths (place_of chosen)) writes → texts_new ≡ texts_at (given.paths (place_of chosen)) new → failures ≡ 0
-    → given.kept (place_of chosen) → (result ≡ Err (Dump OutOfMemory) → MayBeShort (dump_parts (wire_in chosen) source))
+    → given.kept (place_of chosen) → (result ≡ Err (Dump OutOfMemory) → MayRunShort chosen.window (name_in chosen.wire) source)
     → (others : List Shown) → ShowsAll given.held chosen.format (paths chosen.others.items) [] others
-    → GuardsOnDump (wire_in chosen) chosen.format (terms_in chosen others) source (product_of chosen) script left (desk out (shelved texts failures label))
-    (desk out_new (shelved texts_new failures_new label_new)) result
+    → GuardsIn chosen.window (name_in chosen.wire) chosen.format (terms_in chosen others) source (product_of chosen) script left
+    (desk out (shelved texts failures label)) (desk out_new (shelved texts_new failures_new label_new)) result
     → RunsBy given chosen source (ends out writes script) (ends out_new new left) result
 runs_by given chosen source out out_new script left texts texts_new label label_new writes new failures failures_new result e p q z kept short
     others shown h = record {
@@ -40,10 +35,10 @@ runs_by given chosen source out out_new script left texts texts_new label label_
       shown = shown;
       label = label;
       failures = failures_new;
-      ran = subst (λ (d : Desk). GuardsOnDump (wire_in chosen) chosen.format (terms_in chosen others) source (product_of chosen) script left d
+      ran = subst (λ (d : Desk). GuardsIn chosen.window (name_in chosen.wire) chosen.format (terms_in chosen others) source (product_of chosen) script left d
           (desk out_new (shelved (texts_at (given.paths (place_of chosen)) new) failures_new label)) result)
           (λ j. desk out (shelved (p j) (z j) label))
-          (subst (λ (d : Desk). GuardsOnDump (wire_in chosen) chosen.format (terms_in chosen others) source (product_of chosen) script left
+          (subst (λ (d : Desk). GuardsIn chosen.window (name_in chosen.wire) chosen.format (terms_in chosen others) source (product_of chosen) script left
           (desk out (shelved texts failures label)) d result)
           (λ j. desk out_new (shelved (q j) failures_new (e j))) h);
       short = short;
@@ -53,14 +48,14 @@ runs_by given chosen source out out_new script left texts texts_new label label_
 -- of a dump with a fault nothing was run
 pub fails_by : (given : Files) (chosen : Settings) (source : List ℕ) (at : Ends) (fault : VcdFault) → given.kept (place_of chosen)
     → (others : List Shown) → ShowsAll given.held chosen.format (paths chosen.others.items) [] others
-    → dump_parts (wire_in chosen) source ≡ Err fault → RunsBy given chosen source at at (Err (Dump fault))
+    → parts_in chosen.window (name_in chosen.wire) source ≡ Err fault → RunsBy given chosen source at at (Err (Dump fault))
 fails_by given chosen source at fault kept others shown is = record {
   others = others;
   shown = shown;
   label = [];
   failures = 0;
-  ran = (inl (fails_now fault (dump_parts (wire_in chosen) source) is), refl, refl);
-  short = λ memory. absurd (never_parts (wire_in chosen) source fault is (cc memory));
+  ran = fails_in chosen.window (name_in chosen.wire) chosen.format (terms_in chosen others) source (product_of chosen) at.script _ fault is;
+  short = λ memory. absurd (never_in chosen.window (name_in chosen.wire) source fault is (cc memory));
   kept = kept;
 }
 

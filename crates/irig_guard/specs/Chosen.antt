@@ -4,6 +4,7 @@ use Rattle.std.specs.Prelude.{is_some}
 use Rattle.std.specs.Str.{bytes_eq}
 use denote.Ref.{Bor}
 use Rattle.irig_words.specs.Formats.{HasFormatFault, IsFormat, given}
+use Rattle.irig_words.specs.Windows.{HasWindowFault, IsWindow}
 use Rattle.irig_guard.specs.declared.chosen.OptionFault.{OptionFault}
 use Rattle.irig_guard.specs.{declared.asked.Asked.Asked, declared.chosen.Settings.Settings}
 use Rattle.irig_guard.specs.declared.chosen.OptionFault.TheVariants as fault
@@ -20,6 +21,7 @@ is_over a = is_track a.out a.track.now
 pub record IsChosen (a : Asked) (s : Settings) : Type 0 where
   pub track : s.track ≡ a.track
   pub wire : s.wire ≡ a.wire
+  pub window : IsWindow (given a.from) (given a.to) s.window
   pub out : s.out ≡ a.out
   pub others : s.others ≡ a.others
   pub save : s.save ≡ a.save
@@ -30,6 +32,7 @@ pub record IsChosen (a : Asked) (s : Settings) : Type 0 where
 
 -- this option has a value that it cannot have
 abbrev pub HasFault : Asked → OptionFault → Type 0
+HasFault a (fault.Window of_window) = HasWindowFault (given a.from) (given a.to) of_window
 HasFault a (fault.Format of_format) =
     HasFormatFault (given a.format) (given a.expression) of_format
 HasFault a fault.Out = is_over a ≡ true

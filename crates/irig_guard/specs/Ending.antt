@@ -1,6 +1,6 @@
 -- What the program does for the words of its command line: from the files and the script to what is
 -- printed and written. This project's own.
-use Rattle.std.specs.Prelude.{◌≡◌, ℕ, List, Option, None, Result, Ok, Err, IfSome, is_some, true}
+use Rattle.std.specs.Prelude.{◌≡◌, ℕ, List, Option, Ok, Err, IfSome, is_some, true}
 use Rattle.clap.specs.Words.{Text}
 use Rattle.irig_files.specs.Tracks.{IsUnreadOrShort}
 use Rattle.irig_guard.specs.declared.chosen.Settings.{Settings}
@@ -25,7 +25,8 @@ Obeys given old new chosen (Ran path result) =
     × RunsBy given chosen source old new result)
 Obeys given old new chosen (Unread path fault) =
     (path ≡ chosen.track) × IsUntouched given old new
-    × IsUnreadOrShort None (given.held chosen.track.now) (given.unread chosen.track.now) fault
+    × IsUnreadOrShort chosen.window (given.held chosen.track.now)
+    (given.unread chosen.track.now) fault
 Obeys given old new chosen Over =
     IsUntouched given old new × (is_some chosen.out ≡ true)
     × given.same chosen.track.now (place_of chosen)

@@ -7,3 +7,4 @@ pub mod Others
 pub mod RunsBy
 pub mod Settings
 pub mod Statuses
+pub mod Windows

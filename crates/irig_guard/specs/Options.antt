@@ -1,8 +1,9 @@
--- The command line: five options, two flags and the track. This project's own.
+-- The command line: seven options, two flags and the track. This project's own.
 use Rattle.std.specs.Prelude.{◌≡◌, codes, None, Some}
 use Rattle.clap.specs.Words.{App, Rule, new_app, new_rule, with_rule}
 use Rattle.clap.specs.declared.builder.ArgAction.TheVariants.{Append}
 use Rattle.irig_words.specs.Arguments.{flag, needed, option}
+use Rattle.irig_words.specs.Windows.{with_window}
 
 -- the option that names another recording, as often as it is given
 abbrev pub beside : Rule
@@ -12,11 +13,14 @@ beside = record (new_rule (codes "with")) {
   value_names = 1;
 }
 
--- how the track is read
+-- which part of which wire is read
+abbrev pub taking : App
+taking = with_window (with_rule (new_app (codes "irig_guard")) (option (codes "wire") None))
+
+-- and in which format
 abbrev pub reading : App
 reading =
-    with_rule (with_rule (with_rule (new_app (codes "irig_guard")) (option (codes "wire") None))
-    (option (codes "format") None)) (option (codes "expression") None)
+    with_rule (with_rule taking (option (codes "format") None)) (option (codes "expression") None)
 
 -- and by what repairs are judged besides: whether frames may move, and other recordings
 abbrev pub judging : App
@@ -28,7 +32,11 @@ the_command =
     with_rule (with_rule (with_rule judging (option (codes "out") None)) (flag (codes "save")))
     (needed (codes "TRACK"))
 
--- it says how the track is read
+-- it says which part of which wire is read
+abbrev pub IsTaking : App → Type 0
+IsTaking app = app ≡ taking
+
+-- and in which format
 abbrev pub IsReading : App → Type 0
 IsReading app = app ≡ reading
 

@@ -23,6 +23,8 @@ all_values f name = unwrap_or (option_map raw_values (matched_of f name)) []
 pub record AreValues (f : Found) (a : Asked) : Type 0 where
   pub track : first_value f (codes "TRACK") ≡ Some a.track.now
   pub wire : first_value f (codes "wire") ≡ option_map (λ w. w.now) a.wire
+  pub from : first_value f (codes "from") ≡ option_map (λ w. w.now) a.from
+  pub to : first_value f (codes "to") ≡ option_map (λ w. w.now) a.to
   pub format : first_value f (codes "format") ≡ option_map (λ w. w.now) a.format
   pub expression : first_value f (codes "expression") ≡ option_map (λ w. w.now) a.expression
   pub out : first_value f (codes "out") ≡ option_map (λ w. w.now) a.out

@@ -7,6 +7,8 @@ pub struct Asked<'a> {
     pub track: &'a str,
     /// The values of the options that are given.
     pub wire: Option<&'a str>,
+    pub from: Option<&'a str>,
+    pub to: Option<&'a str>,
     pub format: Option<&'a str>,
     pub expression: Option<&'a str>,
     pub out: Option<&'a str>,

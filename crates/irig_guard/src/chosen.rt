@@ -1,7 +1,8 @@
 //! What a command line asks for.
 
 use irig_codes::Format;
-use irig_words::FormatFault;
+use irig_vcd::Window;
+use irig_words::{FormatFault, WindowFault};
 use thiserror::Error;
 
 /// What a command line asks for.
@@ -11,6 +12,8 @@ pub struct Settings<'a> {
     pub track: &'a str,
     /// The name of the wire in the dump, if one is given.
     pub wire: Option<&'a str>,
+    /// The window of the dump that is read, if not all is.
+    pub window: Option<Window>,
     /// The paths of other recordings of the same code.
     pub others: Vec<&'a str>,
     /// The path at which the track is written that the kept repairs leave, if one is given.
@@ -26,6 +29,9 @@ pub struct Settings<'a> {
 /// An option with a value that it cannot have.
 #[derive(Clone, Copy, Debug, Error)]
 pub enum OptionFault {
+    /// An option of the window has it.
+    #[error(transparent)]
+    Window(WindowFault),
     /// An option of the format has it.
     #[error(transparent)]
     Format(FormatFault),

@@ -4,7 +4,8 @@
 
 ghost use Rattle.std.specs.Prelude.{◌≡◌, IfErr, IfOk, None, codes, false, map, string_bytes};
 ghost use Rattle.clap.specs.Words.{HasMatchesOf, app_of, found_of, rule_of};
-ghost use Rattle.irig_guard.specs.Options.{IsCommand, IsJudging, IsReading, beside, the_command};
+ghost use Rattle.irig_guard.specs.Options.{IsCommand, IsJudging, IsReading, IsTaking, beside};
+ghost use Rattle.irig_guard.specs.Options.{the_command};
 ghost use Rattle.irig_guard.specs.Settings.{AreValues, Reads, all_values, paths};
 ghost use Rattle.irig_words.specs.Errors.{MayRefuse, WantsMemory};
 ghost use Rattle.irig_words.specs.Usage.{Values};
@@ -13,7 +14,7 @@ use crate::asked::Asked;
 use crate::chosen::{OptionFault, Settings};
 use crate::options::settings_of;
 use clap::{Arg, ArgAction, ArgMatches, Command, Error};
-use irig_words::{UsageFault, flag_arg, matches_of, needed_arg, option_arg};
+use irig_words::{UsageFault, flag_arg, matches_of, needed_arg, option_arg, windowed};
 use std::alloc::{AllocError, Global};
 
 /// What the words of a command line ask for, the program's name being the first.
@@ -58,6 +59,8 @@ fn values_of<'a>(alloc: Global, matches: &ArgMatches<'a>) -> Result<Asked<'a>, E
     Ok(Asked {
         track,
         wire: matches.get_str("wire"),
+        from: matches.get_str("from"),
+        to: matches.get_str("to"),
         format: matches.get_str("format"),
         expression: matches.get_str("expression"),
         out: matches.get_str("out"),
@@ -114,13 +117,20 @@ fn judging<'a>(alloc: Global) -> Result<Command<'a>, AllocError>
 fn reading<'a>(alloc: Global) -> Result<Command<'a>, AllocError>
     ensures { IfOk result (λ c. IsReading (app_of c)) }
 {
-    let wire = option_arg(alloc, "wire", "NAME", "the wire of the dump");
     let format = option_arg(alloc, "format", "FORMAT", "A, B, E or G: B");
     let expression = option_arg(alloc, "expression", "NUMBER", "of the format: 2");
-    Command::new(alloc, "irig_guard")
-        .arg(wire)?
-        .arg(format)?
-        .arg(expression)
+    taking(alloc)?.arg(format)?.arg(expression)
+}
+
+/// The command with the options that say which part of which wire is read.
+fn taking<'a>(alloc: Global) -> Result<Command<'a>, AllocError>
+    ensures { IfOk result (λ c. IsTaking (app_of c)) }
+{
+    let wire = option_arg(alloc, "wire", "NAME", "the wire of the dump");
+    let Ok(wired) = Command::new(alloc, "irig_guard").arg(wire) else {
+        return Err(AllocError);
+    };
+    windowed(alloc, wired)
 }
 
 /// The option for other recordings of the same code, which can come more than once.

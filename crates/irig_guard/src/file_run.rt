@@ -4,26 +4,27 @@
 //! journal, if there is one. A `ShelfFault`: it cannot be found out where a path leads.
 
 ghost use Rattle.std.specs.Prelude.{◌≡◌, ℕ, [], IfOk, IfSome, IsTrue, List, false, is_some, map};
-ghost use Rattle.std.specs.Prelude.{option_map, string_bytes, true};
-ghost use Rattle.irig_vcd.specs.{Answer.Gives, Answer.name_of, Parts.dump_parts};
+ghost use Rattle.std.specs.Prelude.{string_bytes, true};
+ghost use Rattle.irig_vcd.specs.{Answer.Gives, Window.parts_in};
 ghost use Rattle.irig_guard.specs.Ending.{EndsBy, Obeys};
 ghost use Rattle.irig_guard.specs.RunsBy.{RunsBy};
 ghost use Rattle.irig_guard.specs.Given.{AreOthersApart, AreSpared, IsApart, ends, files};
 ghost use Rattle.irig_guard.specs.Given.{place_of, product_of};
 ghost use Rattle.irig_guard.specs.{Others.ShowsAll, Settings.paths};
 ghost use Rattle.irig_files.specs.Apart.{LeadToOneFile};
-ghost use Rattle.irig_files.specs.Reads.{HasFewBytes, parts_of};
-ghost use Rattle.irig_files.specs.Puts.{writes_on};
+ghost use Rattle.irig_files.specs.Reads.{HasBytes, most_bytes, parts_of};
+ghost use Rattle.irig_files.specs.{Puts.writes_on, Tracks.name_in};
 
 use crate::chosen::Settings;
 use crate::command_line::settings;
 use crate::ending::Ending;
+use crate::heeded::heeded;
 use crate::others::{frames_of_others, over_other};
-use irig_files::{Disk, DumpFileFault, FileShelf, Parts, Room};
+use irig_files::{Disk, DumpFileFault, FileShelf, Parts, Room, read_in_window};
 use irig_guarding::{GuardFault, Kept, Product, guard_on_parts};
 use irig_safety::{Shown, Terms};
 use irig_text::ShelfFault;
-use irig_vcd::VcdFault;
+use irig_vcd::{VcdFault, read_back_parts};
 use std::alloc::Global;
 use std::io::{Read, Write};
 
@@ -86,7 +87,7 @@ fn run_with_room<'a, D: Disk, R: Read, W: Write>(
         chosen.now result }
     ensures spared { AreSpared D.is_told (D.disk disk.old) (D.disk disk.new) chosen.now }
 {
-    match disk.read(alloc, chosen.track, wire_of(chosen)) {
+    match read_in_window(alloc, disk, chosen.track, chosen.wire, chosen.window) {
         Ok(read) => run_apart(alloc, chosen, read, room, disk, script, out),
         Err(fault) => Ending::Unread(chosen.track, fault),
     }
@@ -103,9 +104,9 @@ fn run_apart<'a, D: Disk, R: Read, W: Write>(
     script: &mut R,
     out: &mut W,
 ) -> Ending<'a>
-    requires { HasFewBytes read }
+    requires { HasBytes (most_bytes chosen.now.window) read }
     ensures obeyed { (source : List ℕ)
-        → Gives parts_of read (dump_parts (option_map (λ w. w.now) chosen.now.wire) source)
+        → Gives parts_of read (parts_in chosen.now.window (name_in chosen.now.wire) source)
         → IfSome (D.held disk.old chosen.now.track.now) (λ all. source ≡ all)
         → Obeys (files (D.held disk.old) (D.unread disk.old) D.is_told
         (D.disk disk.old) (D.disk disk.new))
@@ -133,10 +134,10 @@ fn run_beside<'a, D: Disk, R: Read, W: Write>(
     script: &mut R,
     out: &mut W,
 ) -> Ending<'a>
-    requires few { HasFewBytes read }
+    requires few { HasBytes (most_bytes chosen.now.window) read }
     requires apart { IsTrue D.is_told → IsApart chosen.now (D.disk disk.old) }
     ensures obeyed { (source : List ℕ)
-        → Gives parts_of read (dump_parts (option_map (λ w. w.now) chosen.now.wire) source)
+        → Gives parts_of read (parts_in chosen.now.window (name_in chosen.now.wire) source)
         → IfSome (D.held disk.old chosen.now.track.now) (λ all. source ≡ all)
         → Obeys (files (D.held disk.old) (D.unread disk.old) D.is_told
         (D.disk disk.old) (D.disk disk.new))
@@ -186,13 +187,13 @@ fn run_on_read<D: Disk, R: Read, W: Write>(
     script: &mut R,
     out: &mut W,
 ) -> Result<Kept, GuardFault>
-    requires few { HasFewBytes read }
+    requires few { HasBytes (most_bytes chosen.now.window) read }
     requires apart { IsTrue D.is_told → IsApart chosen.now (D.disk disk.old) }
     requires others { IsTrue D.is_told → AreOthersApart chosen.now (D.disk disk.old) }
     requires shown { ShowsAll (D.held disk.old) chosen.now.format (paths chosen.now.others.items)
         [] others.items }
     ensures ran { (source : List ℕ)
-        → Gives parts_of read (dump_parts (option_map (λ w. w.now) chosen.now.wire) source)
+        → Gives parts_of read (parts_in chosen.now.window (name_in chosen.now.wire) source)
         → RunsBy (files (D.held disk.old) (D.unread disk.old) D.is_told
         (D.disk disk.old) (D.disk disk.new))
         chosen.now source
@@ -204,6 +205,9 @@ fn run_on_read<D: Disk, R: Read, W: Write>(
         Ok(parts) => parts,
         Err(fault) => return Err(GuardFault::Dump(fault)),
     };
+    // Called for its law alone: a dump that is written of a recording says the recording.
+    read_back_parts(&recording);
+    let journal = heeded(chosen.window, journal);
     let mut shelf = FileShelf::new(disk, place_of(chosen), room);
     let moved = chosen.moved;
     guard_on_parts(
@@ -236,15 +240,5 @@ fn product_of(chosen: &Settings<'_>) -> Product
         Product::Session
     } else {
         Product::Track
-    }
-}
-
-/// The bytes of the wire's name, if one is given; else the dump has to have one wire of one bit.
-fn wire_of<'a>(chosen: &Settings<'a>) -> Option<&'a [u8]>
-    ensures { name_of result ≡ option_map (λ w. w.now) chosen.now.wire }
-{
-    match chosen.wire {
-        Some(wire) => Some(wire.as_bytes()),
-        None => None,
     }
 }

@@ -17,6 +17,8 @@ pub fn program<'a>() -> Program<'a>
             <TRACK>  the dump; repairs come on standard input\n\n\
             Options:\n      \
             --wire <NAME>          the wire of the dump\n      \
+            --from <TIME>          in microseconds, is the new 0: 0\n      \
+            --to <TIME>            in microseconds, ends the part that is read\n      \
             --format <FORMAT>      A, B, E or G: B\n      \
             --expression <NUMBER>  of the format: 2\n      \
             --moved                frames that are fine may move, in their order\n      \

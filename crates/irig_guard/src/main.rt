@@ -6,6 +6,7 @@ mod chosen;
 mod command_line;
 mod ending;
 mod file_run;
+mod heeded;
 mod help;
 mod options;
 mod others;

@@ -5,7 +5,7 @@ ghost use Rattle.irig_guard.specs.Chosen.{HasFault, IsChosen, is_over};
 
 use crate::asked::Asked;
 use crate::chosen::{OptionFault, Settings};
-use irig_words::format_named;
+use irig_words::{format_named, window_named};
 
 /// What the values of a command line ask for; an option with a value that it cannot have is a
 /// fault, also if that is so only by another option.
@@ -13,6 +13,10 @@ pub fn settings_of<'a>(asked: Asked<'a>) -> Result<Settings<'a>, OptionFault>
     ensures chosen { IfOk result (IsChosen asked.entry) }
     ensures fault { IfErr result (HasFault asked.entry) }
 {
+    let window = match window_named(asked.from, asked.to) {
+        Ok(window) => window,
+        Err(fault) => return Err(OptionFault::Window(fault)),
+    };
     let format = match format_named(asked.format, asked.expression) {
         Ok(format) => format,
         Err(fault) => return Err(OptionFault::Format(fault)),
@@ -26,6 +30,7 @@ pub fn settings_of<'a>(asked: Asked<'a>) -> Result<Settings<'a>, OptionFault>
     Ok(Settings {
         track: asked.track,
         wire: asked.wire,
+        window,
         out: asked.out,
         others: asked.others,
         save: asked.save,

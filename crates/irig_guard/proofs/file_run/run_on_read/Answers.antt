@@ -1,10 +1,11 @@
-use Rattle.std.proofs.Common.{rules, ◌≡◌, ◌∷◌, ◌∙◌, ap, drop, List, ℕ, subst, sym}
-use Rattle.irig_edit.specs.Opened.Openings.{MayBeShort}
+use Rattle.std.proofs.Common.{rules, ◌≡◌, ◌∷◌, ◌∙◌, ap, drop, List, ℕ, Ok}
+use Rattle.irig_vcd.specs.{Answer.bytes_of, Window.parts_in}
+use Rattle.irig_files.specs.Tracks.{name_in}
 use Rattle.irig_files.proofs.Apart.{stays_here}
 use Rattle.irig_files.proofs.PutsAt.{texts_where}
 use Rattle.irig_files.specs.{Going.goes_nowhere, Puts.texts_at, Puts.writes_on, Writes.GoesTo}
 use Rattle.irig_guard.specs.Given.{AreSpared, files, place_of, product_of}
-use Rattle.irig_guard.proofs.RunsBy.{apart_from, fails_by, path_stays, runs_by}
+use Rattle.irig_guard.proofs.{RunsBy.apart_from, RunsBy.fails_by, RunsBy.path_stays, RunsBy.runs_by, Windows.guards_in, Windows.runs_short}
 use Rattle.irig_guarding.specs.declared.product.Product.TheVariants as product
 use Rattle.irig_guard.proofs.file_run.run_on_read.Goals as goal
 
@@ -26,7 +27,9 @@ returns-clause-ran g c = λ source is.
     let same_path = ap (λ (l : List ℕ). drop 1 l) c.guard_on_parts.ensures.label ∙ (c.new-shelf.ensures.path ∙ c.place_of.ensures) in
     let kept : GoesTo told (disk c.args.disk.now) (disk new.disk.now) (place_of chosen) =
     rw (c.new-shelf.ensures.disk, path) at c.guard_on_parts.ensures.since.1 in
-    let ends = c.guard_on_parts.ensures.ends _ source (rw c.in-Ok.is at is) in
+    let recording = c.in-Ok.parts.0 in
+    let journal = bytes_of c.in-Ok.parts.1 in
+    let read : parts_in chosen.window (name_in chosen.wire) source ≡ Ok (recording, journal) = rw c.in-Ok.is at is in
     let done = runs_by (files (g.D.Disk.held c.args.disk.now) (g.D.Disk.unread c.args.disk.now) told (disk c.args.disk.now) (disk new.disk.now))
     chosen source (g.W.Write.contents c.args.out.now) (g.W.Write.contents c.guard_on_parts.new.out)
     (g.R.Read.remaining c.args.script.now) (g.R.Read.remaining c.guard_on_parts.new.script)
@@ -38,8 +41,11 @@ returns-clause-ran g c = λ source is.
     (λ j. texts_at ((disk (c.new-shelf.ensures.disk j)).paths (path j)) (writes_on told (disk (c.new-shelf.ensures.disk j))))
     (texts_where told (disk c.args.disk.now) (disk new.disk.now) (place_of chosen) new.path.now same_path (λ is_told. (kept is_told).paths))
     c.new-shelf.ensures.none_failed kept
-    (λ memory. subst MayBeShort (sym (rw c.in-Ok.is at is)) (c.guard_on_parts.ensures.memory memory)) c.args.others.items c.requires.shown
-    (rw c.product_of.ensures at ends) in
+    (λ memory. runs_short chosen.window (name_in chosen.wire) source _ _ read (rw c.heeded-journal.ensures.heeded at c.guard_on_parts.ensures.memory memory))
+    c.args.others.items c.requires.shown
+    (guards_in (name_in chosen.wire) chosen.format _ source (product_of chosen) _ _ _ _ chosen.window recording journal
+    c.guard_on_parts.result read c.read_back_parts.ensures.plain
+    (rw (c.heeded-journal.ensures.heeded, c.product_of.ensures) at c.guard_on_parts.ensures.ends)) in
     search (rules, done)
 
 pub returns-clause-spared : goal.returns-clause-spared

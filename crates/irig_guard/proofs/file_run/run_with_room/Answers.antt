@@ -1,19 +1,15 @@
-use Rattle.std.proofs.Common.{refl, rules, inr}
-use Rattle.std.specs.Prelude.{None}
-use Rattle.irig_files.specs.{Going.goes_nowhere, Tracks.IsUnread}
+use Rattle.std.proofs.Common.{refl, inr}
+use Rattle.irig_files.specs.Going.{goes_nowhere}
 use Rattle.irig_files.proofs.Apart.{stays_here}
 use Rattle.irig_guard.proofs.file_run.run_with_room.Goals as goal
 
 pub returns-in-Ok-clause-obeyed : goal.returns-in-Ok-clause-obeyed
 returns-in-Ok-clause-obeyed g c =
     let read = c.in-Ok.ensures.read in
-    c.run_apart.ensures.obeyed read.source (rw c.wire_of.ensures at read.parts) read.whole
+    c.run_apart.ensures.obeyed read.source read.parts read.whole
 
 pub returns-in-Err-clause-obeyed : goal.returns-in-Err-clause-obeyed
-returns-in-Err-clause-obeyed g c =
-    let track = c.args.chosen.now.track.now in
-    let unread : IsUnread None (g.D.Disk.held c.args.disk.now track) (g.D.Disk.unread c.args.disk.now track) c.in-Err.fault = search rules in
-    (refl, (refl, (λ to told. goes_nowhere _ _ (g.met.D.Disk.only_now _))), inr unread)
+returns-in-Err-clause-obeyed g c = (refl, (refl, (λ to told. goes_nowhere _ _ (g.met.D.Disk.only_now _))), inr c.in-Err.ensures.unread)
 
 pub returns-in-Err-clause-spared : goal.returns-in-Err-clause-spared
 returns-in-Err-clause-spared g c = λ path read told. stays_here (g.D.Disk.disk c.args.disk.now) path (g.met.D.Disk.only_now c.args.disk.now)

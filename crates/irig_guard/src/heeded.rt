@@ -1,0 +1,21 @@
+//! The journal that a session is opened with.
+
+ghost use Rattle.std.specs.Prelude.{◌≡◌, ◌≤◌, ◌^◌, IfSome, length};
+ghost use Rattle.irig_files.specs.Reads.{most_bytes};
+ghost use Rattle.irig_vcd.specs.Answer.{bytes_of};
+ghost use Rattle.irig_guard.specs.Windows.{heeded};
+
+use irig_vcd::Window;
+
+/// The text of the journal that a session is opened with: in a window none, since the steps of a
+/// journal are those of the whole recording.
+pub fn heeded(window: Option<Window>, journal: Option<Vec<u8>>) -> Option<Vec<u8>>
+    requires { IfSome journal (λ text. length text.items ≤ most_bytes window) }
+    ensures heeded { bytes_of result ≡ heeded window (bytes_of journal) }
+    ensures few { IfSome result (λ text. length text.items ≤ 2 ^ 28) }
+{
+    match window {
+        None => journal,
+        Some(_) => None,
+    }
+}
