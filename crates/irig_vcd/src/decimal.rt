@@ -6,7 +6,8 @@ ghost use Rattle.irig_vcd.specs.Code.Decimal.{capped_from};
 /// A larger number is read as this one, which is above each time that a dump may have.
 pub const NUMBER_LIMIT: u64 = 1 << 41;
 
-/// The number that digits spell, or 2^41 if it is above. `None` if a byte is no digit.
+/// The number that digits spell, or 2^41 if it is above, so that no step overflows. No digits are
+/// 0. `None` if a byte is no digit.
 pub fn number(digits: &[u8]) -> Option<u64>
     ensures { result ≡ capped_from 0 digits.now }
 {

@@ -134,7 +134,7 @@ impl Progress {
     }
 
     /// Lets the first `count` bytes go, which are read. Then it waits until twice as many bytes are
-    /// held as stay.
+    /// held as stay, so that little is read again, however small the parts are.
     pub fn let_go(&mut self, count: usize)
         requires within { count ≤ vec_len self.old.held }
         requires short { self.old.gone + vec_len self.old.held ≤ 2 ^ 48 }
@@ -153,7 +153,7 @@ impl Progress {
     }
 }
 
-/// A wire's name that is kept, as it is given to a call.
+/// A wire's name that is kept, as it is given to a call. `None` if none was asked for.
 fn name(wire: &Option<Vec<u8>>) -> Option<&[u8]>
     ensures { name_of result ≡ bytes_of wire.now }
 {
@@ -163,7 +163,7 @@ fn name(wire: &Option<Vec<u8>>) -> Option<&[u8]>
     }
 }
 
-/// Drops the first `count` bytes.
+/// Drops the first `count` bytes: the others move to the front.
 fn drop_front(bytes: &mut Vec<u8>, count: usize)
     requires { count ≤ vec_len bytes.old }
     ensures { bytes.new.items ≡ drop count bytes.old.items }

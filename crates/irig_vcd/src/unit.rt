@@ -1,6 +1,7 @@
 //! The unit of time of a dump.
 //!
-//! A time is a number of units. Its whole part is in microseconds, or in units if these are longer.
+//! A time is a number of units. Its whole part is in microseconds, or in units if these are longer:
+//! `factor` is how many microseconds one of these is.
 
 ghost use Rattle.std.specs.Prelude.{◌≡◌, ◌≤◌, ◌-◌, ◌==◌, nat_le};
 ghost use Rattle.irig_vcd.specs.Code.Time.{factor_of, limit_of};
