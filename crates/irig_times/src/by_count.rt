@@ -16,7 +16,8 @@ use irig_track::Lens;
 const PICOS: u64 = 1_000_000;
 
 /// The time of year some picoseconds after the start of a track. `None` unless the pulse before it
-/// and the next one have times, one interval apart: between them the time goes evenly.
+/// and the next one have times, one interval apart: between them the time goes evenly. `find` says
+/// how many pulses have risen by a microsecond, so the last of them has one number less.
 ///
 /// The years of two digits are of this century: 20 for 2000 to 2099.
 pub fn time_by(
@@ -86,7 +87,8 @@ fn shared(format: Format, place: &Place, part: u64, whole: u64) -> Time
 }
 
 /// How many microseconds of a nominal interval are over, if `micros` microseconds and `picos`
-/// picoseconds of the recorded one are, which is `whole` microseconds long. Rounded down.
+/// picoseconds of the recorded one are, which is `whole` microseconds long. Rounded down. The two
+/// are multiplied apart, as one product in picoseconds could overflow; that rounds nothing else.
 fn share(interval: u64, micros: u64, picos: u64, whole: u64) -> u64
     requires interval { interval ≤ 100000 }
     requires picos { picos < 1000000 }

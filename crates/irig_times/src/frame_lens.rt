@@ -55,8 +55,8 @@ impl<'a> FrameLens<'a> {
         self.index.record(k)
     }
 
-    /// How many records are of markers up to the pulse `number`, from 0. It makes at most as many
-    /// looks as the number of the records has binary digits.
+    /// How many records have a marker that is the pulse `number`, from 0, or one before it. It
+    /// makes at most as many looks as the number of the records has binary digits.
     pub fn find(&mut self, number: usize) -> usize
         requires { MarkersRise self.old.records }
         ensures parted { PartedAt self.old.records number result }

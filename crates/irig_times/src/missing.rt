@@ -1,5 +1,6 @@
-//! The times of frames that are missing between two others. Periods are in microseconds. `None` if
-//! no frames can be missing there by these times. `century` is 20 for 2000 to 2099.
+//! The times of frames that are missing between two others. Periods are in microseconds, and so are
+//! the times of rises. `None` if no frames can be missing there by these times. `century` is 20 for
+//! 2000 to 2099.
 
 ghost use Rattle.std.specs.Prelude.{IfSome, ◌≡◌, ◌≤◌, ◌+◌, ◌*◌, ◌^◌, ◌<◌};
 ghost use Rattle.irig_times.specs.Between.{at_micros, at_minute, day_micros, is_middle, is_whole};
@@ -54,7 +55,7 @@ fn minute_end(minutes: u32) -> u64
     if minutes == 59 { LONG_MINUTE } else { MINUTE }
 }
 
-/// Whether a frame of a time ends in its minute, or with it.
+/// Whether a frame of a time ends in its minute, or with it; `period` is how long it lasts.
 pub fn is_whole(period: u64, time: &Time) -> bool
     requires { (period < 2 ^ 32) × (time.now.micros < 2 ^ 60) }
     ensures { result ≡ is_whole period time.now }
@@ -161,9 +162,10 @@ pub fn rounded(period: u64, from: u64, to: u64) -> u64
     (2 * to.saturating_sub(from) + period) / (2 * period)
 }
 
-/// The times of the frames that are missing between two, which are `count` periods apart. `None` if
-/// none is missing, the times are not so far apart, or the first or the last missing one does not
-/// end in its minute. More than one are not counted over midnight.
+/// The times of the frames that are missing between two, which are `count` periods apart, so one
+/// less is missing. `None` if none is missing, the times are not so far apart, or the first or the
+/// last missing one does not end in its minute. More than one are not counted over midnight: their
+/// times are compared by the microseconds of one day.
 pub fn missing_in(century: u32, period: u64, count: u64, from: &Time, to: &Time) -> Option<Missing>
     requires century { century ≤ 99 }
     requires small { (period < 2 ^ 25) × (count < 2 ^ 42 + 2) }

@@ -59,8 +59,9 @@ pub fn start_of(
     }
 }
 
-/// Where the frame of a marker, a pulse, starts. Its own record is the last of the first `next`, so
-/// the next frame's is at the place `next`.
+/// Where the frame of a marker, a pulse, starts; it has a hundred pulses, so its last one is 99
+/// later. Its own record is the last of the first `next`, so the next frame's is at the place
+/// `next`.
 fn started(
     pulses: &mut Lens<'_>,
     records: &mut FrameLens<'_>,

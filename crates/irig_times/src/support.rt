@@ -1,8 +1,9 @@
 //! Which frames are believed: those that another one near them supports, and that are on no island.
 //! Two frames agree if they are near enough for their distance to say how many periods it is, and
 //! their times are as many apart. An island is up to three frames that are wrong alike, between two
-//! that agree with each other. A record is a frame of the track; places count from 0. `before` and
-//! `after` are the five frames nearest to a frame that have a time.
+//! that agree with each other, its shores. A record is a frame of the track; places count from 0.
+//! `before` and `after` are the five frames nearest to a frame that have a time. An error says that
+//! memory ran out.
 
 ghost use Rattle.std.specs.Prelude.{◌≡◌, ◌<◌, ◌&&◌, IfOk, None, Some, [], drop, is_some, length};
 ghost use Rattle.std.specs.Prelude.{List, not, slice_get};
@@ -21,8 +22,8 @@ use irig_safety::Shown;
 use irig_track::Lens;
 use std::alloc::{AllocError, Global};
 
-/// Of each record, whether its frame is believed: one that is supported and on no island, or if
-/// frames stand alone each one that has a time.
+/// Of each record, whether its frame is believed: one that is supported and on no island, or each
+/// one that has a time if a caller wants that (`alone`).
 pub fn held_frames(
     alloc: Global,
     pulses: &mut Lens<'_>,
@@ -166,8 +167,8 @@ fn is_held(
     is_believed(format, before, &frame, &after)
 }
 
-/// Whether the frame before agrees with a frame, and no frame before that shows that it is on an
-/// island: so it is believed, whatever comes after it.
+/// Whether the frame before agrees with a frame, so that it is no shore, and neither is one of the
+/// two frames before that: so the frame is on no island and is believed, whatever comes after it.
 fn is_sure(format: Format, before: &Nearest, frame: &Shown) -> bool
     ensures { result ≡ (agrees_from format before.now.first frame.now
         && (not (is_shore_before format before.now.fourth before.now.third before.now.second

@@ -1,6 +1,6 @@
-//! Whether intervals are lost between two frames, and what pulses say of the elements there. `from`
-//! and `to` are two frames, as parts. Tenths are of an interval. An element is said by a pulse's
-//! width.
+//! Whether intervals are lost between two frames (the stretch is torn), and what pulses say of the
+//! elements there. `from` and `to` are two frames, as parts. Tenths are of an interval. An element
+//! is said by a pulse's width: its class is 0, 1 or a position identifier.
 
 ghost use Rattle.std.specs.Prelude.{◌≡◌, ◌≤◌, ◌<◌, ◌+◌, ◌*◌, ◌^◌, Some, slice_get};
 ghost use Rattle.irig_codes.specs.Format.{frame_period_of};
@@ -77,7 +77,8 @@ fn tenths_by(both: u64, time: u64) -> u64
 }
 
 /// How many tenths of an interval the second frame is after the first, as it was recorded: the 990
-/// of the first frame, and those from its last element to the second marker.
+/// of the first frame, from its marker to its last element, and those from there to the second
+/// marker.
 pub fn tenths_found(pulses: &mut Lens<'_>, from: &Part, to: &Part) -> u64
     requires { (from.now.number < 2 ^ 32) × (to.now.number < 2 ^ 32) }
     ensures count { result ≡ tenths_found pulses.old.track.pulses from.now to.now }
@@ -108,7 +109,7 @@ fn are_near(one: u64, other: u64) -> bool
     one <= other + 5 && other <= one + 5
 }
 
-/// Whether these tenths are tens of intervals, to a fifth of one.
+/// Whether these tenths are tens of intervals, to a fifth of one: a whole number of hundreds, to 2.
 pub fn are_tens(count: u64) -> bool
     requires { count ≤ 2 ^ 54 }
     ensures { result ≡ are_tens count }
@@ -142,7 +143,7 @@ pub fn is_torn(
     !are_near(found, told)
 }
 
-/// The number, from 0, of pulse `place` of a side.
+/// The number, from 0, of pulse `place` of a side. `place` is 0 for the nearest.
 fn pulse_of(side: &Side, place: usize) -> usize
     requires { (side.now.number < 2 ^ 32) × (place < 2 ^ 32) }
     ensures { result ≡ pulse_of side.now place }
@@ -181,7 +182,7 @@ pub fn denies(
     contradicts(pulses, format, wanted, number, element)
 }
 
-/// Whether a pulse is there and is a position identifier, and one is wanted.
+/// Whether a pulse is there and is a position identifier by its width, and one is wanted.
 fn is_mark(format: Format, pulse: Option<Pulse>, wanted: Element) -> bool
     ensures { result ≡ is_mark format pulse (Some wanted) }
 {

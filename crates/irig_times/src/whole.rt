@@ -13,7 +13,7 @@ use irig_codes::{Fields, Format};
 use std::alloc::{AllocError, Global};
 
 /// The frames of a track that have a time, in order: of each record, which is a frame, `held` says
-/// whether it is believed.
+/// whether it is believed. It fails only if memory runs out.
 pub fn whole_parts(
     alloc: Global,
     records: &mut FrameLens<'_>,

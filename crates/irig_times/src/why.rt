@@ -166,7 +166,7 @@ fn why_between(pulses: &mut Lens<'_>, format: Format, century: u32, from: &Part,
     }
 }
 
-/// Whether the times of two frames are as many periods apart as their markers, which are there.
+/// Whether the times of two frames are as many periods apart as their markers, or one is not there.
 fn are_apart_by(pulses: &mut Lens<'_>, format: Format, century: u32, from: &Part, to: &Part) -> bool
     requires century { century ≤ 99 }
     requires times { (from.now.time.micros < 2 ^ 59) × (to.now.time.micros < 2 ^ 59) }
@@ -224,7 +224,7 @@ fn why_of(parts: &[Part], whys: &[Why], format: Format, number: usize) -> Why
 }
 
 /// Why the pulse of a number has no time, at or after the first pulse of `frame`: `earlier` is the
-/// reason before that frame, and `later` the one after it.
+/// reason before that frame, `later` the one after it. After a step its date has no time.
 fn why_after(format: Format, number: usize, frame: &Part, earlier: Why, later: Why) -> Why
     requires small { frame.now.number ≤ number }
     ensures { result ≡ why_after format number (Some frame.now) earlier later }
