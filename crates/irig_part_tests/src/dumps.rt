@@ -65,14 +65,15 @@ fn is_read_alone(alloc: Global, dump: &[u8], wire: Option<&[u8]>, want: &Wanted)
     }
 }
 
-/// Whether a dump without a journal is read as is wanted, with its parts too.
+/// Whether a dump without a journal is read as is wanted, with its parts too. False if it has more
+/// than 2^28 bytes: `read` takes no more.
 fn is_right(alloc: Global, dump: &[u8], wire: Option<&[u8]>, want: &Wanted) -> bool {
     dump.len() <= 1 << 28
         && is_read(alloc, dump, wire, want)
         && is_read_alone(alloc, dump, wire, want)
 }
 
-/// Adds these texts to a dump, one after another.
+/// Adds these texts to a dump, one after another. False if memory runs out.
 fn put_texts(dump: &mut Vec<u8>, texts: &[&str]) -> bool {
     for text in texts {
         if dump.extend_from_slice(text.as_bytes()).is_err() {
@@ -88,7 +89,7 @@ fn are_right(alloc: Global, texts: &[&str], want: &Wanted) -> bool {
     put_texts(&mut dump, texts) && is_right(alloc, dump.as_slice(), None, want)
 }
 
-/// Reads the dump of each row.
+/// Each dump is read as its row wants: the header, and the changes of the row.
 fn check_rows(rt: &impl Abort, alloc: Global, rows: &[Row]) {
     for (changes, want) in rows {
         assert!(rt; are_right(alloc, &[HEADER, changes], want));

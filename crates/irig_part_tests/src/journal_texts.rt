@@ -1,5 +1,5 @@
 //! The worked journal: of two pulses the first was deleted, and a mark was set and undone. And
-//! texts with a wrong line.
+//! texts with a wrong line. What writes returns false if memory runs out.
 
 ghost use Rattle.std.specs.Prelude.{◌<◌, ◌^◌, length};
 
@@ -22,7 +22,7 @@ const DELETED: Pulse = Pulse {
     fall: 120,
 };
 
-/// The number of the wrong line; 0 if there is none.
+/// The number of the wrong line; 0 if there is none, and 1000, which no row has, without memory.
 fn fault(alloc: Global, text: &[u8]) -> usize
     requires { length text.now < 2 ^ 63 }
 {
@@ -139,7 +139,7 @@ fn is_mark(step: &SavedStep) -> bool {
     step.cursor == 1 && letter.place() == 0 && *time == Some(110)
 }
 
-/// Whether the journal begins as the worked one.
+/// Whether the journal begins as the worked one: format G 2, cursor 1, no mark.
 fn has_head(saved: &Saved) -> bool {
     saved.kind == Kind::G && saved.expression == 2 && saved.cursor == 1 && saved.marks == [None; 26]
 }
@@ -163,7 +163,7 @@ fn the_worked_journal_is_read(rt: HostRuntime) {
     assert!(rt; is_worked_read(rt.alloc()));
 }
 
-/// Writes all lines of a change.
+/// Writes all lines of a change: `usize::MAX` bytes are never enough, so none is left for later.
 fn put_lines(text: &mut Vec<u8>, single: Single) -> bool {
     SingleLines::of(&single).fill(text, usize::MAX).is_ok()
 }
@@ -184,7 +184,7 @@ fn put_splice(text: &mut Vec<u8>) -> bool {
     }
 }
 
-/// Writes the lines of its step forward.
+/// Writes the lines of its one step forward, which sets the mark a.
 fn put_forward(text: &mut Vec<u8>) -> bool {
     let (letter, time) = (Letter::new(0), Some(110));
     put_future(text, 1).is_ok()
@@ -198,7 +198,7 @@ const MARKS: [bool; 26] = [
     false, false, false, false, false, false, false, false, false, false, false, false, true,
 ];
 
-/// Writes the lines of a group of changes of other kinds.
+/// Writes the lines of a group of changes of other kinds, a step that leads to cursor 4.
 fn put_changes(text: &mut Vec<u8>) -> bool {
     let (i, j, by, marks) = (1, 2, -20, MARKS);
     let (kind, expression) = (Kind::E, 1);

@@ -4,8 +4,8 @@ use irig_codes::{Fields, Format, Kind};
 use irig_moment::Moment;
 use std::process::Abort;
 
-/// A moment, a format, the number of a frame from the moment on, and its fields with no control
-/// function set.
+/// A moment, a format (kind and expression), the number of a frame from the moment on, from 0, and
+/// its fields with no control function set.
 type Row = (&'static [u8], Kind, u8, u64, Fields);
 
 /// The fields of day 1 at midnight, with no other part.
@@ -20,12 +20,13 @@ const DAY: Fields = Fields {
     control: None,
 };
 
-/// Whether frame k from the moment on has these fields.
+/// Whether frame k, from 0 at the moment, has these fields. The calls need a frame that begins
+/// there, and no row has more than 10,000.
 fn has_fields(moment: Moment, format: Format, k: u64, fields: &Fields) -> bool {
     moment.starts(format) && k < 10_000 && moment.fields(format, k, 0) == *fields
 }
 
-/// Whether the frame of a row has its fields.
+/// Whether the frame of a row has its fields; a moment or a format that is none is false.
 fn is_told((text, kind, expression, k, fields): &Row) -> bool {
     match (Moment::parse(text), Format::new(*kind, *expression)) {
         (Some(moment), Ok(format)) => has_fields(moment, format, *k, fields),
@@ -52,6 +53,7 @@ const NOON: Fields = Fields {
     ..DAY
 };
 
+/// Frames of B: one second after the moment, also over the end of a year.
 static WHOLE: [Row; 3] = [
     (b"2024-061T12:34:55", Kind::B, 4, 1, NOON),
     (b"2024-03-01T12:34:55", Kind::B, 4, 1, NOON),
@@ -74,6 +76,7 @@ fn frames_of_b_tell_the_moment_and_whole_periods(rt: HostRuntime) {
     check(&rt, &WHOLE);
 }
 
+/// Frames of G and A, which have hundredths or tenths of a second.
 static PARTS: [Row; 2] = [
     (
         b"2024-001T00:00:00",
@@ -107,6 +110,7 @@ fn frames_of_a_and_g_tell_parts_of_a_second(rt: HostRuntime) {
     check(&rt, &PARTS);
 }
 
+/// Frames of E, which begin every ten seconds; also over the end of a year and of February.
 static TENS: [Row; 3] = [
     (
         b"9998-12-31T23:59:50",

@@ -2,7 +2,8 @@
 
 use irig_codes::{Element, Fields, Format, Kind, Name, Note, decode, encode, fits};
 
-/// The frame with these ones and its position identifiers.
+/// The frame with these elements as ones, from 0, and its position identifiers. A number from 100
+/// on is no element: it fills a row.
 fn frame_with(ones: &[usize]) -> [Element; 100] {
     let mut frame = [Element::Zero; 100];
     for element in 0..100 {
@@ -30,7 +31,7 @@ const NOTHING: Fields = Fields {
 /// A format, the fields of a frame, and its ones.
 type Carried = (Kind, u8, Fields, &'static [usize]);
 
-/// Whether the fields give the frame, and the frame gives the fields.
+/// Whether the fields give the frame, and the frame gives the fields, with nothing noted of it.
 fn carries(format: Format, fields: &Fields, frame: &[Element; 100]) -> bool {
     fits(format, fields)
         && encode(format, fields) == *frame
@@ -45,6 +46,7 @@ fn is_carried((kind, expression, fields, ones): &Carried) -> bool {
     }
 }
 
+/// Frames of B and A, their ones by the weights of the standard.
 static FIELDS: [Carried; 2] = [
     (
         Kind::B,
@@ -89,6 +91,7 @@ fn frames_carry_their_fields_both_ways(rt: HostRuntime) {
     }
 }
 
+/// Frames of E and G with control functions.
 static CONTROLS: [Carried; 2] = [
     (
         Kind::E,
@@ -129,9 +132,11 @@ fn frames_carry_their_control_functions_both_ways(rt: HostRuntime) {
     }
 }
 
-/// An expression of B, the ones of a frame, its fields, and what is noted of it.
+/// An expression of B, the ones of a frame, the fields that are read of it, and what is noted.
 type Noted = (u8, &'static [usize], Fields, Note);
 
+/// Frames with one thing wrong: a day 0, units of the seconds above 9, a one at an element that
+/// carries nothing, and seconds of the day that are not those of the time.
 static NOTED: [Noted; 4] = [
     (2, &[100, 100, 100], NOTHING, Note::Field(Name::Days)),
     (

@@ -8,6 +8,8 @@ use std::alloc::Global;
 /// A length and edges, and whether they make a recording.
 type Row = (u64, &'static [u64], bool);
 
+/// Edges that are a recording, and others: past the length, touching, a rise alone, a length above
+/// 2^40 microseconds.
 static EDGES: [Row; 6] = [
     (9, &[1, 2, 3, 9], true),
     (8, &[1, 2, 3, 9], false),
@@ -17,7 +19,7 @@ static EDGES: [Row; 6] = [
     (1099511627777, &[], false),
 ];
 
-/// Whether a recording gives a length and edges.
+/// Whether a recording gives a length and edges, looked at and taken out.
 fn gives(recording: Recording, length: u64, edges: &[u64]) -> bool {
     recording.length() == length
         && have_edges(recording.pulses(), edges)
@@ -51,7 +53,7 @@ static TOKENS: [(Kind, &[u8], usize); 7] = [
     (Kind::Other, b"U", 24),
 ];
 
-/// Whether the next token is of a kind, and at a place.
+/// Whether the next token is of a kind, has these bytes, and is at a place in bytes from 0.
 fn is_next(tokens: &mut Tokens<'_>, (kind, slice, offset): &(Kind, &[u8], usize)) -> bool {
     match tokens.next() {
         Some(token) => token.kind == *kind && token.slice == *slice && token.offset == *offset,

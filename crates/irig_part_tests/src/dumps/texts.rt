@@ -15,6 +15,7 @@ fn lines_of(alloc: Global, length: u64, edges: &[u64]) -> Result<Vec<u8>, AllocE
     }
 }
 
+/// The text of a recording of length 0 without a pulse.
 const EMPTY: &[u8] = b"$timescale 1 us $end
 $scope module irig $end
 $var wire 1 ! code $end
@@ -38,7 +39,7 @@ static TEXTS: [(u64, &[u64], usize, &[u8]); 3] = [
     (1000, &[100, 120], 125, b"#100\n1!\n#120\n0!\n#1000\n"),
 ];
 
-/// Whether the text of a length and edges, from a byte on, is this one.
+/// Whether the text of a length and edges, in microseconds, from a byte on, is this one.
 fn is_text(alloc: Global, length: u64, edges: &[u64], from: usize, text: &[u8]) -> bool {
     match lines_of(alloc, length, edges) {
         Ok(lines) => lines.as_slice().get(from..) == Some(text),
@@ -72,7 +73,7 @@ fn full_dump(alloc: Global) -> Result<Vec<u8>, AllocError> {
     lines_of(alloc, 1 << 23, edges.as_slice())
 }
 
-/// Whether that many pulses are read, or the fault.
+/// Whether that many pulses are read of a dump, or it has that fault.
 fn has_count(alloc: Global, dump: &[u8], want: Result<usize, VcdFault>) -> bool {
     if dump.len() > 1 << 28 {
         return false;

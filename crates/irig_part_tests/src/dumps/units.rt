@@ -129,6 +129,8 @@ static UNITS: [(&str, &str, Wanted); 10] = [
 const WIRE: &str = " $end\n$var wire 1 ! c $end\n$enddefinitions $end\n";
 
 /// Whether the dump of a wire in a unit is read as is wanted, alone and with the comment after it.
+/// `first` and `second` are its changes, one after the other. With the comment pulses are read in
+/// one step, without it the last ones token by token.
 fn are_right_in(alloc: Global, unit: &str, first: &str, second: &str, want: &Wanted) -> bool {
     let short = ["$timescale ", unit, WIRE, first, second];
     let longer = ["$timescale ", unit, WIRE, first, second, COMMENT];

@@ -4,6 +4,7 @@ use super::Wanted::{self, Edges, Fault};
 use super::{Row, check_rows, is_right};
 use irig_vcd::VcdFault;
 
+/// A dump of two pulses, whose last time line sets the length.
 const TWO_PULSES: &str = "$timescale 1 us $end
 $var wire 1 ! code $end
 $enddefinitions $end
@@ -14,6 +15,7 @@ $enddefinitions $end
 #1000
 ";
 
+/// A dump as a simulator writes it: in picoseconds, with another variable of eight bits.
 const SIMULATED: &str = "$date today $end $version a simulator $end
 $timescale
  1ps

@@ -30,8 +30,9 @@ pub(crate) fn format_g(rt: &impl Abort) -> Format {
         .expect(rt, "G permits expression 2")
 }
 
-/// The width, in microseconds, of an element of a frame of day 1, 00:00:00.00 or .01. The units of
-/// the day are elements 30 to 33, those of the hundredths 50 to 53.
+/// The width, in microseconds, of an element of a frame of day 1, 00:00:00.00 or .01: 80 for a
+/// position identifier, 50 for a 1, 20 for a 0. The units of the day are elements 30 to 33, those
+/// of the hundredths 50 to 53.
 fn width(hundredths: u64, element: u64) -> u64
     ensures { result < 100 }
 {
@@ -69,7 +70,7 @@ pub(crate) fn positions(alloc: Global) -> Result<Track, AllocError> {
     pulses(alloc, 8, false)
 }
 
-/// Removes `count` pulses from `at` on, if they are there.
+/// Removes `count` pulses from `at` on, from 0, if they are there, and returns where; else `None`.
 fn cut(
     alloc: Global,
     track: &mut Track,
@@ -89,7 +90,8 @@ fn cut(
     Ok(Some(track.splice(at, count, &mut put, &mut taken)))
 }
 
-/// Makes an edit, if it can be made, and returns where.
+/// Makes an edit, if it can be made, and returns where; else `None`. An inversion can make one
+/// pulse more, so there is room for one.
 fn make(alloc: Global, track: &mut Track, edit: Edit) -> Result<Option<Span>, AllocError>
     ensures micros { OnOk result (track.new.micros ≡ track.old.micros) }
     ensures span { IfOk result (λ made. MatchOption made (track.new.pulses ≡ track.old.pulses)
@@ -106,7 +108,7 @@ fn make(alloc: Global, track: &mut Track, edit: Edit) -> Result<Option<Span>, Al
     }
 }
 
-/// The edit that reverses an inversion or a move.
+/// The edit that reverses an inversion, which is itself, or a move. A removal is not reversed.
 pub(crate) fn back(edit: Edit) -> Edit {
     match edit {
         Edit::Move(pulse, by) => Edit::Move(pulse, 0i64.wrapping_sub(by)),
@@ -146,7 +148,8 @@ pub(crate) fn repairs(
     took_few(&lens, index, before, span.new)
 }
 
-/// Whether a repair took few looks for the pulses that came, and the index counted each look.
+/// Whether a repair took few looks for the pulses that came, three at most for each of these and of
+/// 200 around them, and the index counted each look.
 fn took_few(lens: &Lens<'_>, index: &Index, before: u64, came: usize) -> bool {
     let most = (came as u64).saturating_add(200).saturating_mul(3);
     lens.looks() <= most && index.looks().wrapping_sub(before) == lens.looks()

@@ -36,7 +36,7 @@ fn has_markers(index: &Index) -> bool {
     index.len() == 7
 }
 
-/// Whether both make room; an error leaves the index's room, and the next call makes it.
+/// Whether both make room for 100; an error leaves the index's room, and the next call makes it.
 fn both_reserve(track: &mut Track, index: &mut Index) -> bool {
     let room = index.room();
     (track.reserve(100).is_ok() || track.reserve(100).is_ok())

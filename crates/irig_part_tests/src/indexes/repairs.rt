@@ -1,4 +1,4 @@
-//! Repairs against indexes that are built from nothing.
+//! Repairs against indexes that are built from nothing. An edit agrees if both are then the same.
 
 ghost use Rattle.std.specs.Prelude.{◌≡◌, IsTrue};
 ghost use Rattle.irig_index.specs.Frames.{frames};
@@ -73,6 +73,7 @@ fn both_ways(alloc: Global, format: Format, edit: Edit) -> bool {
     short_agrees(alloc, format, &[edit, back(edit)])
 }
 
+// Inversions between all multiples of 20 microseconds of the short track, which has 800.
 #[test]
 fn an_inversion_at_each_place_of_a_short_track(rt: HostRuntime) {
     let format = format_g(&rt);
@@ -104,6 +105,8 @@ fn a_cut_at_each_place_of_a_short_track(rt: HostRuntime) {
     }
 }
 
+// A pulse takes up to 80 microseconds of its 100, so the level is low there; the second edit undoes
+// the first.
 #[test]
 fn a_pulse_more_at_each_place_of_four_frames(rt: HostRuntime) {
     let format = format_g(&rt);

@@ -45,6 +45,7 @@ static STATES: [Row; 23] = [
     (Call::Redo, NO_STEP_ON, b"ac", 3, 2, 0, 14, (0, 0)),
 ];
 
+// The laws do nothing: here they are shown to be those of a stack.
 #[test]
 fn a_journal_is_the_machine_of_whole_states(rt: HostRuntime) {
     check(&rt, rt.alloc(), &STATES);

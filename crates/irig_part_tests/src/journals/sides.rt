@@ -41,7 +41,8 @@ fn push_two(journal: &mut Journal<Stack>, stack: &mut Stack)
     push(journal, stack, b'b', 8);
 }
 
-/// Makes one group of the newest `count` steps, if there are that many.
+/// Makes one group of the newest `count` steps, if there are that many. The cursor is the one to
+/// which an undo of the group leads.
 fn gather(journal: &mut Journal<Stack>, stack: &Stack, count: usize, cursor: usize) -> bool
     requires no_group { journal.old.floor ≡ None }
     requires ready { AreReady CanEdit edited (λ d. d) (HasPlaceFor (vec_capacity stack.now.items))

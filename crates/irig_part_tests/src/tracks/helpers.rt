@@ -50,7 +50,8 @@ fn is_text_of(alloc: Global, recording: &Recording, text: &[u8]) -> bool {
     }
 }
 
-/// Whether a splice takes place at this span, or cannot be made if there is none.
+/// Whether a splice takes place at this span, or cannot be made if there is none. `count` pulses
+/// from `at` on, from 0, go and those of `put` come.
 pub(crate) fn splices(
     alloc: Global,
     track: &mut Track,
@@ -87,7 +88,7 @@ fn exchanges(
     put.len() == 0 && taken.len() == count && want == Some(span)
 }
 
-/// Makes a shift if it can be made.
+/// Makes a shift of the pulses `i` to `j`, from 0, by `by` microseconds if it can be made.
 pub(crate) fn shift(track: &mut Track, i: usize, j: usize, by: i64) -> Option<Span> {
     if track.can_shift(i, j, by) {
         Some(track.shift(i, j, by))
@@ -96,7 +97,8 @@ pub(crate) fn shift(track: &mut Track, i: usize, j: usize, by: i64) -> Option<Sp
     }
 }
 
-/// Makes a toggle if it can be made.
+/// Makes a toggle of the level from time `a` to `b`, in microseconds, if it can be made. It may
+/// make one pulse more, so there is room for one.
 pub(crate) fn toggle(track: &mut Track, a: u64, b: u64) -> Result<Option<Span>, AllocError> {
     track.reserve(1)?;
     if track.can_toggle(a, b) {

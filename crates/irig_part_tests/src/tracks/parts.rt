@@ -17,7 +17,8 @@ static LINES: [&[u8]; 4] = [
     b"#1000\n",
 ];
 
-/// How many bytes are enough for a part, and how many of the lines above each part has.
+/// How many bytes are enough for a part: it ends after the line or the lines of a pulse with which
+/// it has that many. And how many of the lines above each part has.
 static PARTS: [(usize, &[usize]); 8] = [
     (1, &[1, 1, 2]),
     (8, &[1, 1, 2]),
@@ -48,7 +49,7 @@ fn is_part(alloc: Global, text: &mut TrackText<'_>, enough: usize, lines: &[&[u8
     text.fill(&mut block, enough).is_ok() && are_lines(block.as_slice(), lines)
 }
 
-/// Whether a text ends after these parts, each of that many lines.
+/// Whether a text ends after these parts, each of that many lines: the part after them is empty.
 fn has_parts(alloc: Global, text: &mut TrackText<'_>, enough: usize, parts: &[usize]) -> bool {
     let mut from = 0;
     for count in parts {

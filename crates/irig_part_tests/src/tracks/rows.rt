@@ -10,7 +10,8 @@ use std::process::Abort;
 /// Where an edit took place: its first pulse, how many pulses went, and how many came.
 type Place = (usize, usize, usize);
 
-/// A call with its answer: for an edit its place, or None if it cannot be made.
+/// A call with its answer: for an edit its place, or None if it cannot be made. A splice has the
+/// place, how many pulses go, and the rise and the fall of the one that comes.
 #[derive(Clone, Copy)]
 enum Call {
     Len(usize),
@@ -196,7 +197,7 @@ fn full_track(alloc: Global) -> Result<Track, AllocError> {
 }
 
 /// Whether a pulse comes into a full track only instead of another, and an inversion is made only
-/// if it makes no further pulse.
+/// if it makes no further pulse. Pulse k, from 0, is from 2k to 2k + 1 microseconds.
 fn takes_no_further(track: &Track, put: &Gap<Pulse>) -> bool {
     track.room() == 0
         && !track.can_splice(4_194_304, 0, put)
