@@ -1,5 +1,6 @@
 //! The line that the command `frames` prints of a record. A row is a line of at most 256 bytes
-//! while it is put together.
+//! while it is put together; each function writes at its end, and its condition says how much is in
+//! it before, so that there is room.
 
 ghost use Rattle.std.specs.Prelude.{◌≡◌, ◌≤◌, ◌+◌, ◌++◌, length};
 ghost use Rattle.irig_print.specs.FrameLine.{cause_word, name_word, note_text, time_text};
