@@ -21,7 +21,7 @@ use irig_edit::Session;
 use irig_lines::{BadLine, Command, Purpose, parse_line};
 use irig_text::Shelf;
 
-/// Obeys a line; `None` if it ends the script.
+/// Obeys a line and returns its answer, refused or not; `None` if it ends the script.
 pub fn obey_line<S: Shelf>(line: &Line, session: &mut Session, shelf: &mut S) -> Option<Reply>
     ensures answers { Answers result (S.known shelf.old) (S.known shelf.new)
         session.old session.new line.now }
@@ -118,7 +118,7 @@ fn choose_format(command: Command, session: &mut Session) -> Reply
     }
 }
 
-/// Lists what is asked for.
+/// Answers a question: the reply says what is to be listed, and the cursor moves if it is a pulse.
 fn answer(command: Command, session: &mut Session) -> Reply
     requires { purpose_of command ≡ Purpose.Question }
     ensures answer { Obeys command session.old result session.new }

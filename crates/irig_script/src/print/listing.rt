@@ -13,7 +13,7 @@ use irig_edit::Session;
 use irig_print::{Block, PrintFault, Row, put_frame};
 use std::io::Write;
 
-/// Prints a line for each frame of the track, in blocks.
+/// Prints a line for each frame of the track, in blocks: at the end what still waits goes out.
 #[inline(never)]
 pub fn print_frames<W: Write>(session: &Session, out: &mut W) -> Result<(), PrintFault>
     ensures { Prints (W.contents out.old) (W.contents out.new)
