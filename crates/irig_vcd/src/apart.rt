@@ -42,8 +42,8 @@ fn is_apart(source: &[u8], start: usize, code: &[u8]) -> bool
     source[start + 2] == b'\n'
 }
 
-/// A bit for each byte that is not above a space: bit k for byte k. White space is among them, and
-/// one comparison finds them all.
+/// A bit for each byte that is not above a space: bit k for byte k. White space is among them; a
+/// value that ends at another one of them is left to the slower way.
 #[inline(always)]
 fn spaces(bytes: u8x16) -> u64
     ensures { result ≡ mask_l (map is_low bytes) }
@@ -51,7 +51,7 @@ fn spaces(bytes: u8x16) -> u64
     bytes.simd_le(u8x16::splat(b' ')).to_bitmask()
 }
 
-/// How many bytes above a space there are from a place on, 16 at most: so many are compared at
+/// How many bytes above a space there are from a place on, 16 at most: that many are compared at
 /// once.
 #[inline(always)]
 fn dark_count(source: &[u8], from: usize) -> usize

@@ -139,6 +139,7 @@ impl Journals {
     }
 
     /// The text of the one journal, if there is one. `BadJournal(1)` if there is a second one.
+    /// `source` is the whole dump.
     pub fn text<'a>(self, source: &'a [u8]) -> Result<Option<&'a [u8]>, VcdFault>
         requires within { LiesIn source.now self }
         ensures one { (all : List Comment) → Holds all self

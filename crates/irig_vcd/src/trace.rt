@@ -39,7 +39,7 @@ pub struct Stretch {
 }
 
 impl Trace {
-    /// A trace that has followed no change.
+    /// A trace that has followed no change: the level is low from time 0 on.
     pub fn new(alloc: Global, window: Option<Window>) -> Trace
         ensures start { result.time ≡ 0 }
         ensures follows { Follows [] result }
@@ -141,9 +141,9 @@ impl Trace {
         self.edges.has_room()
     }
 
-    /// Takes a rise and a fall on a stretch, at times in microseconds. If edges are kept, these are
-    /// the fall at the last time and this rise: this fall is kept with the next rise, or by
-    /// `advance`.
+    /// Takes a rise and a fall on a stretch, at times in microseconds. If edges are kept, it keeps
+    /// the fall at the last time, which waited, and this rise; the fall that is given waits in its
+    /// turn.
     #[inline(always)]
     pub fn put_pulse(&mut self, rise: u64, fall: u64, stretch: Stretch) -> Result<(), AllocError>
         requires here { LiesOn stretch self.old }

@@ -87,7 +87,8 @@ impl Unit {
         }
     }
 
-    /// How many microseconds one of the whole part of a time is.
+    /// How many microseconds 1 in the whole part of a time is: more than 1 only if the unit is
+    /// longer than a microsecond.
     #[tactic(auto, unfolding(crate::specs::Code::Time::factor_of))]
     pub fn factor(self) -> u64
         ensures { result ≡ factor_of self }
