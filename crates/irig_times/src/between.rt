@@ -114,8 +114,9 @@ fn sides_by(
 }
 
 /// Whether two sides that do not meet in step are together all pulses of one or two missing frames:
-/// the recorder slipped where they meet, so the time must not go on there. With any other number of
-/// pulses the elements of the two sides do not follow each other anyway.
+/// the recorder slipped where they meet, as it lost or added some time, so the time must not go on
+/// there. With any other number of pulses the elements of the two sides do not follow each other
+/// anyway.
 fn is_seam(in_step: bool, gap: usize, head: usize, tail: usize) -> bool
     requires { (head ≤ 100) × (tail ≤ 100) }
     ensures { result ≡ is_seam in_step gap head tail }
@@ -123,7 +124,8 @@ fn is_seam(in_step: bool, gap: usize, head: usize, tail: usize) -> bool
     !in_step && head + tail == gap && (gap == 100 || gap == 200)
 }
 
-/// How many pulses of the first side have a time: its last one has none at a slip.
+/// How many pulses of the first side have a time: at a slip (`seam`) its last one has none. A pulse
+/// gives its time to both intervals next to it or to none, and over the slip none goes on.
 fn head_left(seam: bool, head: usize) -> usize
     ensures left { result ≡ head_left seam head }
     ensures few { result ≤ head }
@@ -131,8 +133,8 @@ fn head_left(seam: bool, head: usize) -> usize
     if seam { head.saturating_sub(1) } else { head }
 }
 
-/// How many pulses of the second side have a time: its first one has none at a slip, if the first
-/// side has no pulse.
+/// How many pulses of the second side have a time: at a slip its first one has none, if the first
+/// side has no pulse that could be left out.
 fn tail_left(seam: bool, head: usize, tail: usize) -> usize
     ensures left { result ≡ tail_left seam head tail }
     ensures few { result ≤ tail }

@@ -138,7 +138,7 @@ fn contradictions(
     count
 }
 
-/// One more, if it is so.
+/// The count, and one more if `is_so`.
 fn more(count: usize, is_so: bool) -> usize
     requires { count < 2 ^ 32 }
     ensures { result ≡ (if is_so then count + 1 else count) }

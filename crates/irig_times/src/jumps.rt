@@ -43,8 +43,9 @@ fn pulses_between(from: &Part, to: &Part) -> usize
     to.number.saturating_sub(from.number + FRAME_PULSES)
 }
 
-/// Whether no time is lost by the count of pulses: whole hundreds of them are between two frames,
-/// and the second time is as many periods later.
+/// Whether the time runs on by the count of pulses: between two frames are whole hundreds of them,
+/// which are whole frames, and the second time is as many periods later. If there are none, it is
+/// one period later.
 fn runs_on(format: Format, century: u32, from: &Part, to: &Part) -> bool
     requires century { century ≤ 99 }
     requires times { (from.now.time.micros < 2 ^ 59) × (to.now.time.micros < 2 ^ 59) }

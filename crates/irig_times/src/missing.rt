@@ -47,8 +47,8 @@ fn at_minute(time: &Time, hours: u32, minutes: u32, micros: u64) -> Time
     }
 }
 
-/// The microseconds of a minute: the last of an hour can have a leap second, so it has 61 seconds
-/// here.
+/// The microseconds of a minute: the last of an hour can have a leap second, in one time zone or
+/// another, so it has 61 seconds here.
 fn minute_end(minutes: u32) -> u64
     ensures { result ≡ minute_end minutes }
 {
@@ -99,8 +99,8 @@ pub fn middle(century: u32, period: u64, from: &Time, to: &Time) -> Option<Time>
     }
 }
 
-/// The time one period later, in a minute of 60 seconds; `None` if it is on another day, or the
-/// time is in a second 60.
+/// The time one period later, in minutes of 60 seconds; `None` if it is on another day, or the time
+/// is in a second 60.
 pub fn next_time(period: u64, time: &Time) -> Option<Time>
     requires small { period < 2 ^ 32 }
     ensures time { result ≡ next_time period time.now }
@@ -121,7 +121,7 @@ pub fn next_time(period: u64, time: &Time) -> Option<Time>
     }
 }
 
-/// The time one period earlier, in a minute of 60 seconds; `None` if it is on another day.
+/// The time one period earlier, in minutes of 60 seconds; `None` if it is on another day.
 pub fn time_before(period: u64, time: &Time) -> Option<Time>
     requires small { (period < 2 ^ 25) × (time.now.micros < 2 ^ 59) }
     ensures time { result ≡ time_before period time.now }

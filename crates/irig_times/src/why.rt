@@ -1,5 +1,5 @@
 //! Why moments have no time. A frame is believed if another one near it supports its time; one that
-//! is not is a part without pulses. Pulses count from 0.
+//! is not is a part without pulses. Pulses count from 0. An error is that memory ran out.
 
 ghost use Rattle.std.specs.Prelude.{◌≡◌, ◌≤◌, ◌<◌, ◌+◌, ◌/◌, ◌^◌, ℕ, IfOk, IfSome, List, Bool, Some};
 ghost use Rattle.std.specs.Prelude.{MatchOption, length, slice_get};
