@@ -225,7 +225,7 @@ fn is_group_put(text: &mut Vec<u8>) -> bool {
     put_changes(text) && text.as_slice() == GROUP
 }
 
-/// Whether both are written, each into the emptied text.
+/// Whether the worked journal and that group are written, each into an empty text.
 fn are_put(text: &mut Vec<u8>) -> bool {
     let Ok(format) = Format::new(Kind::G, 2) else {
         return false;

@@ -73,7 +73,8 @@ fn full_dump(alloc: Global) -> Result<Vec<u8>, AllocError> {
     lines_of(alloc, 1 << 23, edges.as_slice())
 }
 
-/// Whether that many pulses are read of a dump, or it has that fault.
+/// Whether that many pulses are read of a dump, or it has that fault. `read` takes at most 2^28
+/// bytes.
 fn has_count(alloc: Global, dump: &[u8], want: Result<usize, VcdFault>) -> bool {
     if dump.len() > 1 << 28 {
         return false;

@@ -45,7 +45,8 @@ fn width(hundredths: u64, element: u64) -> u64
     }
 }
 
-/// A track of this many pulses, 100 microseconds apart: of sound frames, or all identifiers.
+/// A track of this many pulses, 100 microseconds apart, which is the interval of G: of sound
+/// frames, or all identifiers.
 fn pulses(alloc: Global, count: u64, are_sound: bool) -> Result<Track, AllocError>
     requires { count ≤ 1000000 }
 {
@@ -155,7 +156,7 @@ fn took_few(lens: &Lens<'_>, index: &Index, before: u64, came: usize) -> bool {
     lens.looks() <= most && index.looks().wrapping_sub(before) == lens.looks()
 }
 
-/// Makes the index that of the track, by reading the whole of it.
+/// Makes the index that of the track, by reading the whole of it. False if memory runs out.
 pub(crate) fn rebuilds(index: &mut Index, track: &Track, format: Format) -> bool {
     let mut lens = track.lens();
     let count = Index::count(&mut lens, format);

@@ -1,4 +1,5 @@
-//! Repairs against indexes that are built from nothing. An edit agrees if both are then the same.
+//! Repairs against indexes that are built from nothing. An edit agrees if an index that is repaired
+//! after it is the same as one that is built from nothing.
 
 ghost use Rattle.std.specs.Prelude.{◌≡◌, IsTrue};
 ghost use Rattle.irig_index.specs.Frames.{frames};
@@ -18,7 +19,7 @@ fn agrees(alloc: Global, track: &mut Track, index: &mut Index, format: Format, e
     repairs(alloc, track, index, format, edit) && is_built_so(alloc, track, index, format)
 }
 
-/// Whether an index built from nothing is the same.
+/// Whether an index of the track that is built from nothing is the same; false if memory runs out.
 fn is_built_so(alloc: Global, track: &Track, index: &Index, format: Format) -> bool {
     match Index::build(alloc, &mut track.lens(), format) {
         Ok(built) => same(index, &built),
@@ -26,7 +27,7 @@ fn is_built_so(alloc: Global, track: &Track, index: &Index, format: Format) -> b
     }
 }
 
-/// Whether each edit in turn agrees.
+/// Whether each edit in turn agrees, made on what the edits before it left.
 fn each_agrees(
     alloc: Global,
     track: &mut Track,
@@ -52,7 +53,7 @@ fn all_agree(alloc: Global, track: &mut Track, format: Format, edits: &[Edit]) -
     }
 }
 
-/// Whether edits of a short track agree.
+/// Whether edits of a short track, of eight pulses, agree.
 fn short_agrees(alloc: Global, format: Format, edits: &[Edit]) -> bool {
     match positions(alloc) {
         Ok(mut track) => all_agree(alloc, &mut track, format, edits),

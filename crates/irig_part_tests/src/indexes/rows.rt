@@ -51,7 +51,8 @@ fn both_hold(
         && holds(other, records)
 }
 
-/// Whether the two frames of a sound track are read, with as few looks as they take.
+/// Whether the two frames of a sound track are read, with as few looks as they take, and the index
+/// has a place for its one record.
 fn is_read(index: &Index, lens: &Lens<'_>) -> bool {
     // The pass moves on by two places if the pulse after the first is no position identifier:
     // those are 1, 3, 5, 7 and 10, 12 .. 98 in the first frame, 49 looks. At 9 and 100 it meets

@@ -1,5 +1,5 @@
 //! The steps that a journal shows, those of a gathered group, and what becomes of them when it is
-//! turned round.
+//! turned round: its steps back become its steps forward.
 
 ghost use Rattle.std.specs.Prelude.{◌≡◌, None, vec_capacity};
 ghost use Rattle.irig_journal.specs.Journal.{AreReady};

@@ -1,4 +1,6 @@
-//! Tracks and gaps for the tests, and edits that are tried before they are made.
+//! Tracks and gaps for the tests, and edits that are tried before they are made. A span is the
+//! place of an edit: its first pulse, from 0, how many went and how many came. What answers with
+//! true or false is false if memory runs out.
 
 ghost use Rattle.std.specs.Prelude.{◌≡◌, ◌+◌, ◌≤◌, length, []};
 ghost use Rattle.irig_track.specs.Splices.{CanSplice};

@@ -27,7 +27,7 @@ enum Call {
 /// A call on the track of two pulses, and the edges that the track then has.
 type Row = (Call, &'static [u64]);
 
-/// The Span of a place.
+/// The `Span` that the track gives for a place.
 fn span_of(place: Option<Place>) -> Option<Span> {
     match place {
         Some((at, old, new)) => Some(Span { at, old, new }),
@@ -53,7 +53,7 @@ fn has_pulse(track: &Track, index: usize, rise: u64, fall: u64) -> bool {
     index < track.len() && track.pulse(index) == Pulse { rise, fall }
 }
 
-/// Whether a splice of one pulse takes place there, or cannot be made if there is no place.
+/// Whether a splice of one pulse takes place at `place`, or cannot be made if there is none.
 fn splices_one(
     alloc: Global,
     track: &mut Track,
@@ -69,7 +69,7 @@ fn splices_one(
     }
 }
 
-/// Whether a toggle takes place there, or cannot be made if there is no place.
+/// Whether a toggle takes place at `place`, or cannot be made if there is none.
 fn toggles(track: &mut Track, a: u64, b: u64, place: Option<Place>) -> bool {
     match toggle(track, a, b) {
         Ok(answer) => answer == span_of(place),
