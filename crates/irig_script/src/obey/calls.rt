@@ -1,6 +1,8 @@
-//! Commands as calls of the session: addresses and times are taken as it is before them. Pulses
-//! count from 1 here; the number 0 stands for one that is not there, and the session refuses it.
-//! Times are in microseconds. A refused edit changes nothing; the reply then has why, a `Refusal`.
+//! Commands as calls of the session. `number_at`, `ends` and `time` say which pulses and times are
+//! meant, as the session is before the call. Pulses count from 1 here; the number 0 is that of one
+//! that is not there, and the session refuses it. Times are in microseconds; that of a mark which
+//! is not set is above each length, and is refused, too. A refused edit changes nothing; the reply
+//! then has why, a `Refusal`.
 
 ghost use Rattle.std.specs.Prelude.{◌≡◌};
 ghost use Rattle.irig_lines.specs.declared.command.Command.{Command};

@@ -54,7 +54,7 @@ fn write_or_obey<S: Shelf>(command: Command, session: &mut Session, shelf: &mut 
     }
 }
 
-/// Obeys a command that neither writes a text nor ends the script.
+/// Obeys a command that neither writes a text nor ends the script, so `Text` and `End` do not come.
 pub fn obey(command: Command, session: &mut Session) -> Reply
     requires goes_on { command ≢ Command.Quit }
     requires writes_none { command ≢ Command.Write }
