@@ -60,7 +60,7 @@ impl Write for Full {
 }
 
 /// Whether only the whole lines of a script are obeyed and answered if its reads fail after this
-/// many bytes.
+/// many bytes. A read gives three bytes, so that it ends within a line.
 fn is_read(
     alloc: Global,
     session: &mut Session,
