@@ -18,7 +18,7 @@ pub enum FormatFault {
 }
 
 /// The format with a letter and an expression: B and 2, where they are not given. An error says
-/// which of them is wrong. A format does not permit each expression.
+/// which of them is wrong. Some formats do not permit all expressions 0 to 7.
 pub fn format_named(letter: Option<&str>, number: Option<&str>) -> Result<Format, FormatFault>
     ensures format { IfOk result (IsFormat (given letter.entry) (given number.entry)) }
     ensures fault { IfErr result (HasFormatFault (given letter.entry) (given number.entry)) }
