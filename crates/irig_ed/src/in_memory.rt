@@ -16,7 +16,8 @@ use irig_script::{NoWitness, Screen};
 use std::alloc::Global;
 use std::process::ExitCode;
 
-/// Edits the track that the words name, in folders in memory.
+/// Edits the track that the words name, in folders in memory. It is `start`; its contract says what
+/// that promises of these folders.
 fn start_in_memory<P: Eprint + AllocGlobal>(
     rt: &P,
     words: &[String],

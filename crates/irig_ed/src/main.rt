@@ -42,7 +42,8 @@ fn main(rt: HostRuntime) -> ExitCode {
     )
 }
 
-/// The words of the command line, the program's name being the first.
+/// The words of the command line, the program's name being the first. An error if one is not UTF-8,
+/// the system gives none, or memory runs out.
 fn arguments<R: Runtime + AllocGlobal>(rt: &R) -> io::Result<Vec<String>> {
     let words = env::args(rt)?.collect(rt.alloc())?;
     Ok(words)
