@@ -101,7 +101,8 @@ impl Progress {
     }
 
     /// Gathers the bytes of the first journal among those that are held, up to the place `whole`,
-    /// from 0. These were read, and not yet gathered. It fails only if memory runs out.
+    /// from 0. These were read, and not yet gathered. It fails only if memory runs out. `so_far` is
+    /// the place of that journal in the dump, and `within` what of it is held here.
     pub fn gather(&mut self, whole: usize) -> Result<(), AllocError>
         requires within { whole ≤ vec_len self.old.held }
         requires short { self.old.gone + vec_len self.old.held ≤ 2 ^ 48 }

@@ -143,7 +143,7 @@ impl Trace {
 
     /// Takes a rise and a fall on a stretch, at times in microseconds. If edges are kept, it keeps
     /// the fall at the last time, which waited, and this rise; the fall that is given waits in its
-    /// turn.
+    /// turn. All are then at or after `stretch.from`.
     #[inline(always)]
     pub fn put_pulse(&mut self, rise: u64, fall: u64, stretch: Stretch) -> Result<(), AllocError>
         requires here { LiesOn stretch self.old }
