@@ -35,7 +35,8 @@ fn are_joined(pulses: &mut Lens<'_>, format: Format, from: &Part, to: &Part) -> 
     all_follow(pulses, format, from.number + FRAME_PULSES, many + 1)
 }
 
-/// How many pulses are between two frames. A frame has its hundred pulses here, believed or not.
+/// How many pulses are between two frames. A frame has its hundred pulses here, believed or not. 0
+/// if they overlap.
 fn pulses_between(from: &Part, to: &Part) -> usize
     requires small { from.now.number < 2 ^ 30 }
     ensures { result ≡ pulses_between from.now to.now }

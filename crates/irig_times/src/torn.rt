@@ -143,7 +143,8 @@ pub fn is_torn(
     !are_near(found, told)
 }
 
-/// The number, from 0, of pulse `place` of a side. `place` is 0 for the nearest.
+/// The number, from 0, of pulse `place` of a side. `place` is 0 for the nearest. On a side that
+/// goes back, no more are asked for than there are.
 fn pulse_of(side: &Side, place: usize) -> usize
     requires { (side.now.number < 2 ^ 32) × (place < 2 ^ 32) }
     ensures { result ≡ pulse_of side.now place }

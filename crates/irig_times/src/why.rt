@@ -223,8 +223,8 @@ fn why_of(parts: &[Part], whys: &[Why], format: Format, number: usize) -> Why
     why_after(format, number, &part, whys[count - 1], later)
 }
 
-/// Why the pulse of a number has no time, at or after the first pulse of `frame`: `earlier` is the
-/// reason before that frame, `later` the one after it. After a step its date has no time.
+/// Why the pulse of a number, not before the first of `frame`, has no time: `earlier` is the reason
+/// before that frame, `later` the one after it. After a step the elements of its time have none.
 fn why_after(format: Format, number: usize, frame: &Part, earlier: Why, later: Why) -> Why
     requires small { frame.now.number ≤ number }
     ensures { result ≡ why_after format number (Some frame.now) earlier later }
