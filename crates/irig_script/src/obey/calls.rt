@@ -27,7 +27,7 @@ fn reply_to(outcome: Result<(), Refusal>) -> Reply
 }
 
 /// Moves the cursor to a pulse, and lists that pulse alone: the reply has how many come before it,
-/// and 1. Refused if the pulse is not there.
+/// and 1. Refused if the pulse is not there, which number 0 never is.
 pub fn show(session: &mut Session, address: Address) -> Reply
     ensures { Obeys (Command.Show address) session.old result session.new }
 {
