@@ -2,7 +2,8 @@
 //!
 //! Times are in microseconds of the dump. `moved` gives the microsecond of the window that a time
 //! falls on. Several changes can be in one microsecond, so an edge is kept only when a later one
-//! comes: if the level then differs from that of the microsecond before.
+//! comes: if the level then differs from that of the microsecond before. `LENGTH_LIMIT` is the
+//! latest time that a dump may have.
 
 ghost use Rattle.std.specs.Prelude.{◌≡◌, ◌≤◌, ◌<◌, ◌+◌, ◌^◌, true, false, ◌∷◌, [], ◌++◌, ℕ, List};
 ghost use Rattle.std.specs.Prelude.{◌↔◌, OnOk, OnErr, IfOk, IfSome, length, take};
