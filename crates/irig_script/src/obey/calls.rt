@@ -157,7 +157,7 @@ pub fn redo(session: &mut Session) -> Reply
     reply_to(session.redo())
 }
 
-/// Opens a group.
+/// Opens a group: what is done from here on becomes one step (`end`), or is undone (`abort`).
 pub fn begin(session: &mut Session) -> Reply
     ensures { Obeys Command.Begin session.old result session.new }
 {
