@@ -175,7 +175,7 @@ fn deleted(alloc: Global) -> Result<Pulses, AllocError> {
     Ok(put)
 }
 
-/// Writes the lines of the change that inserts it.
+/// Writes the lines of the change that inserts the deleted pulse.
 fn put_splice(text: &mut Vec<u8>) -> bool {
     let (at, count) = (1, 0);
     match deleted(*text.allocator()) {
@@ -184,7 +184,7 @@ fn put_splice(text: &mut Vec<u8>) -> bool {
     }
 }
 
-/// Writes the lines of its one step forward, which sets the mark a.
+/// Writes the lines of the worked journal's step forward, which sets the mark a.
 fn put_forward(text: &mut Vec<u8>) -> bool {
     let (letter, time) = (Letter::new(0), Some(110));
     put_future(text, 1).is_ok()
