@@ -138,6 +138,7 @@ fn pulses_in(
     ensures kept { OnErr result (stretch.is_kept ≡ true) }
 {
     let source = tokens.source;
+    // The proof alone uses this.
     let base = tokens.base;
     let mut at = tokens.at;
     if at < 16 {
