@@ -1,4 +1,5 @@
-//! The text of a session with its journal.
+//! The text of a session with its journal: the history that can be undone and redone, as lines in a
+//! comment of the dump.
 
 ghost use Rattle.std.specs.Prelude.{◌≡◌, IfOk};
 ghost use Rattle.irig_edit.specs.{Saved.SavedSession.saved_text, Session.Session.work_in};

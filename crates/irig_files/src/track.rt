@@ -1,5 +1,5 @@
-//! The track of a wire in the dump at a path. A read of the disk has two faults: the outer one is
-//! of the file, the inner one of the dump in it.
+//! Reads the track of a wire from the dump at a path. A read of the disk has two faults: the outer
+//! one is of the file, the inner one of the dump in it. A window is a part of the time of a dump.
 
 ghost use Rattle.std.specs.Prelude.{◌≡◌, None, Some};
 ghost use Rattle.irig_vcd.specs.Answer.{name_of};

@@ -13,8 +13,9 @@ use crate::session::session::Session;
 use crate::state::present::Present;
 use irig_saved::Pulses;
 
-/// Where the cursor goes if the pulses `i` to `j` are removed: to the pulse that then has number
-/// `i`, or else to the last one; it is 0 if none is left. `NoPulse` unless the pulses are there.
+/// Where the cursor goes if the pulses `i` to `j`, both included, are removed: to the pulse that
+/// then has number `i`, or else to the last one; it is 0 if none is left. `NoPulse` unless the
+/// pulses are there and `i` is not above `j`.
 fn plan(present: &Present, i: usize, j: usize) -> Result<usize, Refusal>
     ensures plan { MatchResult result
         (λ cursor. Plans (Delete i j) present.now.state i (j + 1 - i) [] cursor)
@@ -30,8 +31,8 @@ fn plan(present: &Present, i: usize, j: usize) -> Result<usize, Refusal>
 }
 
 impl Session {
-    /// Removes the pulses `i` to `j`, from 1. The cursor goes to the pulse after them, or else to
-    /// the last one.
+    /// Removes the pulses `i` to `j`, both included and from 1. The cursor goes to the pulse after
+    /// them, or if there is none to the last one, or to 0 if none is left.
     ///
     /// E2 unless the pulses are there and `i` is not above `j`.
     pub fn delete(&mut self, i: usize, j: usize) -> Result<(), Refusal>

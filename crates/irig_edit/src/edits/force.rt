@@ -40,7 +40,8 @@ fn plan(present: &Present, i: usize, element: Element) -> Result<Pulse, Refusal>
     Ok(Pulse { rise, fall })
 }
 
-/// Whether the pulse after pulse `i` rises at or before a time, in microseconds.
+/// Whether there is a pulse after pulse `i`, and it rises at or before a time, in microseconds:
+/// then a pulse that falls at that time would touch it.
 fn meets_next(present: &Present, i: usize, time: u64) -> bool
     requires { i ≤ length present.now.state.pulses }
     ensures { result ≡ meets_next i time present.now.state }
@@ -49,11 +50,11 @@ fn meets_next(present: &Present, i: usize, time: u64) -> bool
 }
 
 impl Session {
-    /// Gives pulse `i`, from 1, the nominal width of an element: its fall moves. The cursor goes to
-    /// it.
+    /// Gives pulse `i`, from 1, the nominal width of an element in the session's format: its rise
+    /// stays, and its fall moves. The cursor goes to the pulse.
     ///
-    /// E1 if the new fall is beyond the length; E2 unless the pulse is there; E3 if the new
-    /// fall is at or after the next rise.
+    /// E1 if the new fall is beyond the length; E2 unless the pulse is there; E3 if the new fall is
+    /// at or after the next rise.
     pub fn force(&mut self, i: usize, element: Element) -> Result<(), Refusal>
         ensures step { Steps (Make (Force i element)) self.old result self.new }
         ensures looks { LooksAfter (Make (Force i element)) self.old result self.new }

@@ -17,7 +17,8 @@ use crate::state::present::Present;
 use irig_track::Pulse;
 
 /// The number that a pulse from time `a` to time `b` gets, if it can be inserted: one more than how
-/// many pulses rise at or before `b`.
+/// many pulses rise at or before `b`. No other pulse may reach from `a` to `b`, the ends included,
+/// so all these are before it. The checks come in the order of the refusals' numbers.
 fn plan(present: &Present, a: u64, b: u64) -> Result<usize, Refusal>
     ensures { MatchResult result
         (λ i. Plans (Insert a b) present.now.state i 0 (pulse a b ∷ []) i)
@@ -37,7 +38,7 @@ fn plan(present: &Present, a: u64, b: u64) -> Result<usize, Refusal>
 }
 
 impl Session {
-    /// Inserts a pulse from `a` to `b`, in microseconds. The cursor goes to it.
+    /// Inserts a pulse that rises at `a` and falls at `b`, in microseconds. The cursor goes to it.
     ///
     /// E1 unless `a < b` and `b` is within the length; E3 if an edge lies from `a` to `b` or the
     /// level at `a` is high; E5 if there are 2^22 pulses.

@@ -15,7 +15,8 @@ use crate::state::present::Present;
 use irig_saved::Single;
 
 /// Whether the level can be inverted from time `a` to time `b`: they are in order and within the
-/// length, and there are not too many pulses afterwards.
+/// length, and there are not too many pulses afterwards. With times in order, `can_toggle` is false
+/// only for that last reason.
 fn plan(present: &Present, a: u64, b: u64) -> Result<(), Refusal>
     ensures refused { IfErr result (λ e. judgement_of (Invert a b) present.now.state ≡ Some e) }
     ensures allowed { OnOk result (judgement_of (Invert a b) present.now.state ≡ None) }

@@ -14,7 +14,8 @@ use crate::session::session::Session;
 use crate::state::present::Present;
 use irig_track::Pulse;
 
-/// The pulse that pulses `i` to `j` are joined into, if they are there and `i` is before `j`.
+/// The pulse that the pulses `i` to `j`, both included, are joined into: from the rise of the first
+/// to the fall of the last. `NoPulse` unless they are there and `i` is below `j`.
 fn plan(present: &Present, i: usize, j: usize) -> Result<Pulse, Refusal>
     ensures plan { MatchResult result
         (λ p. Plans (Join i j) present.now.state i (j + 1 - i) (p ∷ []) i)
@@ -33,8 +34,8 @@ fn plan(present: &Present, i: usize, j: usize) -> Result<Pulse, Refusal>
 }
 
 impl Session {
-    /// Makes one pulse of the pulses `i` to `j`, from 1, from the rise of the first to the fall of
-    /// the last. The cursor goes to it.
+    /// Makes one pulse of the pulses `i` to `j`, both included and from 1, from the rise of the
+    /// first to the fall of the last. The cursor goes to it.
     ///
     /// E2 unless the pulses are there and `i` is before `j`.
     pub fn join(&mut self, i: usize, j: usize) -> Result<(), Refusal>

@@ -17,7 +17,8 @@ use crate::state::present::Present;
 use irig_track::Pulse;
 
 /// Pulse `i` as it is, if it can be made low from time `a` to time `b`: both lie inside of it, not
-/// at its edges, and there is room for one pulse more.
+/// at its edges, and there is room for one pulse more. The checks come in the order of the
+/// refusals' numbers.
 fn plan(present: &Present, i: usize, a: u64, b: u64) -> Result<Pulse, Refusal>
     ensures { MatchResult result
         (λ p. Plans (Split i a b) present.now.state i 1

@@ -1,7 +1,8 @@
 //! A session is opened from a dump, with the journal that it carries.
 //!
-//! A journal (`Saved`) has a format, a cursor, marks, and the steps back and forward. V13 is
-//! `VcdFault::BadJournal`, with the number of the journal's line at fault, from 1.
+//! A journal is the history of a session, saved as text (`Saved` once it is read): a format, a
+//! cursor, marks, and the steps back and forward. V13 is `VcdFault::BadJournal`, with the number of
+//! the journal's line at fault, from 1.
 //!
 //! Where `match` hands an error on, `?` would do the same; the proof of it takes longer.
 
@@ -115,8 +116,9 @@ fn parts_of(
     }
 }
 
-/// The journal that this text is. V13 if it is none; its steps are not tried. A `Fault` of its form
-/// is the number of a line, or that memory ran out.
+/// Reads the text of a journal. V13 with the number of the line at fault if the text has not the
+/// form of one; its steps are not tried. A `Fault` of `parse` is that number, or that memory ran
+/// out.
 fn journal_of(alloc: Global, text: &[u8]) -> Result<Saved, VcdFault>
     requires short { length text.now ≤ 2 ^ 28 }
     ensures saved { IfOk result (IsTextOf text.now) }
@@ -131,7 +133,8 @@ fn journal_of(alloc: Global, text: &[u8]) -> Result<Saved, VcdFault>
     }
 }
 
-/// The journal of a text, if there is one. V13 if the text is none; its steps are not tried.
+/// Reads the text of a journal, if there is one; `None` if there is no text. V13 if it has not the
+/// form of one; its steps are not tried.
 fn saved_of(alloc: Global, text: Option<Vec<u8>>) -> Result<Option<Saved>, VcdFault>
     requires short { IfSome text (λ text. length text.items ≤ 2 ^ 28) }
     ensures saved { IfOk result (IsJournalOf (bytes_of text)) }
@@ -148,8 +151,8 @@ fn saved_of(alloc: Global, text: Option<Vec<u8>>) -> Result<Option<Saved>, VcdFa
     }
 }
 
-/// The session of a recording with the journal, if there is one: its format counts then. Else it is
-/// a session in `format`, with no steps.
+/// The session of a recording with the journal, if there is one: then the journal's format counts,
+/// not `format`. Else it is a session in `format`, with no steps.
 fn session_with(
     alloc: Global,
     recording: Recording,
@@ -170,8 +173,8 @@ fn session_with(
     }
 }
 
-/// The session of a recording with a journal. V13 if its head does not go with the recording or one
-/// of its steps cannot be made.
+/// The session of a recording with a journal. V13 if its format, cursor or marks do not fit the
+/// recording, or one of its steps cannot be made.
 fn session_of(alloc: Global, recording: Recording, saved: Saved) -> Result<Session, VcdFault>
     requires short { length (saved_lines saved) ≤ 2 ^ 28 }
     ensures opened { IfOk result (IsAccepted (state_of recording saved) saved) }

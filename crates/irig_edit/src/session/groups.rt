@@ -3,7 +3,7 @@
 //! A refused call changes nothing. A step is what one undo reverses. E12 is `GroupOpen`, and E13 is
 //! `NoGroup`.
 //!
-//! A look is one read of a pulse to keep the frames; `last_looks` is how many the last change,
+//! A look is one read of a pulse to keep the frames true; `last_looks` is how many the last change,
 //! undo, redo or abort took.
 
 ghost use Rattle.irig_edit.specs.Session.Calls.Call.{Begin, End, Abort};
@@ -26,8 +26,8 @@ impl Session {
         }
     }
 
-    /// Closes the open group: its steps become one. What was undone can still be redone. This takes
-    /// no memory.
+    /// Closes the open group: its steps become one; without a step none is made. What was undone
+    /// can still be redone. This takes no memory.
     ///
     /// E13 if no group is open.
     pub fn end(&mut self) -> Result<(), Refusal>

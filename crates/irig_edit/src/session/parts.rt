@@ -11,8 +11,9 @@ use irig_saved::{Letter, Letters, Marks, Pulses, Single};
 use irig_track::{Pulse, Track};
 use std::alloc::Global;
 
-/// Takes a session apart: it keeps one state, a cursor, a journal of changes and a number, and no
-/// former state. It does nothing but compile.
+/// Takes a session apart: it keeps an allocator, one state, a cursor, a journal of changes and a
+/// count of looks, and no former state. It does nothing but compile; each pattern names all fields
+/// and their types, so it stops to compile if one comes.
 pub fn take_apart(session: &Session) {
     let Session {
         alloc,
@@ -66,7 +67,7 @@ fn turn_parts(turn: &Turn) {
     single_parts(single);
 }
 
-/// A single change is of one of these kinds: numbers, and for a splice the pulses that come.
+/// A single change is of one of these kinds: numbers, and for a splice the pulses that it inserts.
 fn single_parts(single: &Single) {
     match single {
         Single::Splice { at, count, put } => {

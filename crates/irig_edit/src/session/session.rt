@@ -1,8 +1,8 @@
 //! A track under edit.
 //!
 //! A step is what one undo reverses. E and a number names a `Refusal`, which has the numbers. A
-//! look is one read of a pulse to keep the frames; `last_looks` is how many the last change, undo,
-//! redo or abort took.
+//! look is one read of a pulse to keep the frames true; `last_looks` is how many the last change,
+//! undo, redo or abort took.
 
 ghost use Rattle.std.specs.Prelude.{◌≡◌, ◌≤◌, ◌<◌, ◌-◌, length, IfOk, OnOk, OnErr, IsErrOf, None};
 ghost use Rattle.std.specs.Prelude.{Ok};
@@ -103,7 +103,8 @@ impl Session {
         self.change(Single::SetMark { letter, time }, cursor)
     }
 
-    /// Undoes the newest step. This takes no memory.
+    /// Undoes the newest step: track, format, marks and cursor are those before it. This takes no
+    /// memory.
     ///
     /// E9, `NothingToUndo`, if there is none; E14, `GroupFloor`, if it was made before the open
     /// group was begun.
@@ -118,11 +119,13 @@ impl Session {
                 Ok(())
             }
             Err(JournalFault::NothingToUndo) => Err(Refusal::NothingToUndo),
+            // The journal has only one other refusal of an undo.
             Err(_) => Err(Refusal::GroupFloor),
         }
     }
 
-    /// Redoes the step that was undone last. This takes no memory.
+    /// Redoes the step that was undone last: track, format, marks and cursor are those at the undo.
+    /// This takes no memory.
     ///
     /// E10, `NothingToRedo`, if there is none.
     pub fn redo(&mut self) -> Result<(), Refusal>
@@ -154,7 +157,8 @@ impl Session {
     }
 
     /// Replaces `count` pulses from `first` on, from 1, by the pulses of `put`, as a step that
-    /// leaves the cursor at `cursor`, a pulse from 1, or 0. Only memory can run out, E11.
+    /// leaves the cursor at `cursor`, a pulse from 1, or 0. The edit that calls it has tested all
+    /// else, so only memory can run out, E11.
     pub(crate) fn splice(
         &mut self,
         first: usize,
@@ -175,8 +179,9 @@ impl Session {
         self.change(Single::Splice { at, count, put }, cursor)
     }
 
-    /// Makes a change, as a step that leaves the cursor at a pulse, from 1, or 0. The memory that
-    /// its undo and its redo take is asked for here, so E11 can come, and nothing has changed then.
+    /// Makes a change, which the caller has found possible, as a step that leaves the cursor at
+    /// `cursor`, a pulse from 1, or 0. The memory that its undo and its redo take is asked for
+    /// here, so E11 can come, and nothing has changed then.
     pub(crate) fn change(&mut self, single: Single, cursor: usize) -> Result<(), Refusal>
         requires fits { Fits self.old.state (One single) }
         requires cursor { cursor ≤ length (turned self.old.state (One single)).0.pulses }
