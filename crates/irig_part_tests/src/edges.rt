@@ -1,11 +1,11 @@
-//! Edges, and the pulses and the tracks that have them.
+//! Edges, and the pulses and the tracks that have them. An error is that memory ran out.
 
 use irig_gap::Gap;
 use irig_recording::{Pulse, Recording};
 use irig_track::Track;
 use std::alloc::{AllocError, Global};
 
-/// Whether pulses have these edges, in order.
+/// Whether pulses have these edges, in order: rise, fall, rise and so on, and no more.
 pub(crate) fn have_edges(pulses: &Gap<Pulse>, edges: &[u64]) -> bool {
     let mut left = edges;
     for index in 0..pulses.len() {
@@ -19,7 +19,7 @@ pub(crate) fn have_edges(pulses: &Gap<Pulse>, edges: &[u64]) -> bool {
 }
 
 /// The track of a length and edges, in microseconds. If these are no recording, the error is that
-/// of memory, too.
+/// of memory, too: no test uses such edges here.
 pub(crate) fn track_of(alloc: Global, length: u64, edges: &[u64]) -> Result<Track, AllocError> {
     match Recording::new(alloc, length, edges)? {
         Some(recording) => Track::new(recording),

@@ -2,7 +2,8 @@
 //! journal keeps steps back and forward; each turn of a step makes one change to the stack. The
 //! cursor is a number that each step keeps and gives back.
 //!
-//! That a journal is ready at a stack, as the contracts ask, says that its steps fit the stack.
+//! That a journal is ready at a stack, as the contracts ask, says that its steps fit the stack. A
+//! group is steps from `begin` to `end`, which become one step; `abort` undoes them instead.
 
 ghost use Rattle.std.specs.Prelude.{◌≡◌, None, vec_capacity};
 ghost use Rattle.irig_journal.specs.Journal.{AreReady};
@@ -51,7 +52,7 @@ type Row = (
     (u128, u128),
 );
 
-/// Undoes, redoes or groups steps, over any state. `make` takes the other calls.
+/// Undoes, redoes or groups steps, over any state.
 fn step<R: Reversible>(
     journal: &mut Journal<R>,
     state: &mut R,
@@ -73,8 +74,7 @@ fn step<R: Reversible>(
     }
 }
 
-/// Makes a change if it applies, over any state. `after` is the cursor that the edit leaves; the
-/// step keeps the one before it.
+/// Makes a change if it applies, over any state.
 fn make<R: Reversible>(
     journal: &mut Journal<R>,
     state: &mut R,
@@ -103,7 +103,9 @@ fn reply_to(answer: Result<(), JournalFault>) -> Reply {
     }
 }
 
-/// Obeys a call: an edit, a move of the cursor to a place, or a step.
+/// Obeys a call: an edit (`make`), a move of the cursor to a place, or any other (`step`). An edit
+/// leaves the cursor `after`, and its step keeps the one before it. One that does not apply is
+/// `Unfit`. `step` does nothing for edits and moves, which do not reach it.
 fn obey(journal: &mut Journal<Stack>, stack: &mut Stack, cursor: &mut usize, call: Call) -> Reply
     requires { AreReady CanEdit edited (λ d. d) (HasPlaceFor (vec_capacity stack.old.items))
         stack.old.items.items journal.old }

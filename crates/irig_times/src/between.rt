@@ -223,8 +223,9 @@ pub fn min(one: usize, other: usize) -> usize
     if one <= other { one } else { other }
 }
 
-/// What is counted between a frame and the one before it (`from`): `None` if one of them is not
-/// believed, which is a part without pulses. If it is the first frame, what is counted before it.
+/// What is counted between a frame (`to`) and the one before it (`from`), or before `to` if it is
+/// the first. `None` if one of them is not believed, which is a part without pulses, or if nothing
+/// can be counted there.
 pub fn sides_before(
     pulses: &mut Lens<'_>,
     format: Format,

@@ -88,9 +88,10 @@ fn part_at(parts: &[Part], place: usize) -> Option<Part>
     }
 }
 
-/// Adds to a list what is counted before a frame, and what the frame keeps of its own pulses: if
-/// the time jumps before it, those after the elements of its time; if the time jumps after it, only
-/// its marker. `before` and `next` are the frames before it and after it.
+/// Adds to a list what is counted before a frame (`part`), and what the frame keeps of its own
+/// pulses: if the time jumps before it, those after the elements of its time; if the time jumps
+/// after it, only its marker; if both, none. `before` and `next` are the frames before and after
+/// it.
 fn put_frame(
     list: &mut Vec<Part>,
     pulses: &mut Lens<'_>,
@@ -120,8 +121,8 @@ fn put_frame(
     Ok(())
 }
 
-/// What is counted before a frame (`part`); nothing if the time `jumps` there. `before` is the
-/// frame before it.
+/// What is counted before a frame (`part`); `None` if the time `jumps` there, or if nothing can be
+/// counted. `before` is the frame before it.
 fn sides_without(
     pulses: &mut Lens<'_>,
     format: Format,

@@ -1,6 +1,8 @@
 //! Which frames are on an island: wrong alike, between frames that agree. Two frames agree if they
 //! are near enough for their distance to say how many periods it is, and their times are as many
-//! apart. A shore is a frame next to the island that does not agree with it.
+//! apart. A shore is a frame next to the island that does not agree with it. `Three` is the nearest
+//! frame on one side, or a farther one, and the two next to it that are farther still; `None` if
+//! there is no such frame.
 
 ghost use Rattle.std.specs.Prelude.{◌≡◌, ◌&&◌, List};
 ghost use Rattle.irig_safety.specs.declared.shown.Shown.{Shown};
@@ -42,8 +44,8 @@ fn is_between(format: Format, before: Three, frame: &Shown, after: Three) -> boo
 }
 
 /// Whether the first of three frames before a frame is a shore: it is there and does not agree with
-/// the frame, and the second or the third of them agrees with it, so that no single wrong frame is
-/// a shore; or the second is not there, so that none can.
+/// the frame. Also, the second or the third has to agree with the first, so that no single wrong
+/// frame is a shore. If there is no second, and so no third, that is not asked for.
 pub fn is_shore_before(format: Format, before: Three, frame: &Shown) -> bool
     ensures { result ≡ is_shore_before format before.2 before.1 before.0 frame.now }
 {

@@ -46,7 +46,7 @@ fn pulses_between(from: &Part, to: &Part) -> usize
 
 /// Whether the time runs on by the count of pulses: between two frames are whole hundreds of them,
 /// which are whole frames, and the second time is as many periods later. If there are none, it is
-/// one period later.
+/// one period later. False for three periods or more over midnight (`missing_in`).
 fn runs_on(format: Format, century: u32, from: &Part, to: &Part) -> bool
     requires century { century ≤ 99 }
     requires times { (from.now.time.micros < 2 ^ 59) × (to.now.time.micros < 2 ^ 59) }
@@ -153,8 +153,8 @@ fn slips_by(format: Format, century: u32, from: &Time, to: &Time, first: Pulse, 
     !are_apart(century, period, count, from, to)
 }
 
-/// Whether the last frame is believed, a time follows it on its day, and yet nothing is counted
-/// after it: pulses there say another time.
+/// Whether the last frame (`from`) is believed, a time follows it on its day, and yet nothing is
+/// counted after it: pulses there say another time.
 fn is_denied_after(pulses: &mut Lens<'_>, format: Format, from: &Part) -> bool
     requires small { (from.now.time.micros < 2 ^ 59) × (from.now.number + from.now.count < 2 ^ 30) }
     ensures denied { result ≡ is_denied_after format pulses.old.track.pulses from.now }
@@ -165,8 +165,8 @@ fn is_denied_after(pulses: &mut Lens<'_>, format: Format, from: &Part) -> bool
         && end_after(pulses, format, Some(*from)).is_none()
 }
 
-/// Whether the first frame is believed, a time is before it on its day, and yet nothing is counted
-/// before it: pulses there say another time.
+/// Whether the first frame (`to`) is believed, a time is before it on its day, and yet nothing is
+/// counted before it: pulses there say another time.
 fn is_denied_before(pulses: &mut Lens<'_>, format: Format, to: &Part) -> bool
     requires small { (to.now.time.micros < 2 ^ 59) × (to.now.number < 2 ^ 30) }
     ensures denied { result ≡ is_denied_before format pulses.old.track.pulses to.now }

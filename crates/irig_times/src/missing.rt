@@ -77,7 +77,8 @@ fn is_middle(century: u32, period: u64, from: &Time, time: &Time, to: &Time) -> 
 }
 
 /// The time of the one frame that is missing between two: one period after the first, in its minute
-/// or in that of the second.
+/// or in that of the second. `None` if no time is one period from both, or its frame does not end
+/// in its minute.
 pub fn middle(century: u32, period: u64, from: &Time, to: &Time) -> Option<Time>
     requires century { century ≤ 99 }
     requires small { period < 2 ^ 32 }
@@ -99,8 +100,8 @@ pub fn middle(century: u32, period: u64, from: &Time, to: &Time) -> Option<Time>
     }
 }
 
-/// The time one period later, in minutes of 60 seconds; `None` if it is on another day, or the time
-/// is in a second 60.
+/// The time one period later, in minutes of 60 seconds; `None` if it is on another day, as callers
+/// count nothing over midnight, or if the time is in a second 60, which such minutes do not have.
 pub fn next_time(period: u64, time: &Time) -> Option<Time>
     requires small { period < 2 ^ 32 }
     ensures time { result ≡ next_time period time.now }
@@ -121,7 +122,8 @@ pub fn next_time(period: u64, time: &Time) -> Option<Time>
     }
 }
 
-/// The time one period earlier, in minutes of 60 seconds; `None` if it is on another day.
+/// The time one period earlier, in minutes of 60 seconds; `None` if it is on another day, as
+/// callers count nothing over midnight.
 pub fn time_before(period: u64, time: &Time) -> Option<Time>
     requires small { (period < 2 ^ 25) × (time.now.micros < 2 ^ 59) }
     ensures time { result ≡ time_before period time.now }
@@ -184,7 +186,8 @@ pub fn missing_in(century: u32, period: u64, count: u64, from: &Time, to: &Time)
     missing_more(period, next_time(period, from), time_before(period, to))
 }
 
-/// The microseconds from the midnight before a time to `count` periods after that time.
+/// The microseconds from the midnight before a time to `count` periods after that time: in 128
+/// bits, as the product can be above 2^64.
 pub fn later_micros(period: u64, count: u64, from: &Time) -> u128
     requires small { (period < 2 ^ 25) × (count < 2 ^ 42 + 2) }
     requires times { from.now.micros < 2 ^ 59 }

@@ -3,7 +3,9 @@
 //! and `to` are two believed frames, as parts; a pair is the part on from the one and the part back
 //! from the other. A side is the pulses next to one of them, from it on or back; pulse 0 of a side
 //! is the nearest. `wanted` is the elements that the frame there should have. Pulses are in step if
-//! each rises one interval after the one before.
+//! each rises one interval after the one before. `denies`: a pulse says another element;
+//! `confirms`: it is a position identifier at its place. A side counts a hundred pulses at most, a
+//! frame: further on a slip of one interval would go unseen.
 
 ghost use Rattle.std.specs.Prelude.{◌≡◌, ◌≤◌, ◌<◌, ◌+◌, ◌^◌};
 ghost use Rattle.irig_times.specs.Sides.{between, borne, borne_at, confirmed, side_after};
@@ -128,9 +130,9 @@ fn side_before(part: &Part) -> Side
 }
 
 /// The parts between two frames, if intervals are lost there. `after` pulses after the first and
-/// `before` ones before the second are in step; of these each side keeps what is borne out. Nothing
-/// is counted if tens of intervals are lost: each position identifier is then at the place of
-/// another.
+/// `before` ones before the second are in step; of these each side keeps what is borne out. `None`
+/// if tens of intervals are lost, as each position identifier is then at the place of another; or
+/// if a pulse would be of both sides.
 fn torn_sides(
     pulses: &mut Lens<'_>,
     format: Format,
@@ -183,7 +185,8 @@ fn sides_in(
 
 /// The pulses between two frames that have a time: up to a hundred in step with the first
 /// (`ahead`), and up to a hundred in step with the second (`behind`). `None` if the times of the
-/// two do not fit their distance. `century` is 20 for 2000 to 2099.
+/// two do not fit their distance, or nothing can be counted (`sides_in`). `century` is 20 for 2000
+/// to 2099.
 pub fn between(
     pulses: &mut Lens<'_>,
     format: Format,

@@ -49,7 +49,7 @@ fn from_to(pulses: &mut Lens<'_>, one: usize, other: usize) -> u64
 }
 
 /// How many microseconds two frames last together, each from its marker to its last element: 198
-/// intervals.
+/// intervals. A frame of which a pulse is missing counts 0.
 fn both_last(pulses: &mut Lens<'_>, from: &Part, to: &Part) -> u64
     requires { (from.now.number < 2 ^ 32) × (to.now.number < 2 ^ 32) }
     ensures time { result ≡ both_last pulses.old.track.pulses from.now to.now }
@@ -101,7 +101,8 @@ fn tenths_told(pulses: &mut Lens<'_>, format: Format, from: &Part, to: &Part) ->
     1000 * rounded(format.frame_period(), 0, time)
 }
 
-/// Whether two numbers of tenths are the same, to half an interval.
+/// Whether two numbers of tenths are the same, to half an interval (5), as intervals are lost
+/// whole.
 fn are_near(one: u64, other: u64) -> bool
     requires { (one ≤ 2 ^ 54) × (other ≤ 2 ^ 54) }
     ensures { result ≡ are_near one other }
@@ -110,6 +111,7 @@ fn are_near(one: u64, other: u64) -> bool
 }
 
 /// Whether these tenths are tens of intervals, to a fifth of one: a whole number of hundreds, to 2.
+/// If the loss is further off, pulses there are not in step, so that counting ends by itself.
 pub fn are_tens(count: u64) -> bool
     requires { count ≤ 2 ^ 54 }
     ensures { result ≡ are_tens count }

@@ -37,7 +37,7 @@ fn is_hash(kind: Kind) -> bool
     matches!(kind, Kind::Hash)
 }
 
-/// What is after the first byte of a word; nothing if it is empty.
+/// What is after the first byte of a word, for a time after its `#`; nothing if the word is empty.
 fn digits_of(word: &[u8]) -> &[u8]
     ensures { result.now ≡ rest_of word.now }
 {
@@ -81,7 +81,8 @@ fn take(
 }
 
 /// Takes the first tokens of a part, if something is open from the part before it: the code of a
-/// value, or the rest of a comment. The value is one at the time `clock`.
+/// value, or the rest of a comment. The value is one at the time `clock`. If something is still
+/// open then, no token is left.
 fn resume(
     tokens: &mut Tokens,
     unit: Unit,
@@ -142,8 +143,9 @@ pub fn follow(
 }
 
 /// Follows the tokens that are left, from a time on, and gives the time then. First come those that
-/// are taken in one step, as `is_plain` and `is_quick` permit for the code and the unit, then one
-/// of any kind, and so on. The answer comes when no token is left.
+/// are taken in one step (`follow_short`), which `is_plain` and `is_quick` permit for short codes
+/// and small units, then one of any kind (`take`), and so on. The answer comes when no token is
+/// left.
 #[inline(always)]
 fn follow_on(
     tokens: &mut Tokens,

@@ -105,8 +105,8 @@ impl Journals {
         self.take_rest(journal_at(first), tokens)
     }
 
-    /// The place of the first journal so far, if there is one. If it is still open, as `pending`
-    /// says, it goes up to `top`, in bytes of the dump from 0.
+    /// The place of the first journal so far; `None` if there is none, and none is open. If it is
+    /// still open, as `pending` says, it goes up to `top`, in bytes of the dump from 0.
     pub fn so_far(self, pending: Pending, top: usize) -> Option<Place>
         ensures { place_view result ≡ so_far (place_view self.first) pending top }
     {

@@ -55,9 +55,9 @@ impl Trace {
         }
     }
 
-    /// Continues to a time, which is not before the last. If it is in a later microsecond of the
-    /// window, no change comes any more at the last one: an edge is kept there if the level
-    /// changed. It fails only if memory runs out.
+    /// Continues to a time, which is not before the last. If that is in a later microsecond of the
+    /// window, no change comes any more in the last microsecond (`place`): an edge is kept there if
+    /// the level changed. It fails only if memory runs out.
     fn advance(&mut self, time: u64) -> Result<(), AllocError>
         requires { self.old.time ≤ time }
         ensures ok { OnOk result
@@ -124,6 +124,7 @@ impl Trace {
         if self.time >= to {
             return Some(apart(LENGTH_LIMIT));
         }
+        // High before and low now: a fall is at the last time. `is_open`: a rise waits for it.
         if self.before && self.edges.is_open() {
             return Some(Stretch {
                 from,
@@ -144,7 +145,8 @@ impl Trace {
 
     /// Takes a rise and a fall on a stretch, at times in microseconds. If edges are kept, it keeps
     /// the fall at the last time, which waited, and this rise; the fall that is given waits in its
-    /// turn. All are then at or after `stretch.from`.
+    /// turn. All are then at or after `stretch.from`. If none are kept, only the time goes on: the
+    /// level is low before and after.
     #[inline(always)]
     pub fn put_pulse(&mut self, rise: u64, fall: u64, stretch: Stretch) -> Result<(), AllocError>
         requires here { LiesOn stretch self.old }

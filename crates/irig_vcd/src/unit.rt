@@ -9,7 +9,7 @@ ghost use Rattle.irig_vcd.specs.Code.Time.{factor_of, limit_of};
 use irig_recording::LENGTH_LIMIT;
 use std::marker::Model;
 
-/// A unit of time: a power of ten of femtoseconds, from 0 to 17.
+/// A unit of time: a power of ten of femtoseconds, from 0 (1 fs) to 17 (100 s).
 #[derive(Clone, Copy)]
 pub struct Unit {
     exponent: u8,
@@ -28,7 +28,7 @@ impl Model for Unit {
 }
 
 impl Unit {
-    /// The unit of a power of ten of femtoseconds.
+    /// The unit of a power of ten of femtoseconds, from 0 to 17.
     pub fn new(exponent: u8) -> Unit
         requires { exponent ≤ 17 }
         ensures { result ≡ exponent }
@@ -69,7 +69,7 @@ impl Unit {
     }
 
     /// The largest whole part of a time that is within 2^40 microseconds: 2^40 over `factor`,
-    /// rounded down.
+    /// rounded down. `LENGTH_LIMIT` is 2^40.
     #[tactic(auto, unfolding(crate::specs::Code::Time::limit_of))]
     pub fn limit(self) -> u64
         ensures { result ≡ limit_of self }

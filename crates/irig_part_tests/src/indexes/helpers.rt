@@ -1,4 +1,7 @@
-//! Tracks of format G, expression 2, their edits, and indexes that are kept next to them.
+//! Tracks of format G, expression 2, their edits, and indexes that are kept next to them. An index
+//! has a record of each frame: its marker and what it says. A marker is a position identifier right
+//! after another one. Times are in microseconds, pulses count from 0. A look is one reading of a
+//! pulse. Memory that runs out is an error, or false.
 
 ghost use Rattle.std.specs.Prelude.{◌≡◌, ◌<◌, ◌≤◌, IfOk, OnOk, MatchOption, IsTrue};
 ghost use Rattle.irig_index.specs.Frames.{frames};
@@ -46,7 +49,7 @@ fn width(hundredths: u64, element: u64) -> u64
 }
 
 /// A track of this many pulses, 100 microseconds apart, which is the interval of G: of sound
-/// frames, or all identifiers.
+/// frames, or all position identifiers.
 fn pulses(alloc: Global, count: u64, are_sound: bool) -> Result<Track, AllocError>
     requires { count ≤ 1000000 }
 {
@@ -66,7 +69,7 @@ pub(crate) fn sound(alloc: Global, count: u64) -> Result<Track, AllocError>
     pulses(alloc, count, true)
 }
 
-/// Eight position identifiers in step: all but the first are markers.
+/// Eight position identifiers in step: all but the first are markers, as each has one before it.
 pub(crate) fn positions(alloc: Global) -> Result<Track, AllocError> {
     pulses(alloc, 8, false)
 }
@@ -117,8 +120,9 @@ pub(crate) fn back(edit: Edit) -> Edit {
     }
 }
 
-/// Makes an edit, if it can be made, and repairs the index, which then has places for the frames
-/// afterwards and for no more. False if memory runs out, or too many looks were made.
+/// Makes an edit, if it can be made, and repairs the index, which gets places for the frames
+/// afterwards first. False if memory runs out, or too many looks were made. True also if the edit
+/// cannot be made: nothing changes then.
 pub(crate) fn repairs(
     alloc: Global,
     track: &mut Track,
@@ -129,7 +133,7 @@ pub(crate) fn repairs(
     requires { index.old.records ≡ frames format track.old.pulses }
     ensures { IsTrue result → index.new.records ≡ frames format track.new.pulses }
 {
-    // Read for its bound alone.
+    // The count is not used: the contract of the call bounds the pulses.
     let _before = track.len();
     let Ok(made) = make(alloc, track, edit) else {
         return false;
@@ -137,7 +141,7 @@ pub(crate) fn repairs(
     let Some(span) = made else {
         return true;
     };
-    // Read for its bound alone.
+    // The count is not used: the contract of the call bounds the pulses.
     let _after = track.len();
     let before = index.looks();
     let count = Index::count(&mut track.lens(), format);
@@ -150,7 +154,8 @@ pub(crate) fn repairs(
 }
 
 /// Whether a repair took few looks for the pulses that came, three at most for each of these and of
-/// 200 around them, and the index counted each look.
+/// 200 around them: a frame that an edit touches is within a hundred pulses before and after it.
+/// Also, the index counted each look. `before` is its count before the repair.
 fn took_few(lens: &Lens<'_>, index: &Index, before: u64, came: usize) -> bool {
     let most = (came as u64).saturating_add(200).saturating_mul(3);
     lens.looks() <= most && index.looks().wrapping_sub(before) == lens.looks()
