@@ -71,9 +71,11 @@ pub trait Disk {
         ensures unread { IfErr result (unread self.now path.now) };
 
     /// Writes a text to the file that a path leads to: a regular one, or none yet, is replaced
-    /// whole, by a file of its mode. One that must not be written is not replaced. What the room,
-    /// which is the memory of a write, holds before is lost. `Written` says how it was written, and
-    /// its count how many bytes the text has; a `ShelfFault` says only that it was not.
+    /// whole, by a file of its mode. One that must not be written is not replaced: that is a fault.
+    /// What is no regular file, or is what the program's answers go to, is written in place. What
+    /// the room, which is the memory of a write, holds before is lost. `Written` says how the text
+    /// was written, and its count how many bytes it has; a `ShelfFault` says only that it was not
+    /// written whole.
     fn put<T: Text>(
         &mut self,
         path: &str,

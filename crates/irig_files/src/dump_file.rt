@@ -2,7 +2,8 @@
 //! the file, the inner one, `VcdFault`, of the dump in it. `Parts` are the recording of a wire and
 //! the text of the journal that the dump carries, if it has one. `wire` is the name of the wire; if
 //! none is named, the dump has to have one wire of one bit. A window is a part of the time of the
-//! dump. An `Intake` (`intake`) takes in the parts and counts their bytes.
+//! dump. An `Intake` (`intake`) takes in the parts and counts their bytes. `rt` is what the program
+//! has of the system. `DUMP_LIMIT` is 2^28 bytes.
 
 ghost use Rattle.std.specs.Prelude.{◌≡◌, ◌≢◌, ◌<◌, ◌^◌, ◌↔◌, ℕ, List, Some, None, IfOk, OnOk};
 ghost use Rattle.std.specs.Prelude.{IfErr, IfSome, IsErrOf, IsOk, IsTrue, MatchResult, true, false};
@@ -22,7 +23,7 @@ use std::rt::Files;
 use std::{fs, io};
 use thiserror::Error;
 
-/// How many bytes are read at a time.
+/// How many bytes are read at a time, at most: 64 KiB, this project's own choice.
 const PART: usize = 65_536;
 
 /// Why the dump in a file was not read.
@@ -115,7 +116,8 @@ fn take_part<R: Read>(
 }
 
 /// Takes in all that a reader has left, part by part, but no more than the intake wants: one byte
-/// more than the longest dump has.
+/// more than the longest dump has, which shows that a dump is too long. The loop has a bound so
+/// that it is sure to end.
 fn take_all<R: Read>(
     dump: &mut Intake,
     reader: &mut R,
@@ -171,7 +173,7 @@ pub fn read_window<R: Read + Drop>(
 }
 
 /// Reads a dump part by part, or a window of it, and counts all bytes. `part` is the memory for one
-/// part. After a fault what was read is freed.
+/// part. A new intake fails only if memory runs out. After a fault what was read is freed.
 fn read_by_parts<R: Read>(
     alloc: Global,
     reader: &mut R,
@@ -225,8 +227,9 @@ fn read_open<F: OpenFile + Read + Drop>(
     read_whole(alloc, file, wire)
 }
 
-/// Reads a window of the dump in the file at a path. The size of the file is not looked at: the
-/// bytes are counted as they are read. If nothing is at the path: `CannotBeRead`.
+/// Reads a window of the dump in the file at a path. The size of the file is not looked at, as no
+/// file has more than 2^47 bytes: the bytes are counted as they are read. If nothing is at the
+/// path: `CannotBeRead`.
 pub fn read_dump_window<R: Files>(
     rt: &R,
     alloc: Global,

@@ -24,7 +24,7 @@ impl InPlace {
 }
 
 /// Writes all of a text, block by block. `block` is the memory for one block; what it holds before
-/// is lost.
+/// is lost. The loop has a bound so that it is sure to end.
 pub fn write_in_place<F: Write, T: Text>(
     file: &mut F,
     text: &mut T,
@@ -46,7 +46,7 @@ pub fn write_in_place<F: Write, T: Text>(
 
 /// Writes the next block of a text, adds its bytes to `count`, and returns whether it was the last
 /// one. A block has at least `ENOUGH` bytes, 64 KiB, if it is not the last. `count` is checked
-/// before the write: a text has at most 2^64 - 1 bytes.
+/// before the write: a text of more than 2^64 - 1 bytes is a fault, too.
 fn write_next<F: Write, T: Text>(
     file: &mut F,
     text: &mut T,

@@ -24,7 +24,8 @@ pub type Parts = (Recording, Option<Vec<u8>>);
 /// The most bytes of a dump: 2^28, this project's own bound.
 pub const DUMP_LIMIT: usize = 268_435_456;
 
-/// The most bytes of a dump, if a window of it is read: 2^47, this project's own bound.
+/// The most bytes of a dump, if a window of it is read: 2^47, this project's own bound. No file has
+/// more, and all counts of bytes stay exact.
 const LONG_LIMIT: usize = 1 << 47;
 
 /// The most bytes that a dump may have: if all of it is read (`None`), or a window. Only the window
@@ -71,15 +72,16 @@ impl Intake {
     }
 
     /// How many bytes may be taken next, at most: those that are still taken, but not more than
-    /// there is room for. 0 if no more are taken.
+    /// there is room for (`room` bytes). 0 if no more are taken.
     pub fn wanted(&self, room: usize) -> usize
         ensures { result ≡ min self.now.left room }
     {
         self.left.min(room)
     }
 
-    /// Takes the next part of the dump, which has at most `wanted` bytes. A fault of the dump is
-    /// kept for `end`. It fails only if memory runs out, and then nothing is left of what was read.
+    /// Takes the next part of the dump, which has at most `wanted` bytes, so `left` does not go
+    /// below 0. A fault of the dump is kept for `end`. It fails only if memory runs out, and then
+    /// nothing is left of what was read.
     pub fn put(&mut self, part: &[u8]) -> Result<(), DumpFileFault>
         requires wanted { length part.now ≤ self.old.left }
         requires counted { IsCounted self.old }

@@ -38,7 +38,7 @@ pub fn follow_links<C: FileSystem>(
 }
 
 /// Follows one link: if a symbolic link is at the target, the target becomes the path that it leads
-/// to, and the answer is `true`. `false`: there is no link, so the target is the end.
+/// to, and the answer is `true`. `false`: there is no link, or nothing, so the target is the end.
 fn follow_link<C: FileSystem>(system: &C, target: &mut PathBuf) -> Result<bool, ShelfFault>
     ensures end { IsTrue C.is_told → IfOk result (λ is_link. is_link ≡ false
         → (C.link_at system.now (path_buf_bytes target.old) ≡ None)
@@ -56,9 +56,9 @@ fn follow_link<C: FileSystem>(system: &C, target: &mut PathBuf) -> Result<bool, 
     }
 }
 
-/// Makes the target the path that a link there leads to; `next` is the text of the link. It counts
-/// from the folder of the link, or from the root if it begins with a slash. Returns `true`: there
-/// was a link.
+/// Makes the target the path that a link there leads to; `next` is the text of the link. The text
+/// counts from the folder of the link, or from the root if it begins with a slash. Returns `true`:
+/// there was a link. It fails only if memory runs out.
 fn go_to(target: &mut PathBuf, next: &str) -> Result<bool, ShelfFault>
     ensures link { IfOk result (λ is_link. is_link ≡ true) }
     ensures to { OnOk result

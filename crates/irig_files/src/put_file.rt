@@ -25,7 +25,8 @@ use std::path::Path;
 
 /// Writes a text to what a path leads to: a regular file, or none yet, is replaced whole; what the
 /// program's answers go to, and any other file, is written in place. `dir` is the place for the
-/// folder that is opened.
+/// folder that is opened. `way_to` finds which of these it is, and leaves the path to be replaced,
+/// at the end of its links, in the room's target.
 pub fn put_file<C: FileSystem, T: Text>(
     system: &mut C,
     dir: &mut C::Dir,
@@ -84,7 +85,8 @@ fn in_place<F: Write, T: Text>(
 /// Replaces the regular file at the room's target, or none yet, by a new one with this mode
 /// (`None`: the usual one). `way_to` has put the path into the target. The folder is opened before
 /// anything is written: without a sync of it no crash is sure to keep the new name. A target
-/// without a name at its end, as `..`, is a fault.
+/// without a name at its end, as `..`, is a fault; `is_name` says whether a name is not empty, has
+/// no `/`, and is neither `.` nor `..`.
 fn replace<C: FileSystem, T: Text>(
     system: &mut C,
     dir: &mut C::Dir,
@@ -133,7 +135,8 @@ fn whole(outcome: Result<Kept, ShelfFault>) -> Result<Written, ShelfFault>
 
 /// Puts into `stem` what the names of new files begin with; a number of at most four digits comes
 /// after it. A dot hides them, and `.irig_ed-new-` shows whose they are. The target's `name` is
-/// left out if it has more than 200 bytes, so that room is left for the rest.
+/// left out if it has more than 200 bytes, so that room is left for the rest: with 200 bytes the
+/// new name has at most 1 + 200 + 13 + 4. It fails only if memory runs out.
 fn put_stem(name: &str, stem: &mut String) -> Result<(), ShelfFault> {
     // a folder takes no name of more than 255 bytes
     let kept = if name.len() <= 200 { name } else { "" };
@@ -145,7 +148,7 @@ fn put_stem(name: &str, stem: &mut String) -> Result<(), ShelfFault> {
 }
 
 /// The folder of a path, without the last name. It is `.`, the current one, if the path is a name
-/// alone.
+/// alone, or has no folder, as `/`.
 pub fn folder_of(target: &str) -> &str
     ensures { result.now ≡ folder_of target.now }
 {

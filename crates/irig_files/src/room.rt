@@ -29,7 +29,9 @@ pub struct Room {
 }
 
 impl Room {
-    /// Room for any number of writes, one after another. It fails only if memory runs out.
+    /// Room for any number of writes, one after another. `new_block` gives a block with no bytes,
+    /// and with room for 64 KiB and the longest part that is added last. It fails only if memory
+    /// runs out.
     pub fn new(alloc: Global) -> Result<Room, AllocError>
         ensures empty { IfOk result (λ room. room.block.items ≡ []) }
         ensures block { IfOk result (λ room. ENOUGH + 2048 ≤ vec_capacity room.block) }

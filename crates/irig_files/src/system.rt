@@ -112,7 +112,7 @@ impl<R: Files + Print + AllocGlobal> FileSystem for SystemFolder<'_, R> {
     }
 
     // What is at the path, at the end of its links: whether it is a regular file, its mode and its
-    // numbers; `None` if nothing is there.
+    // numbers, which no other file has; `None` if nothing is there.
     fn describe(&self, path: &str) -> Result<Option<Described>, SystemFault> {
         found(fs::metadata(self.runtime(), path))
     }

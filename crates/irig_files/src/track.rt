@@ -41,7 +41,8 @@ pub fn read_track<D: Disk>(
     }
 }
 
-/// The track of a wire in a window of the dump at a path.
+/// The track of a wire in a window of the dump at a path. The inner fault of the read becomes
+/// `Dump`, the outer one `File`.
 fn read_part<D: Disk>(
     alloc: Global,
     disk: &D,
@@ -60,7 +61,8 @@ fn read_part<D: Disk>(
     }
 }
 
-/// The whole track of a wire in the dump at a path.
+/// The whole track of a wire in the dump at a path. The inner fault of the read becomes `Dump`, the
+/// outer one `File`.
 fn read_all<D: Disk>(
     alloc: Global,
     disk: &D,

@@ -23,8 +23,9 @@ pub enum Way {
 }
 
 /// Finds how a text is written to a path. If the file there, or none yet, is to be replaced,
-/// `target` gets the path at the end of its links, since the link has to stay; else what it holds
-/// is not used. `Err` if the system does not say what is there, or the file must not be written.
+/// `target` gets the path at the end of its links, since the link has to stay; else the caller does
+/// not use what `target` holds. `Err` if the system does not say what is there, there are too many
+/// links, or the file must not be written.
 pub fn way_to<C: FileSystem>(
     system: &C,
     path: &str,
@@ -42,8 +43,9 @@ pub fn way_to<C: FileSystem>(
 }
 
 /// Finds how a text is written to a path that leads to `old`, something that is there: in place if
-/// it is what the program's answers go to, also if that is a regular file, since answers written
-/// later would go to the old file.
+/// it is what the program's answers go to, also if that is a regular file, since after a
+/// replacement later answers would go to the old file. `output` gives the numbers of what the
+/// answers go to, and `id` those of `old`; no two files have the same.
 fn way_over<C: FileSystem>(
     system: &C,
     path: &str,
@@ -93,8 +95,8 @@ fn replaced<C: FileSystem>(
 
 /// The mode that the new file takes: that of the regular file at the target, or `None`, the usual
 /// mode, if none is there (`is_there` is false). The system would replace a file that must not be
-/// written, too; so it is opened as if to write first, and if that fails, it is not replaced. `Err`
-/// also if the target is no longer a regular file.
+/// written, too; so the file is opened as if to write first, and if that fails, it is not replaced.
+/// `Err` also if the target is no longer a regular file, or the system does not describe it.
 fn mode_to_take<C: FileSystem>(
     system: &C,
     is_there: bool,

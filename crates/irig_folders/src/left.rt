@@ -13,7 +13,8 @@ use crate::call::Call;
 use std::alloc::{AllocError, Global};
 
 /// The bytes that a file holds: all that calls added to it since it was made; none if there is no
-/// such file. It fails only if memory runs out.
+/// such file. The search goes back from the newest call to the one that made the file. It fails
+/// only if memory runs out.
 pub fn bytes_of(alloc: Global, calls: &[Call], number: usize) -> Result<Vec<u8>, AllocError>
     ensures { IfOk result (λ bytes. bytes.items ≡ (holds_in calls.now number).bytes) }
 {
@@ -53,7 +54,8 @@ pub fn mode_of(calls: &[Call], number: usize) -> u32
 }
 
 /// Whether each crash leaves a file as it is seen: it was not made or changed since its last sync.
-/// Only the newest call on it counts. True if there is no such file.
+/// Only the newest call on the file counts: after a sync all is kept, after any other call not.
+/// True if there is no such file.
 pub fn is_kept(calls: &[Call], number: usize) -> bool
     ensures kept { IsTrue result → (h : Held) → may_hold_in calls.now number h
         → h ≡ holds_in calls.now number }

@@ -166,8 +166,8 @@ impl Memory {
 }
 
 impl Memory {
-    /// Makes a new file under a name if that is free. A hidden one is its owner's alone; any other
-    /// has the mode `USUAL`. `None`: the name is taken.
+    /// Makes a new file under a name if that is free. A hidden one can be read and written by its
+    /// owner alone; any other has the mode `USUAL`. `None`: the name is taken.
     pub fn make_new(&mut self, name: &str, hidden: bool) -> Result<Option<MemoryFile>, MemoryFault>
         ensures done { MatchResult result (λ made. MatchOption made
             (IsTaken (disk_of self.old.calls.items) (disk_of self.new.calls.items) name.now)
@@ -251,8 +251,8 @@ impl Folder for Memory {
         self.make_new(name, hidden)
     }
 
-    // Adds bytes at the end of a file. If the call is planned to fail, half of them are written, as
-    // a call of a system can write a part.
+    // Adds bytes at the end of a file. If the call is planned to fail, half of them (rounded down)
+    // are written, as a call of a system can write a part.
     fn append(&mut self, file: &mut MemoryFile, bytes: &[u8]) -> Result<(), MemoryFault> {
         if self.is_planned() {
             let part = bytes[..bytes.len() / 2].to_vec(self.alloc)?;

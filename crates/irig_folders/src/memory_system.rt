@@ -72,7 +72,7 @@ impl PlainCalls for Memory {
         }
     }
 
-    // What an open file is: a regular one, with its mode.
+    // What an open file is: a regular one, with its mode. All files here are regular.
     fn seen(&self, file: &SeenFile) -> Result<Described, MemoryFault> {
         Ok(Described {
             is_file: true,
@@ -100,8 +100,8 @@ impl FileSystem for Memory {
     ghost ids_differ = { λ _ one other same. ap (λ id. id.1) same };
 
     // Reads the dump in the file at a path. The outer error is that no file is there, that it is
-    // too long, or that memory runs out; the inner one is a fault of the dump. `wire` is the name
-    // of the wire to be read, if one is given.
+    // too long, or that memory runs out, the only error of `bytes_of`; the inner one is a fault of
+    // the dump. `wire` is the name of the wire to be read, if one is given.
     fn read(
         &self,
         alloc: Global,
@@ -135,7 +135,9 @@ impl FileSystem for Memory {
         read_window(alloc, bytes.as_slice(), wire, window)
     }
 
-    // What a path leads to; `None` if nothing is there. A path that is no single name is no file.
+    // What a path leads to; `None` if nothing is there. A path that is no single name is described
+    // as what is no regular file, since `None` would mean that a file can be made there. Its id
+    // does not matter: only ids of regular files are compared, as the answers go to no file here.
     fn describe(&self, path: &str) -> Result<Option<Described>, MemoryFault> {
         if !is_name(path) {
             return Ok(Some(Described {

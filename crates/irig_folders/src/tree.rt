@@ -88,7 +88,8 @@ impl Tree {
 
     /// Adds a file that is written in place, not replaced by a new one. Each crash leaves it.
     /// `text` is where it leads, if it is a link; `takes_answers` says that the program's answers
-    /// go to it. `NoSuchName`: its place is taken.
+    /// go to it. `NoSuchName`: its place is taken. After any other error nothing is said of the
+    /// tree.
     fn add_in_place(
         &mut self,
         place: &str,

@@ -88,7 +88,7 @@ pub fn link_text<'t>(tree: &'t Tree, path: &str) -> Result<Option<&'t str>, Allo
 }
 
 /// Follows links from a path, at most `links` of them, and returns the path where no link is.
-/// `None` if there are more links.
+/// `None` if there are more links, as in a chain without an end.
 pub fn end_at(tree: &Tree, path: PathBuf, links: u64) -> Result<Option<PathBuf>, AllocError>
     ensures { IfOk result (λ end. option_map path_buf_bytes end ≡ end_of
         (text_at tree.now.layout.folders.items
@@ -105,8 +105,9 @@ pub fn end_at(tree: &Tree, path: PathBuf, links: u64) -> Result<Option<PathBuf>,
     }
 }
 
-/// The path to which the link at a path leads; `text` is that of the link. It counts from the
-/// folder of the link, or from the root if it begins with a slash.
+/// The path to which the link at `path` leads; `text` is that of the link. The text counts from the
+/// folder of the link, so the link's name goes first; or from the root if the text begins with a
+/// slash, and then `push` replaces the whole path.
 fn next_path(mut path: PathBuf, text: &str) -> Result<PathBuf, AllocError>
     ensures { IfOk result (λ next. path_buf_bytes next ≡ followed (path_buf_bytes path) text.now) }
 {
@@ -116,7 +117,8 @@ fn next_path(mut path: PathBuf, text: &str) -> Result<PathBuf, AllocError>
 }
 
 /// The number of the file that a path leads to, over links; `None` if its folder has no such name.
-/// `NoSuchName` if the path leads over too many links, or to no folder.
+/// `NoSuchName` if the path leads over more links than the tree allows (`limit`), or to no folder.
+/// The only other fault is `NoMemory`: memory runs out.
 pub fn find(tree: &Tree, path: &str) -> Result<Option<usize>, MemoryFault>
     ensures found { IfOk result (λ found. IsFound tree.now.layout
         (leads_in tree.now.memory.calls.items) path.now found) }

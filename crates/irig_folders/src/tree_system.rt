@@ -5,7 +5,7 @@
 //! A file is known by its number, which is how many calls were done before it was made; its id is 0
 //! and that number. `blind` names a call that is planned to fail, with `Planned`. The answers are
 //! those of the program, on its standard output. `Parts` are the recording of a dump and its
-//! journal.
+//! journal. `NoMemory` says that memory ran out.
 //!
 //! Where `match` hands an error on, `?` would do the same; the proof of it takes longer.
 
@@ -73,7 +73,7 @@ impl PlainCalls for Tree {
     }
 
     // Opens the file at a path as if to write to it. `NoSuchName`: none is there, or it must not be
-    // written.
+    // written, or `find` has a fault, whichever: who calls this asks only whether it failed.
     fn open_seen(&self, path: &str) -> Result<SeenFile, MemoryFault> {
         if self.blind == Some(Plain::OpenSeen) {
             return Err(MemoryFault::Planned);
@@ -176,7 +176,8 @@ impl FileSystem for Tree {
     ghost ids_differ = { λ _ one other same. ap (λ id. id.1) same };
 
     // Reads the dump in the file that a path leads to. The outer error is of the file, the inner
-    // one of the dump. `wire` is the name of the wire to be read, if one is given.
+    // one of the dump. `wire` is the name of the wire to be read, if one is given. `read_of` is for
+    // the contract: it lets no `CannotBeRead` through, which a read of bytes never answers.
     fn read(
         &self,
         alloc: Global,
@@ -200,7 +201,8 @@ impl FileSystem for Tree {
         read_of(read_window(alloc, bytes.as_slice(), wire, window))
     }
 
-    // What a path leads to; `None` if nothing is there.
+    // What a path leads to; `None` if its folder has no such name. `NoSuchName`: too many links, or
+    // no folder.
     fn describe(&self, path: &str) -> Result<Option<Described>, MemoryFault> {
         if self.blind == Some(Plain::Describe) {
             return Err(MemoryFault::Planned);
@@ -220,7 +222,8 @@ impl FileSystem for Tree {
         }
     }
 
-    // The text of the link at a path, as a path; `None` if no link is there.
+    // The text of the link at a path, as a path; `None` if no link is there. The faults are those
+    // of `read_text`.
     fn read_link(&self, path: &str) -> Result<Option<PathBuf>, MemoryFault> {
         if self.blind == Some(Plain::ReadLink) {
             return Err(MemoryFault::Planned);
@@ -231,7 +234,7 @@ impl FileSystem for Tree {
         }
     }
 
-    // Opens the folder at a path, and leaves it in `dir`. `NoSuchName`: none is there.
+    // Opens the folder that has this path, and leaves it in `dir`. `NoSuchName`: none has it.
     fn open_folder(&self, dir: &mut TreeDir, path: &str) -> Result<(), MemoryFault> {
         if self.blind == Some(Plain::OpenFolder) {
             return Err(MemoryFault::Planned);

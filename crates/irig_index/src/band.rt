@@ -4,8 +4,9 @@
 //!
 //! Width and interval are in microseconds. The interval is the time from one rise to the next; it
 //! is a multiple of 20, so that its twentieths are whole. The bands of widths meet halfway between
-//! the nominal widths, 4, 10 and 16 twentieths of the interval. A width below the lower bound wraps
-//! when that is taken from it, so one comparison tests both bounds.
+//! the standard's nominal widths, 4, 10 and 16 twentieths of the interval, which is this project's
+//! own choice: at 7 and 13 twentieths. They begin at 1 and end at 19, as far outside. A width below
+//! the lower bound wraps when that is taken from it, so one comparison tests both bounds.
 
 ghost use Rattle.std.specs.Prelude.{◌≡◌, true, unwrap_or};
 ghost use Rattle.irig_codes.specs.declared.width.Element.TheVariants.{Zero};

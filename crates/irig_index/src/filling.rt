@@ -110,10 +110,10 @@ pub fn refill(
 }
 
 /// Checks again the one frame before an edit that can reach into it: the pulses after `from` have
-/// changed. That is the frame of the last marker up to the pulse `from`. If this marker is 99
-/// pulses or more before `from`, the frame ends by then and stays. Returns whether the next record,
-/// which is not changed, is of a marker up to the pulse `last`: then at least one record goes, to
-/// be sought again.
+/// changed. That is the frame of the last marker up to the pulse `from`: the check of each frame
+/// before that ends at the next marker at the latest. If this marker is 99 pulses or more before
+/// `from`, its frame ends by then and stays. Returns whether the next record, which is not changed,
+/// is of a marker up to the pulse `last`: then at least one record goes, to be sought again.
 pub fn retell_up_to(
     records: &mut Gap<Stored>,
     pulses: usize,
@@ -145,7 +145,8 @@ pub fn retell_up_to(
 
 /// Checks the frame of the last of the first `count` markers again, and writes its new record. If
 /// that marker is a pulse up to `settled`, its frame ends before what has changed, and nothing is
-/// done; nor if `count` is 0.
+/// done; nor if `count` is 0. The look at the marker itself is counted here, and `verdict` counts
+/// those at the pulses after it.
 fn retell(
     records: &mut Gap<Stored>,
     pulses: usize,

@@ -66,7 +66,7 @@ pub fn looks_of(verdict: Verdict) -> u64
 
 /// As `verdict`, with the looks counted by the lens alone: the verdict shows how many they are.
 /// Each pulse after the marker has to be in step with the one before it, and of a class that may be
-/// there. `Gathering` takes whether each element is One; the marker is not.
+/// there. `Gathering` takes whether each element is One, from element 0 on; the marker is not One.
 fn check(lens: &mut Lens<'_>, format: Format, at: usize, first: Pulse) -> Verdict
     requires track { IsTrack lens.old.track.micros lens.old.track.pulses }
     requires first { slice_get lens.old.track.pulses at ≡ Some first }
@@ -115,9 +115,9 @@ fn read(format: Format, gathered: Gathering) -> Verdict
 }
 
 /// Whether an element of this width is One, and how many digits are left after it before the next
-/// position identifier. `digits` is how many are left before it. `None` if it must not be there: if
-/// no digit is left only a position identifier may be, after which nine digits come, and else only
-/// a digit.
+/// position identifier. `digits` is how many are left, this element included. `None` if it must not
+/// be there: if no digit is left only a position identifier may be, which is not One and after
+/// which nine digits come; else only a digit.
 #[inline(always)]
 fn told(interval: u64, width: u64, digits: u64) -> Option<(bool, u64)>
     requires { HasTwentieths interval }

@@ -32,8 +32,10 @@ pub fn count_up_to(records: &Gap<Stored>, pulses: usize, last: usize) -> usize
     low
 }
 
-/// A lower bound of that count: all records left of the gap if the last of them is of a marker up
-/// to `last`, else 0. The gap is mostly where the last edit was, and the search often ends there.
+/// A lower bound of what `count_up_to` seeks: the number of records left of the gap, if the last of
+/// them is of a marker up to `last` or there is none; else 0. `ends_after` says whether that last
+/// one is of a later marker. The gap is mostly where the last edit was, and the search often ends
+/// there.
 fn least_up_to(records: &Gap<Stored>, pulses: usize, last: usize) -> usize
     ensures within { result ≤ records.now.place }
     ensures before { EndsUpTo last (take result (shown pulses records.now)) }
@@ -45,8 +47,9 @@ fn least_up_to(records: &Gap<Stored>, pulses: usize, last: usize) -> usize
     }
 }
 
-/// An upper bound of that count: all records, if the first one right of the gap is of a marker up
-/// to `last`, else those left of the gap.
+/// An upper bound of what `count_up_to` seeks: the number of all records, if the first one right of
+/// the gap is of a marker up to `last`, as `begins_up_to` says; else, also if none is there, the
+/// number of those left of the gap.
 fn most_up_to(records: &Gap<Stored>, pulses: usize, last: usize) -> usize
     ensures from { records.now.place ≤ result }
     ensures within { result ≤ length records.now.items }

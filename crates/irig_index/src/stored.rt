@@ -101,7 +101,9 @@ pub enum Kept {
     },
 }
 
-/// The verdict as it is kept: each number shortened to its bytes, which loses nothing.
+/// The verdict as it is kept: each number shortened to its bytes, which loses nothing. A number of
+/// two decimal digits of at most four bits each is at most 165, and the days, whose hundreds have
+/// two bits, at most 465.
 fn keep(verdict: Verdict) -> Kept
     requires { IsNarrow verdict }
     ensures { result ≡ kept_of verdict }

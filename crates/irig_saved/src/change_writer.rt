@@ -92,7 +92,7 @@ fn put_shifted(text: &mut Vec<u8>, i: u64, j: u64, by: i64) -> Result<(), AllocE
 fn put_moved(text: &mut Vec<u8>, marks: &Letters) -> Result<(), AllocError>
     ensures { OnOk result (text.new.items ≡ text.old.items ++ 32 ∷ moved_word marks.now) }
 {
-    // Each letter occurs at most once, so 26 bytes suffice.
+    // Each letter occurs at most once, so 26 bytes suffice; `count` of them are in use.
     let mut letters = [0; 26];
     let mut count = 0;
     for letter in 0..26 {

@@ -2,8 +2,9 @@
 //!
 //! Each function reads a line, or the rest of one, without its newline, and answers `None` if it
 //! has another form than that of `docs/FORMATS.md`. Words have one space between them. `head` is
-//! the first word of a line, in which there is no space. Pulses count from 1; times are in
-//! microseconds.
+//! the first word of a line, in which there is no space. `word_of` gives the first word of a text
+//! and what is after the space that ends it, `None` if there is no space. Pulses count from 1;
+//! times are in microseconds.
 //!
 //! Where `let .. else` hands `None` on, `?` would do the same; the proof of it takes longer.
 
@@ -59,6 +60,7 @@ pub fn format(head: &[u8], text: &[u8]) -> Option<(Kind, u8)>
 }
 
 /// The time in a line `mark x TIME`, if x is this letter, given as its byte in a text, `a` to `z`.
+/// `None` also for the line of another letter.
 pub fn mark(letter_byte: u8, text: &[u8]) -> Option<u64>
     requires { (32 < letter_byte) × (letter_byte < 127) }
     ensures { Decodes IsNumber
@@ -156,7 +158,8 @@ fn toggle(text: &[u8]) -> Option<(u64, u64)>
     pair(words)
 }
 
-/// The letter and the time in the line that sets a mark; the time is `None` if the line clears it.
+/// The letter and the time in the line that sets a mark. The time is `None` if the line clears the
+/// mark: `time` answers `Some(None)` for the word `-`.
 fn set_mark(text: &[u8]) -> Option<(Letter, Option<u64>)>
     ensures { Decodes IsMark (λ t. line (codes "setmark") (words_of_mark t)) text.now result }
 {

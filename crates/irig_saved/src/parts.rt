@@ -3,7 +3,8 @@
 //!
 //! `Stop::At` has the rest of the text from the line on that does not belong there; `Stop::Memory`
 //! says that memory ran out. A count in the text asks for no memory: each line that was read does,
-//! so a wrong count cannot take much. `pulse`, `mark`, `counted`, `splice` and `short` (in `lines`)
+//! so a wrong count cannot take much. `line_of` gives the first line and what is after its newline,
+//! `None` if there is no newline. `pulse`, `mark`, `counted`, `splice` and `short` (in `lines`)
 //! read one line, and answer `None` if the line has another form.
 //!
 //! Where `match` or `let Ok(..) else` returns an error, `?` would do the same; the proof of it

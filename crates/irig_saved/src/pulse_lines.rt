@@ -55,8 +55,8 @@ impl<'s> PulseLines<'s> {
 
     /// Adds lines to a block until it has `enough` bytes or none is left. The next call goes on
     /// from there. Returns `true` if no line is left and the block has fewer bytes than `enough`,
-    /// so that more text can be added; `false` if the block is full. It fails only if memory runs
-    /// out.
+    /// so that more text can be added; `false` if the block has `enough`, whether a line is left or
+    /// not. It fails only if memory runs out.
     pub(crate) fn fill(&mut self, block: &mut Vec<u8>, enough: usize) -> Result<bool, AllocError>
         ensures bytes { OnOk result (block.new.items ++ self.new ≡ block.old.items ++ self.old) }
         ensures end { IfOk result (λ ended. ended ≡ true → self.new ≡ []) }

@@ -44,8 +44,9 @@ impl Pulses {
         }
     }
 
-    /// The pulses of a buffer, which must have at most half as many free places as pulses, and one.
-    /// The place of the buffer goes to the end, so that `push` adds there.
+    /// The pulses of a buffer, which must have at most half as many free places as pulses, and one:
+    /// that bound holds of each `Pulses`. The place of the buffer goes to the end, so that `push`
+    /// adds there.
     pub fn of(mut items: Gap<Pulse>) -> Pulses
         requires tight { 2 * items.capacity ≤ 3 * length items.items + 2 }
         ensures { result ≡ items.items }

@@ -4,7 +4,8 @@
 //! A journal has a line that names it, its format, its cursor, its marks, and the steps back and
 //! forward. A step is a change and the cursor of the state that it leads to. `Stop` says why a part
 //! was not read: `At` has the rest of the text from the line at fault on, and `Memory` says that
-//! memory ran out.
+//! memory ran out. `line_of` gives the first line and what is after its newline, `None` if there is
+//! no newline.
 //!
 //! Where `match` or `let .. else` hands an error or `None` on, `?` would do the same; the proof of
 //! it takes longer.
@@ -60,7 +61,7 @@ pub fn parse(alloc: Global, text: &[u8]) -> Result<Saved, Fault>
 }
 
 /// The number, from 1, of the line of `text` with which `rest` begins. `rest` is an end of `text`,
-/// from the begin of a line on.
+/// from the begin of a line on, so the difference of their lengths is not below 0.
 fn line_at(text: &[u8], rest: &[u8]) -> usize
     requires { length text.now < 2 ^ 63 }
     ensures { result

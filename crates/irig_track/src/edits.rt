@@ -5,7 +5,7 @@
 //! Times are in microseconds. The limits: pulses do not touch (each rises at least 1 after the fall
 //! before it), they lie within the length, and there are at most 2^22. The place of a gap buffer is
 //! where items come and go. A `Span` says that from pulse `at` on, from 0, `old` pulses became
-//! `new`.
+//! `new`. `room` is how many more pulses the limit permits.
 //!
 //! What is marked "Read for .." does nothing: it only lets the proof use what a type promises.
 
@@ -86,8 +86,10 @@ impl Track {
     }
 
     /// Whether moving the pulses `i` to `j`, both included and from 0, by `by` microseconds leaves
-    /// a track within the limits. It is false, too, if one of them is not there. Each side of a
-    /// comparison is a sum, since a difference could go below 0.
+    /// a track within the limits. It is false, too, if one of them is not there, or `i` is above
+    /// `j`. `ahead_of(by)` is `by`, or 0 if that is below 0; `back_of(by)` is how far `by` is below
+    /// 0, or 0. Each side of a comparison is a sum, since a difference could go below 0. No sum
+    /// overflows: a time is at most 2^40 + 1, and a distance at most 2^63.
     pub fn can_shift(&self, i: usize, j: usize, by: i64) -> bool
         ensures { IsTrue result ↔ CanShift self.now.micros i j by self.now.pulses }
     {
@@ -101,7 +103,8 @@ impl Track {
     }
 
     /// Moves the pulses `i` to `j`, both included and from 0, by `by` microseconds, below 0 to
-    /// earlier times; `can_shift` must hold. The Span has the pulses that moved.
+    /// earlier times; `can_shift` must hold. `ahead_of` and `back_of` are the parts of `by` above
+    /// and below 0: one of them is 0. The Span has the pulses that moved.
     pub fn shift(&mut self, i: usize, j: usize, by: i64) -> Span
         requires { CanShift self.old.micros i j by self.old.pulses }
         ensures pulses { self.new.pulses ≡ shifted i j by self.old.pulses }
@@ -157,7 +160,7 @@ impl Track {
         ensures spanned { IsSpan result.at result.old result.new self.old.pulses self.new.pulses }
     {
         // Pulses before `at` fall before `a`, and pulses from `before` on rise after `b`: these
-        // stay.
+        // stay. `toggle_right` leaves the gap after the pulses that rise at or before `b` then.
         let at = self.first_reaching(a);
         let before = self.find(b);
         self.pulses.move_to(at);
@@ -172,8 +175,8 @@ impl Track {
         }
     }
 
-    /// The least time, in microseconds, at which a pulse may rise that comes just before pulse
-    /// `at`, from 0: one after the fall of the pulse before that place; 0 if there is none.
+    /// The least time, in microseconds, at which a pulse may rise that is inserted just before
+    /// pulse `at`, from 0: one after the fall of pulse `at` - 1; 0 if `at` is 0.
     fn free_from(&self, at: usize) -> u64
         requires { at ≤ length self.now.pulses }
         ensures time { result ≡ following 0 (edges_of (take at self.now.pulses)) }
@@ -186,8 +189,8 @@ impl Track {
         }
     }
 
-    /// The time, in microseconds, before which a pulse has to fall that comes just before pulse
-    /// `at`, from 0: the rise of that pulse; one after the length if there is none.
+    /// The time, in microseconds, before which a pulse has to fall that is inserted just before
+    /// pulse `at`, from 0: the rise of pulse `at`; one after the length if there is no such pulse.
     fn free_to(&self, at: usize) -> u64
         requires { at ≤ length self.now.pulses }
         ensures time { result ≡

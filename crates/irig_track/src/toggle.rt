@@ -71,7 +71,8 @@ fn go_on(pulses: &mut Gap<Pulse>, start: u64, b: u64) -> u64
 
 /// Toggles `b`, so that the rise that waits gets its fall. If the next pulse rises at `b`, that
 /// edge goes, and the pulse ends at its fall. Else `b` is the fall. If the rise that waits is after
-/// `b`, it was the fall of a pulse over `b`, and `b` is the rise. If it is `b` itself, both go.
+/// `b`, it was the fall of a pulse over `b`, and `b` is the rise. If the rise that waits is at `b`,
+/// the toggle removes it, and no pulse is added.
 fn finish(pulses: &mut Gap<Pulse>, rise: u64, b: u64)
     requires rises { RisesFrom 0 (waiting pulses.old rise) }
     requires left { Under b (edges_of (left_of pulses.old)) }

@@ -85,8 +85,10 @@ impl Track {
     }
 
     /// The text of the recording with the track's length and edges, as `irig_recording::text`
-    /// writes it: a dump. At first it asks for as much as the longest text takes: two edges of 18
-    /// bytes a pulse, and 140 for the header and the length. It fails only if memory runs out.
+    /// writes it: a dump. `whole` collects its parts. At first it asks for as much as the longest
+    /// text takes: two edges of 18 bytes a pulse, and 140 for the header and the length. An edge is
+    /// two lines: `#` with a time of at most 13 digits (2^40), and a level with the wire's
+    /// identifier of one byte. It fails only if memory runs out.
     pub fn text(&self, alloc: Global) -> Result<Vec<u8>, AllocError>
         ensures { IfOk result (λ text. text.items
             ≡ file_text (recording_view self.now.micros (edges_of self.now.pulses))) }

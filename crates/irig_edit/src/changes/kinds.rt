@@ -22,7 +22,8 @@ use irig_saved::{Letters, Marks};
 use irig_track::{Span, Track};
 
 /// Turns a toggle: inverts the level from time `a` to time `b`. Returns the pulses that it touched.
-/// The same toggle leads back. The caller has tested that it can be made.
+/// The same toggle leads back, so nothing has to be left. The caller has tested that it can be
+/// made, and made room for one pulse more.
 pub(crate) fn turn_toggle(track: &mut Track, a: u64, b: u64) -> Span
     requires can { CanToggle track.old.micros a b track.old.pulses }
     requires spare { 0 < track.old.spare }
@@ -45,7 +46,8 @@ pub(crate) fn turn_toggle(track: &mut Track, a: u64, b: u64) -> Span
 
 /// Turns a shift of the pulses `i` to `j`, both included and from 0, by `by`, below 0 if they come
 /// earlier. The marks of the letters that are true in `letters` move with them. `by` becomes its
-/// opposite, which leads back. Returns the pulses that it touched.
+/// opposite, which leads back. Returns the pulses that it touched. The caller has tested that the
+/// shift can be made: so `by` is no longer than the track, and its opposite does not overflow.
 pub(crate) fn turn_shift(
     track: &mut Track,
     marks: &mut Marks,

@@ -1,5 +1,5 @@
 //! Changes of the present state, turned in place. A `Turn` is a change with places for the pulses
-//! that go.
+//! that go. A state is lawful if track and marks keep their limits and the index has the frames.
 //!
 //! A journal asks these calls of a state (`Reversible`). To turn a change is to make it and to
 //! leave the change that leads back in it.

@@ -66,7 +66,8 @@ impl Present {
     }
 
     /// Whether a single change, whose pulses count from 1, can be made within the limits. One that
-    /// names a pulse 0 cannot: a saved journal can have it, and 0 less 1 would wrap.
+    /// names a pulse 0 cannot: a saved journal can have it, and 0 less 1 would wrap. Whether all
+    /// other pulses are there is tested by `can_splice` and `can_move`.
     pub(crate) fn allows(&self, single: &Single) -> bool
         ensures { IsTrue result ↔ FitsSingle self.now.state single.now }
     {
@@ -89,7 +90,7 @@ impl Present {
 impl Present {
     /// Makes room for a turn of a single change and for its turn back: for records of frames, for
     /// pulses that come, and for pulses that go. The change stays what it is, and must be one that
-    /// can be made. It fails only if memory runs out.
+    /// can be made. It fails only if memory runs out; what was reserved until then stays.
     pub(crate) fn room_for(&mut self, turn: &mut Turn) -> Result<(), AllocError>
         requires fits { FitsSingle self.old.state (single_of turn.old) }
         ensures known { IsState self.old.state }
@@ -111,6 +112,8 @@ impl Present {
     /// with a marker, a position identifier after another one. So a change can bring frames that
     /// begin in its new pulses, and two more, by its first new pulse with the one before it and by
     /// the pulse after it. All numbers here are upper bounds, which do not have to be reached.
+    /// `markers_among` counts the markers of new pulses as if they were a track of their own. A
+    /// shift keeps the distances among its pulses, so it brings only those two.
     fn records_for(&self, single: &Single) -> usize
         requires fits { FitsSingle self.now.state single.now }
         ensures records { result ≡ records_for self.now.state single.now }

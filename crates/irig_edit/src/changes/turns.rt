@@ -50,6 +50,7 @@ impl Present {
     }
 
     /// Turns a single change by its kind. `taken` has places for the pulses that a splice removes.
+    /// A change that was found possible names no pulse 0, so the less 1 does not wrap.
     fn turn_single(&mut self, single: &mut Single, taken: &mut Gap<Pulse>)
         requires fits { FitsSingle self.old.state single.old }
         requires empty { taken.old.items ≡ [] }
@@ -122,7 +123,8 @@ impl Present {
     }
 
     /// Turns a shift. The caller has seen that `single` is one, so no other kind comes. Its
-    /// distance becomes its opposite, which leads back.
+    /// distance becomes its opposite, which leads back. It is written after the shift, which still
+    /// reads the marks in `single`.
     fn turn_shift(&mut self, single: &mut Single)
         requires shift { IsShift single.old }
         requires fits { FitsSingle self.old.state single.old }

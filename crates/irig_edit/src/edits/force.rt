@@ -2,7 +2,9 @@
 //!
 //! Pulses count from 1, and times are in microseconds. `plan` judges the edit and changes nothing.
 //! Its refusals: E1 is `OutOfRange`, E2 `NoPulse`, E3 `Touching`. If memory runs out, E11, nothing
-//! changes either.
+//! changes either. If `plan` refuses nothing, `splice` replaces `count` pulses from `first` on by
+//! the list `put`, as a step that leaves the cursor at `cursor`; these are its arguments, in this
+//! order.
 
 ghost use Rattle.std.specs.Prelude.{◌≡◌, ◌≤◌, [], ◌∷◌, Some, MatchResult, length};
 ghost use Rattle.irig_edit.specs.Edits.Becoming.{Plans, judgement_of};
@@ -19,7 +21,7 @@ use irig_track::Pulse;
 
 /// What becomes of pulse `i`: the same rise, and a fall that gives it the nominal width of an
 /// element. It is refused if the pulse is not there, or the fall comes after the length or meets
-/// the next pulse.
+/// the next pulse. `NoPulse` is tested first, as only a pulse that is there gets a fall.
 fn plan(present: &Present, i: usize, element: Element) -> Result<Pulse, Refusal>
     ensures { MatchResult result
         (λ p. Plans (Force i element) present.now.state i 1 (p ∷ []) i)

@@ -2,7 +2,9 @@
 //!
 //! Pulses count from 1, and times are in microseconds. `plan` judges the edit and changes nothing.
 //! Its refusals: E1 is `OutOfRange`, E3 `Touching`, E5 `TooMany`. If memory runs out, E11, nothing
-//! changes either.
+//! changes either. If `plan` refuses nothing, `splice` replaces `count` pulses from `first` on by
+//! the list `put`, as a step that leaves the cursor at `cursor`; these are its arguments, in this
+//! order.
 
 ghost use Rattle.std.specs.Prelude.{◌≡◌, [], ◌∷◌, Some, MatchResult};
 ghost use Rattle.irig_track.specs.Edges.{pulse};
@@ -17,8 +19,9 @@ use crate::state::present::Present;
 use irig_track::Pulse;
 
 /// The number that a pulse from time `a` to time `b` gets, if it can be inserted: one more than how
-/// many pulses rise at or before `b`. No other pulse may reach from `a` to `b`, the ends included,
-/// so all these are before it. The checks come in the order of the refusals' numbers.
+/// many pulses rise at or before `b`. No other pulse may have a part from `a` to `b`, the ends
+/// included, so all these are before it. `room` is how many more pulses the limit of 2^22 permits.
+/// The checks come in the order of the refusals' numbers.
 fn plan(present: &Present, a: u64, b: u64) -> Result<usize, Refusal>
     ensures { MatchResult result
         (λ i. Plans (Insert a b) present.now.state i 0 (pulse a b ∷ []) i)

@@ -2,7 +2,9 @@
 //!
 //! Pulses count from 1, and times are in microseconds. `plan` judges the edit and changes nothing.
 //! Its refusals: E1 is `OutOfRange`, E3 `Touching`, E5 `TooMany`, E7 `BadTime`, E8 `BadControl`. If
-//! memory runs out, E11, nothing changes either.
+//! memory runs out, E11, nothing changes either. If `plan` refuses nothing, `splice` replaces
+//! `count` pulses from `first` on by the list `put`, as a step that leaves the cursor at `cursor`;
+//! these are its arguments, in this order.
 //!
 //! What is marked "Read for .." does nothing: it only lets the proof use what a type promises.
 
@@ -75,7 +77,10 @@ fn is_met(present: &Present, risen: usize, time: u64) -> bool
 
 /// The pulses that `frames` frames from `start` on replace: those that rise from the start up to
 /// the end of the frames, which is not included. The checks come in the order of the refusals'
-/// numbers. A pulse at the end needs no check: the last new pulse falls before it.
+/// numbers. A pulse at the end needs no check: the last new pulse falls before it. `room` is how
+/// many more pulses the limit of 2^22 permits; those that go make room, too. No frame begins at a
+/// moment for which `starts` is false. `control_count` is how many bits the format has for
+/// `control`: no higher bit may be set.
 fn plan(
     present: &Present,
     start: u64,

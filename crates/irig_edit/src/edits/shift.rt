@@ -2,7 +2,8 @@
 //!
 //! Pulses count from 1, and times are in microseconds. `plan` judges the edit and changes nothing.
 //! Its refusals: E1 is `OutOfRange`, E2 `NoPulse`, E3 `Touching`. If memory runs out, E11, nothing
-//! changes either.
+//! changes either. If `plan` refuses nothing, `change` makes a single change, as a step that leaves
+//! the cursor at its second argument.
 
 ghost use Rattle.std.specs.Prelude.{◌≡◌, ◌-◌, ◌≤◌, None, Some, IfOk, IfErr, OnOk, length};
 ghost use Rattle.irig_track.specs.Shifts.{CanShift};
@@ -20,7 +21,7 @@ use irig_saved::Single;
 
 /// Whether the pulses `i` to `j`, moved by `by`, leave the track: the first would rise before 0, or
 /// the last fall after the length. Each side of a comparison is a time or a sum, since a difference
-/// could go below 0.
+/// could go below 0. No sum overflows: times are at most 2^40, and a distance at most 2^63.
 fn leaves(present: &Present, i: usize, j: usize, by: i64) -> bool
     requires { (1 ≤ i) × (i ≤ j) × (j ≤ length present.now.state.pulses) }
     ensures { result ≡ leaves i j by present.now.state }
@@ -36,9 +37,9 @@ fn leaves(present: &Present, i: usize, j: usize, by: i64) -> bool
     }
 }
 
-/// Whether the pulses `i` to `j` can be moved by `by`; if not, why. `can_shift`, which counts
-/// pulses from 0, tests all limits at once; the other reasons are tested before it, so if it says
-/// no, the pulses would touch others.
+/// Whether the pulses `i` to `j` can be moved by `by`; if not, why. `NoPulse` is tested first, as
+/// `leaves` reads the pulses. `can_shift`, which counts pulses from 0, tests all limits at once;
+/// the other reasons are tested before it, so if it says no, the pulses would touch others.
 fn judge(present: &Present, i: usize, j: usize, by: i64) -> Result<(), Refusal>
     ensures refused { IfErr result (λ e. judgement_of (Shift i j by) present.now.state ≡ Some e) }
     ensures allowed { OnOk result (judgement_of (Shift i j by) present.now.state ≡ None) }

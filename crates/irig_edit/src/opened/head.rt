@@ -24,9 +24,9 @@ use irig_vcd::VcdFault;
 use std::alloc::Global;
 
 /// The state of a recording with format, cursor and marks of a journal, as a `Walk` with no steps
-/// yet; and the number, from 1, of the line after its marks. `BadJournal` has the number of the
-/// line at fault, from 1. Format, cursor and marks are judged before memory is taken, so that then
-/// only `OutOfMemory` can come.
+/// yet (a state with its cursor and its steps); and the number, from 1, of the line after its
+/// marks. `BadJournal` has the number of the line at fault, from 1. Format, cursor and marks are
+/// judged before memory is taken; after that the only error is `OutOfMemory`.
 pub(crate) fn start(
     alloc: Global,
     recording: Recording,
@@ -56,8 +56,9 @@ pub(crate) fn start(
 }
 
 /// Judges the lines of a journal before its steps. Returns its format, and the number of the line
-/// after its marks, from 1. The format has to be permitted, the cursor within the pulses and no
-/// mark beyond the length. Else the error is the number of the first line at fault, from 1.
+/// after its marks, from 1. The format has to be permitted, the cursor at most the number of pulses
+/// and no mark beyond the length. Else the error is the number of the first line at fault, from 1:
+/// 2 is that of the format, 3 that of the cursor.
 fn head_of(recording: &Recording, saved: &Saved) -> Result<(Format, usize), usize>
     ensures { MatchResult result
         (λ head. (head_fault (state_of recording.now saved.now) saved.now ≡ None)

@@ -2,7 +2,8 @@
 //!
 //! A journal is the history of a session, saved as text (`Saved` once it is read): a format, a
 //! cursor, marks, and the steps back and forward. V13 is `VcdFault::BadJournal`, with the number of
-//! the journal's line at fault, from 1.
+//! the journal's line at fault, from 1. `wire` is the name of the dump's wire to read; if none is
+//! given, the dump has to have one wire of one bit.
 //!
 //! Where `match` hands an error on, `?` would do the same; the proof of it takes longer.
 
@@ -33,8 +34,8 @@ impl Session {
     /// journal. The bytes are dropped before the session takes its memory.
     ///
     /// An error is a fault of the dump, or V13 with the number of the line at fault of the journal,
-    /// from 1. Memory runs out only for an edge of the wire before the first fault, or as in
-    /// `open_parts`.
+    /// from 1. `OutOfMemory` comes only if the wire has an edge before the first fault of the dump,
+    /// or as `open_parts` says.
     pub fn open_dump(
         alloc: Global,
         bytes: Vec<u8>,
@@ -61,9 +62,9 @@ impl Session {
     /// dump: `open_dump` without its bytes. Without a journal it opens in `format`. The text is
     /// dropped before the session takes its memory.
     ///
-    /// V13 with the number of the line at fault of the journal, from 1. Memory runs out only for
-    /// the lines of its steps, or after all its lines, its format, cursor and marks are found
-    /// right.
+    /// V13 with the number of the line at fault of the journal, from 1. `OutOfMemory` comes only
+    /// while the lines of its steps are read, or after all its lines, its format, cursor and marks
+    /// are found right.
     pub fn open_parts(
         alloc: Global,
         recording: Recording,
@@ -152,7 +153,8 @@ fn saved_of(alloc: Global, text: Option<Vec<u8>>) -> Result<Option<Saved>, VcdFa
 }
 
 /// The session of a recording with the journal, if there is one: then the journal's format counts,
-/// not `format`. Else it is a session in `format`, with no steps.
+/// not `format`. Else it is a session in `format`, with no steps; this fails only if memory runs
+/// out.
 fn session_with(
     alloc: Global,
     recording: Recording,
@@ -174,7 +176,9 @@ fn session_with(
 }
 
 /// The session of a recording with a journal. V13 if its format, cursor or marks do not fit the
-/// recording, or one of its steps cannot be made.
+/// recording, or one of its steps cannot be made. `start` judges the lines before the steps, and
+/// gives the state as a `Walk`, whose `open` takes the steps; `line` is the first line that `start`
+/// has not judged.
 fn session_of(alloc: Global, recording: Recording, saved: Saved) -> Result<Session, VcdFault>
     requires short { length (saved_lines saved) ≤ 2 ^ 28 }
     ensures opened { IfOk result (IsAccepted (state_of recording saved) saved) }

@@ -133,8 +133,8 @@ impl Walk {
         }
     }
 
-    /// Takes steps, the last of the list first. An error says how many lines the steps before the
-    /// one that cannot be taken have, and how many with it.
+    /// Takes steps, the last of the list first. An error counts the lines of the steps taken before
+    /// the one that cannot be taken, without its own (`before`) and with them (`behind`).
     fn take_all(&mut self, alloc: Global, mut steps: Steps) -> Result<(), NotTaken>
         requires ahead { self.old.future ≡ [] }
         requires lines { length (steps_lines (reverse steps)) < 2 ^ 63 }
@@ -155,7 +155,7 @@ impl Walk {
         Ok(())
     }
 
-    /// Undoes `count` steps, which are ahead then, to be redone. There are as many.
+    /// Undoes `count` steps, which are ahead then, to be redone. The caller has taken that many.
     fn go_back(&mut self, count: usize)
         ensures { (h : History State Change) → (ds : List (Step Change))
             → IsState h.state → CanTakeAll h.state ds → self.old ≡ gone_along h ds

@@ -67,7 +67,8 @@ impl Walk {
 
     /// Makes a single change, which has to be possible, as a new step that can be undone. The
     /// cursor stays: the caller moves it with `go` if the step says so. It fails only if memory
-    /// runs out.
+    /// runs out: `record` has no other error. A `Turn` is a change with places for the pulses that
+    /// go.
     pub(crate) fn change(&mut self, alloc: Global, single: Single) -> Result<(), AllocError>
         requires { FitsSingle self.old.state single }
         ensures { OnOk result (self.new ≡ changed self.old (One single)) }
@@ -111,8 +112,8 @@ impl Walk {
         let _undone = self.journal.undo(&mut self.present, &mut self.cursor);
     }
 
-    /// Swaps past and future: the steps that were undone can be undone again, in the opposite
-    /// order.
+    /// Swaps past and future: a step that could be redone can now be undone, and the one that would
+    /// be redone next is undone first.
     pub(crate) fn turn_round(&mut self)
         ensures { self.new ≡ turned_round self.old }
     {

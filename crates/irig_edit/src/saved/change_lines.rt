@@ -1,8 +1,8 @@
 //! The lines of single changes, in parts.
 //!
 //! A line is one of the text of a saved journal; a change has one, and a splice one more for each
-//! pulse that it inserts. A `Turn` has a change in `single`. A step's changes are kept with the
-//! nearest last: that is turned first, so its lines come first.
+//! pulse that it inserts. A `Turn` has a change in `single`. The changes of a step are kept in the
+//! opposite order: an undo or a redo makes the last one first, so its lines come first.
 
 ghost use Rattle.std.specs.Prelude.{◌≡◌, ◌≤◌, ◌<◌, ◌++◌, [], IfOk, OnOk, false, reverse, true};
 ghost use Rattle.std.specs.Prelude.{vec_len};
@@ -43,7 +43,8 @@ impl<'s> ChangeLines<'s> {
 
     /// Adds lines to a block until it has `enough` bytes or none is left. The next call goes on
     /// from there. Returns `true` if no line is left and the block has fewer bytes than `enough`;
-    /// `false` if the block is full. It fails only if memory runs out.
+    /// `false` if the block has `enough`, whether a line is left or not. It fails only if memory
+    /// runs out.
     pub(crate) fn fill(&mut self, block: &mut Vec<u8>, enough: usize) -> Result<bool, AllocError>
         ensures bytes { OnOk result (block.new.items ++ self.new ≡ block.old.items ++ self.old) }
         ensures end { IfOk result (λ ended. ended ≡ true → self.new ≡ []) }

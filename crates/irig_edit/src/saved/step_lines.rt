@@ -37,7 +37,7 @@ impl<'s> Model for StepLines<'s> {
 }
 
 impl<'s> StepLines<'s> {
-    /// The lines of all steps, one after another.
+    /// The lines of all steps, one after another. No step has begun, so no change has lines yet.
     pub(crate) fn new(steps: StepsLeft<'s, Turn>) -> StepLines<'s>
         ensures { result ≡ steps_text (deltas_of steps.entry) }
     {
@@ -49,7 +49,8 @@ impl<'s> StepLines<'s> {
 
     /// Adds lines to a block until it has `enough` bytes or none is left. The next call goes on
     /// from there. Returns `true` if no line is left and the block has fewer bytes than `enough`;
-    /// `false` if the block is full. It fails only if memory runs out.
+    /// `false` if the block has `enough`, whether a line is left or not. It fails only if memory
+    /// runs out.
     pub(crate) fn fill(&mut self, block: &mut Vec<u8>, enough: usize) -> Result<bool, AllocError>
         ensures bytes { OnOk result (block.new.items ++ self.new ≡ block.old.items ++ self.old) }
         ensures end { IfOk result (λ ended. ended ≡ true → self.new ≡ []) }
@@ -71,7 +72,7 @@ impl<'s> StepLines<'s> {
 }
 
 /// Writes the first lines of the next step to the block, and puts the lines of its changes into
-/// `changes`, which had none left. Returns whether no step was left; then nothing is written. If
+/// `changes`, which had none left. Returns `true` if no step was left; then nothing is written. If
 /// the number of steps is not 0 there is a next one, so `unwrap` finds it. It fails only if memory
 /// runs out.
 fn begin_next<'s>(

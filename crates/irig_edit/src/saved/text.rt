@@ -1,6 +1,7 @@
 //! The text of a saved session, in parts: the dump, the lines of the journal before its steps, the
 //! steps back, the steps forward, and the end. A stage is how far it has come. A journal is the
-//! history of a session.
+//! history of a session. `past_steps` gives the steps back with the oldest first, `future_steps`
+//! those forward with the next redo first: in this order they are saved.
 //!
 //! Where `match` hands an error on, `?` would do the same; the proof of it takes longer.
 
@@ -68,8 +69,8 @@ impl<'s> SavedText<'s> {
 impl Text for SavedText<'_> {
     ghost rest = { λ t. t };
 
-    // Adds text to the block until it has `enough` bytes or the text ends. Returns whether it has
-    // ended. It fails only if memory runs out.
+    // Adds text to the block until it has `enough` bytes or the text ends. Returns whether the text
+    // has ended; the next call goes on from there. It fails only if memory runs out.
     fn fill(&mut self, block: &mut Vec<u8>, enough: usize) -> Result<bool, AllocError> {
         // Each pass ends a stage, unless the block is full.
         while !self.stage.is_over() {
@@ -101,8 +102,8 @@ impl Text for SavedText<'_> {
 }
 
 /// Adds the dump or the steps of a stage to a block until it has `enough` bytes. Returns `true` if
-/// none of the stage is left and the block has fewer bytes than `enough`; `false` if the block is
-/// full. It fails only if memory runs out.
+/// none of the stage is left and the block has fewer bytes than `enough`; `false` if the block has
+/// `enough`, whether any of the stage is left or not. It fails only if memory runs out.
 fn fill_stage(
     stage: Stage,
     dump: &mut TrackText<'_>,

@@ -1,5 +1,6 @@
 //! What a session shows of its present state. A step is what one undo reverses. A look is one read
-//! of a pulse to keep the frames true.
+//! of a pulse to keep the frames true. The index has the frames; in it frames and pulses count from
+//! 0, here from 1.
 
 ghost use Rattle.std.specs.Prelude.{◌≡◌, ◌≤◌, ◌+◌, ◌-◌, length, Some, IfSome, IfOk, slice_get};
 ghost use Rattle.irig_recording.specs.FileText.{file_text};
@@ -85,7 +86,7 @@ impl Session {
 
     /// How many pulses the steps back hold in memory, and how many the steps forward hold. An edit
     /// in the past holds those that it removed, since an undo puts them back; one in the future
-    /// holds those that it inserts.
+    /// holds those that it inserts. The journal calls these counts weights.
     pub fn held(&self) -> (u128, u128)
         ensures past { result.0 ≡ weight_of weight_of_change self.now.past }
         ensures future { result.1 ≡ weight_of weight_of_change self.now.future }
@@ -121,7 +122,8 @@ impl Session {
         }
     }
 
-    /// The text of the track's dump. It fails only if memory runs out.
+    /// The text of the track's dump. `whole` collects its parts; it asks for `text_room` bytes at
+    /// first, and for more if they do not suffice. It fails only if memory runs out.
     pub fn text(&self) -> Result<Vec<u8>, AllocError>
         ensures { IfOk result (λ text.
             text.items ≡ file_text (recording_of self.now.state)) }

@@ -12,7 +12,8 @@ ghost use Rattle.irig_edit.specs.State.State.{IsMark};
 use irig_saved::{Letters, Marks};
 
 /// A time moved by `by`, both in microseconds, below 0 to earlier times. It is 0 if it would come
-/// before 0; the edits test before that none does.
+/// before 0; the edits test before that none does. A time is at most 2^40 and a distance at most
+/// 2^63, so the sum does not overflow.
 pub(crate) fn moved_time(time: u64, by: i64) -> u64
     requires { time ≤ 2 ^ 40 }
     ensures { result ≡ moved_time by time }

@@ -1,7 +1,8 @@
 //! The present state, with its frames.
 //!
-//! Pulses count from 1 here, and times are in microseconds. The index holds the frames; a look is
-//! one read of a pulse to keep the index true.
+//! Pulses count from 1 here, and times are in microseconds; the track counts pulses from 0. The
+//! index holds the frames; a look is one read of a pulse to keep the index true. A lens (`lens`)
+//! shows the pulses of the track, and counts the looks.
 
 ghost use Rattle.std.specs.Prelude.{◌≡◌, ◌<◌, ◌≤◌, ◌+◌, ◌-◌, ◌*◌, ◌^◌, length, map, ◌↔◌, IsTrue};
 ghost use Rattle.std.specs.Prelude.{IfOk, Some, slice_get};
@@ -62,9 +63,9 @@ impl Present {
         })
     }
 
-    /// How many bytes to ask for at first for the text of the track's dump, at most 36 for a pulse.
-    /// The rest is for the header, the length and some lines of a journal; if it has more, the text
-    /// grows.
+    /// How many bytes to ask for at first for the text of the track's dump. A pulse has two edges,
+    /// each of at most 18 bytes. 4,096 more, this project's own choice, are for the header, the
+    /// length and some lines of a journal. If the text is longer, it takes more.
     pub(crate) fn text_room(&self) -> usize
         ensures { result ≡ 36 * length self.now.state.pulses + 4096 }
     {
@@ -169,7 +170,8 @@ impl Present {
 
     /// How many more looks it has counted than `before`.
     ///
-    /// This is asked of the index of frames; `before` is what `looks` returned some time before.
+    /// "It" is the index of frames. `before` is what `looks` returned some time before; the count
+    /// never falls, so nothing is cut off at 0.
     pub(crate) fn looks_since(&self, before: u64) -> u64
         ensures { result ≡ self.now.index.looks - before }
     {
