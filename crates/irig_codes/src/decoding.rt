@@ -1,8 +1,9 @@
 //! The fields of a frame, and what is noted of them.
 //!
-//! An element is a position identifier, a One or a Zero. `digits` has the fifteen numbers that a
-//! frame carries in binary, one for each `Digit`: decimal digits, the straight binary seconds and
-//! the control functions.
+//! An element is a position identifier, a One or a Zero. `Ones` says which elements of a frame are
+//! One; that is all that a frame carries. `digits` has the fifteen numbers that a frame carries in
+//! binary, one for each `Digit`: decimal digits, the straight binary seconds (the second of the day
+//! as one number) and the control functions.
 
 ghost use Rattle.std.specs.Prelude.{◌≡◌, List, length, ◌||◌, ◌==◌, nat_lt};
 ghost use Rattle.irig_codes.specs.declared.layout.Digit.TheVariants.{DaysUnits, DaysTens};
@@ -31,7 +32,8 @@ pub fn decode(format: Format, frame: &[Element; 100]) -> (Fields, Note)
     decode_ones(format, Ones::of(frame))
 }
 
-/// As `decode`, by which elements are One, whatever frame they were gathered from.
+/// As `decode`, of a frame of which only is known which elements are One. That suffices: a position
+/// identifier and a Zero carry nothing.
 pub fn decode_ones(format: Format, ones: Ones) -> (Fields, Note)
     ensures { (frame : List Element) → length frame ≡ 100 → ones_of frame ≡ ones
         → result ≡ decoded format frame }
@@ -45,8 +47,9 @@ pub fn decode_ones(format: Format, ones: Ones) -> (Fields, Note)
     )
 }
 
-/// The note of what was found: a wrong field comes first, then seconds of the day that disagree,
-/// then an element that is One without a meaning.
+/// The note of what was found. `wrong` is the first field that is wrong, `disagrees` says that the
+/// straight binary seconds are not those of the time of day, and `stray` is the first element that
+/// is One without a meaning. The first of these three counts.
 fn note(wrong: Option<Name>, disagrees: bool, stray: Option<u8>) -> Note
     ensures { result ≡ note_of wrong disagrees stray }
 {
@@ -58,7 +61,7 @@ fn note(wrong: Option<Name>, disagrees: bool, stray: Option<u8>) -> Note
     }
 }
 
-/// Whether a decimal digit is above 9.
+/// Whether the decimal digit `number` is above 9: it has up to four bits, so up to 15.
 fn is_over(digits: &[u64; 15], number: Digit) -> bool
     ensures { result ≡ over digits.now number }
 {
@@ -72,7 +75,8 @@ fn are_over(digits: &[u64; 15], units: Digit, tens: Digit) -> bool
     is_over(digits, units) || is_over(digits, tens)
 }
 
-/// Whether a digit of the day is above 9, or the day is none from 1 to 366.
+/// Whether a digit of the day is above 9, or the day is not from 1 to 366. `day` is the number that
+/// the digits make.
 fn is_no_day(digits: &[u64; 15], day: u32) -> bool
     ensures { result ≡ (over digits.now DaysUnits || (over digits.now DaysTens
         || (over digits.now DaysHundreds || ((day == 0) || nat_lt 366 day)))) }
@@ -83,7 +87,8 @@ fn is_no_day(digits: &[u64; 15], day: u32) -> bool
         || day > 366
 }
 
-/// The first field with a digit above 9, or out of its range. `None` if there is none.
+/// The first field with a digit above 9, or out of its range; `None` if there is none. Second 60 is
+/// a leap second. Hundredths and year need no other test: two digits make at most 99.
 fn first_wrong(digits: &[u64; 15], fields: &Fields) -> Option<Name>
     ensures { result ≡ first_wrong_field digits.now fields.now }
 {
@@ -104,7 +109,8 @@ fn first_wrong(digits: &[u64; 15], fields: &Fields) -> Option<Name>
     }
 }
 
-/// Whether the straight binary seconds are there and are not those of the time of day.
+/// Whether the straight binary seconds are there and are not the second of the day that hours,
+/// minutes and seconds make. Without them nothing can disagree.
 fn disagrees(fields: &Fields) -> bool
     ensures { result ≡ sbs_disagrees fields.now }
 {
@@ -119,7 +125,8 @@ fn disagrees(fields: &Fields) -> bool
     }
 }
 
-/// The first element, from 0, that is One though it carries no bit in the format.
+/// The first element, from 0, that is One though it carries no bit in the format; `None` if there
+/// is none. `used` has a bit for each element that carries one.
 fn first_stray(format: Format, ones: Ones) -> Option<u8>
     ensures { (frame : List Element) → length frame ≡ 100 → ones_of frame ≡ ones
         → result ≡ stray_from 0 (slots_at format) frame }

@@ -25,7 +25,7 @@ impl Model for Gathering {
 }
 
 impl Gathering {
-    /// No element is One so far.
+    /// No element so far.
     #[inline(always)]
     pub fn none() -> Gathering
         ensures { result ≡ 0 }
@@ -33,8 +33,8 @@ impl Gathering {
         Gathering { bits: 0 }
     }
 
-    /// These elements, and one more, which is the next one of the frame. After 100 of them the
-    /// first is bit 0.
+    /// These elements, and the next one of the frame, which is One or not. After 100 elements the
+    /// first one is bit 0, since each later one moved it down by one place.
     #[inline(always)]
     pub fn and(self, is_one: bool) -> Gathering
         ensures { (frame : List Element) (e : Element) → length frame < 100 → raised frame ≡ self
@@ -45,7 +45,8 @@ impl Gathering {
         }
     }
 
-    /// Which elements of a whole frame are One, if 100 were gathered.
+    /// Which elements of a whole frame are One, element k as bit k. 100 elements must be gathered:
+    /// only then the first is bit 0.
     #[inline(always)]
     pub fn ones(self) -> Ones
         ensures { (frame : List Element) → length frame ≡ 100 → raised frame ≡ self

@@ -1,4 +1,5 @@
-//! The fifteen numbers that a frame carries, by its elements that are One.
+//! The fifteen numbers that a frame carries, by its elements that are One. Which elements carry
+//! which number is the table of IRIG Standard 200-04, under "Fields" in `docs/FORMATS.md`.
 //!
 //! `ones.bits(from, count)` is the number of `count` elements from element `from` on, the first as
 //! the lowest bit. Elements 9, 19, 29 and so on are position identifiers, so a longer number is
@@ -13,7 +14,7 @@ ghost use Rattle.irig_codes.specs.{Ones.bits_in, Layout.runs};
 use crate::format::{Format, Kind};
 use crate::ones::Ones;
 
-/// The units of the hundredths: only format G has them.
+/// The units of the hundredths, elements 50 to 53: only format G has them.
 fn hundredths_units(kind: Kind, ones: Ones) -> u64
     ensures { result ≡ digit_in ones 1 (runs kind false Hundredths) }
 {
@@ -23,7 +24,7 @@ fn hundredths_units(kind: Kind, ones: Ones) -> u64
     }
 }
 
-/// The tens of the hundredths: formats A and G have them.
+/// The tens of the hundredths, elements 45 to 48: formats A and G have them.
 fn hundredths_tens(kind: Kind, ones: Ones) -> u64
     ensures { result ≡ digit_in ones 10 (runs kind false Hundredths) }
 {
@@ -33,7 +34,7 @@ fn hundredths_tens(kind: Kind, ones: Ones) -> u64
     }
 }
 
-/// The units of the seconds: format E has none.
+/// The units of the seconds, elements 1 to 4: format E has none.
 fn seconds_units(kind: Kind, ones: Ones) -> u64
     ensures { result ≡ digit_in ones 1 (runs kind false Seconds) }
 {
@@ -43,7 +44,8 @@ fn seconds_units(kind: Kind, ones: Ones) -> u64
     }
 }
 
-/// The units of the year, if the format has one.
+/// The units of the year, if the format has one (`year`). In G the hundredths are where the other
+/// kinds have the year, so the year is ten elements later.
 fn year_units(kind: Kind, year: bool, ones: Ones) -> u64
     ensures { result ≡ digit_in ones 1 (runs kind year Year) }
 {
@@ -54,7 +56,8 @@ fn year_units(kind: Kind, year: bool, ones: Ones) -> u64
     }
 }
 
-/// The tens of the year, if the format has one.
+/// The tens of the year, if the format has one (`year`). In G they are ten elements later, as the
+/// units are.
 fn year_tens(kind: Kind, year: bool, ones: Ones) -> u64
     ensures { result ≡ digit_in ones 10 (runs kind year Year) }
 {
@@ -66,7 +69,7 @@ fn year_tens(kind: Kind, year: bool, ones: Ones) -> u64
 }
 
 /// The straight binary seconds of the day, if they are `there`: 17 bits, in two runs. The first run
-/// has nine, so the second counts 512.
+/// has nine bits, so the second counts 2^9 = 512.
 fn sbs(there: bool, ones: Ones) -> u64
     ensures { result ≡ sbs_in there ones }
 {
@@ -77,8 +80,9 @@ fn sbs(there: bool, ones: Ones) -> u64
     }
 }
 
-/// The number of the nine control elements from `from` on as the low bits, and `after`, the number
-/// of those after them, as the others: nine bits higher, so it counts 512. It has at most 36 bits.
+/// The number of the control elements from `from` on: the nine up to the next position identifier
+/// are its low bits. `after` is the number that the control elements after these make, of at most
+/// 36 bits; it is nine bits higher, so it counts 2^9 = 512.
 #[inline(always)]
 fn nine_at(ones: Ones, from: u8, after: u64) -> u64
     requires within { from < 100 }
@@ -100,7 +104,8 @@ fn from_70(ones: Ones) -> u64
 }
 
 /// The control elements as one number, if they are `there`, the first one as the lowest bit. Their
-/// first element and their count depend on the kind and the year.
+/// first element and their count depend on the kind and on whether the format has the year
+/// (`year`), since the year takes nine elements before them.
 fn control(kind: Kind, there: bool, year: bool, ones: Ones) -> u64
     ensures { result ≡ control_in kind there year ones }
 {
@@ -116,9 +121,9 @@ fn control(kind: Kind, there: bool, year: bool, ones: Ones) -> u64
     }
 }
 
-/// The numbers that a frame carries: units and tens of the hundredths, the seconds, the minutes and
-/// the hours; units, tens and hundreds of the day; units and tens of the year; straight binary
-/// seconds; control functions.
+/// The fifteen numbers that a frame carries, in the order of `Digit`: units and tens of the
+/// hundredths, the seconds, the minutes and the hours; units, tens and hundreds of the day; units
+/// and tens of the year; straight binary seconds; control functions.
 pub fn read_digits(format: Format, ones: Ones) -> [u64; 15]
     ensures { result ≡ digits_in format ones }
 {

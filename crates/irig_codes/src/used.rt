@@ -1,4 +1,4 @@
-//! The elements of a format that carry a bit, as masks: by kind and expression.
+//! The elements of a format that carry a bit of a field, as masks: by kind and coded expression.
 
 ghost use Rattle.std.specs.Prelude.{◌≡◌};
 ghost use Rattle.irig_codes.specs.{Slots.slots_at, Used.masks_of, Used.used_of};
@@ -6,7 +6,7 @@ ghost use Rattle.irig_codes.specs.{Slots.slots_at, Used.masks_of, Used.used_of};
 use crate::format::{Format, Kind};
 use crate::table;
 
-/// The masks of the expressions 0 to 7 of a kind, in this order.
+/// The masks of a kind: that of expression k, 0 to 7, is at place k.
 fn masks(kind: Kind) -> &'static [u128; 8]
     ensures { result.now ≡ masks_of kind }
 {

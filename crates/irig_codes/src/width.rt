@@ -19,7 +19,8 @@ pub enum Element {
 
 /// What a pulse of this width in microseconds means; `None` if the width is bad.
 ///
-/// The bands round the nominal widths are this project's own choice.
+/// The standard gives only nominal widths: 0.2, 0.5 and 0.8 of the interval. The bands meet halfway
+/// between them, which is this project's own choice.
 pub fn class(format: Format, width: u64) -> Option<Element>
     ensures { result ≡ class_of format width }
 {
@@ -27,7 +28,9 @@ pub fn class(format: Format, width: u64) -> Option<Element>
 }
 
 /// As `class`, by the interval of the format in microseconds: a loop over pulses asks for the
-/// interval once. A width below a twentieth of it, or from nineteen on, is bad.
+/// interval once. The bands begin at 1, 7, 13 and 19 twentieths of it: halfway between the nominal
+/// widths, 4, 10 and 16 twentieths, and as far outside. A width below 1 twentieth, or from 19 on,
+/// is bad.
 #[inline(always)]
 pub fn class_in(interval: u64, width: u64) -> Option<Element>
     requires { HasTwentieths interval }
@@ -49,14 +52,15 @@ pub fn class_in(interval: u64, width: u64) -> Option<Element>
 
 /// Whether two neighbouring rises that are this distance apart, in microseconds, are in step.
 ///
-/// They may be off by a tenth of the interval, which is this project's own choice.
+/// They may be off from one interval by a tenth of it, which is this project's own choice.
 pub fn in_step(format: Format, distance: u64) -> bool
     ensures { result ≡ is_in_step format distance }
 {
     step_in(format.interval(), distance)
 }
 
-/// As `in_step`, by the interval of the format in microseconds: from nine to eleven tenths of it.
+/// As `in_step`, by the interval of the format in microseconds: from nine to eleven tenths of it,
+/// both included.
 #[inline(always)]
 pub fn step_in(interval: u64, distance: u64) -> bool
     requires { HasTwentieths interval }
@@ -67,7 +71,8 @@ pub fn step_in(interval: u64, distance: u64) -> bool
     distance.wrapping_sub(9 * tenth) <= 2 * tenth
 }
 
-/// The width in microseconds that a pulse of this element is made with. Its class is the element.
+/// The width in microseconds that a pulse of this element is made with: that of the standard. Its
+/// class is the element.
 pub fn nominal(format: Format, element: Element) -> u64
     ensures value { result ≡ nominal_of format element }
     ensures told { class_of format result ≡ Some element }

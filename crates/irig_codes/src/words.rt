@@ -1,4 +1,5 @@
-//! What people call kinds of time code and classes of pulses.
+//! What people call kinds of time code and classes of pulses. The class of a pulse is the element
+//! that its width means: Zero, One or Position.
 
 ghost use Rattle.std.specs.Prelude.{◌≡◌, ◌≤◌, MatchOption, Some, length, drop};
 ghost use Rattle.std.specs.Str.{bytes_eq};
@@ -41,16 +42,16 @@ pub fn kind_named(word: &[u8]) -> Option<Kind>
     }
 }
 
-/// Whether a text is the letter of a kind.
+/// Whether a text is just the letter of this kind.
 fn is_kind(word: &[u8], kind: Kind) -> bool
     ensures { result ≡ bytes_eq word.now (kind_word kind) }
 {
     word == kind_word(kind).as_bytes()
 }
 
-/// The word of a pulse's element, or `bad` if its width has none: eight bytes that end with the
-/// word, and the place in them at which it begins. So a line is written with one copy of a known
-/// length.
+/// The word of a pulse's element, or `bad` if its width means none (`None`). It is given as eight
+/// bytes that end with the word, and the place in them, from 0, at which it begins. So a line is
+/// written with one copy of a known length.
 pub fn class_word(class: Option<Element>) -> ([u8; 8], usize)
     ensures word { drop result.1 result.0 ≡ class_word class }
     ensures short { result.1 ≤ 8 }
@@ -63,7 +64,7 @@ pub fn class_word(class: Option<Element>) -> ([u8; 8], usize)
     }
 }
 
-/// The element that a word names; `None` for any other text.
+/// The element that a word names: `zero`, `one` or `position`; `None` for any other text.
 pub fn element_named(word: &[u8]) -> Option<Element>
     ensures value { result ≡ element_named word.now }
     ensures named { MatchOption result ((e : Element) → word.now ≡ element_word e → ⊥)
@@ -80,7 +81,7 @@ pub fn element_named(word: &[u8]) -> Option<Element>
     }
 }
 
-/// Whether a text is the word of an element.
+/// Whether a text is just the word of this element.
 fn is_element(word: &[u8], element: Element) -> bool
     ensures { result ≡ bytes_eq word.now (element_word element) }
 {

@@ -29,14 +29,15 @@ impl<'a> Model for Changes<'a> {
 }
 
 impl<'a> Changes<'a> {
-    /// The frames that differ between two recordings.
+    /// The frames that differ between the recordings `before` and `after`.
     pub fn between(before: &'a Framed, after: &'a Framed) -> Changes<'a>
         ensures exact { result ≡ changes before.now after.now }
         // At each place what differs there, and no other.
         ensures places { AreChanges (shown_frames before.now) (shown_frames after.now) result }
         ensures few { length result < 2 ^ 32 }
     {
-        // The counts are not used: what the calls promise of the frames is.
+        // The counts are not used: the calls' contracts say how many frames there are and in which
+        // order, and the proof needs that.
         let _counts = (before.len(), after.len());
         Changes {
             sides: SidesLeft::between(before, after),

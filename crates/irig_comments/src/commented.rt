@@ -38,8 +38,8 @@ impl<'a> Model for CommentedPatch<'a> {
 }
 
 impl<'a> CommentedPatch<'a> {
-    /// The patch that makes the recording after of the one before, with comments. Both frames are
-    /// of one format.
+    /// The patch that makes the recording `after` of the recording `before`, with comments. The
+    /// frames of both are read in one format.
     pub fn between(before: &'a Framed, after: &'a Framed) -> CommentedPatch<'a>
         requires { before.now.format ≡ after.now.format }
         ensures text { result ≡ commented_text before.now after.now }
@@ -53,7 +53,8 @@ impl<'a> CommentedPatch<'a> {
         // Nothing is written of two recordings that are the same, and of no others.
         ensures same { result ≡ [] ↔ before.now.recording ≡ after.now.recording }
     {
-        // The counts are not used: what the calls promise of the frames is.
+        // The counts are not used: the calls' contracts say how many frames there are and in which
+        // order, and the proof needs that.
         let _counts = (before.len(), after.len());
         CommentedPatch {
             is_told: false,
@@ -67,8 +68,9 @@ impl<'a> CommentedPatch<'a> {
 impl Text for CommentedPatch<'_> {
     ghost rest = { λ p. p };
 
-    // Writes the next lines, until the block has `enough` bytes. True only if no line is left;
-    // false if the block is full, whether or not a line is left.
+    // Writes the note with the two lengths first, and then lines until the block has `enough`
+    // bytes. True only if no line is left; false if the block is full, whether or not a line is
+    // left.
     fn fill(&mut self, block: &mut Vec<u8>, enough: usize) -> Result<bool, AllocError> {
         if !self.is_told {
             put_note(block, self.before, self.after)?;
@@ -78,8 +80,8 @@ impl Text for CommentedPatch<'_> {
     }
 }
 
-/// Writes lines until a block has `enough` bytes. True only if no line is left; false if the block
-/// is full, whether or not a line is left.
+/// Writes lines to a block until it has `enough` bytes. True only if no line is left; false if the
+/// block is full, whether or not a line is left.
 fn put_lines(
     block: &mut Vec<u8>,
     left: &mut LinesLeft<'_>,

@@ -10,7 +10,8 @@ use irig_difference::put_number;
 use irig_print::put_verdict_text;
 use std::alloc::AllocError;
 
-/// Writes the comment on the frames at one place.
+/// Writes the comment on the frames at one place: a number sign, the frame before, `, then ` and
+/// the frame after.
 pub(crate) fn put_comment(block: &mut Vec<u8>, sides: &Sides) -> Result<(), AllocError>
     ensures { OnOk result (block.new.items ≡ block.old.items ++ comment_text sides.now) }
 {
@@ -21,7 +22,7 @@ pub(crate) fn put_comment(block: &mut Vec<u8>, sides: &Sides) -> Result<(), Allo
     block.extend_from_slice(b"\n")
 }
 
-/// Writes the frame before, or that there is none.
+/// Writes the frame before, or `no frame` if there is none.
 fn put_before(block: &mut Vec<u8>, before: &Option<Shown>) -> Result<(), AllocError>
     ensures { OnOk result (block.new.items ≡ block.old.items ++ before_text before.now) }
 {
@@ -31,8 +32,8 @@ fn put_before(block: &mut Vec<u8>, before: &Option<Shown>) -> Result<(), AllocEr
     }
 }
 
-/// Writes the frame after, or `none`. If there is a frame before, at the same place, only what is
-/// reported of the frame after is written.
+/// Writes the frame after, or `none`. If there is a frame before, it is at the same place and was
+/// written whole, so only what is reported of the frame after is written.
 fn put_after(
     block: &mut Vec<u8>,
     before: &Option<Shown>,
@@ -48,7 +49,8 @@ fn put_after(
     }
 }
 
-/// Writes a frame with its number, from 1, its place, and what is reported of it.
+/// Writes a frame with its number, from 1, its place, and what is reported of it: it begins as in
+/// `frame 12 at 1000: `, and then the report comes. `put_number` writes a space before the number.
 fn put_whole(block: &mut Vec<u8>, frame: &Shown) -> Result<(), AllocError>
     ensures { OnOk result (block.new.items ≡ block.old.items ++ whole_text frame.now) }
 {

@@ -45,7 +45,8 @@ impl Counts {
         counts
     }
 
-    /// Counts the frames of one place, which differ: made, lost or changed.
+    /// Counts the frames of one place, which differ: made, lost or changed. One side is there at
+    /// least.
     fn add(&mut self, sides: &Sides)
         requires room { (self.old.made < 2 ^ 32) × (self.old.lost < 2 ^ 32)
             × (self.old.changed < 2 ^ 32) }
@@ -67,7 +68,8 @@ impl Counts {
     }
 }
 
-/// Writes the last line, with the numbers of frames.
+/// Writes the last line, with the numbers of frames. Each text but the first is that of the number
+/// before it.
 pub(crate) fn put_counts(block: &mut Vec<u8>, counts: &Counts) -> Result<(), AllocError>
     ensures { OnOk result (block.new.items ≡ block.old.items ++ counts_text counts.now) }
 {
@@ -79,7 +81,7 @@ pub(crate) fn put_counts(block: &mut Vec<u8>, counts: &Counts) -> Result<(), All
     block.extend_from_slice(b" changed\n")
 }
 
-/// Writes a text, a space and a number.
+/// Writes a text, a space and a number: `put_number` writes the space, too.
 fn put_count(block: &mut Vec<u8>, text: &[u8], count: usize) -> Result<(), AllocError>
     ensures { OnOk result
         (block.new.items ≡ block.old.items ++ (text.now ++ codes " " ++ decimal count)) }

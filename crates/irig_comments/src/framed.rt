@@ -33,14 +33,16 @@ impl Model for Framed {
 }
 
 impl Framed {
-    /// A recording and its frames, read in this format. An error drops the recording.
+    /// A recording and its frames, read in this format. An error means that memory ran out; the
+    /// recording is dropped then.
     pub fn new(alloc: Global, recording: Recording, format: Format) -> Result<Framed, AllocError>
         ensures { IfOk result (λ x. x ≡ framed format recording) }
     {
         let track = Track::new(recording)?;
+        // The track takes the recording, so a copy is kept.
         let recording = track.recording(alloc)?;
         let index = Index::build(alloc, &mut track.lens(), format)?;
-        // The count is not used: what the call promises of the track is.
+        // The count is not used: the call's contract bounds the track, and the proof needs that.
         let _count = track.len();
         Ok(Framed {
             recording,
@@ -64,7 +66,7 @@ impl Framed {
         ensures order { FramesRise 0 (shown_frames self.now) }
         ensures framed { IsFramed self.now }
     {
-        // The count is not used: what the call promises of the track is.
+        // The count is not used: the call's contract bounds the track, and the proof needs that.
         let _count = self.track.len();
         self.index.len()
     }
@@ -87,7 +89,7 @@ impl Framed {
         })
     }
 
-    /// How many frames are read, and fine.
+    /// How many frames are fine: read, and nothing is wrong.
     pub(crate) fn fine(&self) -> usize
         ensures { result ≡ fine_frames self.now }
     {
@@ -101,7 +103,7 @@ impl Framed {
     }
 }
 
-/// Whether a frame is read, and fine.
+/// Whether a frame is fine: read, and nothing is wrong.
 fn is_fine(verdict: &Verdict) -> bool
     ensures { result ≡ is_fine verdict.now }
 {

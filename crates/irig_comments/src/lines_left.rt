@@ -39,7 +39,8 @@ impl<'a> Model for LinesLeft<'a> {
 }
 
 impl<'a> LinesLeft<'a> {
-    /// All lines of the patch that makes the one recording of the other, but that with the lengths.
+    /// All lines of the patch that makes the recording `after` of `before`, but that with the
+    /// lengths, which is written before these.
     pub fn between(before: &'a Framed, after: &'a Framed) -> LinesLeft<'a>
         ensures { result ≡ lines_text (changes before.now after.now)
             (stretches_between before.now.recording after.now.recording)
@@ -57,7 +58,8 @@ impl<'a> LinesLeft<'a> {
         }
     }
 
-    /// Writes the next line, if one is left. Returns whether none is left after it.
+    /// Writes the next line, if one is left: a comment on frames, the line of a stretch, or at the
+    /// end the last line. Returns whether none is left after it.
     pub fn put_next(&mut self, block: &mut Vec<u8>) -> Result<bool, AllocError>
         ensures bytes { OnOk result (block.new.items ++ self.new ≡ block.old.items ++ self.old) }
         ensures end { IfOk result (λ ended. ended ≡ true → self.new ≡ []) }

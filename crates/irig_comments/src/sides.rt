@@ -46,7 +46,8 @@ impl Sides {
     }
 }
 
-/// Whether the same is reported of two frames.
+/// Whether the same is reported of two frames. `are_same` compares; this adds to its contract that
+/// the two are equal then.
 fn is_same(one: &Verdict, other: &Verdict) -> bool
     ensures value { result ≡ same_verdict one.now other.now }
     ensures exact { IsTrue result ↔ (one.now ≡ other.now) }
@@ -128,7 +129,7 @@ fn is_same_note(one: &Note, other: &Note) -> bool
     }
 }
 
-/// A number for each field, so that two fields can be compared.
+/// A number for each field, so that two fields can be compared: only whether they are equal counts.
 fn number_of(name: Name) -> u8
     ensures { result ≡ name_number name }
 {

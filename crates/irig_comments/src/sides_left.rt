@@ -45,7 +45,7 @@ impl<'a> SidesLeft<'a> {
     }
 
     /// The frames at the next place: those of both recordings if they begin at one microsecond,
-    /// else the earlier one. `None` if none is left.
+    /// else the earlier one. Both lists are in the order of their rises. `None` if none is left.
     pub fn next(&mut self) -> Option<Sides>
         ensures { MatchOption result ((self.old ≡ []) × (self.new ≡ []))
             (λ s. self.old ≡ s ∷ self.new) }

@@ -34,7 +34,7 @@ pub fn settings<'a>(
     }
 }
 
-/// The values of a command line.
+/// The values of a command line: the words, as `clap` takes them apart.
 fn asked<'a>(alloc: Global, words: &'a [String]) -> Result<Asked<'a>, Error>
     ensures values { IfOk result (Values the_command AreValues
         (map string_bytes words.entry.now)) }
@@ -46,7 +46,7 @@ fn asked<'a>(alloc: Global, words: &'a [String]) -> Result<Asked<'a>, Error>
     }
 }
 
-/// The values of the matches, as they are written.
+/// The values of the matches, each as it was written. `Err` means that memory ran out.
 fn values_of<'a>(matches: &ArgMatches<'a>) -> Result<Asked<'a>, Error>
     ensures values { IfOk result (AreValues (found_of matches.now)) }
     ensures memory { IfErr result WantsMemory }
@@ -79,7 +79,7 @@ fn parse_words<'a>(alloc: Global, words: &'a [String]) -> Result<ArgMatches<'a>,
     matches_of(command(alloc)?, words)
 }
 
-/// The command line of the program.
+/// The command line of the program: all options, and the paths of the two dumps.
 pub fn command<'a>(alloc: Global) -> Result<Command<'a>, AllocError>
     ensures { IfOk result (λ c. IsCommand (app_of c)) }
 {
@@ -88,7 +88,7 @@ pub fn command<'a>(alloc: Global) -> Result<Command<'a>, AllocError>
     showing(alloc)?.arg(before)?.arg(after)
 }
 
-/// The command with all options: which part of which wires is read, and how frames are shown.
+/// The command with all options: those of `taking`, and how frames are shown in comments.
 fn showing<'a>(alloc: Global) -> Result<Command<'a>, AllocError>
     ensures { IfOk result (λ c. IsShowing (app_of c)) }
 {
@@ -102,7 +102,8 @@ fn showing<'a>(alloc: Global) -> Result<Command<'a>, AllocError>
     taking(alloc)?.arg(frames)?.arg(format)?.arg(expression)
 }
 
-/// The command with the options that say which part of which wires is read.
+/// The command with the options of `wired`, and those of the window, `--from` and `--to`: which
+/// part of the wires is read.
 fn taking<'a>(alloc: Global) -> Result<Command<'a>, AllocError>
     ensures { IfOk result (λ c. IsTaking (app_of c)) }
 {
@@ -121,7 +122,7 @@ fn wired<'a>(alloc: Global) -> Result<Command<'a>, AllocError>
     Command::new(alloc, "irig_diff").arg(wire)?.arg(wire_after)
 }
 
-/// An option `--name` with the name of a wire.
+/// An option `--name` whose value is the name of a wire; `help` says whose wire.
 fn wire_arg<'a>(alloc: Global, name: &'a str, help: &'a str) -> Arg<'a>
     ensures rule { rule_of result ≡ option name.entry.now None }
     ensures local { result.global ≡ false }

@@ -39,7 +39,7 @@ pub fn compare_words<'a, D: Disk, W: Write>(
 }
 
 /// Prints the patch between the tracks of the settings. The memory for it is taken before they are
-/// read.
+/// read. If there is none, the track before is reported as not read.
 fn compare_files<'a, D: Disk, W: Write>(
     alloc: Global,
     chosen: &Settings<'a>,
@@ -55,8 +55,8 @@ fn compare_files<'a, D: Disk, W: Write>(
     compare_with_block(alloc, chosen, disk, out, &mut block)
 }
 
-/// Compares two files as the words ask. The track before is read first, and its fault is reported
-/// alone.
+/// Compares two files as the words ask: each is read in the same window. The track before is read
+/// first, and its fault is reported alone.
 fn compare_with_block<'a, D: Disk, W: Write>(
     alloc: Global,
     chosen: &Settings<'a>,
@@ -96,7 +96,8 @@ fn compare_recordings<'a, W: Write>(
     }
 }
 
-/// Prints the patch between two recordings with comments that show their frames in this format.
+/// Prints the patch between two recordings with comments that show their frames in this format. If
+/// memory runs out for the frames of one, that one is reported as not read.
 fn compare_frames<'a, W: Write>(
     alloc: Global,
     chosen: &Settings<'a>,
@@ -118,7 +119,8 @@ fn compare_frames<'a, W: Write>(
     print_frames(&before, &after, out, block)
 }
 
-/// Prints the patch with comments between two recordings.
+/// Prints the patch with comments between two recordings. It has no byte exactly if they are the
+/// same, which the ending says.
 fn print_frames<'a, W: Write>(
     before: &Framed,
     after: &Framed,
@@ -135,7 +137,8 @@ fn print_frames<'a, W: Write>(
     }
 }
 
-/// Prints the patch between two recordings.
+/// Prints the patch between two recordings. It has no byte exactly if they are the same, which the
+/// ending says.
 fn print_patch<'a, W: Write>(
     before: &Recording,
     after: &Recording,

@@ -26,7 +26,7 @@ use std::rt::Runtime;
 use std::{env, io};
 
 // Gets the files of the system and the words of the command line; then the tracks are compared. The
-// status is 2 if one of these cannot be had.
+// status is 2 if one of these cannot be had: the tracks were not looked for then.
 fn main(rt: HostRuntime) -> ExitCode {
     let Ok(files) = system_files(&rt) else {
         return program().tell(&rt, 2, &io::Error::from(io::ErrorKind::OutOfMemory));
@@ -40,18 +40,20 @@ fn main(rt: HostRuntime) -> ExitCode {
             &mut io::writer(&rt),
             &mut io::writer(&rt),
         ),
+        // The command is for what `clap` says of a word that is not UTF-8.
         Err(error) => program().tell_no_words(&rt, &error, command(rt.alloc())),
     }
 }
 
-/// The words of the command line, the program's name being the first.
+/// The words of the command line, the program's name being the first. `Err` if one of them is not
+/// UTF-8, the system gives none, or memory runs out.
 fn arguments<R: Runtime + AllocGlobal>(rt: &R) -> io::Result<Vec<String>> {
     let words = env::args(rt)?.collect(rt.alloc())?;
     Ok(words)
 }
 
-/// Compares the tracks that the words name, by the files of this system and this output, and
-/// reports how that ended.
+/// Compares the tracks that the words name, by the files of this system (`disk`) and this output,
+/// and reports how that ended. `help` is the output for the help.
 fn start<P: Eprint + AllocGlobal, C: FileSystem, W: Write, H: Write>(
     rt: &P,
     words: &[String],

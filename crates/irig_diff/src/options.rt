@@ -8,7 +8,8 @@ use crate::chosen::{OptionFault, Settings};
 use irig_codes::Format;
 use irig_words::{format_named, window_named};
 
-/// What the values of a command line ask for.
+/// What the values of a command line ask for; or the first fault: of the window, of the format, or
+/// a format without frames.
 pub fn settings_of<'a>(asked: &Asked<'a>) -> Result<Settings<'a>, OptionFault>
     ensures chosen { IfOk result (IsChosen asked.now) }
     ensures fault { IfErr result (HasFault asked.now) }
@@ -30,8 +31,8 @@ pub fn settings_of<'a>(asked: &Asked<'a>) -> Result<Settings<'a>, OptionFault>
     }
 }
 
-/// The format of the frames that are shown; `None` if they are not asked for. An option of the
-/// format alone is a fault then, `Alone`.
+/// The format of the frames that are shown; `None` if they are not asked for (`--frames`). An
+/// option of the format without that is a fault, `Alone`.
 fn frames_of(asked: &Asked<'_>) -> Result<Option<Format>, OptionFault>
     ensures frames { IfOk result (AreFrames asked.now) }
     ensures fault { IfErr result (HasFault asked.now) }

@@ -10,8 +10,8 @@ use irig_print::{PrintFault, put_all};
 use irig_text::{ENOUGH, Text};
 use std::io::Write;
 
-/// Prints a text. Its parts wait in the block, and what the block holds before is lost. Returns
-/// whether the text has no byte.
+/// Prints a text, block by block. Its parts wait in the block until they are written, and what the
+/// block holds before is lost. Returns whether the text has no byte.
 pub fn print<W: Write, T: Text>(
     out: &mut W,
     text: &mut T,
@@ -35,7 +35,8 @@ pub fn print<W: Write, T: Text>(
 }
 
 /// Prints the next block of a text, and notes whether it has a byte. Returns whether it was the
-/// last one. If memory runs out for it, that is a fault of the output.
+/// last one. A block has 64 KiB (`ENOUGH`) or more, but for the last. If memory runs out for it,
+/// that is a fault of the output.
 fn print_next<W: Write, T: Text>(
     out: &mut W,
     text: &mut T,

@@ -34,7 +34,8 @@ impl<'a> Model for Differences<'a> {
 }
 
 impl<'a> Differences<'a> {
-    /// The stretches in which two recordings differ. After its end a recording is low.
+    /// The stretches in which the recordings `before` and `after` differ. After its end a recording
+    /// is low.
     pub fn between(before: &'a Recording, after: &'a Recording) -> Differences<'a>
         ensures exact { result ≡ stretches_between before.now after.now }
         // Each time at which the levels differ, and no other.
@@ -56,7 +57,8 @@ impl<'a> Differences<'a> {
     }
 
     /// The next stretch, from the microsecond at which the levels begin to differ to the one at
-    /// which they are the same again; `None` if none is left.
+    /// which they are the same again; `None` if none is left. At each edge that only one of the two
+    /// has, the levels change from the same to different or back.
     pub fn next(&mut self) -> Option<Pulse>
         ensures { MatchOption result ((self.old ≡ []) × (self.new ≡ []))
             (λ stretch. self.old ≡ stretch ∷ self.new) }
@@ -67,8 +69,9 @@ impl<'a> Differences<'a> {
     }
 }
 
-/// Takes the first edge that only one of two rising lists has, in microseconds; `None` if neither
+/// Takes the first edge, in microseconds, that only one of two rising lists has; `None` if neither
 /// has one. An edge that both have is passed over: it changes nothing in whether they differ.
+/// Pulses that both begin with are passed first, since that is quicker.
 fn next_edge(before: &mut EdgesLeft<'_>, after: &mut EdgesLeft<'_>) -> Option<u64>
     requires before { RisesFrom 0 before.old }
     requires after { RisesFrom 0 after.old }

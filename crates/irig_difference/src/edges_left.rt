@@ -44,7 +44,8 @@ impl<'a> EdgesLeft<'a> {
         }
     }
 
-    /// The next edge, in microseconds, if one is left. It stays the next.
+    /// The next edge, in microseconds: a rise, or the fall of a pulse whose rise is past. `None` if
+    /// none is left. It stays the next.
     #[inline(always)]
     pub fn first(&self) -> Option<u64>
         ensures { result ≡ slice_get self.now 0 }
@@ -56,13 +57,14 @@ impl<'a> EdgesLeft<'a> {
         Some(if self.is_high { next.fall } else { next.rise })
     }
 
-    /// Goes past the next edge, which has to be there.
+    /// Goes past the next edge, which has to be there: after a rise the pulse's fall comes, and
+    /// after that the next pulse.
     #[inline(always)]
     pub fn pass(&mut self)
         requires { 0 < length self.old }
         ensures { self.new ≡ drop 1 self.old }
     {
-        // The count is not used: what the call promises bounds the pulses.
+        // The count is not used: the call's contract bounds the pulses, and the proof needs that.
         let _count = self.pulses.gap_at();
         if self.is_high {
             self.past += 1;
@@ -86,8 +88,9 @@ impl<'a> EdgesLeft<'a> {
     }
 }
 
-/// How many of the same pulses two buffers have, from the places `i` and `j` on, which count from
-/// 0. Both are left of their buffer's own place.
+/// How many of the same pulses two buffers have, from the places `i` of the one and `j` of the
+/// other on, which count from 0. All pulses are left of the buffer's own place, so `gap_at` is how
+/// many there are.
 fn common(before: &Gap<Pulse>, i: usize, after: &Gap<Pulse>, j: usize) -> usize
     requires before { i ≤ before.now.place }
     requires after { j ≤ after.now.place }

@@ -35,7 +35,7 @@ impl<'a> Model for PatchText<'a> {
 }
 
 impl<'a> PatchText<'a> {
-    /// The patch that makes the recording after of the one before.
+    /// The patch that makes the recording `after` of the recording `before`.
     pub fn between(before: &'a Recording, after: &'a Recording) -> PatchText<'a>
         ensures text { result ≡ patch_text before.now after.now }
         // Nothing is written of two recordings that are the same, and of no others.
@@ -53,8 +53,9 @@ impl<'a> PatchText<'a> {
 impl Text for PatchText<'_> {
     ghost rest = { λ p. p };
 
-    // Writes the next lines, until the block has `enough` bytes. True only if no line is left;
-    // false if the block is full, whether or not a line is left.
+    // Writes the comment with the two lengths first, and then lines until the block has `enough`
+    // bytes. True only if no line is left; false if the block is full, whether or not a line is
+    // left.
     fn fill(&mut self, block: &mut Vec<u8>, enough: usize) -> Result<bool, AllocError> {
         if !self.is_told {
             put_note(block, self.before, self.after)?;
@@ -75,8 +76,8 @@ pub fn put_note(block: &mut Vec<u8>, before: u64, after: u64) -> Result<(), Allo
     put_line(block, b"# length", before, after)
 }
 
-/// Writes lines of stretches until a block has `enough` bytes. True only if no line is left; false
-/// if the block is full, whether or not a line is left.
+/// Writes lines of stretches to a block until it has `enough` bytes. True only if no line is left;
+/// false if the block is full, whether or not a line is left.
 fn put_lines(
     block: &mut Vec<u8>,
     left: &mut Differences<'_>,
@@ -96,7 +97,7 @@ fn put_lines(
     Ok(false)
 }
 
-/// Writes a word and two numbers on a line.
+/// Writes a word and two numbers, `a` and `b`, on a line, as in `invert 1000 3000`.
 pub fn put_line(block: &mut Vec<u8>, word: &[u8], a: u64, b: u64) -> Result<(), AllocError>
     ensures { OnOk result (block.new.items ≡ block.old.items ++ line_of word.now a b) }
 {
@@ -115,8 +116,8 @@ pub fn put_number(block: &mut Vec<u8>, number: u64) -> Result<(), AllocError>
     block.extend_from_slice(&digits[start..])
 }
 
-/// Writes a space and a number in decimal so that they end where the bytes do. Returns the index,
-/// from 0, at which they start.
+/// Writes a space and a number in decimal so that they end where the 21 bytes do. Returns the
+/// index, from 0, of the space: `write_digits` returns that of the first digit.
 fn put_digits(digits: &mut [u8], number: u64) -> usize
     requires { length digits.old ≡ 21 }
     ensures within { result ≤ length digits.new }

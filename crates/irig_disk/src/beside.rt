@@ -1,8 +1,9 @@
 //! A new file next to its target, under a name that is free.
 //!
 //! The target is the name that the text is to have. A stem is what the name of a new file begins
-//! with; a number is after it, from 0. A hidden file is its owner's alone. An error is
-//! `NamesTaken`, the fault of a call (`Failed`), or that memory ran out (`Memory`).
+//! with; a number is after it, from 0. `dir` is the open folder in which all these names are. A
+//! hidden file is its owner's alone. An error is `NamesTaken`, the fault of a call (`Failed`), or
+//! that memory ran out (`Memory`).
 //!
 //! Where `match` hands an error on, `?` would do the same; the proof of it takes longer.
 
@@ -20,7 +21,8 @@ use crate::new_text::NAMES;
 use std::alloc::AllocError;
 
 /// Makes a new file, under the first name that is free and is not the target's, and leaves that
-/// name in `name`. `NamesTaken` if 10,000 are taken; nothing has changed after an error.
+/// name in `name`. Names are tried with the numbers from 0 up to `NAMES`, 10,000, which is not
+/// included. `NamesTaken` if none of them is free. Nothing has changed after an error.
 pub(crate) fn make_beside<F: Folder>(
     folder: &mut F,
     dir: &F::Dir,
@@ -49,8 +51,8 @@ pub(crate) fn make_beside<F: Folder>(
     Err(PutFault::NamesTaken)
 }
 
-/// Makes a new file, under the name with a number, if that is free and is not the target's. `None`
-/// if it is not: the next number is to be tried.
+/// Makes a new file under the name of the stem and this number, if that is free and is not the
+/// target's. `None` if it is not: the next number is to be tried.
 fn make_at<F: Folder>(
     folder: &mut F,
     dir: &F::Dir,
@@ -82,9 +84,9 @@ fn make_at<F: Folder>(
     }
 }
 
-/// Writes the name of a new file to `name`: the stem, and the number, which is how many others were
-/// tried before. Returns whether it is a single name in a folder, and not the target's own. It
-/// fails only if memory runs out.
+/// Writes the name of a new file to `name`: the stem and the number. Returns whether a file may be
+/// made under it: it is a single name in a folder, without `/`, and not the target's own. It fails
+/// only if memory runs out.
 fn put_name(name: &mut String, target: &str, stem: &str, number: u32) -> Result<bool, AllocError>
     ensures name { OnOk result (string_bytes name.new ≡ name_after stem.now number) }
     ensures apart { IfOk result (λ apart. IsTrue apart

@@ -33,8 +33,9 @@ impl<X> From<AllocError> for PutFault<X> {
     }
 }
 
-/// What a fault leaves, after the new file was to be removed: the removal may have failed, too. A
-/// fault of `None` is that memory ran out.
+/// What a write leaves after a fault, when it has tried to remove its new file. `fault` is that of
+/// the call that failed, or `None` if memory ran out; `removal` is what the removal gave. A removal
+/// that failed is an error of its own: the new file is still there.
 pub(crate) fn fault_after<T: Drop, X>(fault: Option<X>, removal: Result<T, X>) -> PutFault<X>
     ensures { result ≡ left_by fault removal }
 {

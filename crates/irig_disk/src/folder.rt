@@ -1,6 +1,7 @@
 //! Single system calls on the names of open folders.
 //!
-//! A ghost item is for contracts alone: it is nothing in the program.
+//! A ghost item is for contracts alone: it is nothing in the program. To keep something is to have
+//! it survive a crash.
 
 ghost use Rattle.std.specs.Prelude.{◌≡◌, ◌≤◌, ◌⊎◌, ℕ, List, Option, OnOk, OnErr, MatchResult, Bool};
 ghost use Rattle.std.specs.Prelude.{IsTrue, MatchOption};
@@ -10,11 +11,11 @@ ghost use Rattle.irig_disk.specs.Calls.{MaySpoil, SyncedNames, mode_made};
 ghost use Rattle.irig_disk.specs.Moves.{IsMoved, IsNotMoved, Removed, NotRemoved};
 ghost use Rattle.irig_disk.specs.{Held.Held, Name.IsName, Stays.Stays};
 
-/// The names of open folders. Each method is one call, and says what a crash may leave of it. A name
-/// has one component; what a longer path leads to no clause says.
+/// The names of open folders. Each method is one call, and its contract says what a crash may leave
+/// after it. A name has one component, without `/`; no contract says where a longer path leads.
 ///
-/// A call that succeeds gives a value of a type that only that call makes, so that nobody can say
-/// of a call that was never made that it succeeded.
+/// A call that succeeds returns a value of a type that only this call can make. So nobody can
+/// answer that a call succeeded without making it.
 pub trait Folder {
     /// An open folder.
     type Dir: Drop;
@@ -43,7 +44,8 @@ pub trait Folder {
     /// Why a call failed. Only a call gives one.
     type Fault: Drop;
 
-    /// Whether the contracts give the state below. If they do not, no clause says anything.
+    /// Whether the contracts know the state below: true of folders in memory, false of the system,
+    /// whose contracts say nothing.
     ghost is_told: { Bool };
 
     /// The mode of a new file that is not hidden.
@@ -58,8 +60,8 @@ pub trait Folder {
     /// The number of an open file.
     ghost number: { Self.File → ℕ };
 
-    /// Makes a new file under a name if it is free; a hidden one is its owner's alone. `None`: the
-    /// name is taken.
+    /// Makes a new file under a name if it is free; a hidden one can be read and written by its
+    /// owner alone. `None`: the name is taken.
     fn make(
         &mut self,
         dir: &Self::Dir,
@@ -99,7 +101,8 @@ pub trait Folder {
             (MaySpoil (disk self.old) (disk self.new) (number file.now)) }
         ensures time { IsTrue is_told → Elapses (disk self.old) (disk self.new) };
 
-    /// Gives a file another name, instead of the file that had it.
+    /// Gives the file of the name `from` the name `to`, instead of the file that had it, in one
+    /// step.
     fn rename(
         &mut self,
         dir: &Self::Dir,

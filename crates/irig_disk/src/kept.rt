@@ -1,4 +1,4 @@
-//! That a text is kept.
+//! That a text was written and is kept over a crash.
 
 ghost use Rattle.std.specs.Prelude.{◌≡◌};
 

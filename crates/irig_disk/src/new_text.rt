@@ -1,4 +1,5 @@
-//! A text of a target, in parts, written whole.
+//! A text of a target, given in parts, written whole: a crash at any moment leaves the old text or
+//! the new one.
 //!
 //! The target is the name that the text is to have. A stem is what the name of a new file begins
 //! with; a number is after it. A hidden file is its owner's alone. The new file is `beside` the
@@ -20,23 +21,31 @@ use crate::fault::{PutFault, fault_after};
 use crate::folder::Folder;
 use crate::kept::Kept;
 
-/// How many names are tried for a new file. Other runs may hold that many, or have left them.
+/// How many names are tried for a new file. Each is free unless another run uses it, or a crash
+/// left it; ten thousand are more than enough, and the search has an end.
 pub(crate) const NAMES: u32 = 10_000;
 
 /// A new file next to its target, whose name it takes in the end.
 #[derive(Drop)]
 pub struct NewText<'n, F: Folder> {
+    /// The new file, open.
     file: F::File,
+    /// The open folder of both names.
     dir: &'n F::Dir,
+    /// The name of the new file until it takes the target's.
     beside: &'n str,
+    /// The name that the text is to have.
     target: &'n str,
+    /// The mode that the file takes at the end; `None`: it keeps the usual one.
     mode: Option<u32>,
+    /// How many bytes were written so far.
     pub(crate) count: u64,
 }
 
 impl<'n, F: Folder> NewText<'n, F> {
-    /// Makes the new file, under the first name that is free: the stem and a number from 0, which
-    /// is written to `name`. If it is to take a mode it is its owner's alone until then.
+    /// Makes the new file, under the first name that is free: the stem and a number from 0. The
+    /// name is written to `name`. If the file is to take a mode, it is its owner's alone until
+    /// then, since that mode may keep others out.
     pub fn begin(
         folder: &mut F,
         dir: &'n F::Dir,
@@ -73,8 +82,8 @@ impl<'n, F: Folder> NewText<'n, F> {
         }
     }
 
-    /// Writes a part, and counts its bytes, up to 2^64 - 1 in all. After an error, which may have
-    /// written some of it, give the text up.
+    /// Writes a part at the end of the new file, and counts its bytes, up to 2^64 - 1 in all. After
+    /// an error some of the part may be written, so call `give_up` then.
     pub fn append(&mut self, folder: &mut F, part: &[u8]) -> Result<F::Appended, F::Fault>
         ensures dir { self.new.dir.now ≡ self.old.dir.now }
         ensures beside { self.new.beside.now ≡ self.old.beside.now }
@@ -99,8 +108,8 @@ impl<'n, F: Folder> NewText<'n, F> {
         Ok(appended)
     }
 
-    /// Gives the text its mode and its name, and keeps both. If that fails before it has the name,
-    /// the new file is removed.
+    /// Gives the text its mode and its name, and keeps both over a crash. If it fails before the
+    /// text has the name, the new file is removed.
     pub fn finish(self, folder: &mut F) -> Result<Kept, PutFault<F::Fault>>
         requires { IsName self.target.now }
         ensures ok { IsTrue F.is_told → WhileWriting F.disk folder.old (F.place self.entry.dir.now self.entry.beside.now)
@@ -126,7 +135,7 @@ impl<'n, F: Folder> NewText<'n, F> {
         }
     }
 
-    /// Removes the new file, whose text is not wanted. The target stays as it was.
+    /// Removes the new file, after a fault. The target stays as it was.
     pub fn give_up(self, folder: &mut F) -> Result<F::NameRemoved, F::Fault>
         ensures ok { IsTrue F.is_told → (mode : ℕ) → WhileWriting F.disk folder.old
             (F.place self.entry.dir.now self.entry.beside.now) (F.place self.entry.dir.now self.entry.target.now) (F.number self.entry.file) mode
@@ -150,8 +159,8 @@ impl<'n, F: Folder> NewText<'n, F> {
     }
 }
 
-/// Gives a text its mode and its name, or removes its file if that fails. The error says what is
-/// left then.
+/// Gives a text its mode and its name, or removes its new file if that fails. The error says what
+/// is left then.
 fn place_or_clear<F: Folder>(folder: &mut F, new: &NewText<'_, F>) -> Result<(), PutFault<F::Fault>>
     ensures ok { IsTrue F.is_told → WhileWriting F.disk folder.old (F.place new.now.dir.now new.now.beside.now) (F.place new.now.dir.now new.now.target.now)
         (F.number new.now.file) (first_mode F.usual_mode new.now.mode) (λ start text.
@@ -172,7 +181,8 @@ fn place_or_clear<F: Folder>(folder: &mut F, new: &NewText<'_, F>) -> Result<(),
     }
 }
 
-/// Gives a new file the mode, syncs what it holds, and gives it the target's name.
+/// Gives a new file the mode, syncs what it holds, and gives it the target's name. In this order:
+/// under the target's name a file never has another mode or a part of the text.
 fn place<F: Folder>(folder: &mut F, new: &NewText<'_, F>) -> Result<F::Renamed, F::Fault>
     ensures ok { IsTrue F.is_told → WhileWriting F.disk folder.old (F.place new.now.dir.now new.now.beside.now) (F.place new.now.dir.now new.now.target.now)
         (F.number new.now.file) (first_mode F.usual_mode new.now.mode) (λ start text.
@@ -211,7 +221,7 @@ fn rename_synced<F: Folder>(
     }
 }
 
-/// Gives a new file the mode, if there is one to give.
+/// Gives a new file the mode, if there is one to give; without one it keeps the usual mode.
 fn give_mode<F: Folder>(folder: &mut F, file: &F::File, mode: Option<u32>) -> Result<(), F::Fault>
     ensures ok { IsTrue F.is_told → (beside : List ℕ) (target : List ℕ) → WhileWriting F.disk folder.old
         beside target (F.number file.now) (first_mode F.usual_mode mode) (λ start text.
@@ -230,8 +240,9 @@ fn give_mode<F: Folder>(folder: &mut F, file: &F::File, mode: Option<u32>) -> Re
     }
 }
 
-/// Syncs the names of the folder, so that each crash leaves the new text. `count` is how many bytes
-/// it has. `NotKept`: the text is there, but a crash can bring the old one back.
+/// Syncs the names of the folder, so that each crash from then on leaves the new text under the
+/// target's name. `count` is how many bytes the text has. `NotKept`: the text is there, but a crash
+/// can bring the old one back.
 fn keep<F: Folder>(folder: &mut F, dir: &F::Dir, count: u64) -> Result<Kept, PutFault<F::Fault>>
     ensures ok { IsTrue F.is_told → WhilePlaced F.disk folder.old (F.place dir.now) (λ start target text. OnOk result
         (IsKept start (F.disk folder.new) target text)) }

@@ -1,9 +1,9 @@
 //! A text written whole, in one call.
 //!
-//! A new file gets the text; then it takes the target's name. A block is memory in which parts of
-//! the text wait to be written together. `None` instead of the fault of a call says that memory ran
-//! out, or that the text has more than 2^64 - 1 bytes. `PutFault` says what a write that did not
-//! succeed leaves.
+//! A new file (`NewText`) gets the text; then it takes the target's name, that of the file to be
+//! replaced. A block is memory in which parts of the text wait to be written together. `None`
+//! instead of the fault of a call says that memory ran out, or that the text has more than 2^64 - 1
+//! bytes. `PutFault` says what a write that did not succeed leaves.
 //!
 //! Where `match` hands an error on, `?` would do the same; the proof of it takes longer.
 
@@ -23,9 +23,9 @@ use crate::kept::Kept;
 use crate::new_text::NewText;
 use irig_text::{ENOUGH, Text};
 
-/// Writes a text at the target, a name in an open folder, with a mode (`None`: the usual one). The
-/// new file has the stem and a number as its name until it takes the target's. That name is written
-/// to `name`, and the parts of the text wait in the block; what both hold before is lost.
+/// Writes a text to the name `target` in the open folder `dir`, with a mode (`None`: the usual
+/// one). Until the new file takes the target's name, its own is `stem` and a number. `name` is the
+/// memory for that name, and `block` that for the parts of the text; what both hold before is lost.
 pub fn put_text<F: Folder, T: Text>(
     folder: &mut F,
     dir: &F::Dir,
@@ -56,8 +56,8 @@ pub fn put_text<F: Folder, T: Text>(
     put_begun(folder, begun, text, block)
 }
 
-/// Writes the text to the new file, if it was made, and gives the file the target's name, or
-/// removes it after a fault.
+/// Writes the text to the new file that `begin` made, and gives the file the target's name, or
+/// removes it after a fault. If no file was made, that fault is the answer.
 fn put_begun<F: Folder, T: Text>(
     folder: &mut F,
     begun: Result<NewText<'_, F>, PutFault<F::Fault>>,
@@ -84,7 +84,8 @@ fn put_begun<F: Folder, T: Text>(
     }
 }
 
-/// Gives the new file of a text that was written the target's name, or removes it after a fault.
+/// Ends a write: gives the new file the target's name if the text was written to it, else removes
+/// the file. A fault of `None` in `written` is that of no call.
 fn finish_or_give_up<F: Folder>(
     folder: &mut F,
     new: NewText<'_, F>,
@@ -109,7 +110,8 @@ fn finish_or_give_up<F: Folder>(
     }
 }
 
-/// Writes all of a text to the new file. The error `None` is a fault of no call.
+/// Writes all of a text to the new file. The error `None` is a fault of no call: memory ran out, or
+/// the text is too long.
 fn append_all<F: Folder, T: Text>(
     folder: &mut F,
     new: &mut NewText<'_, F>,
@@ -127,7 +129,7 @@ fn append_all<F: Folder, T: Text>(
     ensures err { IsTrue F.is_told → OnErr result (Spoils F.disk folder.old folder.new
         (F.place new.old.dir.now new.old.beside.now) (F.number new.old.file)) }
 {
-    // each part but the last makes the rest of the text shorter
+    // each block but the last makes the rest of the text shorter, so this ends
     'parts: loop {
         match append_next(folder, new, text, block) {
             Ok(false) => {}
@@ -137,8 +139,9 @@ fn append_all<F: Folder, T: Text>(
     }
 }
 
-/// Writes the next block of a text to the new file, and returns whether it was the last one. The
-/// error `None` is a fault of no call.
+/// Writes the next block of a text to the new file, and returns whether it was the last one. A
+/// block that is not the last has at least `ENOUGH` bytes, 64 KiB. The error `None` is a fault of
+/// no call.
 fn append_next<F: Folder, T: Text>(
     folder: &mut F,
     new: &mut NewText<'_, F>,
@@ -168,8 +171,8 @@ fn append_next<F: Folder, T: Text>(
     }
 }
 
-/// Writes a block of a text to the new file, and passes on `ended`, whether it is the last one. The
-/// fault is that of a call.
+/// Writes a block of a text to the new file, and returns `ended`, whether the block is the last
+/// one. A fault is always that of a call.
 fn append_block<F: Folder>(
     folder: &mut F,
     new: &mut NewText<'_, F>,
@@ -197,7 +200,8 @@ fn append_block<F: Folder>(
 }
 
 /// Fills the block with the next bytes of a text, and returns whether they are its last ones.
-/// `None`: memory ran out, or with those before them they are more than 2^64 - 1.
+/// `before` is how many bytes were written already. `None`: memory ran out, or all these bytes
+/// together are more than 2^64 - 1, which no count holds.
 fn fill_next<T: Text>(text: &mut T, block: &mut Vec<u8>, before: u64) -> Option<bool>
     ensures bytes { OnSome result (T.rest text.old ≡ block.new.items ++ T.rest text.new) }
     ensures end { IfSome result (λ ended. ended ≡ true → T.rest text.new ≡ []) }

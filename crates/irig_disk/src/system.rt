@@ -1,9 +1,10 @@
 //! A folder of the system: each method is one call, and only it makes the answer of that call.
 //!
-//! A runtime makes the calls of the system. Each answer is a type of its own, so that a call that
-//! was not made has none. Paths are built in `one` and `other`, whose memory is there before. The
-//! contracts say nothing of what the disk holds. A `SystemFault` is the error of the system, or
-//! that a path is longer than the memory for it and no more is there.
+//! A runtime makes the calls of the system. Each answer is a type of its own, so that nobody can
+//! answer for a call that was not made. Paths are built in `one` and `other`, whose memory is taken
+//! before the first call. The contracts say nothing of what the disk holds (`is_told` is false).
+//! What each method does is said with the trait, in `folder`. A `SystemFault` is the error of the
+//! system, or that a path is longer than the memory for it and no more is there.
 
 ghost use Rattle.std.specs.Prelude.{◌≡◌, ◌≤◌, ◌↔◌, IfErr, IfOk, IsOk, IsSome, IsTrue, OnOk, false};
 ghost use Rattle.std.specs.Fs.{asks_create_new, asks_write};
@@ -20,8 +21,9 @@ use std::path::PathBuf;
 use std::rt::Files;
 use std::{fs, io};
 
-/// How many bytes a path has room for. A path of the system has at most 4,095, and one that leads
-/// from it through a link has no more than twice as many.
+/// How many bytes a path has room for. A path of the system has at most 4,095 bytes, and so has the
+/// text of a link: a path made of a folder and such a text has no more than twice as many and a
+/// slash.
 const PATH: usize = 8192;
 
 /// The names of folders of the system.
@@ -63,7 +65,7 @@ pub struct SystemDir<F: Drop> {
 }
 
 impl<F: Drop> SystemDir<F> {
-    /// No folder, with room for the path of one. It fails only if memory runs out.
+    /// No folder yet, with room for the path of one. It fails only if memory runs out.
     pub fn new(alloc: Global) -> Result<SystemDir<F>, AllocError>
         ensures { IfOk result (λ dir. PATH ≤ path_buf_cap dir.path) }
     {
@@ -73,8 +75,9 @@ impl<F: Drop> SystemDir<F> {
         })
     }
 
-    /// Opens the folder at a path, instead of the one before. An error is that of the system, or
-    /// that memory ran out for the path.
+    /// Opens the folder at a path, instead of the one that was open before. Its path is kept for
+    /// the calls on names in it. An error is that of the system, or that memory ran out for the
+    /// path.
     pub fn open<R: Files<File = F>>(&mut self, runtime: &R, path: &str) -> Result<(), SystemFault>
         ensures { OnOk result (IsSome self.new.file) }
     {
@@ -89,8 +92,8 @@ impl<F: Drop> SystemDir<F> {
     }
 }
 
-/// Writes the path of a name in a folder; of the folder itself if the name is empty. It fails only
-/// if memory runs out.
+/// Writes to `path` the path of a name in a folder; that of the folder itself if the name is empty.
+/// It fails only if memory runs out, which is a fault of the system here.
 fn put_path(path: &mut PathBuf, folder: &str, name: &str) -> Result<(), SystemFault> {
     path.clear();
     let Ok(()) = path.push(folder) else {
@@ -140,7 +143,8 @@ impl<R: Files> Folder for SystemFolder<'_, R> {
 
     ghost only_now = { λ _ _ _ left. absurd left };
 
-    // Makes a new file under a name if it is free; `None`: it is taken.
+    // Makes a new file under a name in a folder if that is free, a hidden one for its owner alone;
+    // `None`: the name is taken.
     fn make(
         &mut self,
         dir: &SystemDir<R::File>,
@@ -164,7 +168,7 @@ impl<R: Files> Folder for SystemFolder<'_, R> {
         append_all(file, bytes)
     }
 
-    // Gives a file a mode.
+    // Gives a file a mode: the bits that say who may read and write it.
     fn take_mode(
         &mut self,
         file: &SystemFile<R::File>,
@@ -184,7 +188,8 @@ impl<R: Files> Folder for SystemFolder<'_, R> {
         }
     }
 
-    // Gives a file of a folder another name, instead of the file that had it.
+    // Gives the file of the name `from` in a folder the name `to`, instead of the file that had it,
+    // in one step.
     fn rename(
         &mut self,
         dir: &SystemDir<R::File>,
@@ -199,7 +204,7 @@ impl<R: Files> Folder for SystemFolder<'_, R> {
         }
     }
 
-    // Frees a name in a folder.
+    // Frees a name in a folder: no file has it then.
     fn remove(&mut self, dir: &SystemDir<R::File>, name: &str) -> Result<NameRemoved, SystemFault> {
         put_path(&mut self.one, dir.path.as_str(), name)?;
         match fs::remove_file(self.runtime, self.one.as_str()) {
@@ -208,8 +213,8 @@ impl<R: Files> Folder for SystemFolder<'_, R> {
         }
     }
 
-    // Asks the system to keep the names of a folder over a crash. The folder has to be open, else
-    // it is not found.
+    // Asks the system to keep the names of a folder over a crash. If no folder is open, the fault
+    // is `NotFound`.
     fn sync_names(&mut self, dir: &SystemDir<R::File>) -> Result<NamesSynced, SystemFault> {
         let Some(folder) = &dir.file else {
             return Err(SystemFault(io::Error::from(ErrorKind::NotFound)));
@@ -264,9 +269,9 @@ fn new_file(hidden: bool) -> OpenOptions
     how
 }
 
-/// Whether names are kept, by what the system says of the sync of their folder. A file system that
-/// has no such call answers that the call is invalid: its names are kept as it keeps them, and
-/// nobody can ask for more.
+/// The answer of `sync_names`, by what the system says of the sync of the folder. A file system
+/// that cannot sync a folder says that the call is invalid; that counts as kept, as nobody can ask
+/// that system for more.
 fn names_synced(outcome: io::Result<()>) -> Result<NamesSynced, SystemFault>
     ensures ok { OnOk outcome (IsOk result) }
     ensures err { IfErr outcome (λ error. IsOk result
@@ -279,8 +284,8 @@ fn names_synced(outcome: io::Result<()>) -> Result<NamesSynced, SystemFault>
     }
 }
 
-/// Writes all of the bytes at the end of a file. It is a function for its clause: of this folder
-/// those of `Folder` say nothing.
+/// Writes all of the bytes at the end of a file. It is a function of its own for its contract: the
+/// contract of `append` says nothing of the real system.
 fn append_all<F: Write + Drop>(
     file: &mut SystemFile<F>,
     bytes: &[u8],

@@ -1,4 +1,10 @@
-//! A text of three blocks over an old one, stopped and failed at each call.
+//! Tests of irig_disk: a text of three blocks is written over an old one, stopped and failed at
+//! each call.
+//!
+//! The target is the name `t`, and the stem `next`, so the new file has the name `next0` until it
+//! takes the target's. A folder in memory (irig_folders) is the log of the calls on it, the newest
+//! first: what it is without its newest calls is what a stop before them leaves. A block has 64 KiB
+//! (`ENOUGH`).
 
 ghost use Rattle.std.specs.Prelude.{◌≡◌};
 
@@ -7,7 +13,8 @@ use irig_folders::{Call, Memory, MemoryFault, bytes_of, file_at, is_kept};
 use irig_text::{Bytes, ENOUGH, Text};
 use std::alloc::{AllocError, Global};
 
-/// A text that finds no memory for one of its parts, told by its number from 0.
+/// A text that finds no memory for one of its parts, the one of the number `fails_at`, from 0; with
+/// `None` for none of them. `given` is how many parts were given.
 #[derive(Drop)]
 struct Failing<T: Text> {
     text: T,
@@ -18,6 +25,7 @@ struct Failing<T: Text> {
 impl<T: Text> Text for Failing<T> {
     ghost rest = { λ f. T.rest f.text };
 
+    // Gives the next part of the text, or fails if that is the one that finds no memory.
     fn fill(&mut self, block: &mut Vec<u8>, enough: usize) -> Result<bool, AllocError> {
         if self.fails_at == Some(self.given) {
             return Err(AllocError);
@@ -27,7 +35,7 @@ impl<T: Text> Text for Failing<T> {
     }
 }
 
-/// Writes these bytes at the name `t`.
+/// Writes these bytes at the name `t`, as a text whose part `fails_at`, from 0, finds no memory.
 fn write(
     alloc: Global,
     folder: &mut Memory,
@@ -53,14 +61,14 @@ fn write(
     )
 }
 
-/// A text of three blocks.
+/// A text of three blocks: two full ones, and one byte.
 fn new_text(alloc: Global) -> Result<Vec<u8>, AllocError> {
     let mut text = Vec::new(alloc);
     text.resize(2 * ENOUGH + 1, b'n')?;
     Ok(text)
 }
 
-/// A folder with the text `old` at the name `t`.
+/// A folder with the text `old` at the name `t`. `None` if that could not be written.
 fn old_folder(alloc: Global) -> Option<Memory> {
     let mut folder = Memory::new(alloc);
     match write(alloc, &mut folder, b"old", None) {
@@ -69,7 +77,8 @@ fn old_folder(alloc: Global) -> Option<Memory> {
     }
 }
 
-/// Whether the name `t` leads to a file with these bytes, which a crash leaves so.
+/// Whether the name `t` leads, after these calls, to a file with these bytes, which each crash
+/// leaves.
 fn holds(alloc: Global, calls: &[Call], bytes: &[u8]) -> bool {
     let Some(file) = file_at(calls, b"t") else {
         return false;
@@ -80,7 +89,7 @@ fn holds(alloc: Global, calls: &[Call], bytes: &[u8]) -> bool {
     }
 }
 
-/// Whether the old text or the new one is there, whole, if the last calls are left out.
+/// Whether a write of the text `new` over `old` leaves one of them whole at each stop.
 fn is_whole_at_each_stop(alloc: Global, new: &[u8]) -> bool {
     match old_folder(alloc) {
         Some(mut folder) => is_written(alloc, &mut folder, new),
@@ -88,7 +97,8 @@ fn is_whole_at_each_stop(alloc: Global, new: &[u8]) -> bool {
     }
 }
 
-/// Whether a text is written by seven calls, and is there, whole, at each stop.
+/// Whether the text `new` is written by the seven calls that `STOPS` names, and the old text or the
+/// new one is there, whole, at each stop.
 fn is_written(alloc: Global, folder: &mut Memory, new: &[u8]) -> bool {
     let before = folder.calls().len();
     match write(alloc, folder, new, None) {
@@ -101,7 +111,8 @@ fn is_written(alloc: Global, folder: &mut Memory, new: &[u8]) -> bool {
     }
 }
 
-/// Whether the old text or the new one is there after each stop, whole.
+/// Whether at each stop of `STOPS` the text is there, whole, that its row says: the new one or the
+/// old one.
 fn is_whole(alloc: Global, calls: &[Call], new: &[u8]) -> bool {
     for (left_out, is_new) in STOPS.iter() {
         if !holds_without(alloc, calls, *left_out, if *is_new { new } else { b"old" }) {
@@ -111,7 +122,7 @@ fn is_whole(alloc: Global, calls: &[Call], new: &[u8]) -> bool {
     true
 }
 
-/// Whether these bytes are there if the last calls are left out.
+/// Whether these bytes are there if the newest `left_out` calls are left out.
 fn holds_without(alloc: Global, calls: &[Call], left_out: usize, bytes: &[u8]) -> bool {
     match calls.get(left_out..) {
         Some(calls) => holds(alloc, calls, bytes),
@@ -132,11 +143,13 @@ static STOPS: [(usize, bool); 8] = [
     (7, false),
 ];
 
-/// Which calls fail, from one to before another, for which part the text finds no memory, the
-/// answer, whether the new text is there then, and whether the new file is.
+/// A write that fails: from which call on calls fail, up to which one, which is not included, both
+/// from 0; for which part the text finds no memory; the answer; whether the new text is there then,
+/// and whether the new file remains next to it. The calls are numbered as in `STOPS`; after a fault
+/// the removal of the new file is the next call. No write makes a call 7, so 7 to 8 lets none fail.
 type Fault = (u64, u64, Option<u64>, &'static str, bool, bool);
 
-/// Each write that fails, and what it leaves.
+/// Each write that fails, and what it leaves. In the last row no call fails.
 static FAULTS: [Fault; 15] = [
     (0, 1, None, "Failed", false, false),
     (1, 2, None, "Failed", false, false),
@@ -155,7 +168,7 @@ static FAULTS: [Fault; 15] = [
     (7, 8, None, "Kept", true, false),
 ];
 
-/// The name of an answer.
+/// The name of an answer, as the rows of `FAULTS` have it.
 fn name_of(answer: &Result<Kept, PutFault<MemoryFault>>) -> &'static str {
     match answer {
         Ok(_) => "Kept",
@@ -168,7 +181,7 @@ fn name_of(answer: &Result<Kept, PutFault<MemoryFault>>) -> &'static str {
     }
 }
 
-/// Whether each write that fails leaves what its row says.
+/// Whether each write of `FAULTS` leaves what its row says.
 fn are_left(alloc: Global, new: &[u8]) -> bool {
     for row in FAULTS.iter() {
         if !is_left(alloc, new, *row) {
@@ -178,7 +191,7 @@ fn are_left(alloc: Global, new: &[u8]) -> bool {
     true
 }
 
-/// Whether a write that fails so leaves what its row says.
+/// Whether the write of a row of `FAULTS`, in a folder of its own, leaves what the row says.
 fn is_left(alloc: Global, new: &[u8], row: Fault) -> bool {
     match old_folder(alloc) {
         Some(mut folder) => leaves(alloc, &mut folder, new, row),
@@ -186,7 +199,8 @@ fn is_left(alloc: Global, new: &[u8], row: Fault) -> bool {
     }
 }
 
-/// Whether a write in this folder that fails so leaves what its row says.
+/// Whether the write of a row, in this folder with the old text, gives the answer of the row and
+/// leaves what it says.
 fn leaves(alloc: Global, folder: &mut Memory, new: &[u8], row: Fault) -> bool {
     let (from, to, fails_at, answer, is_new, remains) = row;
     folder.fail(from, to);

@@ -1,11 +1,15 @@
-//! Folders with links and other files, and writes in them.
+//! Folders in memory with links and other files, for tests of irig_files, and writes in them.
+//!
+//! A place is what a name leads to: the front of its folder, and the name after it. A folder has
+//! many paths and one front.
 
 use irig_files::{Disk, Files, Room, Written};
 use irig_folders::{MemoryFault, Tree, TreeDir};
 use irig_text::{Bytes, ShelfFault};
 use std::alloc::Global;
 
-/// How many links the folders follow. The program's own limit is 40.
+/// How many links the folders follow. The program's own limit is 40; these follow more, so that a
+/// test meets that of the program.
 const LIMIT: u64 = 64;
 
 /// The mode of each regular file.
@@ -46,7 +50,7 @@ pub struct Row {
     pub is_there: bool,
 }
 
-/// A write that succeeds.
+/// A write that succeeds, as a `Row`.
 pub fn row_of(path: &'static str, place: &'static str, is_there: bool) -> Row {
     Row {
         path,
@@ -55,7 +59,7 @@ pub fn row_of(path: &'static str, place: &'static str, is_there: bool) -> Row {
     }
 }
 
-/// The writes.
+/// The writes that succeed: path, place, and whether a file is there.
 pub static WRITES: [(&str, &str, bool); 8] = [
     ("t", "/t", true),
     ("a/t", "a/t", true),
@@ -67,7 +71,8 @@ pub static WRITES: [(&str, &str, bool); 8] = [
     ("a/none", "a/none", false),
 ];
 
-/// The folders of the rows.
+/// The folders that the tests write in: those of `PATHS`, the files of `OLD`, the links of `LINKS`,
+/// a file that must not be written, a pipe, and the file that the program's answers go to.
 pub fn folders(alloc: Global) -> Result<Tree, MemoryFault> {
     let mut tree = Tree::new(alloc, LIMIT);
     for (path, front) in PATHS.iter() {
@@ -85,7 +90,7 @@ pub fn folders(alloc: Global) -> Result<Tree, MemoryFault> {
     Ok(tree)
 }
 
-/// Writes the text `new` to a path.
+/// Writes the text `new`, three bytes, to a path.
 pub fn write(alloc: Global, files: &mut Files<Tree>, path: &str) -> Result<Written, ShelfFault> {
     let Ok(mut room) = Room::new(alloc) else {
         return Err(ShelfFault);
@@ -93,7 +98,7 @@ pub fn write(alloc: Global, files: &mut Files<Tree>, path: &str) -> Result<Writt
     files.put(path, &mut Bytes::new(b"new"), &mut room)
 }
 
-/// The files of these folders.
+/// The files of a tree of folders, with a place for the folder that a write opens.
 pub fn files_of(alloc: Global, tree: Tree) -> Files<Tree> {
     Files::new(
         tree,

@@ -1,14 +1,23 @@
-//! Writes through links and in several folders: failed at each call, and stopped after each.
+//! Tests of irig_files: writes through links and in several folders, failed at each call, and
+//! stopped after each.
+//!
+//! The text `new` is written where a path leads, over `old` or where no file is. `row` is such a
+//! write: its path, the place that it goes to, and whether a file is there. A tree of folders in
+//! memory is the log of the calls on it, the newest first: what it is without its newest calls is
+//! what a stop before them leaves. A name is kept by a sync of its folder: until then a crash can
+//! leave any file that it led to since the last sync.
 
 use crate::tree_folders::{LINKS, MODE, OLD, Row, WRITES, files_of, folders, row_of, write};
 use irig_folders::{Call, Tree, USUAL, bytes_of, file_at, is_kept, mode_of};
 use std::alloc::Global;
 
-/// Whether a file holds one of the two texts, and each crash leaves it so.
+/// Whether a file holds all of the old text or of the new one, with the mode of the row, and each
+/// crash leaves it so.
 fn is_whole(alloc: Global, calls: &[Call], file: usize, row: Row) -> bool {
     match bytes_of(alloc, calls, file) {
         Ok(held) => {
             (held.as_slice() == b"old".as_slice() || held.as_slice() == b"new".as_slice())
+                // The mode of the file that was there, or the usual one of a new file.
                 && mode_of(calls, file) == if row.is_there { MODE } else { USUAL }
                 && is_kept(calls, file)
         }
@@ -16,9 +25,11 @@ fn is_whole(alloc: Global, calls: &[Call], file: usize, row: Row) -> bool {
     }
 }
 
-/// Whether a crash after these calls, the newest first, leaves a whole text at a place: in the file
-/// that it leads to, and in each that it led to since its name was kept.
+/// Whether each crash after these calls leaves a whole text at the place of the row: in the file
+/// that it leads to, and in each that it led to since its name was last kept. No file may be there
+/// only if none was before the write.
 fn leaves_whole(alloc: Global, calls: &[Call], row: Row) -> bool {
+    // Back from the newest call to the last one that kept the name.
     for gone in 0..=calls.len() {
         let Some(older) = calls.get(gone..) else {
             return false;
@@ -35,7 +46,7 @@ fn leaves_whole(alloc: Global, calls: &[Call], row: Row) -> bool {
     false
 }
 
-/// Whether the newest of the calls keeps a name.
+/// Whether the newest of the calls is a sync that keeps the name of a place.
 fn keeps_name(calls: &[Call], place: &str) -> bool {
     match calls.first() {
         Some(Call::SyncNames(front)) => place.as_bytes().starts_with(front),
@@ -43,7 +54,8 @@ fn keeps_name(calls: &[Call], place: &str) -> bool {
     }
 }
 
-/// Whether the other names of files and links lead where they led before these last calls.
+/// Whether all names of files and links but that of the row lead where they led before the newest
+/// `last` calls.
 fn others_stay(calls: &[Call], last: usize, row: Row) -> bool {
     let Some(before) = calls.get(last..) else {
         return false;
@@ -61,13 +73,15 @@ fn others_stay(calls: &[Call], last: usize, row: Row) -> bool {
     is_same(calls, before, "/pipe") && is_same(calls, before, "/answers")
 }
 
-/// Whether a name leads to the same file after calls as before them.
+/// Whether a place leads to the same file after calls (`calls`) as before the newest of them
+/// (`before`).
 fn is_same(calls: &[Call], before: &[Call], place: &str) -> bool {
     let file = file_at(calls, place.as_bytes());
     file.is_some() && file == file_at(before, place.as_bytes())
 }
 
-/// Whether it is so after each of the last calls.
+/// Whether the write of the row, the newest `last` calls, leaves a whole text and all other names
+/// at each stop: after each of these calls, and before the first.
 fn is_whole_at_each_stop(alloc: Global, calls: &[Call], last: usize, row: Row) -> bool {
     for gone in 0..=last {
         match calls.get(gone..) {
@@ -80,7 +94,7 @@ fn is_whole_at_each_stop(alloc: Global, calls: &[Call], last: usize, row: Row) -
     true
 }
 
-/// Whether a place leads to a file with this text.
+/// Whether a place leads to a file with just this text.
 fn holds(alloc: Global, calls: &[Call], place: &str, text: &[u8]) -> bool {
     let Some(file) = file_at(calls, place.as_bytes()) else {
         return false;
@@ -91,14 +105,15 @@ fn holds(alloc: Global, calls: &[Call], place: &str, text: &[u8]) -> bool {
     }
 }
 
-/// How many calls the write of a row makes: make, append, take the mode of the file that is there,
-/// sync the file, rename, sync the folder.
+/// How many calls the write of a row makes: make, append, take the mode of the file that is there
+/// (if one is), sync the file, rename, sync the folder.
 fn calls_of(row: Row) -> u64 {
     if row.is_there { 6 } else { 5 }
 }
 
-/// Whether the write of a row with one call that fails, by its number from 0, is answered so,
-/// and leaves a whole text at each stop.
+/// Whether the write of a row, of whose calls the one of number `fails`, from 0, fails, returns an
+/// error, and leaves a whole text at each stop. If `fails` is the count of its calls, none fails:
+/// then it succeeds, and the new text is there.
 pub fn is_written(alloc: Global, mut tree: Tree, row: Row, fails: u64) -> bool {
     let before = tree.memory.calls().len();
     tree.memory.fail(fails, fails.saturating_add(1));
@@ -113,7 +128,8 @@ pub fn is_written(alloc: Global, mut tree: Tree, row: Row, fails: u64) -> bool {
         }
 }
 
-/// Whether it is so with each call that fails, and with none.
+/// Whether the write of a row is as `is_written` says with each of its calls that fails, and with
+/// none.
 fn is_written_once(alloc: Global, row: Row) -> bool {
     for fails in 0..=calls_of(row) {
         let Ok(tree) = folders(alloc) else {

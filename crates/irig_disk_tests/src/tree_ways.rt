@@ -1,4 +1,9 @@
-//! What is not written, what is written in place, and how many links are followed.
+//! Tests of irig_files: what is not written, what is written in place, and how many links are
+//! followed.
+//!
+//! Each write is of the text `new` to a path in the folders of `tree_folders`. `blind` is the call
+//! that fails, of those that change nothing. The log of a tree has the calls that changed
+//! something.
 
 use crate::tree_folders::{files_of, folders, row_of, write};
 use crate::tree_stops::is_written;
@@ -6,7 +11,7 @@ use irig_files::Written;
 use irig_folders::{MemoryFault, Plain, Tree};
 use std::alloc::Global;
 
-/// Whether a write to a path with a call that fails is refused, and no call was done.
+/// Whether a write to a path returns an error, and no call changed anything.
 fn is_refused(alloc: Global, mut tree: Tree, path: &str, blind: Option<Plain>) -> bool {
     let before = tree.memory.calls().len();
     tree.blind = blind;
@@ -14,7 +19,7 @@ fn is_refused(alloc: Global, mut tree: Tree, path: &str, blind: Option<Plain>) -
     write(alloc, &mut files, path).is_err() && files.system().memory.calls().len() == before
 }
 
-/// Whether it is so in the folders of the rows.
+/// Whether a write to a path is refused in the folders of `tree_folders`, without a change.
 fn is_refused_once(alloc: Global, path: &str, blind: Option<Plain>) -> bool {
     match folders(alloc) {
         Ok(tree) => is_refused(alloc, tree, path, blind),
@@ -46,7 +51,8 @@ fn a_write_that_is_refused_changes_nothing(rt: HostRuntime) {
     }
 }
 
-/// Whether a text is written in place to a path: all of it, and no name is changed.
+/// Whether the text is written in place to a path: all three bytes of it, without a call that makes
+/// or changes a file.
 fn is_in_place(alloc: Global, path: &str) -> bool {
     let Ok(tree) = folders(alloc) else {
         return false;
@@ -70,7 +76,8 @@ fn a_pipe_and_the_standard_output_are_written_in_place(rt: HostRuntime) {
     }
 }
 
-/// Adds this many links: `0` leads to `1`, and so on, and the last to `a/t`.
+/// Adds `count` links, which is at least 1: `0` leads to `1`, and so on, and the last to the file
+/// `a/t`.
 fn add_links(alloc: Global, tree: &mut Tree, count: u32) -> Result<(), MemoryFault> {
     for number in 0..count {
         let place = format!(in alloc; "/{number}")?;
@@ -84,7 +91,7 @@ fn add_links(alloc: Global, tree: &mut Tree, count: u32) -> Result<(), MemoryFau
     Ok(())
 }
 
-/// Whether a write through this many links is done, or is refused.
+/// Whether a write through `count` links is done (`is_done`), or is refused without a change.
 fn links_are_followed(alloc: Global, count: u32, is_done: bool) -> bool {
     let Ok(mut tree) = folders(alloc) else {
         return false;
@@ -93,6 +100,7 @@ fn links_are_followed(alloc: Global, count: u32, is_done: bool) -> bool {
         return false;
     };
     if is_done {
+        // Such a write makes six calls, 0 to 5, so none fails.
         is_written(alloc, tree, row_of("0", "a/t", true), 6)
     } else {
         is_refused(alloc, tree, "0", None)

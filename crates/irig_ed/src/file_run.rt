@@ -18,7 +18,7 @@ use std::alloc::Global;
 use std::io::{Read, Write};
 
 /// Runs a script on the dump that the words of a command line name, the program's name being the
-/// first.
+/// first. `Usage` if `settings` finds a mistake in them, or if they ask for help.
 pub fn obey_words<'a, D: Disk, R: Read, W: Write, N: Witness>(
     alloc: Global,
     words: &'a [String],

@@ -16,7 +16,8 @@ use irig_script::{NoWitness, Screen};
 use std::alloc::Global;
 use std::process::ExitCode;
 
-/// Edits the track that the words name, in folders in memory.
+/// Edits the track that the words name, in folders in memory. It is `start`; its contract says what
+/// that promises of these folders.
 fn start_in_memory<P: Eprint + AllocGlobal>(
     rt: &P,
     words: &[String],
@@ -51,7 +52,7 @@ static DUMP: &[u8] = b"$timescale 1 us $end $var wire 1 ! code $end $enddefiniti
     #100 1!\n#120 0!\n#200 1!\n#280 0!\n#1000\n";
 
 /// A run that writes twice: the track, the path of the writes, the exit status, what is printed,
-/// and how many calls change the folders.
+/// and how many calls change the folders. A regular file is made under a new name and renamed.
 type Row = (&'static str, &'static str, u8, &'static [u8], usize);
 
 /// What is no regular file, and the standard output, are written in place, also through a link.
@@ -65,7 +66,8 @@ static ROWS: [Row; 7] = [
     ("none", "w", 3, b"", 0),
 ];
 
-/// A folder with the dump, the standard output, a link to it, and a pipe.
+/// A folder with the dump, the standard output, a link to it, and a pipe. A path may follow 40
+/// links.
 fn folder(alloc: Global) -> Result<Tree, MemoryFault> {
     let mut tree = Tree::new(alloc, 40);
     tree.add_path(".", "/")?;
@@ -76,7 +78,8 @@ fn folder(alloc: Global) -> Result<Tree, MemoryFault> {
     Ok(tree)
 }
 
-/// The words of a row; `None` if memory runs out.
+/// The words of a row: the program's name, `--out` with its path, and the track; `None` if memory
+/// runs out.
 fn words(alloc: Global, track: &str, out: &str) -> Option<Vec<String>> {
     let mut words = Vec::new(alloc);
     for word in ["irig_ed", "--out", out, track].iter() {
@@ -86,7 +89,7 @@ fn words(alloc: Global, track: &str, out: &str) -> Option<Vec<String>> {
     Some(words)
 }
 
-/// Whether the run of a row ends, prints and writes as the row says.
+/// Whether the run of a row ends, prints and writes as the row says. Its script is `write`, twice.
 fn is_run<R: Eprint + AllocGlobal>(rt: &R, tree: Tree, row: Row) -> bool {
     let (track, out, status, printed, calls) = row;
     let alloc = rt.alloc();

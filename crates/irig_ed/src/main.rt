@@ -26,12 +26,12 @@ use std::rt::Runtime;
 use std::{env, io};
 
 // Gets the files of the system, and serves the words of the command line. The status is 2 if memory
-// for the files is missing.
+// runs out for the files.
 fn main(rt: HostRuntime) -> ExitCode {
     let Ok(mut files) = system_files(&rt) else {
         return program().tell(&rt, 2, &io::Error::from(io::ErrorKind::OutOfMemory));
     };
-    // One output is for the answers, and one for the help.
+    // One output is for the answers, and one for the help. No witness watches the answers.
     serve(
         &rt,
         arguments(&rt),
@@ -42,14 +42,15 @@ fn main(rt: HostRuntime) -> ExitCode {
     )
 }
 
-/// The words of the command line, the program's name being the first.
+/// The words of the command line, the program's name being the first. An error if one is not UTF-8,
+/// the system gives none, or memory runs out.
 fn arguments<R: Runtime + AllocGlobal>(rt: &R) -> io::Result<Vec<String>> {
     let words = env::args(rt)?.collect(rt.alloc())?;
     Ok(words)
 }
 
-/// Edits the track that the words name, if there are words; else says why there are none. `main`
-/// ends with its status.
+/// Edits the track that the words name, if there are words; else says why there are none. The
+/// answer is the exit status, with which `main` ends.
 fn serve<P: Eprint + AllocGlobal, C: FileSystem, R: Read, W: Write, N: Witness, H: Write>(
     rt: &P,
     words: io::Result<Vec<String>>,

@@ -25,7 +25,7 @@ pub fn report<R: Eprint, H: Write>(rt: &R, ending: &Ending<'_>, help: &mut H) ->
     }
 }
 
-/// What the program says of a track that it did not read.
+/// What the program says of a track that it did not read, after the path.
 fn unread_text<'a>(fault: DumpFileFault) -> &'a str
     ensures { result.now ≡ unread_text fault }
 {

@@ -1,4 +1,5 @@
-//! The text of a session with its journal.
+//! The text of a session with its journal: the history that can be undone and redone, as lines in a
+//! comment of the dump.
 
 ghost use Rattle.std.specs.Prelude.{◌≡◌, IfOk};
 ghost use Rattle.irig_edit.specs.{Saved.SavedSession.saved_text, Session.Session.work_in};
@@ -15,8 +16,9 @@ pub use text::SavedText;
 
 impl Session {
     /// The text of the track's dump with the journal after it, as `docs/FORMATS.md` says under "The
-    /// saved journal". The steps of an open group are saved one by one. It fails only if memory
-    /// runs out.
+    /// saved journal". The steps of an open group are saved one by one. `whole` collects the parts;
+    /// it asks for `text_room` bytes at first, and for more if they do not suffice. It fails only
+    /// if memory runs out.
     pub fn saved(&self) -> Result<Vec<u8>, AllocError>
         ensures { IfOk result (λ text. text.items ≡ saved_text (work_in self.now)) }
     {

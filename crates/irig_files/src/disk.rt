@@ -1,7 +1,8 @@
 //! What the program asks of files. Reading has two faults: `DumpFileFault` is of the file, which is
 //! not there, cannot be read or is too long, or memory runs out; `VcdFault` inside is of the dump
 //! in it. `Parts` are the recording of a wire and the text of the journal that the dump carries, if
-//! it has one. What a path leads to is at the end of its links.
+//! it has one. A window is a part of the time of a dump. What a path leads to is at the end of its
+//! links. A ghost item is for contracts alone: it is nothing in the program.
 
 ghost use Rattle.std.specs.Prelude.{◌≡◌, ◌<◌, ◌≤◌, ◌^◌, Bool, ℕ, List, Option, Some, IfErr, IfOk};
 ghost use Rattle.std.specs.Prelude.{IfSome, IsErr, IsErrOf, IsTrue, false, length, true};
@@ -27,7 +28,7 @@ pub trait Disk {
     /// The file at a path is not read, for this fault: a call that reads it has it.
     ghost unread: { Self → List ℕ → DumpFileFault → Type 0 };
 
-    /// Whether the contracts give the state below.
+    /// Whether the contracts know the state below: true of folders in memory, false of the system.
     ghost is_told: { Bool };
 
     /// What is seen, what a crash may leave, where paths lead, and what was written.
@@ -70,9 +71,11 @@ pub trait Disk {
         ensures unread { IfErr result (unread self.now path.now) };
 
     /// Writes a text to the file that a path leads to: a regular one, or none yet, is replaced
-    /// whole, by a file of its mode. One that must not be written is not replaced. What the room,
-    /// which is the memory of a write, holds before is lost. `Written` says how it was written, and
-    /// its count how many bytes the text has; a `ShelfFault` says only that it was not.
+    /// whole, by a file of its mode. One that must not be written is not replaced: that is a fault.
+    /// What is no regular file, or is what the program's answers go to, is written in place. What
+    /// the room, which is the memory of a write, holds before is lost. `Written` says how the text
+    /// was written, and its count how many bytes it has; a `ShelfFault` says only that it was not
+    /// written whole.
     fn put<T: Text>(
         &mut self,
         path: &str,

@@ -1,7 +1,9 @@
-//! The dump in a file, read in parts. A read has two faults: the outer one, `DumpFileFault`, is of
+//! Reads the dump in a file, in parts. A read has two faults: the outer one, `DumpFileFault`, is of
 //! the file, the inner one, `VcdFault`, of the dump in it. `Parts` are the recording of a wire and
 //! the text of the journal that the dump carries, if it has one. `wire` is the name of the wire; if
-//! none is named, the dump has to have one wire of one bit.
+//! none is named, the dump has to have one wire of one bit. A window is a part of the time of the
+//! dump. An `Intake` (`intake`) takes in the parts and counts their bytes. `rt` is what the program
+//! has of the system. `DUMP_LIMIT` is 2^28 bytes.
 
 ghost use Rattle.std.specs.Prelude.{◌≡◌, ◌≢◌, ◌<◌, ◌^◌, ◌↔◌, ℕ, List, Some, None, IfOk, OnOk};
 ghost use Rattle.std.specs.Prelude.{IfErr, IfSome, IsErrOf, IsOk, IsTrue, MatchResult, true, false};
@@ -21,19 +23,19 @@ use std::rt::Files;
 use std::{fs, io};
 use thiserror::Error;
 
-/// How many bytes are read at a time.
+/// How many bytes are read at a time, at most: 64 KiB, this project's own choice.
 const PART: usize = 65_536;
 
 /// Why the dump in a file was not read.
 #[derive(Clone, Copy, Debug, Error)]
 pub enum DumpFileFault {
-    /// The file is missing, or is none, or there is no permission to read it.
+    /// Nothing is at the path, or no file, or there is no permission to read it.
     #[error("cannot be read")]
     CannotBeRead,
     /// The file has more than 2^28 bytes, or 2^47 if a window is read.
     #[error("too long")]
     TooLong,
-    /// A growth was refused.
+    /// Memory ran out.
     #[error("V14 OutOfMemory")]
     OutOfMemory,
 }
@@ -41,7 +43,7 @@ pub enum DumpFileFault {
 impl From<io::Error> for DumpFileFault {
     ghost from_gives = { λ _ e. e ≢ TooLong };
 
-    // What a call of the system says, as a fault.
+    // The error of a call of the system, as a fault of the file.
     fn from(error: io::Error) -> DumpFileFault {
         match error.kind() {
             ErrorKind::OutOfMemory => DumpFileFault::OutOfMemory,
@@ -50,7 +52,8 @@ impl From<io::Error> for DumpFileFault {
     }
 }
 
-/// Whether a file shows that it has more than 2^28 bytes. False if the system does not describe it.
+/// Whether a file shows by its size that it has more than 2^28 bytes, so that nothing of it is
+/// read. False if the system does not describe it: then its bytes are counted as they are read.
 fn is_too_long(described: io::Result<Metadata>) -> bool
     ensures { MatchResult described (λ d. IsTrue result
         ↔ (IsFile (file_type d) × (2 ^ 28 < metadata_len d))) (λ _. result ≡ false) }
@@ -61,7 +64,8 @@ fn is_too_long(described: io::Result<Metadata>) -> bool
     }
 }
 
-/// Whether a file that is so described has more than 2^28 bytes: only a regular one shows it.
+/// Whether a file that is so described has more than 2^28 bytes. Only a regular file has a size; a
+/// pipe shows none.
 fn shows_more(described: &Metadata) -> bool
     ensures { IsTrue result
         ↔ (IsFile (file_type described.now) × (2 ^ 28 < metadata_len described.now)) }
@@ -69,7 +73,8 @@ fn shows_more(described: &Metadata) -> bool
     described.is_file() && described.len() > DUMP_LIMIT as u64
 }
 
-/// `Ok(true)` if more can be read after an error, since it was an interruption; else the fault.
+/// What an error of a read means. `Ok(true)`: the read was interrupted, and the next one can give
+/// more. Any other error is the fault.
 fn after_error(error: io::Error) -> Result<bool, DumpFileFault>
     ensures more { IfOk result (λ is_more. is_more ≡ true) }
     ensures interrupted { IsOk result ↔ (error_kind error ≡ ErrorKind.Interrupted) }
@@ -81,9 +86,9 @@ fn after_error(error: io::Error) -> Result<bool, DumpFileFault>
     }
 }
 
-/// Takes in the next part that a reader gives; `part` is where it waits. Returns whether the reader
-/// may have more: also after an interruption, but not if it gave nothing, since it is at its end,
-/// or enough was taken in.
+/// Takes in the next bytes that a reader gives; `part` is the memory for them. Returns `true` if
+/// the reader may have more, also after an interruption. `false`: it gave no byte, as it is at its
+/// end, or as no more bytes are wanted and it was asked for none.
 fn take_part<R: Read>(
     dump: &mut Intake,
     reader: &mut R,
@@ -110,7 +115,9 @@ fn take_part<R: Read>(
     }
 }
 
-/// Takes in all that a reader has left, part by part, but no more than is wanted.
+/// Takes in all that a reader has left, part by part, but no more than the intake wants: one byte
+/// more than the longest dump has, which shows that a dump is too long. The loop has a bound so
+/// that it is sure to end.
 fn take_all<R: Read>(
     dump: &mut Intake,
     reader: &mut R,
@@ -132,11 +139,11 @@ fn take_all<R: Read>(
             Err(fault) => return Err(fault),
         }
     }
-    // no file has that many parts: only a reader that is interrupted again and again comes here
+    // no file has that many parts: only a reader that is interrupted each time comes here
     Err(DumpFileFault::CannotBeRead)
 }
 
-/// Reads a dump. Of one that is too long, one byte more is read than it has at most.
+/// Reads a dump from a reader. Of one that is too long, 2^28 + 1 bytes are read.
 pub fn read_whole<R: Read + Drop>(
     alloc: Global,
     mut reader: R,
@@ -150,7 +157,7 @@ pub fn read_whole<R: Read + Drop>(
     read_by_parts(alloc, &mut reader, &mut part, wire, None)
 }
 
-/// Reads a window of a dump. Of one that is too long, one byte more is read than it has at most.
+/// Reads a window of a dump from a reader. Of one that is too long, 2^47 + 1 bytes are read.
 pub fn read_window<R: Read + Drop>(
     alloc: Global,
     mut reader: R,
@@ -165,7 +172,8 @@ pub fn read_window<R: Read + Drop>(
     read_by_parts(alloc, &mut reader, &mut part, wire, Some(window))
 }
 
-/// Reads a dump part by part, or a window of it, and counts all bytes. The parts wait in `part`.
+/// Reads a dump part by part, or a window of it, and counts all bytes. `part` is the memory for one
+/// part. A new intake fails only if memory runs out. After a fault what was read is freed.
 fn read_by_parts<R: Read>(
     alloc: Global,
     reader: &mut R,
@@ -205,7 +213,7 @@ pub fn read_dump<R: Files>(
     read_open(alloc, file, wire)
 }
 
-/// Reads a dump from a file that is open, unless its size is too large.
+/// Reads a dump from a file that is open. If its size shows more than 2^28 bytes, nothing is read.
 fn read_open<F: OpenFile + Read + Drop>(
     alloc: Global,
     file: F,
@@ -219,8 +227,9 @@ fn read_open<F: OpenFile + Read + Drop>(
     read_whole(alloc, file, wire)
 }
 
-/// Reads a window of the dump in the file at a path, whatever the size of the file. If nothing is
-/// at the path: `CannotBeRead`.
+/// Reads a window of the dump in the file at a path. The size of the file is not looked at, as no
+/// file has more than 2^47 bytes: the bytes are counted as they are read. If nothing is at the
+/// path: `CannotBeRead`.
 pub fn read_dump_window<R: Files>(
     rt: &R,
     alloc: Global,

@@ -1,4 +1,5 @@
-//! A shelf that is a file.
+//! A shelf that is a file. A shelf is where `write` and `save` put a text. A ghost item is for
+//! contracts alone: it is nothing in the program.
 
 ghost use Rattle.std.specs.Prelude.{◌≡◌, ◌∷◌, IsTrue, refl};
 ghost use Rattle.std.proofs.Common.{◌∙◌};
@@ -15,15 +16,16 @@ use irig_text::{Shelf, ShelfFault, Text};
 pub struct FileShelf<'d, 'p, D: Disk> {
     disk: &'d mut D,
     path: &'p str,
-    // What each write needs memory for.
+    // The memory of each write.
     room: &'d mut Room,
-    // How many writes failed.
+    // How many writes failed, up to 2^64 - 1. The contracts of a shelf name this count; the program
+    // does not use it.
     failures: u64,
 }
 
 impl<'d, 'p, D: Disk> FileShelf<'d, 'p, D> {
-    /// The shelf of the file at a path, which does not have to be there. Each write uses the
-    /// room.
+    /// The shelf of the file at a path, which does not have to be there. `room` is the memory that
+    /// each write uses.
     pub fn new(disk: &'d mut D, path: &'p str, room: &'d mut Room) -> FileShelf<'d, 'p, D>
         ensures same_disk { result.disk.ghost_name ≡ disk.entry.ghost_name }
         ensures disk { result.disk.now ≡ disk.old }
@@ -70,7 +72,8 @@ impl<'d, 'p, D: Disk> Shelf for FileShelf<'d, 'p, D> {
           mid.path.now first.0.0 (first.1 told) (then.1 told),
     ) };
 
-    // Writes a text whole, and returns how many bytes it has; a fault is counted.
+    // Writes a text to the file, and returns how many bytes it has. A fault is counted, as the
+    // contracts of a shelf demand.
     fn put<T: Text>(&mut self, text: &mut T) -> Result<u64, ShelfFault> {
         match self.disk.put(self.path, text, self.room) {
             Ok(written) => Ok(written.count()),

@@ -1,7 +1,9 @@
 //! Single calls on paths. Reading has two faults: `DumpFileFault` is of the file, which is not
 //! there, cannot be read or is too long, or memory runs out; `VcdFault` inside is of the dump in
 //! it. `Parts` are the recording of a wire and the text of the journal that the dump carries, if it
-//! has one. A `Fault` is the error of a call.
+//! has one. A `Fault` is the error of a call. A window is a part of the time of a dump. A ghost
+//! item is for contracts alone. `is_told` says whether the contracts know what is there: true of
+//! folders in memory, false of the system.
 
 ghost use Rattle.std.specs.Prelude.{◌≡◌, ◌≢◌, ◌<◌, ◌^◌, ℕ, List, Option, None, Some, IfErr, IfOk};
 ghost use Rattle.std.specs.Prelude.{IfSome, IsErrOf, IsTrue, MatchOption, OnOk, codes, false, length};
@@ -55,7 +57,8 @@ pub trait FileSystem: PlainCalls {
         ensures unread { IfErr result (unread self.now path.now) };
 
     /// Reads a window of the dump in the file at a path, of the wire named `wire`, or if none is
-    /// named of the one wire of one bit. At most one more byte than 2^47 is read.
+    /// named of the one wire of one bit. At most one more byte than 2^47 is read. If nothing is at
+    /// the path: `CannotBeRead`.
     fn read_window(
         &self,
         alloc: Global,
@@ -85,17 +88,19 @@ pub trait FileSystem: PlainCalls {
         ensures id { IsTrue Self.is_told → IfOk result (λ found. HasId (Self.disk self.now)
             (id_of self.now) path.now (option_map (λ d. d.id) found)) };
 
-    /// The numbers that no other file has, of what the program's answers go to; `None` if they go
-    /// nowhere.
+    /// The numbers that no other file has, of what the program's answers (its standard output) go
+    /// to; `None` if they go nowhere.
     fn output(&self) -> Result<Option<(u64, u64)>, Self::Fault>
         ensures { IsTrue Self.is_told → IfOk result (λ found. found ≡ output_id self.now) };
 
-    /// The text of the link at a path; `None` if nothing is there, or no link.
+    /// The text of the symbolic link that is itself at the path: the path that it leads to. `None`
+    /// if nothing is there, or no link.
     fn read_link(&self, path: &str) -> Result<Option<PathBuf>, Self::Fault>
         ensures { IsTrue Self.is_told → IfOk result
             (λ found. option_map path_buf_bytes found ≡ link_at self.now path.now) };
 
-    /// Opens the folder that a path leads to, and leaves it in `dir`. An error if nothing is there.
+    /// Opens the folder that a path leads to, and leaves it in `dir`, which holds one open folder.
+    /// An error if nothing is there.
     fn open_folder(&self, dir: &mut Self::Dir, path: &str) -> Result<(), Self::Fault>
         ensures { IsTrue Self.is_told → OnOk result (IsFolderOf (link_at self.now)
             (is_other self.now) (Self.disk self.now).paths (Self.place dir.new) path.now) };

@@ -1,5 +1,5 @@
-//! The files of a file system: each method is a call of it, or some. What they do is said with the
-//! trait, in `disk`.
+//! The files of a file system as a `Disk`: each method is one call of it, or some. What the methods
+//! do is said with the trait, in `disk`. A window is a part of the time of a dump.
 
 ghost use Rattle.std.specs.Prelude.{◌≡◌};
 ghost use Rattle.irig_files.specs.Taken.{IsLocked};
@@ -19,13 +19,13 @@ use std::alloc::Global;
 /// The files of a file system. `docs/FORMATS.md` says how one is written.
 #[derive(Drop)]
 pub struct Files<C: FileSystem> {
-    // The system, and room for the folder that a write opens.
+    // The system, and the place for the folder that a write opens.
     system: C,
     dir: C::Dir,
 }
 
 impl<C: FileSystem> Files<C> {
-    /// The files of a system, with room for an open folder.
+    /// The files of a system. `dir` is the place for the folder that a write opens.
     pub fn new(system: C, dir: C::Dir) -> Files<C>
         ensures { result.system ≡ system }
     {
@@ -68,7 +68,7 @@ impl<C: FileSystem> Disk for Files<C> {
         self.system.read(alloc, path, wire)
     }
 
-    // Reads a window of such a dump.
+    // Reads a window of the dump in the file at a path. The faults are those of `read`.
     fn read_window(
         &self,
         alloc: Global,
@@ -80,7 +80,7 @@ impl<C: FileSystem> Disk for Files<C> {
     }
 
     // Writes a text to the file that a path leads to: a regular one, or none yet, is replaced
-    // whole.
+    // whole; any other is written in place. `room` is the memory of the write.
     fn put<T: Text>(
         &mut self,
         path: &str,

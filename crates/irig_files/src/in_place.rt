@@ -1,5 +1,6 @@
 //! A text written to what is no regular file: a pipe, a device, the standard output. It is not
-//! replaced, so a fault can leave a front of the text there.
+//! replaced, so a fault can leave a front of the text there. A `ShelfFault` says only that the text
+//! was not written whole.
 
 ghost use Rattle.std.specs.Prelude.{◌≡◌, ◌+◌, ◌++◌, ℕ, List, [], true, length, IfOk, OnOk};
 ghost use Rattle.std.specs.Io.KnownBytes.{Appends};
@@ -22,7 +23,8 @@ impl InPlace {
     }
 }
 
-/// Writes all of a text. Its parts wait in the block, and what the block holds before is lost.
+/// Writes all of a text, block by block. `block` is the memory for one block; what it holds before
+/// is lost. The loop has a bound so that it is sure to end.
 pub fn write_in_place<F: Write, T: Text>(
     file: &mut F,
     text: &mut T,
@@ -38,11 +40,13 @@ pub fn write_in_place<F: Write, T: Text>(
             return Ok(InPlace { count });
         }
     }
-    // no text has that many parts
+    // no text has that many blocks
     Err(ShelfFault)
 }
 
-/// Writes the next block of a text, counts its bytes, and returns whether it was the last one.
+/// Writes the next block of a text, adds its bytes to `count`, and returns whether it was the last
+/// one. A block has at least `ENOUGH` bytes, 64 KiB, if it is not the last. `count` is checked
+/// before the write: a text of more than 2^64 - 1 bytes is a fault, too.
 fn write_next<F: Write, T: Text>(
     file: &mut F,
     text: &mut T,

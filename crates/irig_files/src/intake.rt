@@ -1,4 +1,5 @@
-//! The dump in a file, as far as it is taken in. Reading has two faults: the outer one,
+//! The dump in a file, as far as it is taken in. A `DumpReader` (irig_vcd) reads its parts; a
+//! window is a part of the time of the dump. Reading has two faults: the outer one,
 //! `DumpFileFault`, is that memory runs out or the dump is too long, the inner one, `VcdFault`,
 //! that the dump is wrong.
 
@@ -20,13 +21,15 @@ use std::mem;
 /// What a dump says of a wire, and the text of the journal that it carries, if it has one.
 pub type Parts = (Recording, Option<Vec<u8>>);
 
-/// The most bytes of a dump: 2^28.
+/// The most bytes of a dump: 2^28, this project's own bound.
 pub const DUMP_LIMIT: usize = 268_435_456;
 
-/// The most bytes of a dump, if a window of it is read: 2^47.
+/// The most bytes of a dump, if a window of it is read: 2^47, this project's own bound. No file has
+/// more, and all counts of bytes stay exact.
 const LONG_LIMIT: usize = 1 << 47;
 
-/// The most bytes of a dump: of all of it, or of a window.
+/// The most bytes that a dump may have: if all of it is read (`None`), or a window. Only the window
+/// is kept, so that dump may be longer.
 fn most_bytes(window: Option<Window>) -> usize
     ensures { result ≡ most_bytes window }
 {
@@ -39,17 +42,19 @@ fn most_bytes(window: Option<Window>) -> usize
 /// The dump in a file, as far as it is taken in.
 #[derive(Drop)]
 pub struct Intake {
-    /// What is read of it; or its fault, and then more bytes are only counted.
+    /// The reader of its parts; or the fault that it found, and then more bytes are only counted.
     dump: Result<DumpReader, VcdFault>,
-    /// How many bytes are still taken: in all, one more than a dump has.
+    /// How many bytes are still taken. It begins with one more than a dump may have, so 0 means
+    /// that the dump is too long.
     left: usize,
     /// The window of it that is read, or all.
     window: Option<Window>,
 }
 
 impl Intake {
-    /// No byte of a dump yet, for the wire of a name, or for the one wire of one bit if none is
-    /// given.
+    /// The intake of a dump of which no byte is taken yet. `wire` is the name of the wire to read;
+    /// if none is given, the dump has to have one wire of one bit. It fails only if memory runs
+    /// out.
     pub fn new(
         alloc: Global,
         wire: Option<&[u8]>,
@@ -66,14 +71,17 @@ impl Intake {
         })
     }
 
-    /// How many bytes are taken at once at most, if there is room for that many.
+    /// How many bytes may be taken next, at most: those that are still taken, but not more than
+    /// there is room for (`room` bytes). 0 if no more are taken.
     pub fn wanted(&self, room: usize) -> usize
         ensures { result ≡ min self.now.left room }
     {
         self.left.min(room)
     }
 
-    /// Takes the next part of the dump. It fails only if memory runs out, and nothing is left then.
+    /// Takes the next part of the dump, which has at most `wanted` bytes, so `left` does not go
+    /// below 0. A fault of the dump is kept for `end`. It fails only if memory runs out, and then
+    /// nothing is left of what was read.
     pub fn put(&mut self, part: &[u8]) -> Result<(), DumpFileFault>
         requires wanted { length part.now ≤ self.old.left }
         requires counted { IsCounted self.old }
@@ -83,23 +91,25 @@ impl Intake {
         ensures memory { IfErr result (λ fault. fault ≡ file.OutOfMemory) }
     {
         self.left -= part.len();
-        // If memory runs out, that fault stays in the place of what was read.
+        // `reader.put` takes the reader away and gives it back, so a fault is in its place until
+        // then. If memory runs out, `?` returns here, and that fault stays.
         let dump = match mem::replace(&mut self.dump, Err(VcdFault::OutOfMemory)) {
             Ok(reader) => unless_short(reader.put(part))?,
             Err(fault) => Err(fault),
         };
+        // What comes out is the fault that was in place of the reader.
         let_go(mem::replace(&mut self.dump, dump));
         Ok(())
     }
 
-    /// Frees what is taken in.
+    /// Frees what is taken in, if the read ends with a fault of the file.
     pub fn let_go(self) {
         let_go(self.dump);
     }
 
-    /// What the dump says, if nothing comes after its parts. More bytes than a dump has at most are
-    /// a fault, `TooLong`, and memory that runs out is `OutOfMemory`; the inner fault is of the
-    /// dump.
+    /// What the dump says, if nothing comes after its parts. More bytes than a dump may have are a
+    /// fault, `TooLong`, before any fault of the dump; memory that runs out is `OutOfMemory`. The
+    /// inner fault is of the dump.
     pub fn end(self) -> Result<Result<Parts, VcdFault>, DumpFileFault>
         requires counted { IsCounted self }
         ensures read { IfOk result (λ read. (wire : Option (List ℕ)) (bytes : List ℕ)
@@ -126,10 +136,11 @@ impl Intake {
     }
 }
 
-/// Frees what is read, which is handed over here and goes no further.
+/// Frees a reader, or a fault: the value is moved in here, and its end is the end of this call.
 fn let_go(_dump: Result<DumpReader, VcdFault>) {}
 
-/// What reading gives. The inner fault that memory ran out becomes one of the file, the outer one.
+/// Sorts the faults of a read. That memory ran out becomes an outer fault, one of the file; every
+/// other fault stays an inner one, of the dump.
 fn unless_short<T: Drop>(read: Result<T, VcdFault>) -> Result<Result<T, VcdFault>, DumpFileFault>
     ensures same { IfOk result (λ given. (given ≡ read) × (given ≢ Err OutOfMemory)) }
     ensures memory { IfErr result (λ fault. fault ≡ file.OutOfMemory) }

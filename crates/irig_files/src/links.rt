@@ -1,4 +1,5 @@
-//! Where a chain of symbolic links leads.
+//! Where a chain of symbolic links leads. A `ShelfFault` says only that a call failed, memory ran
+//! out, or there were too many links.
 
 ghost use Rattle.std.specs.Prelude.{◌≡◌, None, Some, true, false, IfOk, IsTrue, OnOk};
 ghost use Rattle.std.specs.Path.{path_buf_bytes};
@@ -8,11 +9,12 @@ use crate::file_system::FileSystem;
 use irig_text::ShelfFault;
 use std::path::PathBuf;
 
-/// How many turns a path may take: 40 symbolic links, and the place where no link is.
+/// How many times a path is looked at: 40 symbolic links, as many as Linux follows, and the end,
+/// where no link is.
 const TURNS: u32 = 41;
 
-/// Follows the chain of symbolic links from a path, and leaves in `target` where it leads: the path
-/// itself, if no link is there. More than 40 links are a fault.
+/// Follows the chain of symbolic links from a path, and leaves in `target` the path where it ends:
+/// the path itself, if no link is there. More than 40 links are a fault.
 pub fn follow_links<C: FileSystem>(
     system: &C,
     path: &str,
@@ -35,8 +37,8 @@ pub fn follow_links<C: FileSystem>(
     Err(ShelfFault)
 }
 
-/// Follows the symbolic link at the target, and returns whether there was one. Only the text of a
-/// link takes memory.
+/// Follows one link: if a symbolic link is at the target, the target becomes the path that it leads
+/// to, and the answer is `true`. `false`: there is no link, or nothing, so the target is the end.
 fn follow_link<C: FileSystem>(system: &C, target: &mut PathBuf) -> Result<bool, ShelfFault>
     ensures end { IsTrue C.is_told → IfOk result (λ is_link. is_link ≡ false
         → (C.link_at system.now (path_buf_bytes target.old) ≡ None)
@@ -54,13 +56,15 @@ fn follow_link<C: FileSystem>(system: &C, target: &mut PathBuf) -> Result<bool, 
     }
 }
 
-/// The target is now where the text of its link leads, from the folder of the link on, or from the
-/// root if it begins with a slash. Returns that there was a link.
+/// Makes the target the path that a link there leads to; `next` is the text of the link. The text
+/// counts from the folder of the link, or from the root if it begins with a slash. Returns `true`:
+/// there was a link. It fails only if memory runs out.
 fn go_to(target: &mut PathBuf, next: &str) -> Result<bool, ShelfFault>
     ensures link { IfOk result (λ is_link. is_link ≡ true) }
     ensures to { OnOk result
         (path_buf_bytes target.new ≡ followed (path_buf_bytes target.old) next.now) }
 {
+    // The name of the link goes, and its folder is left.
     target.pop();
     match target.push(next) {
         Ok(()) => Ok(true),

@@ -1,5 +1,5 @@
-//! The files of the system, as a program makes them. A runtime is what a program has of the system:
-//! its files, its standard output and its memory.
+//! The files of the system, as a program makes them when it starts. A runtime is what a program has
+//! of the system: its files, its standard output and its memory.
 
 ghost use Rattle.std.specs.Prelude.{◌≡◌, IfOk};
 
@@ -9,7 +9,8 @@ use std::alloc::AllocError;
 use std::rt::Files as FileRuntime;
 
 /// The files of the system that a runtime gives. The memory for the paths that a write hands to the
-/// system, two names and an open folder, is taken here; `Err` if there is none.
+/// system, two names and an open folder, is taken here, so that a write later asks for none. `Err`
+/// if there is none.
 pub fn system_files<R: FileRuntime + Print + AllocGlobal>(
     rt: &R,
 ) -> Result<Files<SystemFolder<'_, R>>, AllocError>

@@ -1,5 +1,7 @@
-//! Single calls on paths, of which no contract says which bytes they give or take. A `Fault` is the
-//! error of a call; one that opens fails if nothing is at the path.
+//! Single calls on paths. No contract says which bytes they give or take. A `Fault` is the error of
+//! a call; one that opens fails if nothing is at the path. A ghost item is for contracts alone.
+//! `is_told` says whether the contracts know what is there: true of folders in memory, false of the
+//! system.
 
 ghost use Rattle.std.specs.Prelude.{◌≡◌, ℕ, None, IfOk, IsTrue, true};
 ghost use Rattle.irig_files.specs.Taken.{HasMode, IsFileAt};
@@ -26,22 +28,23 @@ pub trait PlainCalls: Folder {
     /// A file may be written.
     ghost may_write: { Self → ℕ → Type 0 };
 
-    /// Opens what the program's answers go to, for a path that leads there.
+    /// Opens what the program's answers (its standard output) go to, for a path that leads there.
     fn open_output(&self, path: &str) -> Self::Output
         requires { IsTrue Self.is_told → (Self.disk self.now).paths path.now ≡ None };
 
-    /// Opens what is no regular file, to write to it.
+    /// Opens what is at a path and is no regular file, to write to it: a pipe or a device.
     fn open_other(&self, path: &str) -> Result<Self::Other, Self::Fault>
         requires { IsTrue Self.is_told → (Self.disk self.now).paths path.now ≡ None };
 
-    /// Opens a file as if to write to it. It fails if it must not be written.
+    /// Opens a file as if to write to it, but only to describe it. It fails if the file must not be
+    /// written.
     fn open_seen(&self, path: &str) -> Result<Self::Seen, Self::Fault>
         ensures there { IsTrue Self.is_told → IfOk result
             (λ file. IsFileAt (Self.disk self.now) path.now (seen_number file)) }
         ensures allowed { IsTrue Self.is_told → IfOk result
             (λ file. may_write self.now (seen_number file)) };
 
-    /// What an open file is.
+    /// Whether an open file is a regular one, its mode and its numbers.
     fn seen(&self, file: &Self::Seen) -> Result<Described, Self::Fault>
         ensures { IsTrue Self.is_told → IfOk result (λ d. d.is_file ≡ true
             → HasMode (Self.disk self.now) (seen_number file.now) d.mode) };

@@ -1,6 +1,8 @@
-//! Writes a text to what a path leads to. The room is what a write needs memory for: the block
-//! holds the parts of the text, and the target the path of the file that is replaced. A
-//! `ShelfFault` says only that a text was not written, so the errors of calls are not handed on.
+//! Writes a text to what a path leads to. The room is the memory of a write: the block holds the
+//! parts of the text, and the target the path of the file that is replaced. A text is written to a
+//! new file first, which then takes the target's name; its stem is its name without the number at
+//! the end. A `ShelfFault` says only that a text was not written, so the errors of calls are not
+//! handed on.
 
 ghost use Rattle.std.specs.Prelude.{◌≡◌, ℕ, List, length, None, Some, IfOk, IsTrue, ◌≢◌, IsErr};
 ghost use Rattle.std.specs.Prelude.{IsOk, OnErr, OnOk, false, true};
@@ -21,8 +23,10 @@ use irig_text::{ShelfFault, Text};
 use std::io::Write;
 use std::path::Path;
 
-/// Writes a text to what a path leads to: a regular file, or none yet, is replaced; what the
-/// answers go to, and any other file, is written in place.
+/// Writes a text to what a path leads to: a regular file, or none yet, is replaced whole; what the
+/// program's answers go to, and any other file, is written in place. `dir` is the place for the
+/// folder that is opened. `way_to` finds which of these it is, and leaves the path to be replaced,
+/// at the end of its links, in the room's target.
 pub fn put_file<C: FileSystem, T: Text>(
     system: &mut C,
     dir: &mut C::Dir,
@@ -48,7 +52,7 @@ pub fn put_file<C: FileSystem, T: Text>(
     }
 }
 
-/// Writes a text to what is no regular file at a path.
+/// Writes a text in place to what is at a path and is no regular file.
 fn put_other<C: FileSystem, T: Text>(
     system: &C,
     path: &str,
@@ -64,7 +68,7 @@ fn put_other<C: FileSystem, T: Text>(
     }
 }
 
-/// Writes a text to what is no regular file and is open.
+/// Writes a text to what is open and is no regular file, or is what the answers go to.
 fn in_place<F: Write, T: Text>(
     file: &mut F,
     text: &mut T,
@@ -78,8 +82,11 @@ fn in_place<F: Write, T: Text>(
     }
 }
 
-/// Replaces the regular file at the target, or none, by a new one that takes the mode, if one is
-/// given. The folder is opened first: without a sync of it nothing can be kept.
+/// Replaces the regular file at the room's target, or none yet, by a new one with this mode
+/// (`None`: the usual one). `way_to` has put the path into the target. The folder is opened before
+/// anything is written: without a sync of it no crash is sure to keep the new name. A target
+/// without a name at its end, as `..`, is a fault; `is_name` says whether a name is not empty, has
+/// no `/`, and is neither `.` nor `..`.
 fn replace<C: FileSystem, T: Text>(
     system: &mut C,
     dir: &mut C::Dir,
@@ -113,7 +120,7 @@ fn replace<C: FileSystem, T: Text>(
     whole(write_whole(system, dir, file_name, name, stem, mode, text, block))
 }
 
-/// The outcome of a write that replaces the file: that it was written whole, or the fault.
+/// The outcome of a write that replaces a file, as `Written`: whole, or the fault.
 fn whole(outcome: Result<Kept, ShelfFault>) -> Result<Written, ShelfFault>
     ensures count { (n : ℕ) → IfOk outcome (λ kept. kept.count ≡ n)
         → IfOk result (λ written. count_of written ≡ n) }
@@ -126,8 +133,10 @@ fn whole(outcome: Result<Kept, ShelfFault>) -> Result<Written, ShelfFault>
     }
 }
 
-/// Puts into `stem` the names of new files but for their numbers: the target's `name`, hidden and
-/// marked. A name of more than 200 bytes is left out, so that room is left for the rest.
+/// Puts into `stem` what the names of new files begin with; a number of at most four digits comes
+/// after it. A dot hides them, and `.irig_ed-new-` shows whose they are. The target's `name` is
+/// left out if it has more than 200 bytes, so that room is left for the rest: with 200 bytes the
+/// new name has at most 1 + 200 + 13 + 4. It fails only if memory runs out.
 fn put_stem(name: &str, stem: &mut String) -> Result<(), ShelfFault> {
     // a folder takes no name of more than 255 bytes
     let kept = if name.len() <= 200 { name } else { "" };
@@ -138,7 +147,8 @@ fn put_stem(name: &str, stem: &mut String) -> Result<(), ShelfFault> {
     }
 }
 
-/// The folder of a path: the current one, if the path is a name alone.
+/// The folder of a path, without the last name. It is `.`, the current one, if the path is a name
+/// alone, or has no folder, as `/`.
 pub fn folder_of(target: &str) -> &str
     ensures { result.now ≡ folder_of target.now }
 {

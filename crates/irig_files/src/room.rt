@@ -1,4 +1,5 @@
-//! The memory of a write.
+//! The memory of a write: a text is written to a new file first, which then takes the name of the
+//! one that it replaces.
 
 ghost use Rattle.std.specs.Prelude.{◌≡◌, ◌≤◌, ◌+◌, [], IfOk, string_capacity};
 ghost use Rattle.std.specs.{Path.path_buf_cap, Vec.vec_capacity};
@@ -9,8 +10,9 @@ use irig_text::new_block;
 use std::alloc::{AllocError, Global};
 use std::path::PathBuf;
 
-/// How many bytes a name has room for. A path of the system has at most 4,095, and one that leads
-/// from it through a link has no more than twice as many.
+/// How many bytes a path or a name has room for. A path of the system has at most 4,095 bytes, and
+/// so has the text of a link: a path made of a folder and such a text has no more than twice as
+/// many and a slash.
 const NAME: usize = 8192;
 
 /// What a write needs memory for. It is made once, so no write asks for more.
@@ -27,7 +29,9 @@ pub struct Room {
 }
 
 impl Room {
-    /// Room for any number of writes, one after another.
+    /// Room for any number of writes, one after another. `new_block` gives a block with no bytes,
+    /// and with room for 64 KiB and the longest part that is added last. It fails only if memory
+    /// runs out.
     pub fn new(alloc: Global) -> Result<Room, AllocError>
         ensures empty { IfOk result (λ room. room.block.items ≡ []) }
         ensures block { IfOk result (λ room. ENOUGH + 2048 ≤ vec_capacity room.block) }

@@ -6,8 +6,9 @@ ghost use Rattle.irig_files.specs.Apart.{AreApart, HasId, LeadToOneFile};
 use crate::file_system::FileSystem;
 use irig_text::ShelfFault;
 
-/// Whether two paths lead to one regular file: false if one leads to none, or to what is no regular
-/// file. `Err` if the system does not say what is there.
+/// Whether two paths lead to one regular file, by the numbers that no other file has: false if one
+/// leads to none, or to what is no regular file. `Err` if the system does not say what is there,
+/// for one of them or both.
 pub fn is_same_file<C: FileSystem>(system: &C, one: &str, other: &str) -> Result<bool, ShelfFault>
     ensures apart { IsTrue C.is_told → IfOk result (λ same. same ≡ false
         → AreApart (C.disk system.now) one.now other.now) }

@@ -1,7 +1,8 @@
-//! The files of the system: each method is one call. Nothing is known of them. What each one does
-//! is said with the traits, in `plain_calls` and `file_system`. Reading has two faults:
-//! `DumpFileFault` is of the file, which is not there, cannot be read or is too long, or memory
-//! runs out; `VcdFault` inside is of the dump in it. A `SystemFault` is the error of the call.
+//! The files of the system: each method is one call. Contracts know nothing of them. What each one
+//! does is said with the traits, in `plain_calls` and `file_system`. `runtime` is what the program
+//! has of the system. Reading has two faults: `DumpFileFault` is of the file, which is not there,
+//! cannot be read or is too long, or memory runs out; `VcdFault` inside is of the dump in it. A
+//! `SystemFault` is the error of the call. A window is a part of the time of a dump.
 
 ghost use Rattle.std.specs.Prelude.{◌≡◌, ◌≢◌, ◌↔◌, IfErr, IfOk, IsOk, IsTrue, None, Ok, OnErr, OnOk};
 ghost use Rattle.std.specs.Prelude.{Some, false, ⊤};
@@ -39,12 +40,13 @@ impl<'a, R: Files + Print + AllocGlobal> PlainCalls for SystemFolder<'a, R> {
 
     ghost may_write = { λ _ _. ⊤ };
 
-    // Opens the standard output.
+    // Opens the standard output, whatever the path: a caller asks for this only if the path leads
+    // there.
     fn open_output(&self, _: &str) -> Printer<'a, R> {
         io::writer(self.runtime())
     }
 
-    // Opens what is there, to write to it.
+    // Opens what is at the path, to write to it; it is not cut, and nothing is made.
     fn open_other(&self, path: &str) -> Result<R::File, SystemFault> {
         match as_it_is().open(self.runtime(), path) {
             Ok(file) => Ok(file),
@@ -52,7 +54,8 @@ impl<'a, R: Files + Print + AllocGlobal> PlainCalls for SystemFolder<'a, R> {
         }
     }
 
-    // Opens what is there as if to write to it, and writes nothing.
+    // Opens what is at the path as if to write to it, which shows whether it may be written.
+    // Nothing is written.
     fn open_seen(&self, path: &str) -> Result<SystemSeen<R::File>, SystemFault> {
         match as_it_is().open(self.runtime(), path) {
             Ok(file) => Ok(SystemSeen(file)),
@@ -60,7 +63,7 @@ impl<'a, R: Files + Print + AllocGlobal> PlainCalls for SystemFolder<'a, R> {
         }
     }
 
-    // What the system says of an open file.
+    // Whether an open file is a regular one, its mode and its numbers, as the system says.
     fn seen(&self, file: &SystemSeen<R::File>) -> Result<Described, SystemFault> {
         match file.0.metadata() {
             Ok(found) => Ok(described(&found)),
@@ -97,7 +100,7 @@ impl<R: Files + Print + AllocGlobal> FileSystem for SystemFolder<'_, R> {
         read_dump(self.runtime(), alloc, path, wire)
     }
 
-    // Reads a window of such a dump.
+    // Reads a window of the dump in the file at a path. The faults are those of `read`.
     fn read_window(
         &self,
         alloc: Global,
@@ -108,7 +111,8 @@ impl<R: Files + Print + AllocGlobal> FileSystem for SystemFolder<'_, R> {
         read_dump_window(self.runtime(), alloc, path, wire, window)
     }
 
-    // What is at the path, at the end of its links; `None` if nothing is there.
+    // What is at the path, at the end of its links: whether it is a regular file, its mode and its
+    // numbers, which no other file has; `None` if nothing is there.
     fn describe(&self, path: &str) -> Result<Option<Described>, SystemFault> {
         found(fs::metadata(self.runtime(), path))
     }
@@ -119,7 +123,8 @@ impl<R: Files + Print + AllocGlobal> FileSystem for SystemFolder<'_, R> {
         numbers(fs::metadata(self.runtime(), "/dev/stdout"))
     }
 
-    // The text of the link itself; `None` if nothing is at the path, or no link.
+    // The text of the symbolic link that is itself at the path, not followed; `None` if nothing is
+    // there, or no link.
     fn read_link(&self, path: &str) -> Result<Option<PathBuf>, SystemFault> {
         match fs::read_link(self.runtime(), path) {
             Ok(text) => Ok(Some(text)),
@@ -138,8 +143,9 @@ impl<R: Files + Print + AllocGlobal> FileSystem for SystemFolder<'_, R> {
     }
 }
 
-/// What a path leads to, by what the system says of it; `None` only if it says that nothing is
-/// there. It is a function for its clauses: of this system those of `FileSystem` say nothing.
+/// The answer of `describe`, by what the system says of a path; `None` only if it says that nothing
+/// is there. It is a function of its own for its contract: the contract of `describe` says nothing
+/// of the real system.
 fn found(said: io::Result<Metadata>) -> Result<Option<Described>, SystemFault>
     ensures some { IfOk said (λ found. (d : Described) × (result ≡ Ok (Some d))
         × (IsTrue d.is_file ↔ IsFile (file_type found))) }
@@ -154,8 +160,8 @@ fn found(said: io::Result<Metadata>) -> Result<Option<Described>, SystemFault>
     }
 }
 
-/// The numbers that no other file has, of what the answers go to, by what the system says of it;
-/// `None` only if it says that they go nowhere.
+/// The answer of `output`, by what the system says of the standard output: the numbers that no
+/// other file has; `None` only if it says that nothing is there.
 fn numbers(said: io::Result<Metadata>) -> Result<Option<(u64, u64)>, SystemFault>
     ensures some { OnOk said (IfOk result (λ id. id ≢ None)) }
     ensures none { IfErr said (λ error. IsOk result
@@ -169,7 +175,7 @@ fn numbers(said: io::Result<Metadata>) -> Result<Option<(u64, u64)>, SystemFault
     }
 }
 
-/// How a file that is there is opened to be written: it is not cut, and none is made.
+/// How a file that is there is opened to be written: its bytes stay, and no file is made.
 fn as_it_is() -> OpenOptions
     ensures write { IsTrue (asks_write result) }
     ensures kept { asks_truncate result ≡ false }
@@ -180,7 +186,8 @@ fn as_it_is() -> OpenOptions
     how
 }
 
-/// What the system says of a file.
+/// What the system says of a file: whether it is a regular one, its mode and its numbers, those of
+/// the device and of the file on it.
 fn described(found: &Metadata) -> Described
     ensures { IsTrue result.is_file ↔ IsFile (file_type found.now) }
 {

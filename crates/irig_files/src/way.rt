@@ -1,4 +1,5 @@
-//! How a text is written to what a path leads to: replaced whole, or in place.
+//! How a text is written to what a path leads to: a regular file is replaced whole by a new one,
+//! anything else is written in place. A `ShelfFault` says only that the text cannot be written.
 
 ghost use Rattle.std.specs.Prelude.{◌≡◌, ◌≢◌, None, Some, IfOk, IsTrue, MatchOption, false, true};
 ghost use Rattle.std.specs.Path.{path_buf_bytes};
@@ -21,9 +22,10 @@ pub enum Way {
     Other,
 }
 
-/// How a text is written to a path. Of a file that is to be replaced, `target` gets the path at the
-/// end of its links; else what it holds is not used. `Err` if the system does not say what is
-/// there, or the file must not be written.
+/// Finds how a text is written to a path. If the file there, or none yet, is to be replaced,
+/// `target` gets the path at the end of its links, since the link has to stay; else the caller does
+/// not use what `target` holds. `Err` if the system does not say what is there, there are too many
+/// links, or the file must not be written.
 pub fn way_to<C: FileSystem>(
     system: &C,
     path: &str,
@@ -40,8 +42,10 @@ pub fn way_to<C: FileSystem>(
     }
 }
 
-/// How a text is written to a path that leads to what is so described: in place if it is what the
-/// answers go to, also if that is a regular file.
+/// Finds how a text is written to a path that leads to `old`, something that is there: in place if
+/// it is what the program's answers go to, also if that is a regular file, since after a
+/// replacement later answers would go to the old file. `output` gives the numbers of what the
+/// answers go to, and `id` those of `old`; no two files have the same.
 fn way_over<C: FileSystem>(
     system: &C,
     path: &str,
@@ -66,8 +70,8 @@ fn way_over<C: FileSystem>(
     }
 }
 
-/// The way of the regular file that a path leads to, or of none yet (`is_there` is false): it is
-/// replaced. The target gets the path at the end of its links.
+/// The way `Replaced` of a path that leads to a regular file (`is_there`), or to none yet. The
+/// target gets the path at the end of its links.
 fn replaced<C: FileSystem>(
     system: &C,
     path: &str,
@@ -89,9 +93,10 @@ fn replaced<C: FileSystem>(
     }
 }
 
-/// The mode that the new file takes: that of the regular file at the target, or `None` if none is
-/// there. A file that must not be written is not replaced, and opening it as if to write shows
-/// that.
+/// The mode that the new file takes: that of the regular file at the target, or `None`, the usual
+/// mode, if none is there (`is_there` is false). The system would replace a file that must not be
+/// written, too; so the file is opened as if to write first, and if that fails, it is not replaced.
+/// `Err` also if the target is no longer a regular file, or the system does not describe it.
 fn mode_to_take<C: FileSystem>(
     system: &C,
     is_there: bool,

@@ -1,5 +1,5 @@
-//! A text written whole to a regular file. A `ShelfFault` says only that it was not written: which
-//! error it was is not reported.
+//! A text written whole to a regular file: to a new file first, which then takes the target's name.
+//! A `ShelfFault` says only that the text was not written: which error it was is not reported.
 
 ghost use Rattle.std.specs.Prelude.{◌≡◌, length, Ok, IfOk, OnErr, IsErr, IsTrue};
 ghost use Rattle.irig_disk.specs.{Name.IsName, Put.held};
@@ -8,9 +8,9 @@ ghost use Rattle.irig_files.specs.Once.{Replaces};
 use irig_disk::{Folder, Kept, put_text};
 use irig_text::{ShelfFault, Text};
 
-/// Writes a text to the target in a folder, by a new file that has the stem and a number as its
-/// name until it takes the target's. It takes the mode, if one is given. The new file's name is
-/// written to `name`, and the parts of the text wait in the block.
+/// Writes a text to the name `target` in the open folder `dir`, by a new file with this mode
+/// (`None`: the usual one). Until it takes the target's name, the new file's is `stem` and a
+/// number; `name` is the memory for it, and `block` that for the parts of the text.
 pub fn write_whole<F: Folder, T: Text>(
     folder: &mut F,
     dir: &F::Dir,
@@ -32,7 +32,7 @@ pub fn write_whole<F: Folder, T: Text>(
     or_shelf_fault(put_text(folder, dir, name, target, stem, mode, text, block))
 }
 
-/// What a call gives; which error it was is not reported.
+/// What a call gives; any error becomes a `ShelfFault`, which does not say which error it was.
 pub fn or_shelf_fault<T: Drop, E: Drop>(outcome: Result<T, E>) -> Result<T, ShelfFault>
     ensures given { IfOk result (λ value. outcome ≡ Ok value) }
     ensures failed { OnErr result (IsErr outcome) }

@@ -1,4 +1,4 @@
-//! That a text was written.
+//! That a text was written, and how.
 
 ghost use Rattle.std.specs.Prelude.{◌≡◌};
 ghost use Rattle.irig_files.specs.Puts.{count_of};
@@ -9,9 +9,9 @@ use irig_disk::Kept;
 /// A text was written to a file of the system.
 #[derive(Drop)]
 pub enum Written {
-    /// The file was replaced by a new one, and each crash leaves the text.
+    /// The file was replaced by a new one, and each crash from then on leaves the text.
     Whole(Kept),
-    /// What is no regular file took all of the text.
+    /// What is no regular file, or is what the answers go to, took all of the text.
     InPlace(InPlace),
 }
 

@@ -2,7 +2,7 @@
 //!
 //! A place is what a name leads to: the front of its folder, and the name after it. The number of a
 //! file is how many calls were done before it was made. Each list is looked through from its first
-//! item on.
+//! item on, so the first item that fits counts.
 
 ghost use Rattle.std.specs.Prelude.{◌≡◌, is_none, option_copied};
 ghost use Rattle.irig_folders.specs.{Tree.front_in, Tree.other_in, TreeFiles.output_in};
@@ -36,8 +36,8 @@ pub struct Layout {
     pub limit: u64,
 }
 
-/// What the places of names in a folder begin with, by a path of it. `None` if it is no path of a
-/// folder.
+/// The front of a folder by one of its paths: what the places of names in the folder begin with.
+/// `None` if `path` is no path of a folder.
 pub fn front_at<'f>(folders: &'f [FolderPath], path: &[u8]) -> Option<&'f str>
     ensures { option_copied result ≡ front_in folders.now path.now }
 {
@@ -48,14 +48,15 @@ pub fn front_at<'f>(folders: &'f [FolderPath], path: &[u8]) -> Option<&'f str>
     front_at(rest, path)
 }
 
-/// Whether a file is a regular one.
+/// Whether the file of this number is a regular one: it is not in `others`.
 pub fn is_regular(others: &[Other], number: usize) -> bool
     ensures { result ≡ is_none (other_in others.now number) }
 {
     other_at(others, number).is_none()
 }
 
-/// A file that is no regular one, by its number. `None` if the file is regular.
+/// The file of this number, if it is no regular one. `None` if it is not in `others`, so it is
+/// regular.
 pub fn other_at<'o>(others: &'o [Other], number: usize) -> Option<&'o Other>
     ensures { option_copied result ≡ other_in others.now number }
 {
@@ -66,8 +67,8 @@ pub fn other_at<'o>(others: &'o [Other], number: usize) -> Option<&'o Other>
     other_at(rest, number)
 }
 
-/// The number of the file that the program's answers go to. `None` if they go to no file of the
-/// list.
+/// The number of the file that the program's answers (its standard output) go to. `None` if they go
+/// to no file of the list.
 pub fn output_at(others: &[Other]) -> Option<usize>
     ensures { result ≡ output_in others.now }
 {

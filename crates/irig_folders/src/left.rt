@@ -1,8 +1,9 @@
 //! What a crash may leave of a folder in memory, for tests.
 //!
 //! A log of calls has the newest first, and begins with an empty folder. The number of a file is
-//! how many calls were done before it was made. `calls` is a log, and `older` what it has before
-//! its newest call. A sync is a call that keeps something over a crash.
+//! how many calls were done before it was made. So in a log with the newest call first, a call is
+//! that of file `number` if `number` calls are after it in the list. `calls` is a log, and `older`
+//! what it has without its newest call. A sync is a call that keeps something over a crash.
 
 ghost use Rattle.std.specs.Prelude.{◌≡◌, ◌++◌, IfOk, IsTrue};
 ghost use Rattle.irig_disk.specs.Held.{Held};
@@ -11,8 +12,9 @@ ghost use Rattle.irig_folders.specs.Log.{holds_in, may_hold_in};
 use crate::call::Call;
 use std::alloc::{AllocError, Global};
 
-/// The bytes that a file holds: all that calls added to it since it was made. It fails only if
-/// memory runs out.
+/// The bytes that a file holds: all that calls added to it since it was made; none if there is no
+/// such file. The search goes back from the newest call to the one that made the file. It fails
+/// only if memory runs out.
 pub fn bytes_of(alloc: Global, calls: &[Call], number: usize) -> Result<Vec<u8>, AllocError>
     ensures { IfOk result (λ bytes. bytes.items ≡ (holds_in calls.now number).bytes) }
 {
@@ -51,7 +53,9 @@ pub fn mode_of(calls: &[Call], number: usize) -> u32
     }
 }
 
-/// Whether a crash leaves a file as it is seen: it was not changed since its last sync.
+/// Whether each crash leaves a file as it is seen: it was not made or changed since its last sync.
+/// Only the newest call on the file counts: after a sync all is kept, after any other call not.
+/// True if there is no such file.
 pub fn is_kept(calls: &[Call], number: usize) -> bool
     ensures kept { IsTrue result → (h : Held) → may_hold_in calls.now number h
         → h ≡ holds_in calls.now number }

@@ -2,8 +2,9 @@
 //! first.
 //!
 //! The number of a file is how many calls were done before it was made. `older` is what a log has
-//! before its newest call. A call that was to fail does nothing and answers `Planned`; each call
-//! can also fail as memory runs out, which is `NoMemory`.
+//! without its newest call. A test plans with `fail` which calls fail. A call that is planned to
+//! fail does nothing and answers `Planned` (`append` writes a half); each call can also fail as
+//! memory runs out, which is `NoMemory`.
 
 ghost use Rattle.std.specs.Prelude.{◌≡◌, ◌↔◌, ◌≤◌, ◌<◌, ◌∷◌, ◌++◌, ◌+◌, ◌-◌, ◌^◌, [], List, false, true};
 ghost use Rattle.std.specs.Prelude.{None, OnOk, OnErr, IfOk, IfErr, IfSome, IsTrue, MatchOption, min};
@@ -33,7 +34,8 @@ pub struct MemoryFile {
     number: usize,
 }
 
-/// A folder in memory. It can let some calls fail.
+/// A folder in memory: the log of its calls. Those numbered from `fails_from` up to `fails_to`,
+/// which is not included, fail; `done` calls were counted since the last `fail`.
 #[derive(Drop)]
 pub struct Memory {
     alloc: Global,
@@ -43,7 +45,8 @@ pub struct Memory {
     fails_to: u64,
 }
 
-/// The number of the file that a name leads to. `None` if there is none.
+/// The number of the file that a name leads to after these calls. `None` if it leads to none. It
+/// goes back from the newest call to the one that made the file.
 pub fn file_at(calls: &[Call], name: &[u8]) -> Option<usize>
     ensures { result ≡ leads_in calls.now name.now }
 {
@@ -54,7 +57,7 @@ pub fn file_at(calls: &[Call], name: &[u8]) -> Option<usize>
     file_at(older, name_before(call, name)?)
 }
 
-/// Whether a call makes a file of a name.
+/// Whether a call makes a new file with this name.
 fn is_made(call: &Call, name: &[u8]) -> bool
     ensures { result ≡ makes call.now name.now }
 {
@@ -64,8 +67,9 @@ fn is_made(call: &Call, name: &[u8]) -> bool
     }
 }
 
-/// The name that led, before a call that does not make it, to the file that this name leads to
-/// after it. That is the old name after a rename; `None` if the call took this name away.
+/// The name that led, before this call, to the file to which `name` leads after it. The call is not
+/// the one that makes the file. After a rename to `name` that is the old name; `None` if the call
+/// took `name` away; else `name` itself.
 fn name_before<'n>(call: &'n Call, name: &'n [u8]) -> Option<&'n [u8]>
     ensures { (older : List Call) → makes call.now name.now ≡ false → MatchOption result
         (leads_in (call.now ∷ older) name.now ≡ None)
@@ -78,7 +82,8 @@ fn name_before<'n>(call: &'n Call, name: &'n [u8]) -> Option<&'n [u8]>
     }
 }
 
-/// Adds a call to a log, as the newest. It fails only if memory runs out.
+/// Adds a call to a log as the newest, so at the front. It fails only if memory runs out, and then
+/// the log stays.
 fn add(calls: &mut Vec<Call>, call: Call) -> Result<(), MemoryFault>
     ensures ok { OnOk result (calls.new.items ≡ call ∷ calls.old.items) }
     ensures err { OnErr result (calls.new.items ≡ calls.old.items) }
@@ -111,8 +116,8 @@ impl Memory {
         &self.calls
     }
 
-    /// Lets the calls from number `from` on fail, up to number `to`, which is not included. Calls
-    /// count from this moment on, from 0.
+    /// Plans that the calls from number `from` on fail, up to number `to`, which is not included.
+    /// Calls are numbered from this moment on, from 0.
     pub fn fail(&mut self, from: u64, to: u64)
         ensures calls { self.new.calls ≡ self.old.calls }
         ensures done { self.new.done ≡ 0 }
@@ -124,7 +129,8 @@ impl Memory {
         self.fails_to = to;
     }
 
-    /// Whether this call is to fail. It counts the call.
+    /// Whether this call is planned to fail. It counts the call, so it is asked just once in each
+    /// call.
     fn is_planned(&mut self) -> bool
         ensures planned { IsTrue result
             ↔ (self.old.fails_from ≤ self.old.done) × (self.old.done < self.old.fails_to) }
@@ -140,8 +146,8 @@ impl Memory {
 }
 
 impl Memory {
-    /// Adds a new file with a mode to the log. Its name has to be free. It fails only if memory
-    /// runs out.
+    /// Adds a new file with a mode to the log, and returns the file. Its name has to be free. It
+    /// fails only if memory runs out, and then nothing changes.
     fn add_file(&mut self, name: &str, mode: u32) -> Result<MemoryFile, MemoryFault>
         ensures ok { leads_in self.old.calls.items name.now ≡ None → IfOk result
             (λ file. Made (disk_of self.old.calls.items) (disk_of self.new.calls.items)
@@ -151,6 +157,7 @@ impl Memory {
         ensures number { IfOk result (λ file. file.number ≡ vec_len self.old.calls) }
         ensures time { Elapses (disk_of self.old.calls.items) (disk_of self.new.calls.items) }
     {
+        // The number of a file is how many calls were done before it was made.
         let number = self.calls.len();
         let name = name.as_bytes().to_vec(self.alloc)?;
         add(&mut self.calls, Call::Make(name, mode))?;
@@ -159,8 +166,8 @@ impl Memory {
 }
 
 impl Memory {
-    /// Makes a new file under a name if it is free; a hidden one is its owner's alone. `None`: the
-    /// name is taken.
+    /// Makes a new file under a name if that is free. A hidden one can be read and written by its
+    /// owner alone; any other has the mode `USUAL`. `None`: the name is taken.
     pub fn make_new(&mut self, name: &str, hidden: bool) -> Result<Option<MemoryFile>, MemoryFault>
         ensures done { MatchResult result (λ made. MatchOption made
             (IsTaken (disk_of self.old.calls.items) (disk_of self.new.calls.items) name.now)
@@ -181,7 +188,8 @@ impl Memory {
         Ok(Some(file))
     }
 
-    /// Keeps the names that begin with the front: after it, a crash leaves each as it is seen.
+    /// Keeps the names that begin with `front`, all if it is empty: after this call, a crash leaves
+    /// each as it is seen.
     pub fn sync_front(&mut self, front: &str) -> Result<(), MemoryFault>
         ensures ok { OnOk result (SyncedNames (disk_of self.old.calls.items)
             (disk_of self.new.calls.items) (λ name. front.now ++ name)) }
@@ -232,7 +240,8 @@ impl Folder for Memory {
 
     ghost only_now = { λ folder. log_only_now folder.calls.items };
 
-    // Makes a new file under a name if it is free; `None`: it is taken.
+    // Makes a new file under a name if that is free, a hidden one with its owner's mode; `None`: it
+    // is taken. There is one folder, so its argument says nothing.
     fn make(
         &mut self,
         _: &(),
@@ -242,7 +251,8 @@ impl Folder for Memory {
         self.make_new(name, hidden)
     }
 
-    // Adds bytes at the end of a file. If the call is to fail, half of them are written.
+    // Adds bytes at the end of a file. If the call is planned to fail, half of them (rounded down)
+    // are written, as a call of a system can write a part.
     fn append(&mut self, file: &mut MemoryFile, bytes: &[u8]) -> Result<(), MemoryFault> {
         if self.is_planned() {
             let part = bytes[..bytes.len() / 2].to_vec(self.alloc)?;
@@ -253,7 +263,7 @@ impl Folder for Memory {
         add(&mut self.calls, Call::Append(file.number, all))
     }
 
-    // Gives a file a mode.
+    // Gives a file a mode: the bits that say who may read and write it.
     fn take_mode(&mut self, file: &MemoryFile, mode: u32) -> Result<(), MemoryFault> {
         if self.is_planned() {
             return Err(MemoryFault::Planned);
@@ -261,7 +271,7 @@ impl Folder for Memory {
         add(&mut self.calls, Call::TakeMode(file.number, mode))
     }
 
-    // Keeps what a file holds: after it, a crash leaves that.
+    // Keeps what a file holds: after this call, a crash leaves that.
     fn sync_file(&mut self, file: &MemoryFile) -> Result<(), MemoryFault> {
         if self.is_planned() {
             return Err(MemoryFault::Planned);
@@ -295,7 +305,7 @@ impl Folder for Memory {
         add(&mut self.calls, Call::Remove(gone))
     }
 
-    // Keeps all names, as there is one folder: after it, a crash leaves each as it is seen.
+    // Keeps all names, as there is one folder: after this call, a crash leaves each as it is seen.
     fn sync_names(&mut self, _: &()) -> Result<(), MemoryFault> {
         self.sync_front("")
     }

@@ -8,9 +8,9 @@ use std::alloc::{AllocError, AllocFailed};
 /// Why a call on a folder in memory failed.
 #[derive(Clone, Copy)]
 pub enum MemoryFault {
-    /// A growth of the log was refused.
+    /// Memory ran out.
     NoMemory,
-    /// The call was to fail.
+    /// The test planned that this call fails.
     Planned,
     /// No file has the name.
     NoSuchName,

@@ -1,8 +1,11 @@
-//! The files of one folder in memory, for tests. It is the folder `.`, and has no links.
+//! The files of one folder in memory, for tests. It is the folder `.`, and has no links. What each
+//! method does is said with the traits, `PlainCalls` and `FileSystem` of irig_files. `calls` is the
+//! log of the calls that were done; `file_at`, `bytes_of` and `mode_of` find in it a file by its
+//! name, its bytes and its mode.
 //!
 //! A file is known by its number, which is how many calls were done before it was made; its id is 0
 //! and that number. The answers of the program go to no file here. `Parts` are the recording of a
-//! dump and its journal.
+//! dump and its journal. No call here is planned to fail.
 
 ghost use Rattle.std.specs.Prelude.{◌≡◌, None, ⊤};
 ghost use Rattle.std.proofs.Common.{ap};
@@ -28,12 +31,12 @@ use std::path::PathBuf;
 pub struct Nothing;
 
 impl Write for Nothing {
-    // Fails: nothing is written.
+    // Fails always: nothing is written.
     fn write(&mut self, _: &[u8]) -> io::Result<usize> {
         Err(io::Error::from(ErrorKind::Other))
     }
 
-    // Nothing waits to be written.
+    // Nothing waits to be written, so there is nothing to do.
     fn flush(&mut self) -> io::Result<()> {
         Ok(())
     }
@@ -50,17 +53,18 @@ impl PlainCalls for Memory {
 
     ghost may_write = { λ _ _. ⊤ };
 
-    // What the answers go to: nothing takes them.
+    // What the program's answers go to: no file of this folder, so nothing takes them.
     fn open_output(&self, _: &str) -> Nothing {
         Nothing
     }
 
-    // What is no regular file, open to be written: it takes no byte.
+    // What is no regular file, open to be written. There is none here, so it takes no byte.
     fn open_other(&self, _: &str) -> Result<Nothing, MemoryFault> {
         Ok(Nothing)
     }
 
-    // Opens the file at a path to be described. `NoSuchName`: none is there.
+    // Opens the file at a path to be described. Each file may be written. `NoSuchName`: none is
+    // there.
     fn open_seen(&self, path: &str) -> Result<SeenFile, MemoryFault> {
         match file_at(self.calls(), path.as_bytes()) {
             Some(number) => Ok(SeenFile { number }),
@@ -68,7 +72,7 @@ impl PlainCalls for Memory {
         }
     }
 
-    // What an open file is: a regular one, with its mode.
+    // What an open file is: a regular one, with its mode. All files here are regular.
     fn seen(&self, file: &SeenFile) -> Result<Described, MemoryFault> {
         Ok(Described {
             is_file: true,
@@ -95,9 +99,9 @@ impl FileSystem for Memory {
 
     ghost ids_differ = { λ _ one other same. ap (λ id. id.1) same };
 
-    // Reads the dump in a file. The outer error is that it cannot be read, is too long, or memory
-    // runs out; the inner one is a fault of the dump. `wire` is the name of the wire to be read, if
-    // one is given.
+    // Reads the dump in the file at a path. The outer error is that no file is there, that it is
+    // too long, or that memory runs out, the only error of `bytes_of`; the inner one is a fault of
+    // the dump. `wire` is the name of the wire to be read, if one is given.
     fn read(
         &self,
         alloc: Global,
@@ -131,7 +135,9 @@ impl FileSystem for Memory {
         read_window(alloc, bytes.as_slice(), wire, window)
     }
 
-    // What a path leads to; `None` if nothing is there. A path that is no single name is no file.
+    // What a path leads to; `None` if nothing is there. A path that is no single name is described
+    // as what is no regular file, since `None` would mean that a file can be made there. Its id
+    // does not matter: only ids of regular files are compared, as the answers go to no file here.
     fn describe(&self, path: &str) -> Result<Option<Described>, MemoryFault> {
         if !is_name(path) {
             return Ok(Some(Described {
@@ -160,7 +166,7 @@ impl FileSystem for Memory {
         Ok(None)
     }
 
-    // Opens the folder at a path: only `.` is one.
+    // Opens the folder at a path: only `.` is one. `NoSuchName`: any other path.
     fn open_folder(&self, _: &mut (), path: &str) -> Result<(), MemoryFault> {
         if path == "." {
             Ok(())

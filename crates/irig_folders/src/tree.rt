@@ -2,9 +2,10 @@
 //! log of the calls on all their places, and what their paths lead to.
 //!
 //! A place is what a name leads to: the front of its folder, and the name after it. The number of a
-//! file is how many calls were done before it was made. A call that was to fail answers `Planned`;
-//! each call can also fail as memory runs out, which is `NoMemory`. `NoSuchName` says that no file
-//! has the name, unless its call says more.
+//! file is how many calls were done before it was made. `memory` is one folder in memory whose
+//! names are these places, so a call on a tree is a call there, and can be planned to fail with
+//! `memory.fail`; such a call answers `Planned`; each call can also fail as memory runs out, which
+//! is `NoMemory`. `NoSuchName` says that no file has the name, unless its call says more.
 
 ghost use Rattle.std.specs.Prelude.{◌++◌, string_bytes, true};
 ghost use Rattle.std.proofs.lemmas.List.{append_cancel_left};
@@ -32,17 +33,18 @@ pub enum Plain {
     OpenOther,
 }
 
-/// Folders in memory. They can let some calls fail.
+/// Folders in memory. `memory` has all files by their places, `layout` the paths of folders and the
+/// files that are no regular ones.
 #[derive(Drop)]
 pub struct Tree {
     pub memory: Memory,
     pub layout: Layout,
     pub alloc: Global,
-    /// The calls that fail and would change nothing.
+    /// Which of the calls that change nothing fails, if one does.
     pub blind: Option<Plain>,
 }
 
-/// An open folder in memory.
+/// An open folder in memory: the front of its places.
 #[derive(Drop)]
 pub struct TreeDir {
     pub front: String,
@@ -63,8 +65,8 @@ impl Tree {
         }
     }
 
-    /// Adds a path of a folder, whose places begin with the front. It fails only if memory runs
-    /// out.
+    /// Adds a path of a folder. The places of the names in the folder begin with `front`. Two paths
+    /// with one front lead to one folder. It fails only if memory runs out.
     pub fn add_path(&mut self, path: &str, front: &str) -> Result<(), MemoryFault> {
         let path = String::from_str(self.alloc, path)?;
         let front = String::from_str(self.alloc, front)?;
@@ -72,26 +74,29 @@ impl Tree {
         Ok(())
     }
 
-    /// Adds a file that is no regular one: a link, if it has a text. `NoSuchName`: its place is
-    /// taken.
+    /// Adds a file that is no regular one: a link to the path `text`, or without a text a pipe.
+    /// Each crash leaves it. `NoSuchName`: its place is taken.
     pub fn add_other(&mut self, place: &str, text: Option<String>) -> Result<(), MemoryFault> {
         self.add_in_place(place, text, false)
     }
 
-    /// Adds the file that the program's answers go to. `NoSuchName`: its place is taken.
+    /// Adds the file that the program's answers (its standard output) go to. `NoSuchName`: its
+    /// place is taken.
     pub fn add_output(&mut self, place: &str) -> Result<(), MemoryFault> {
         self.add_in_place(place, None, true)
     }
 
-    /// Adds a file that is written in place, not by a new one, and keeps its name. `text` is where
-    /// it leads, if it is a link; `takes_answers` says that the program's answers go to it.
-    /// `NoSuchName`: its place is taken.
+    /// Adds a file that is written in place, not replaced by a new one. Each crash leaves it.
+    /// `text` is where it leads, if it is a link; `takes_answers` says that the program's answers
+    /// go to it. `NoSuchName`: its place is taken. After any other error nothing is said of the
+    /// tree.
     fn add_in_place(
         &mut self,
         place: &str,
         text: Option<String>,
         takes_answers: bool,
     ) -> Result<(), MemoryFault> {
+        // The number that `make_new` gives the file: how many calls were done before.
         let number = self.memory.calls().len();
         let Some(_) = self.memory.make_new(place, false)? else {
             return Err(MemoryFault::NoSuchName);
@@ -101,6 +106,7 @@ impl Tree {
             text,
             takes_answers,
         })?;
+        // The name is kept over a crash; the empty front means all places.
         self.memory.sync_front("")
     }
 
@@ -113,6 +119,7 @@ impl Tree {
         self.memory.append(&mut file, bytes)?;
         self.memory.take_mode(&file, mode)?;
         self.memory.sync_file(&file)?;
+        // All names are kept over a crash, so this one is, too.
         self.memory.sync_front("")
     }
 }
@@ -152,9 +159,9 @@ impl Folder for Tree {
 
     ghost only_now = { λ t. log_only_now t.memory.calls.items };
 
-    // Makes a new file under a name in a folder if it is free; `None`: it is taken. It fails with
-    // `NoSuchName` if the number that the new file would get is kept for one that is no regular
-    // one.
+    // Makes a new file under a name in a folder if that is free; `None`: it is taken. The new file
+    // gets the number of calls so far. It fails with `NoSuchName` if `others` has that number,
+    // since the file would not be regular then.
     fn make(
         &mut self,
         dir: &TreeDir,
@@ -173,18 +180,18 @@ impl Folder for Tree {
         self.memory.append(file, bytes)
     }
 
-    // Gives a file a mode.
+    // Gives a file a mode: the bits that say who may read and write it.
     fn take_mode(&mut self, file: &MemoryFile, mode: u32) -> Result<(), MemoryFault> {
         self.memory.take_mode(file, mode)
     }
 
-    // Keeps what a file holds: after it, a crash leaves that.
+    // Keeps what a file holds: after this call, a crash leaves that.
     fn sync_file(&mut self, file: &MemoryFile) -> Result<(), MemoryFault> {
         self.memory.sync_file(file)
     }
 
-    // Gives a file of a folder another name, instead of the file that had it. `NoSuchName`: no file
-    // has the first name.
+    // Gives a file of a folder another name in it, instead of the file that had it. `NoSuchName`:
+    // no file has the first name.
     fn rename(&mut self, dir: &TreeDir, from: &str, to: &str) -> Result<(), MemoryFault> {
         let old_place = both(self.alloc, dir.front.as_str(), from)?;
         let new_place = both(self.alloc, dir.front.as_str(), to)?;
@@ -198,7 +205,8 @@ impl Folder for Tree {
         self.memory.remove(&(), place.as_str())
     }
 
-    // Keeps the names in a folder: after it, a crash leaves each as it is seen.
+    // Keeps the names in a folder, those with its front: after this call, a crash leaves each as it
+    // is seen.
     fn sync_names(&mut self, dir: &TreeDir) -> Result<(), MemoryFault> {
         self.memory.sync_front(dir.front.as_str())
     }

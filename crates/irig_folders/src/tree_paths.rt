@@ -1,8 +1,10 @@
-//! Where paths lead in folders in memory.
+//! Where paths lead in folders in memory, a `Tree`. Its `memory` has all files by their places, and
+//! its `layout` the paths of folders and the files that are no regular ones.
 //!
 //! A place is what a name leads to: the front of its folder, and the name after it. What fails with
-//! `AllocError` fails only if memory runs out. `other_at` gives the file of a number that is no
-//! regular one.
+//! `AllocError` fails only if memory runs out. `front_at` gives the front of a folder by a path,
+//! `file_at` the number of a file by its place, `folder_of` a path without its last name (`.` if it
+//! is a name alone), and `other_at` the file of a number if it is no regular one.
 
 ghost use Rattle.std.specs.Prelude.{◌≡◌, ◌++◌, IfOk, IsErrOf, None, option_copied, option_map};
 ghost use Rattle.std.specs.Prelude.{string_bytes};
@@ -21,8 +23,8 @@ use irig_files::folder_of;
 use std::alloc::{AllocError, Global};
 use std::path::{Path, PathBuf};
 
-/// The place of a path, whatever is there. `None` if there is no such folder, or the path has no
-/// name at its end.
+/// The place of a path, whether a file is there or not. No link is followed. `None` if there is no
+/// such folder, or the path has no name at its end, as `a/..`.
 pub fn place_at(tree: &Tree, path: &str) -> Result<Option<String>, AllocError>
     ensures { IfOk result (λ place. option_map string_bytes place
         ≡ place_in tree.now.layout.folders.items path.now) }
@@ -37,7 +39,7 @@ pub fn place_at(tree: &Tree, path: &str) -> Result<Option<String>, AllocError>
     Ok(Some(place))
 }
 
-/// A text with another after it, as one.
+/// The text `one` and after it the text `other`, as one text.
 pub fn both(alloc: Global, one: &str, other: &str) -> Result<String, AllocError>
     ensures { IfOk result (λ all. string_bytes all ≡ one.now ++ other.now) }
 {
@@ -54,7 +56,8 @@ pub fn path_of(alloc: Global, text: &str) -> Result<PathBuf, AllocError>
     Ok(PathBuf::from(text))
 }
 
-/// The text of a file that is a link. `None` if it is no link.
+/// The text of a file, if it is a link: the path that it leads to; else `None`. `other` is what
+/// `other_at` gives: `None` for a regular file.
 fn text_in(other: Option<&Other>) -> Option<&str>
     ensures { option_copied result ≡ text_of (option_copied other.entry) }
 {
@@ -69,7 +72,8 @@ fn text_in(other: Option<&Other>) -> Option<&str>
     }
 }
 
-/// The text of the link at a path. `None` if no link is there.
+/// The text of the link that is itself at a path: the path that it leads to. `None` if nothing is
+/// there, or no link.
 pub fn link_text<'t>(tree: &'t Tree, path: &str) -> Result<Option<&'t str>, AllocError>
     ensures { IfOk result (λ text. option_copied text ≡ text_at tree.now.layout.folders.items
         (over tree.now.layout (leads_in tree.now.memory.calls.items)) path.now) }
@@ -83,7 +87,8 @@ pub fn link_text<'t>(tree: &'t Tree, path: &str) -> Result<Option<&'t str>, Allo
     Ok(text_in(other_at(&tree.layout.others, file)))
 }
 
-/// The path to which links lead from a path, at most `links` of them. `None` if they are more.
+/// Follows links from a path, at most `links` of them, and returns the path where no link is.
+/// `None` if there are more links, as in a chain without an end.
 pub fn end_at(tree: &Tree, path: PathBuf, links: u64) -> Result<Option<PathBuf>, AllocError>
     ensures { IfOk result (λ end. option_map path_buf_bytes end ≡ end_of
         (text_at tree.now.layout.folders.items
@@ -100,7 +105,9 @@ pub fn end_at(tree: &Tree, path: PathBuf, links: u64) -> Result<Option<PathBuf>,
     }
 }
 
-/// The path to which the text of a link at a path leads: from the folder of the link on.
+/// The path to which the link at `path` leads; `text` is that of the link. The text counts from the
+/// folder of the link, so the link's name goes first; or from the root if the text begins with a
+/// slash, and then `push` replaces the whole path.
 fn next_path(mut path: PathBuf, text: &str) -> Result<PathBuf, AllocError>
     ensures { IfOk result (λ next. path_buf_bytes next ≡ followed (path_buf_bytes path) text.now) }
 {
@@ -109,8 +116,9 @@ fn next_path(mut path: PathBuf, text: &str) -> Result<PathBuf, AllocError>
     Ok(path)
 }
 
-/// The number of the file that a path leads to, over links; `None` if nothing is there.
-/// `NoSuchName` if the path leads nowhere: over too many links, or to no folder.
+/// The number of the file that a path leads to, over links; `None` if its folder has no such name.
+/// `NoSuchName` if the path leads over more links than the tree allows (`limit`), or to no folder.
+/// The only other fault is `NoMemory`: memory runs out.
 pub fn find(tree: &Tree, path: &str) -> Result<Option<usize>, MemoryFault>
     ensures found { IfOk result (λ found. IsFound tree.now.layout
         (leads_in tree.now.memory.calls.items) path.now found) }

@@ -1,5 +1,6 @@
-//! What the files of folders in memory are read as. An error of `DumpFileFault` is that a file
-//! cannot be read, that it is too long, or that memory ran out.
+//! What the files of folders in memory, a `Tree`, are read as. `find` is the number of the file
+//! that a path leads to, over links. An error of `DumpFileFault` is that a file cannot be read,
+//! that it is too long, or that memory ran out.
 
 ghost use Rattle.std.specs.Prelude.{◌≡◌, IfErr, IfOk, IsErrOf, None, Ok, Some};
 ghost use Rattle.irig_folders.specs.{Log.holds_in, TreeFiles.held_at};
@@ -13,7 +14,9 @@ use crate::tree_paths::find;
 use irig_files::DumpFileFault;
 use std::alloc::Global;
 
-/// The bytes of the file that a path leads to. `CannotBeRead` if none is there.
+/// The bytes of the file that a path leads to. `CannotBeRead` if no file is there; `find` answers
+/// `NoSuchName` if the path leads over too many links or to no folder. The only other fault is that
+/// memory ran out.
 pub fn bytes_at(tree: &Tree, alloc: Global, path: &str) -> Result<Vec<u8>, DumpFileFault>
     ensures held { IfOk result (λ bytes. held_at tree.now.layout
         tree.now.memory.calls.items path.now ≡ Some bytes.items) }
@@ -40,8 +43,9 @@ fn held_bytes(tree: &Tree, alloc: Global, file: usize) -> Result<Vec<u8>, DumpFi
     }
 }
 
-/// What is read of bytes in memory. `CannotBeRead`, which cannot come of these, is answered as
-/// memory that ran out: so it says only that no file is at a path.
+/// What a read of bytes in memory gave. Such a read never answers `CannotBeRead`, but its contract
+/// does not say so. It would become `OutOfMemory` here, so `CannotBeRead` of a tree says only that
+/// no file is at the path.
 pub fn read_of<T: Drop>(read: Result<T, DumpFileFault>) -> Result<T, DumpFileFault>
     ensures ok { IfOk result (λ value. read ≡ Ok value) }
     ensures long { IsErrOf result TooLong → IsErrOf read TooLong }

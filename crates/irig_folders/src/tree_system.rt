@@ -1,8 +1,11 @@
-//! The single calls on paths of folders in memory, for tests.
+//! The single calls on paths of folders in memory, for tests. What each method does is said with
+//! the traits, `PlainCalls` and `FileSystem` of irig_files. `find` is the number of the file that a
+//! path leads to, over links.
 //!
 //! A file is known by its number, which is how many calls were done before it was made; its id is 0
-//! and that number. `blind` names a call that is to fail, with `Planned`. `Parts` are the recording
-//! of a dump and its journal.
+//! and that number. `blind` names a call that is planned to fail, with `Planned`. The answers are
+//! those of the program, on its standard output. `Parts` are the recording of a dump and its
+//! journal. `NoMemory` says that memory ran out.
 //!
 //! Where `match` hands an error on, `?` would do the same; the proof of it takes longer.
 
@@ -29,17 +32,17 @@ use std::alloc::Global;
 use std::io::{self, Write};
 use std::path::PathBuf;
 
-/// What is no regular file: it takes all bytes.
+/// What is no regular file, or takes the answers: it takes all bytes, and they are gone.
 #[derive(Drop)]
 pub struct Pipe;
 
 impl Write for Pipe {
-    // Takes all bytes.
+    // Takes all bytes, and says so.
     fn write(&mut self, bytes: &[u8]) -> io::Result<usize> {
         Ok(bytes.len())
     }
 
-    // Nothing waits to be written.
+    // Nothing waits to be written, so there is nothing to do.
     fn flush(&mut self) -> io::Result<()> {
         Ok(())
     }
@@ -69,7 +72,8 @@ impl PlainCalls for Tree {
         }
     }
 
-    // Opens the file at a path as if to write it. It fails if none is there or it must not be.
+    // Opens the file at a path as if to write to it. `NoSuchName`: none is there, or it must not be
+    // written, or `find` has a fault, whichever: who calls this asks only whether it failed.
     fn open_seen(&self, path: &str) -> Result<SeenFile, MemoryFault> {
         if self.blind == Some(Plain::OpenSeen) {
             return Err(MemoryFault::Planned);
@@ -82,7 +86,7 @@ impl PlainCalls for Tree {
         }
     }
 
-    // What an open file is.
+    // Whether an open file is a regular one, its mode and its id.
     fn seen(&self, file: &SeenFile) -> Result<Described, MemoryFault> {
         match self.blind {
             Some(Plain::Seen) => Err(MemoryFault::Planned),
@@ -98,7 +102,8 @@ fn is_writable(mode: u32) -> bool
     mode / 0o200 % 2 == 1
 }
 
-/// What a file is; one that is written in place counts as no regular one.
+/// What the file of a number is: whether it is a regular one, its mode and its id. One that is
+/// written in place, so also the one that the answers go to, counts as no regular one.
 fn described(tree: &Tree, file: usize) -> Described
     ensures file { result.is_file ≡ is_none (other_in tree.now.layout.others.items file) }
     ensures mode { result.mode ≡ (holds_in tree.now.memory.calls.items file).mode }
@@ -111,8 +116,8 @@ fn described(tree: &Tree, file: usize) -> Described
     }
 }
 
-/// What a file is, by a path that leads to it: the one that the answers go to counts as a regular
-/// one here, as on a system.
+/// What `describe` shows of the file of a number: as `described` does, but the file that the
+/// answers go to counts as a regular one, as it can be on a system.
 fn shown(tree: &Tree, file: usize) -> Described
     ensures regular { result.is_file ≡ true → output_in tree.now.layout.others.items ≢ Some file
         → is_none (other_in tree.now.layout.others.items file) ≡ true }
@@ -137,8 +142,8 @@ fn output_id(tree: &Tree) -> Option<(u64, u64)>
     }
 }
 
-/// The text of the link at a path; `None` if no link is there. `NoSuchName` if links lead nowhere
-/// from there.
+/// The text of the link at a path; `None` if no link is there. `NoSuchName` if more links follow
+/// one another from there than the tree allows.
 fn read_text<'t>(tree: &'t Tree, path: &str) -> Result<Option<&'t str>, MemoryFault>
     ensures { IfOk result (λ text. option_copied text ≡ link_at tree.now.layout
         (over tree.now.layout (leads_in tree.now.memory.calls.items)) path.now) }
@@ -170,8 +175,9 @@ impl FileSystem for Tree {
 
     ghost ids_differ = { λ _ one other same. ap (λ id. id.1) same };
 
-    // Reads the dump in a file. The outer error is of the file, the inner one of the dump. `wire`
-    // is the name of the wire to be read, if one is given.
+    // Reads the dump in the file that a path leads to. The outer error is of the file, the inner
+    // one of the dump. `wire` is the name of the wire to be read, if one is given. `read_of` is for
+    // the contract: it lets no `CannotBeRead` through, which a read of bytes never answers.
     fn read(
         &self,
         alloc: Global,
@@ -195,7 +201,8 @@ impl FileSystem for Tree {
         read_of(read_window(alloc, bytes.as_slice(), wire, window))
     }
 
-    // What a path leads to; `None` if nothing is there.
+    // What a path leads to; `None` if its folder has no such name. `NoSuchName`: too many links, or
+    // no folder.
     fn describe(&self, path: &str) -> Result<Option<Described>, MemoryFault> {
         if self.blind == Some(Plain::Describe) {
             return Err(MemoryFault::Planned);
@@ -215,7 +222,8 @@ impl FileSystem for Tree {
         }
     }
 
-    // The text of the link at a path, as a path; `None` if no link is there.
+    // The text of the link at a path, as a path; `None` if no link is there. The faults are those
+    // of `read_text`.
     fn read_link(&self, path: &str) -> Result<Option<PathBuf>, MemoryFault> {
         if self.blind == Some(Plain::ReadLink) {
             return Err(MemoryFault::Planned);
@@ -226,7 +234,7 @@ impl FileSystem for Tree {
         }
     }
 
-    // Opens the folder at a path. `NoSuchName`: none is there.
+    // Opens the folder that has this path, and leaves it in `dir`. `NoSuchName`: none has it.
     fn open_folder(&self, dir: &mut TreeDir, path: &str) -> Result<(), MemoryFault> {
         if self.blind == Some(Plain::OpenFolder) {
             return Err(MemoryFault::Planned);

@@ -1,5 +1,6 @@
 //! One block of memory as a row of places, each empty or holding an item; they count from 0. Every
-//! pointer of this crate is here. A deed is the right to give a block back.
+//! pointer of this crate is here; contracts say which places are full, and what is read has to be.
+//! A deed is the right to give a block back.
 //!
 //! Where `match` hands an error on, `?` would do the same; the proof of it takes longer.
 
@@ -62,7 +63,8 @@ pub(crate) fn allocate<T, A: Allocator>(
     }
 }
 
-/// Gives the block of `len` places back, whose deed this is. The items in it are forgotten.
+/// Gives the block of `len` places back, whose deed this is. The items in it are forgotten: nothing
+/// is dropped.
 pub(crate) fn deallocate<T, A: Allocator>(alloc: &A, len: usize, cells: Cells<T>, deed: Deed<T, A>)
     requires { (deed.at ≡ cells.start) × (deed.len ≡ len) × (length cells.slots ≡ len)
         × (deed.alloc ≡ alloc.now) }
@@ -74,9 +76,9 @@ pub(crate) fn deallocate<T, A: Allocator>(alloc: &A, len: usize, cells: Cells<T>
     }
 }
 
-/// Makes a block of `old` places one of `len`, which keeps the items in its first `full` places. It
-/// can stay where it is. If memory runs out, the error has the block as long as before. No other
-/// item is kept.
+/// Makes a block of `old` places one of `len`, which keeps the items in its first `full` places,
+/// and no other item. The allocator can leave it where it is. If memory runs out, the error has the
+/// block as it was.
 pub(crate) fn enlarge<T, A: Allocator>(
     alloc: &A,
     full: usize,
@@ -115,7 +117,7 @@ pub(crate) fn nowhere<T>(near: &u8, len: usize) -> Cells<T>
 }
 
 impl<T> Cells<T> {
-    /// The item in the full place `index`.
+    /// The item in the place `index`, which has to be full.
     pub(crate) fn get(&self, index: usize) -> &T
         requires { IsFull self.now.slots index }
         ensures { get_or self.now.slots index None ≡ Some result.now }
@@ -123,7 +125,7 @@ impl<T> Cells<T> {
         unsafe { &*self.start.add(index) }
     }
 
-    /// Writes an item to the place `index`. What the place held is forgotten.
+    /// Writes an item to the place `index`. What the place held is forgotten, not dropped.
     pub(crate) fn write(&mut self, index: usize, item: T)
         requires { index < length self.old.slots }
         ensures slots { self.new.slots ≡ slice_set self.old.slots index (Some item) }
@@ -133,7 +135,7 @@ impl<T> Cells<T> {
     }
 
     /// Moves the `count` items from the place `from` on to the place `to` and those after it. The
-    /// two runs do not overlap.
+    /// two runs must not overlap. The places from `from` on are empty then.
     pub(crate) fn move_run(&mut self, from: usize, to: usize, count: usize)
         requires inside { (from + count ≤ length self.old.slots)
             × (to + count ≤ length self.old.slots) }

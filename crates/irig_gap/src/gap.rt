@@ -1,11 +1,11 @@
 //! A list that is edited at one place.
 //!
-//! The places of the block left of `gap` hold the items before the place, and those from `after` on
-//! hold the rest. Nothing is claimed of the places between.
+//! The places of the block left of `gap` hold the items left of the place, and those from `after`
+//! on hold the items right of it. The places between are free: what is in them does not count.
 //!
 //! *The place* of the list is where items come and go; *places* of the block hold one item each.
-//! `capacity` is how many of these the block has, and the deed is the right to give it back; there
-//! is none if the places take no memory.
+//! `capacity` is how many of these the block has. The deed is the right to give the block back;
+//! there is none if the places take no memory.
 
 ghost use Rattle.std.specs.Prelude.{◌≡◌, ◌+◌, ◌-◌, ◌^◌, ◌<◌, ◌≤◌, ◌⊎◌, true, false, length, []};
 ghost use Rattle.std.specs.Prelude.{slice_get, slice_set, insert, remove, Some};
@@ -69,7 +69,7 @@ impl<T: Copy> Gap<T> {
         self.gap + (self.capacity - self.after)
     }
 
-    /// Whether there is no room: the next item needs a growth.
+    /// Whether there is no room: a further item needs a growth first.
     pub fn is_full(&self) -> bool
         ensures full { result ≡ true → length self.now.items ≡ self.now.capacity }
         ensures room { result ≡ false → length self.now.items < self.now.capacity }
@@ -77,7 +77,7 @@ impl<T: Copy> Gap<T> {
         self.gap == self.after
     }
 
-    /// How many items there may be before a growth.
+    /// How many items there may be in all without a growth.
     pub fn capacity(&self) -> usize
         ensures { result ≡ self.now.capacity }
     {
@@ -94,7 +94,7 @@ impl<T: Copy> Gap<T> {
         place
     }
 
-    /// The item at `index`, from 0.
+    /// The item at `index`, from 0, on either side of the place. There has to be one.
     pub fn get(&self, index: usize) -> T
         requires { index < length self.now.items }
         ensures { slice_get self.now.items index ≡ Some result }
@@ -103,7 +103,8 @@ impl<T: Copy> Gap<T> {
         *self.cells.get(slot)
     }
 
-    /// The item at `index`, from 0, left of the place.
+    /// The item at `index`, from 0, which has to be left of the place: so its place in the block is
+    /// known without a test.
     pub fn get_left(&self, index: usize) -> T
         requires { index < self.now.place }
         ensures { slice_get self.now.items index ≡ Some result }
@@ -111,7 +112,7 @@ impl<T: Copy> Gap<T> {
         *self.cells.get(index)
     }
 
-    /// Replaces the item at `index`, from 0, by `item`.
+    /// Replaces the item at `index`, from 0, by `item`. There has to be one.
     pub fn set(&mut self, index: usize, item: T)
         requires { index < length self.old.items }
         ensures { self.new ≡
@@ -121,7 +122,8 @@ impl<T: Copy> Gap<T> {
         self.cells.write(slot, item);
     }
 
-    /// Inserts `item` at the place, and the place is then right of it.
+    /// Inserts `item` at the place, which is right of it then. There has to be room: this takes no
+    /// memory.
     pub fn put(&mut self, item: T)
         requires { length self.old.items < self.old.capacity }
         ensures { self.new ≡
@@ -133,7 +135,7 @@ impl<T: Copy> Gap<T> {
         self.gap = free + 1;
     }
 
-    /// Removes the item left of the place; None if there is none.
+    /// Removes the item left of the place and returns it; `None` if there is none.
     pub fn take_left(&mut self) -> Option<T>
         ensures none { self.old.place ≡ 0 → (result ≡ None) × (self.new ≡ self.old) }
         ensures item { 0 < self.old.place → result ≡ slice_get self.old.items (self.old.place - 1) }
@@ -149,7 +151,7 @@ impl<T: Copy> Gap<T> {
         Some(*self.cells.get(last))
     }
 
-    /// Removes the item right of the place; None if there is none.
+    /// Removes the item right of the place and returns it; `None` if there is none.
     pub fn take_right(&mut self) -> Option<T>
         ensures none { self.old.place ≡ length self.old.items →
             (result ≡ None) × (self.new ≡ self.old) }
@@ -167,8 +169,9 @@ impl<T: Copy> Gap<T> {
         Some(*self.cells.get(first))
     }
 
-    /// The same items with the capacity `wanted`, or with that of before if memory runs out. It is
-    /// for a list that has no item right of the place.
+    /// The same items with the capacity `wanted`, or with the old one if memory runs out. The list
+    /// must have no item right of the place: so all items are at the front of the block, and the
+    /// allocator can make it longer where it is.
     pub(crate) fn lengthened(self, wanted: usize) -> Gap<T>
         requires longer { self.capacity < wanted }
         requires end { self.place ≡ length self.items }
@@ -209,7 +212,8 @@ impl<T: Copy> Drop for Gap<T> {
     }
 }
 
-/// The place in the block of the item at `index`, both from 0.
+/// The place in the block of the item at `index`, both from 0: the items right of the place begin
+/// at `after`.
 fn slot_of(index: usize, gap: usize, after: usize) -> usize
     requires { gap ≤ index → after + (index - gap) < 2 ^ 64 }
     ensures left { index < gap → result ≡ index }

@@ -18,10 +18,10 @@ use std::alloc::AllocError;
 use std::mem;
 
 impl<T: Copy> Gap<T> {
-    /// Makes room for `more` further items.
+    /// Makes room for `more` further items; nothing is done if there is room already.
     ///
-    /// It grows by half at least, so that many small growths take time in proportion to the items.
-    /// A count that no memory can hold gives the same error as any other growth.
+    /// The capacity grows by half at least, so that many small growths take time in proportion to
+    /// the items. A count that is too large for any memory is the same error.
     pub fn reserve(&mut self, more: usize) -> Result<(), AllocError>
         ensures stays { (self.new.items ≡ self.old.items) × (self.new.place ≡ self.old.place) }
         ensures room { OnOk result (length self.old.items + more ≤ self.new.capacity) }
@@ -47,8 +47,10 @@ impl<T: Copy> Gap<T> {
         }
     }
 
-    /// Makes the capacity `wanted`, and no more. If no item is right of the place, the block can
-    /// grow where it is: whether it did shows in the capacity.
+    /// Makes the capacity `wanted`, and no more; it must not be below the number of items. If no
+    /// item is right of the place, the allocator can make the block longer where it is;
+    /// `lengthened` keeps the old capacity if memory runs out, so the capacity shows whether it
+    /// grew.
     pub fn grow(&mut self, wanted: usize) -> Result<(), AllocError>
         requires { self.old.capacity < wanted }
         ensures ok { OnOk result (self.new ≡ gap_view self.old.items self.old.place wanted) }
@@ -67,7 +69,8 @@ impl<T: Copy> Gap<T> {
         }
     }
 
-    /// Makes the capacity `wanted`, in another block, and gives the old one back.
+    /// Makes the capacity `wanted`, in another block, and gives the old block back. So it is if
+    /// items are right of the place: they have to go to the end of the new block.
     fn relocate(&mut self, wanted: usize) -> Result<(), AllocError>
         requires { self.old.capacity < wanted }
         ensures ok { OnOk result (self.new ≡ gap_view self.old.items self.old.place wanted) }
@@ -77,6 +80,7 @@ impl<T: Copy> Gap<T> {
             return Err(AllocError);
         };
         let after = self.copy_to(&mut cells, wanted);
+        // From here on `cells` is the old block.
         mem::swap(&mut self.cells, &mut cells);
         let old = mem::replace(&mut self.deed, deed);
         free(&self.alloc, self.capacity, cells, old);
@@ -85,8 +89,8 @@ impl<T: Copy> Gap<T> {
         Ok(())
     }
 
-    /// Copies the items left of the place to the front of `len` places, and the others to their
-    /// end. The result is the first place of the others.
+    /// Copies the items left of the place to the front of `len` places, and the items right of it
+    /// to their end. Returns the first place, from 0, of the latter.
     fn copy_to(&self, cells: &mut Cells<T>, len: usize) -> usize
         requires len { length cells.old.slots ≡ len }
         requires longer { self.now.capacity ≤ len }

@@ -10,7 +10,7 @@ ghost use Rattle.irig_gap.specs.Items.{gap_view};
 use crate::gap::Gap;
 
 impl<T: Copy> Gap<T> {
-    /// Moves the place over the item left of it.
+    /// Moves the place over the item left of it. There has to be one.
     pub fn step_left(&mut self)
         requires { 0 < self.old.place }
         ensures { self.new ≡ gap_view self.old.items (self.old.place - 1) self.old.capacity }
@@ -21,7 +21,7 @@ impl<T: Copy> Gap<T> {
         self.cells.write(self.after, item);
     }
 
-    /// Moves the place over the item right of it.
+    /// Moves the place over the item right of it. There has to be one.
     pub fn step_right(&mut self)
         requires { self.old.place < length self.old.items }
         ensures { self.new ≡ gap_view self.old.items (self.old.place + 1) self.old.capacity }
@@ -32,7 +32,8 @@ impl<T: Copy> Gap<T> {
         self.after += 1;
     }
 
-    /// Moves the place to be right of `place` items, in runs that are no longer than the gap.
+    /// Moves the place so that `place` items are left of it; there have to be as many items. Items
+    /// move in runs that are no longer than the gap.
     pub fn move_to(&mut self, place: usize)
         requires { place ≤ length self.old.items }
         ensures { self.new ≡ gap_view self.old.items place self.old.capacity }
@@ -45,8 +46,8 @@ impl<T: Copy> Gap<T> {
         }
     }
 
-    /// Moves the place over as many items on its left as the gap is wide, or down to `place` if
-    /// that is nearer: so the copy does not overlap what it copies.
+    /// Moves the place left over as many items as the gap is wide, or down to `place` items on its
+    /// left if that is nearer. So the items are copied to places that do not overlap their own.
     fn leap_left(&mut self, place: usize)
         requires { place < self.old.place }
         ensures view { self.new ≡ gap_view self.old.items self.new.place self.old.capacity }
@@ -54,7 +55,7 @@ impl<T: Copy> Gap<T> {
     {
         let free = self.after - self.gap;
         if free == 0 {
-            // No place lies between the two sides, so none has to move.
+            // The gap is empty: the two sides meet, so no item has to move.
             self.gap = place;
             self.after = place;
             return;
@@ -65,8 +66,8 @@ impl<T: Copy> Gap<T> {
         self.cells.move_run(self.gap, self.after, count);
     }
 
-    /// Moves the place over as many items on its right as the gap is wide, or up to `place` if that
-    /// is nearer: so the copy does not overlap what it copies.
+    /// Moves the place right over as many items as the gap is wide, or up to `place` items on its
+    /// left if that is nearer. So the items are copied to places that do not overlap their own.
     fn leap_right(&mut self, place: usize)
         requires { (self.old.place < place) × (place ≤ length self.old.items) }
         ensures view { self.new ≡ gap_view self.old.items self.new.place self.old.capacity }
@@ -74,7 +75,7 @@ impl<T: Copy> Gap<T> {
     {
         let free = self.after - self.gap;
         if free == 0 {
-            // No place lies between the two sides, so none has to move.
+            // The gap is empty: the two sides meet, so no item has to move.
             self.gap = place;
             self.after = place;
             return;

@@ -34,7 +34,7 @@ pub fn settings<'a>(
     }
 }
 
-/// The values of a command line.
+/// The values of a command line: the words, as `clap` takes them apart.
 fn asked<'a>(alloc: Global, words: &'a [String]) -> Result<Asked<'a>, Error>
     ensures values { IfOk result (Values the_command AreValues
         (map string_bytes words.entry.now)) }
@@ -46,7 +46,7 @@ fn asked<'a>(alloc: Global, words: &'a [String]) -> Result<Asked<'a>, Error>
     }
 }
 
-/// The values of the matches, as they are written.
+/// The values of the matches, each as it was written. `Err` means that memory ran out.
 fn values_of<'a>(alloc: Global, matches: &ArgMatches<'a>) -> Result<Asked<'a>, Error>
     ensures values { IfOk result (AreValues (found_of matches.now)) }
     ensures memory { IfErr result WantsMemory }
@@ -70,7 +70,7 @@ fn values_of<'a>(alloc: Global, matches: &ArgMatches<'a>) -> Result<Asked<'a>, E
     })
 }
 
-/// The values of `--with`, in their order.
+/// The values of `--with`, in their order; none if the option is not given.
 fn others_of<'a>(alloc: Global, matches: &ArgMatches<'a>) -> Result<Vec<&'a str>, AllocError>
     ensures { IfOk result (λ others. paths others.items
         ≡ all_values (found_of matches.now) (codes "with")) }
@@ -90,7 +90,7 @@ fn parse_words<'a>(alloc: Global, words: &'a [String]) -> Result<ArgMatches<'a>,
     matches_of(command(alloc)?, words)
 }
 
-/// The command line of the program.
+/// The command line of the program: the options of `judging`, those of the output, and the track.
 pub fn command<'a>(alloc: Global) -> Result<Command<'a>, AllocError>
     ensures { IfOk result (λ c. IsCommand (app_of c)) }
 {
@@ -100,8 +100,8 @@ pub fn command<'a>(alloc: Global) -> Result<Command<'a>, AllocError>
     judging(alloc)?.arg(out)?.arg(save)?.arg(track)
 }
 
-/// The command with the options that say how the track is read, and by what repairs are judged
-/// besides.
+/// The command with the options of `reading`, and those that say by what repairs are judged besides
+/// the recording: whether frames may move, and other recordings.
 fn judging<'a>(alloc: Global) -> Result<Command<'a>, AllocError>
     ensures { IfOk result (λ c. IsJudging (app_of c)) }
 {
@@ -113,7 +113,7 @@ fn judging<'a>(alloc: Global) -> Result<Command<'a>, AllocError>
     reading(alloc)?.arg(moved)?.arg(with_arg(alloc))
 }
 
-/// The command with the options that say how the track is read.
+/// The command with the options that say how the track is read: its wire and its format.
 fn reading<'a>(alloc: Global) -> Result<Command<'a>, AllocError>
     ensures { IfOk result (λ c. IsReading (app_of c)) }
 {

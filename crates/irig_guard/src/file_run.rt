@@ -1,7 +1,7 @@
 //! A script run under guard on the file of a dump, as the words of a command line ask. The room is
 //! the memory of writes, taken before a dump is read. The outer fault of a read is of the file, the
-//! inner one, `VcdFault`, of the dump in it. `Parts` are the recording of a wire and the text of the
-//! journal, if there is one. A `ShelfFault`: it cannot be found out where a path leads.
+//! inner one, `VcdFault`, of the dump in it. `Parts` are the recording of a wire and the text of
+//! the journal, if there is one. A `ShelfFault`: it cannot be found out where a path leads.
 
 ghost use Rattle.std.specs.Prelude.{◌≡◌, ℕ, [], IfOk, IfSome, IsTrue, List, false, is_some, map};
 ghost use Rattle.std.specs.Prelude.{string_bytes, true};
@@ -223,7 +223,7 @@ fn run_on_read<D: Disk, R: Read, W: Write>(
     )
 }
 
-/// The path of what is written: that of the dump, if nothing is, since the shelf needs one.
+/// The path of what is written; that of the dump if nothing is written, since the shelf needs one.
 fn place_of<'a>(chosen: &Settings<'a>) -> &'a str
     ensures { result.now ≡ place_of chosen.now }
 {

@@ -7,8 +7,8 @@ use crate::asked::Asked;
 use crate::chosen::{OptionFault, Settings};
 use irig_words::{format_named, window_named};
 
-/// What the values of a command line ask for; an option with a value that it cannot have is a
-/// fault, also if that is so only by another option.
+/// What the values of a command line ask for. A fault: there is no such format, `--out` is the
+/// track, or `--save` is given without `--out`.
 pub fn settings_of<'a>(asked: Asked<'a>) -> Result<Settings<'a>, OptionFault>
     ensures chosen { IfOk result (IsChosen asked.entry) }
     ensures fault { IfErr result (HasFault asked.entry) }
@@ -40,7 +40,7 @@ pub fn settings_of<'a>(asked: Asked<'a>) -> Result<Settings<'a>, OptionFault>
 }
 
 /// Whether the path to write is written like that of the track. Whether two other paths lead to one
-/// file is found out later.
+/// file is found out later, when the disk is looked at.
 fn is_over(asked: &Asked<'_>) -> bool
     ensures { result ≡ is_over asked.now }
 {

@@ -1,7 +1,7 @@
 //! The other recordings that the settings name. A frame of one says something of the track if a
-//! frame next to it agrees with it: the two are near enough for their distance to say how many
-//! frame periods it is, and their times are as many apart. A dump that is read has two faults: the
-//! outer one is of its file, the inner one of the dump in it.
+//! frame next to it agrees with it, so that damage did not make it alone: the two are near enough
+//! for their distance to say how many frame periods it is, and their times are as many apart. A
+//! dump that is read has two faults: the outer one is of its file, the inner one of the dump in it.
 
 ghost use Rattle.std.specs.Prelude.{◌≡◌, ◌<◌, ◌^◌, ℕ, List, None, [], IfErr, IfOk, IfSome, IsTrue, OnOk};
 ghost use Rattle.std.specs.Prelude.{false, is_some, true};
@@ -75,8 +75,8 @@ pub fn frames_of_others<'a, D: Disk>(
     Ok(shown)
 }
 
-/// Puts the frames of the recording at a path that say something after others. It is of the one
-/// wire of one bit that the dump has to have.
+/// Adds to `shown` the frames of the recording at a path that say something of the track. No wire
+/// is named, so the dump has to have one wire of one bit.
 fn add_frames_of<D: Disk>(
     alloc: Global,
     path: &str,
@@ -95,8 +95,8 @@ fn add_frames_of<D: Disk>(
     }
 }
 
-/// Puts the frames of a recording that say something after others, by what was read of its dump. If
-/// memory runs out, that is a fault of its file.
+/// Adds to `shown` the frames of a recording that say something of the track, by what was read of
+/// its dump. If memory runs out, that is a fault of its file.
 fn add_read(
     alloc: Global,
     read: Result<Parts, VcdFault>,

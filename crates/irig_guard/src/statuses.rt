@@ -33,7 +33,7 @@ pub fn report<R: Eprint, H: Write>(rt: &R, ending: &Ending<'_>, help: &mut H) ->
     }
 }
 
-/// Says why the track at the path `name` was not read. The status is 3.
+/// Says why the recording at the path `name` was not read. The status is 3.
 fn tell_unread<R: Eprint>(rt: &R, name: &str, fault: DumpFileFault) -> ExitCode
     ensures { exit_status result ≡ 3 }
 {
@@ -49,7 +49,8 @@ fn tell_over<R: Eprint>(rt: &R, name: &str) -> ExitCode
     ExitCode::from(2)
 }
 
-/// Says why another recording, at the path `name`, cannot be used. The status is 3.
+/// Says why another recording, at the path `name`, cannot be used: its file, or the dump in it. The
+/// status is 3.
 fn tell_unheard<R: Eprint>(rt: &R, name: &str, why: Unheard) -> ExitCode
     ensures { exit_status result ≡ 3 }
 {
@@ -59,7 +60,8 @@ fn tell_unheard<R: Eprint>(rt: &R, name: &str, why: Unheard) -> ExitCode
     }
 }
 
-/// What the program says of a track that it did not read.
+/// What the program says of a file that it did not read. Out of memory has the number that it has
+/// as a fault of a dump.
 fn unread_text<'a>(fault: DumpFileFault) -> &'a str
     ensures { result.now ≡ unread_text fault }
 {
@@ -70,8 +72,8 @@ fn unread_text<'a>(fault: DumpFileFault) -> &'a str
     }
 }
 
-/// The exit status for how a run ended on the track at the path `name`; a fault is printed on the
-/// standard error.
+/// The exit status for how a run ended on the track at the path `name`: 3 for a dump that cannot be
+/// used, 4 for another fault, which is printed on the standard error; else as `tell_kept`.
 fn tell_ended<R: Eprint>(rt: &R, name: &str, outcome: Result<Kept, GuardFault>) -> ExitCode
     ensures { exit_status result ≡ status_number outcome }
 {
@@ -95,7 +97,8 @@ fn tell_kept<R: Eprint>(rt: &R, name: &str, kept: Kept) -> ExitCode
     }
 }
 
-/// Says how many frames have control functions that are not in the recording, if some have.
+/// Says how many frames have control functions that are not in the recording, if some have: that
+/// changes no status, since nothing says that they are wrong.
 fn tell_filled<R: Eprint>(rt: &R, name: &str, filled: usize) {
     let frames = if filled == 1 { "frame" } else { "frames" };
     if filled > 0 {

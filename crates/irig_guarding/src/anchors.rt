@@ -1,8 +1,9 @@
-//! Whether the pulses of a frame are where the recording has them. A pulse is an anchor if it rises
-//! where the recording has a pulse. An `Anchor` is such a pulse, or a marker, as it is seen from an
-//! element: how many elements away it is (`steps`), and when it rises, in microseconds. Markers and
-//! elements count from 0. `near` is the frames of the recording next to a frame, two on each side,
-//! and `place` the pulse of the recording that is looked at first: no answer depends on it.
+//! Whether the pulses of a frame are where the recording (`opened`) has them. A pulse is an anchor
+//! if it rises where the recording has a pulse, or is a gap of it turned over. An `Anchor` is such
+//! a pulse, or a marker, as it is seen from an element: how many elements away it is (`steps`), and
+//! when it rises, in microseconds. Markers and elements count from 0. `near` is the frames of the
+//! recording next to a frame, two on each side, and `place` the pulse of the recording that is
+//! looked at first: no answer depends on it.
 
 ghost use Rattle.std.specs.Prelude.{◌≡◌, ◌↔◌, ◌-◌, ◌≤◌, ◌<◌, ◌^◌, IfSome, IsTrue, Some};
 ghost use Rattle.irig_safety.specs.Anchors.{anchors_among, held_after, held_before, is_anchored};
@@ -26,7 +27,7 @@ struct Ends {
     after: Option<Anchor>,
 }
 
-/// The markers of the two frames next to a frame, as they are seen from it.
+/// The markers of the two frames next to a frame, as they are seen from its own (element 0).
 fn ends_of(session: &Session, near: &Witnesses, frame: &Seen) -> Ends
     ensures before { result.before
         ≡ marker_before session.now.state.format near.now frame.now.shown 0 }
@@ -43,7 +44,7 @@ fn ends_of(session: &Session, near: &Witnesses, frame: &Seen) -> Ends
 }
 
 /// Whether each pulse of a frame is an anchor, or on the line between those next to it. `last` and
-/// `next` are the elements of the anchors before an element and after it.
+/// `next` are the elements of the anchors before an element and from it on.
 pub fn are_placed(session: &Session, opened: &Original, near: &Witnesses, frame: &Seen) -> bool
     ensures { IsTrue result ↔ Stands opened.now session.now.state near.now frame.now }
 {
@@ -62,7 +63,7 @@ pub fn are_placed(session: &Session, opened: &Original, near: &Witnesses, frame:
     true
 }
 
-/// Whether most pulses of a frame are anchors.
+/// Whether most pulses of a frame are anchors: 60 of its 100 or more.
 pub fn is_rooted(session: &Session, opened: &Original, frame: &Seen) -> bool
     ensures { IsTrue result ↔ IsRooted opened.now session.now.state frame.now }
 {
@@ -76,7 +77,7 @@ pub fn is_rooted(session: &Session, opened: &Original, frame: &Seen) -> bool
     is_most(many)
 }
 
-/// Whether that many of the 100 pulses of a frame are most of them: 60 or more.
+/// Whether that many of 100 pulses are most of them: 60 or more, this project's own choice.
 fn is_most(many: usize) -> bool
     ensures { IsTrue result ↔ (60 ≤ many) }
 {
@@ -97,7 +98,7 @@ fn is_anchored(
     opened.holds(pulse_at(session, marker, element), place)
 }
 
-/// Whether an anchor, by its element if there is one, is this element.
+/// Whether `anchor`, the element of an anchor if there is one, is this element.
 fn is_at(anchor: Option<usize>, element: usize) -> bool
     ensures { IsTrue result ↔ (anchor ≡ Some element) }
 {
@@ -126,7 +127,8 @@ fn next_anchor(
 }
 
 /// Whether an element is on the line between what holds it on both sides. `last` and `next` are the
-/// elements of its frame that are anchors, nearest to it, if there are any.
+/// elements of its frame that are anchors, nearest to it, if there are any; else the markers of the
+/// frames next to it (`ends`) hold it.
 fn is_held(
     session: &Session,
     near: &Witnesses,

@@ -11,10 +11,10 @@ ghost use Rattle.irig_lines.specs.declared.command.Command.TheVariants as comman
 use crate::line::Line;
 use irig_lines::{Command, Purpose, parse_line};
 
-/// The most bytes of a line of a script, without the newline.
+/// The most bytes of a line of a script, without the newline, as in the editor.
 const LINE_LIMIT: usize = 1000;
 
-/// What a line asks for, if it is valid and not too long.
+/// What a line asks for; `None` if it is not valid or too long.
 pub fn command_of(line: &Line) -> Option<Command>
     ensures { MatchOption result ((asked : SomeCommand) → Asks asked line.now.bytes.items → ⊥)
         (λ asked. Asks asked line.now.bytes.items) }
@@ -22,7 +22,7 @@ pub fn command_of(line: &Line) -> Option<Command>
     command_in(line.bytes.as_slice())
 }
 
-/// What the bytes of a line ask for, if they are valid and not too many.
+/// What the bytes of a line ask for; `None` if they are not valid or too many.
 fn command_in(line: &[u8]) -> Option<Command>
     ensures { MatchOption result ((asked : SomeCommand) → Asks asked line.now → ⊥)
         (λ asked. Asks asked line.now) }
@@ -119,7 +119,8 @@ fn is_nothing(command: &Command) -> bool
     matches!(command, Command::Nothing)
 }
 
-/// Whether the lines are just one, which is a comment or blank.
+/// Whether the lines are just one, which is a comment or blank: such a line is no repair, and is
+/// printed as it is.
 pub fn are_remarks(lines: &[Line]) -> bool
     ensures { IsTrue result ↔ IsIdle (texts lines.now) }
 {

@@ -23,8 +23,9 @@ use irig_safety::{
     near_in,
 };
 
-/// Whether each frame that reads well did so before, at the old places, or its control functions are
-/// borne out. If not, the first that is at fault.
+/// Whether each frame that reads well did so before, at the old places, or its control functions
+/// are borne out. If not, the first fault. Both lists are in rising order, so they are passed
+/// together.
 pub fn check_controls(
     session: &Session,
     opened: &Original,
@@ -53,7 +54,9 @@ pub fn check_controls(
 }
 
 /// How many of the former frames are passed after one more frame, if `passed` are before it; or why
-/// it is at fault.
+/// it is at fault. It is between former frames if the next of these begins later or there is none,
+/// so `passed` stays. If it begins when the next one does, and is another one, it has the frames on
+/// both sides of that one as its nearest.
 fn pass(
     session: &Session,
     opened: &Original,
@@ -100,7 +103,7 @@ fn pass(
 }
 
 /// How many former frames are passed after a frame whose functions are looked at: `next`, if they
-/// are borne out. Else `Unrecorded`.
+/// are borne out. Else `Unrecorded`. `near` is the former frames next to it.
 fn judge(
     session: &Session,
     opened: &Original,
@@ -130,7 +133,8 @@ fn is_borne(session: &Session, opened: &Original, near: &Witnesses, frame: &Seen
     true
 }
 
-/// Whether a control function of a frame is borne out.
+/// Whether a control function of a frame is borne out: by the nearest frames (`is_shared`), by the
+/// recording (`may_be`) or by most other recordings (`is_told`).
 fn is_function_borne(
     session: &Session,
     opened: &Original,
@@ -149,7 +153,8 @@ fn is_function_borne(
         || opened.is_told(&frame.shown, function)
 }
 
-/// Whether a pulse is there, and as recorded, or what was recorded of it was lost.
+/// Whether the pulse of a control function is there, and as recorded, or what was recorded of it
+/// was lost.
 fn may_be(session: &Session, opened: &Original, pulse: Option<Pulse>) -> bool
     ensures { IsTrue result ↔ MatchOption pulse ⊥ (λ q.
         IsRecorded session.now.state.format opened.now.pulses q
@@ -175,8 +180,8 @@ pub fn is_recorded_at(session: &Session, opened: &Original, marker: usize, funct
     }
 }
 
-/// Whether a pulse is as recorded, or what was recorded of it was lost: nothing near it meant
-/// anything.
+/// Whether a pulse is as recorded, or what was recorded of it was lost: no pulse with a class was
+/// near it, so the recording says nothing against it.
 fn is_recorded_or_lost(format: Format, opened: &Original, pulse: Pulse) -> bool
     ensures { IsTrue result ↔ (IsRecorded format opened.now.pulses pulse
         ⊎ IsLost format opened.now.pulses pulse) }
@@ -187,7 +192,8 @@ fn is_recorded_or_lost(format: Format, opened: &Original, pulse: Pulse) -> bool
     !opened.has_any(format, pulse)
 }
 
-/// The pulse of an element of a frame, if there is one. The pulses of a session count from 1.
+/// The pulse of an element of the frame of a marker, both from 0, if there is one. The pulses of a
+/// session count from 1, so 1 is added.
 pub fn pulse_at(session: &Session, marker: usize, element: usize) -> Option<Pulse>
     ensures { result ≡ slice_get session.now.state.pulses (marker + element) }
 {

@@ -1,4 +1,5 @@
-//! The frames with control functions that are not in the recording. Markers count from 0.
+//! The frames with control functions that are not in the recording. `opened` is what is known of
+//! the recording. Markers count from 0.
 
 ghost use Rattle.std.specs.Prelude.{◌≡◌, ◌↔◌, IsTrue};
 ghost use Rattle.irig_guarding.specs.Fillings.{AreFilled, Fills, IsWhole};
@@ -9,8 +10,9 @@ use crate::seen::Seen;
 use irig_edit::Session;
 use irig_safety::{Original, functions};
 
-/// How many frames of a session have a control function that is not in the recording. 0 if frames
-/// may move, or if none of the recording reads well: then they are not counted.
+/// How many frames of a session have a control function that is not in the recording; `frames` are
+/// those that read well. 0 if frames may move, since each that moved would be counted, or if none
+/// of the recording reads well, since control functions are not judged then.
 pub fn filled_frames(session: &Session, opened: &Original, frames: &[Seen]) -> usize
     requires { frames.now ≡ seen_frames session.now.state }
     ensures { Fills opened.now session.now.state result }
@@ -37,7 +39,8 @@ fn filled_among(session: &Session, opened: &Original, frames: &[Seen]) -> usize
     many
 }
 
-/// Whether all control functions of a frame are recorded at their places.
+/// Whether all control functions of a frame are recorded at their places: the recording has a pulse
+/// of the same width class there.
 fn is_whole(session: &Session, opened: &Original, frame: &Seen) -> bool
     ensures { IsTrue result ↔ IsWhole opened.now session.now.state frame.now }
 {

@@ -7,7 +7,8 @@ use irig_print::{Row, put_time};
 use irig_safety::Shown;
 use std::alloc::AllocError;
 
-/// Prints the time of a frame, as the editor does, and when it begins, in microseconds.
+/// Prints the time of a frame, as the editor does, and when it begins, in microseconds, as in
+/// `frame 061 12:34:57 at 2000000`.
 pub fn put_frame(out: &mut Vec<u8>, frame: &Shown) -> Result<(), AllocError>
     ensures { OnOk result (out.new.items ≡ out.old.items ++ frame_text frame.now) }
 {

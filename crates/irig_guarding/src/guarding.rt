@@ -1,6 +1,7 @@
 //! A proposed script, run repair by repair. `known` has for each frame of the recording that read
-//! well the marker at which its pulses are known to rise as they did. `last` is the frames that
-//! read well before a repair, and `opened` is what is known of the recording.
+//! well the marker at which its pulses are known to rise as they did, so that they are not compared
+//! again. `last` is the frames that read well before a repair, and `opened` is what is known of the
+//! recording.
 
 ghost use Rattle.std.specs.Prelude.{◌≡◌, ◌<◌, ◌≤◌, ◌-◌, [], IfOk, None, OnOk, Some, drop};
 ghost use Rattle.std.specs.Prelude.{is_none, length, take, if◌then◌else◌};
@@ -29,9 +30,10 @@ use irig_safety::{Original, Terms};
 use irig_script::Status;
 use std::alloc::{AllocError, Global};
 
-/// Runs a proposed script on a session repair by repair: an edit, or the lines from a `begin` to the
-/// next `end` or `abort`. A repair that is accepted and safe is kept and printed, as comments are;
-/// any other line is printed as a comment, after the reason.
+/// Runs a proposed script on a session, in which no group is open, repair by repair: an edit, or
+/// the lines from a `begin` to the next `end` or `abort`. A repair that is accepted and safe is
+/// kept and printed, as comments are; any other line is printed as a comment, after the reason.
+/// `terms` are by what repairs are judged besides the recording.
 /// Returns what is printed, whether all was kept, and how many frames have a control function then
 /// that is not in the recording.
 pub fn guard(
@@ -106,8 +108,8 @@ fn status_with(status: Status, dropped: Option<Reason>) -> Status
     }
 }
 
-/// The place, from 0, after a repair that begins at a place: one line, or a group, which without an
-/// end is all lines that are left.
+/// The place, from 0, after a repair that begins at the place `at`: one line; or a group, up to the
+/// line that closes it. A group without such a line is all lines that are left.
 fn repair_end(lines: &[Line], at: usize) -> usize
     requires { at < length lines.now }
     ensures more { at < result }
@@ -155,8 +157,9 @@ fn guard_repair(
     Ok(dropped)
 }
 
-/// Tries one repair. Returns why it was dropped, if it was: then nothing has changed but what can
-/// be redone. `known` is copied first, since a repair that is dropped leaves it wrong.
+/// Tries one repair; a comment is none, and is kept as it is. Returns why it was dropped, if it
+/// was: then nothing has changed but what can be redone, since a dropped edit is undone. `known` is
+/// copied first, since a repair that is dropped leaves it wrong.
 fn try_repair(
     alloc: Global,
     session: &mut Session,

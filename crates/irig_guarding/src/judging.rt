@@ -20,9 +20,9 @@ use irig_edit::Session;
 use irig_safety::{Fault, Original, Shown, check_safe, check_unspoiled, moved_in};
 use std::alloc::Global;
 
-/// Whether what the frames show may stay: it is safe by what they showed at first, and none is
-/// spoiled of those that read well before. Returns the frames that read well now; or `NotSafe` with
-/// the first fault, or that memory ran out.
+/// Whether what the frames show may stay: it is safe by what they showed at first, and each that
+/// read well before still does. Returns the frames that read well now; or `NotSafe` with the first
+/// fault, or that memory ran out.
 pub fn check(
     alloc: Global,
     session: &Session,
@@ -44,7 +44,7 @@ pub fn check(
     }
 }
 
-/// Whether these frames, which read well now, may stay.
+/// Whether these frames, which read well now, may stay. If not, the reason.
 fn check_listed(
     alloc: Global,
     session: &Session,
@@ -88,8 +88,8 @@ fn check_unmoved(
     }
 }
 
-/// Whether the frames that read well may stay, if they may move: by the places where the former
-/// ones are now. If not, the reason.
+/// Whether the frames that read well may stay, if they may move: they are judged by the places
+/// where the former ones are now (`moved_in`). If not, the reason.
 fn check_moved(
     alloc: Global,
     session: &Session,
@@ -127,7 +127,8 @@ fn check_moved(
 }
 
 /// Whether the frames may stay by those of the recording (`old`), and by those before the repair
-/// (`last`). If not, their first fault.
+/// (`last`). If not, the fault of the first check that fails: of the times, the control functions,
+/// the pulses, or that a frame is lost that read well before.
 fn check_frames(
     session: &Session,
     opened: &Original,
@@ -160,7 +161,8 @@ fn check_frames(
 }
 
 /// Whether the control functions of the frames are borne out, which `controls.rt` says, if some
-/// frame of the recording reads well; without one they may be any. If not, the first fault.
+/// frame of the recording reads well; without one nothing bears them out, so they may be any. If
+/// not, the first fault.
 fn check_borne(
     session: &Session,
     opened: &Original,

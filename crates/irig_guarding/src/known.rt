@@ -1,5 +1,8 @@
-//! The former frames whose pulses are known to rise as they did. `known` has for each of them the
-//! marker, from 0, of the frame at which they do, or `None` if that is not known.
+//! The former frames whose pulses are known to rise as they did, so that they are not compared
+//! again after each repair. Former frames are those of the recording that read well when it was
+//! opened (`opened`). `known` has for each of them the marker of the frame at which its pulses rise
+//! as they did, or `None` if that is not known. A marker is the place of a frame's first pulse,
+//! from 0.
 
 ghost use Rattle.std.specs.Prelude.{◌≡◌, List, None, IfOk, IfSome, IsTrue, Some, get_or, length};
 ghost use Rattle.irig_guarding.specs.Known.{AreKnown, Became, Follows};
@@ -26,7 +29,7 @@ pub fn unknown(alloc: Global, many: usize) -> Result<Vec<Option<usize>>, AllocEr
 }
 
 /// Whether it is known that the pulses of the former frame at a place, from 0, rise as they did at
-/// this marker.
+/// this marker. If it is not known, they may do so, too.
 pub fn is_known(known: &[Option<usize>], place: usize, marker: usize) -> bool
     ensures { IsTrue result → get_or known.now place None ≡ Some marker }
 {
@@ -37,7 +40,7 @@ pub fn is_known(known: &[Option<usize>], place: usize, marker: usize) -> bool
     }
 }
 
-/// Whether the marker that is known is there, and is this one.
+/// Whether a marker is known, and is this one.
 fn is_marker(known: Option<usize>, marker: usize) -> bool
     ensures { IsTrue result → known ≡ Some marker }
 {
@@ -47,8 +50,9 @@ fn is_marker(known: Option<usize>, marker: usize) -> bool
     }
 }
 
-/// Fills in what is not known yet: compares the pulses of the frames with those of the former ones
-/// of which nothing is known.
+/// Fills in what is not known yet: compares the pulses of the frames that read well now with those
+/// of the former ones of which nothing is known. Both are in rising order, so the place among the
+/// former ones only grows.
 pub fn learn(session: &Session, opened: &Original, frames: &[Seen], known: &mut Vec<Option<usize>>)
     requires { AreKnown opened.now session.now.state.pulses known.old.items }
     ensures { AreKnown opened.now session.now.state.pulses known.new.items }
@@ -92,9 +96,9 @@ fn learn_one(
     }
 }
 
-/// Replaces the markers by what is still known after pulses from a place on became others: `before`
-/// is how many pulses there were before that, and `after` how many there are now. Nothing is known
-/// if `place` is `None`.
+/// Replaces the markers by what is still known after an edit: pulses from `place` on became others.
+/// `before` is how many pulses there were before the edit, and `after` how many there are now.
+/// Nothing is known if `place` is `None`.
 pub fn follow(known: &mut Vec<Option<usize>>, place: Option<Place>, before: usize, after: usize)
     ensures { (o : OriginalView) (ps qs : List SomePulse)
         → IfSome place (λ p. Became p.at p.come ps qs) → length ps ≡ before → length qs ≡ after
@@ -106,7 +110,7 @@ pub fn follow(known: &mut Vec<Option<usize>>, place: Option<Place>, before: usiz
 }
 
 /// The marker that is known after pulses became others, if one is: `known` is the one before.
-/// Nothing is known if `place` is `None`.
+/// Nothing is known if `place` is `None`. The rest is as in `follow`.
 fn followed(
     known: Option<usize>,
     place: Option<Place>,
@@ -122,10 +126,11 @@ fn followed(
     }
 }
 
-/// The marker that is known after the pulses from `place.at` on became `place.come` others: the
-/// same for a frame whose 100 pulses end before them, moved with its pulses for one that begins
-/// after them, and none between. `before` and `after` are how many pulses there were and are, so
-/// `before` + `come` - `after` of them went. More others than a `u64` has would not fit the sums.
+/// The marker that is known after the pulses from `place.at` on became `place.come` others. It is
+/// the same for a frame whose 100 pulses end before them, moved with its pulses for one that begins
+/// after them, and none between, since its pulses may have changed. `before` and `after` are how
+/// many pulses there were and are, so `before` + `come` - `after` of them went. More others than a
+/// `u64` has would not fit the sums.
 fn followed_by(marker: usize, place: &Place, before: usize, after: usize) -> Option<usize>
     ensures { Follows place.now.at place.now.come before after (Some marker) result }
 {

@@ -4,17 +4,18 @@ ghost use Rattle.irig_guarding.specs.{Guarded.PrintedIsObeyed, Meaning.SafeState
 
 use irig_edit::calls_give_back;
 
-/// Does nothing. Its contract is what it means that a new state is safe by an old one in which some
-/// frame reads well. Each frame that reads well in the old state, at its place or if frames may
-/// move where it is now, is one of the new state, or was wrong and one of the new state mends it.
-/// Each frame that reads well in the new state and is neither is borne out: the old frames next to
-/// it have its time there.
+/// Does nothing: its contract is a theorem. It says what it means that a new state is safe by an
+/// old one in which some frame reads well. Each frame that reads well in the old state, at its
+/// place or if frames may move where it is now, is one of the new state, or was wrong and one of
+/// the new state mends it. Each frame that reads well in the new state and is neither is borne out:
+/// the old frames next to it have its time there.
 pub fn safe_states_are_kept_or_borne_out()
     ensures { SafeStatesMean }
 {}
 
-/// Does nothing. Its contract: whoever runs the script that a guarded run printed, on the session as
-/// it was opened, has every line accepted, and gets what the guarded run left.
+/// Does nothing: its contract is a theorem. Whoever runs the script that a guarded run printed, on
+/// the session as it was opened, has every line accepted, and gets what the guarded run left. The
+/// call in it does nothing, too: its own theorem is used.
 pub fn printed_scripts_are_obeyed()
     ensures { PrintedIsObeyed }
 {

@@ -8,7 +8,7 @@ ghost use Rattle.irig_script.specs.Obey.Run.{IsPlain};
 use crate::line::Line;
 use std::alloc::{AllocError, Global};
 
-/// The lines of a script.
+/// The lines of a script, without their newlines. Bytes after the last newline are a line, too.
 pub fn lines_of(alloc: Global, script: &[u8]) -> Result<Vec<Line>, AllocError>
     ensures { IfOk result (λ lines. texts lines.items ≡ lines_of script.now) }
 {
@@ -26,7 +26,7 @@ pub fn lines_of(alloc: Global, script: &[u8]) -> Result<Vec<Line>, AllocError>
     Ok(lines)
 }
 
-/// Puts a last line, which no newline ends, after others, if it has a byte.
+/// Puts a last line, which no newline ends, after the others, if it has a byte.
 fn put_last(lines: &mut Vec<Line>, bytes: Vec<u8>) -> Result<(), AllocError>
     requires { IsPlain bytes.items }
     ensures { OnOk result (texts lines.new.items ≡ texts lines.old.items ++ lines_of bytes.items) }

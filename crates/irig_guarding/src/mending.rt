@@ -28,8 +28,8 @@ use irig_safety::{Original, Shown};
 use irig_script::{Reply, obey_command};
 use std::alloc::Global;
 
-/// Obeys an edit. If it is refused, nothing has changed. What is known of the pulses of former
-/// frames stays true. An edit gives no other answer, so the last case does not come.
+/// Obeys an edit, and lets `known` follow the pulses that it changes. If it is refused, nothing has
+/// changed. An edit gives no other answer, so the last case does not come.
 fn edit(
     session: &mut Session,
     known: &mut Vec<Option<usize>>,
@@ -55,7 +55,7 @@ fn edit(
     }
 }
 
-/// Obeys a line in a group: an edit or a comment.
+/// Obeys a line in a group if it is an edit or a comment, which does nothing; else `NoRepair`.
 fn mend(session: &mut Session, known: &mut Vec<Option<usize>>, line: &Line) -> Result<(), Reason>
     ensures made { OnOk result (Obeyed session.old line.now.bytes.items session.new) }
     ensures stops { IfErr result (StopsAt session.old line.now.bytes.items) }
@@ -114,7 +114,7 @@ fn mend_all(
 }
 
 /// Ends the open group if what the frames show may stay, and returns the frames that read well. If
-/// not, the group stays open.
+/// not, the group stays open: the caller gives it up.
 fn end_safely(
     alloc: Global,
     session: &mut Session,
@@ -136,8 +136,9 @@ fn end_safely(
     }
 }
 
-/// Obeys the lines of a group and keeps what they did if it is safe. If not, all is as it was but
-/// for what can be redone.
+/// Obeys the lines of a group, those between `begin` and `end`, and keeps what they did if it is
+/// safe. If not, the group is given up: all is as it was but for what can be redone. `abort` is not
+/// refused then, since the group is open.
 fn mend_group(
     alloc: Global,
     session: &mut Session,
@@ -175,8 +176,8 @@ fn mend_group(
     }
 }
 
-/// Obeys an edit and keeps what it did if it is safe. If not, all is as it was but for what can be
-/// redone.
+/// Obeys an edit and keeps what it did if it is safe. If not, it is undone: all is as it was but
+/// for what can be redone. `undo` is not refused then, since the edit is the newest step.
 fn mend_one(
     alloc: Global,
     session: &mut Session,
@@ -210,7 +211,8 @@ fn mend_one(
     }
 }
 
-/// Obeys one line if it is an edit, and keeps what it did if it is safe.
+/// Obeys one line if it is an edit, and keeps what it did if it is safe. If not, all is as it was
+/// but for what can be redone.
 fn take_line(
     alloc: Global,
     session: &mut Session,

@@ -1,4 +1,5 @@
-//! What is known of a recording as it was opened.
+//! What is known of a recording as it was opened: its frames that read well, with their markers,
+//! and its pulses.
 
 ghost use Rattle.std.specs.Prelude.{◌≡◌, IfOk, map};
 ghost use Rattle.std.specs.List.Sorted.{IsNonDecreasingBy};
@@ -11,8 +12,8 @@ use irig_edit::{Pulse, Session};
 use irig_safety::{Original, Terms};
 use std::alloc::{AllocError, Global};
 
-/// What is known of a recording by the session that was opened on it, and by what repairs are
-/// judged besides.
+/// What is known of a recording by the session that was opened on it, before any repair, and by
+/// what repairs are judged besides (`terms`).
 pub fn original_of(alloc: Global, session: &Session, terms: Terms) -> Result<Original, AllocError>
     ensures { IfOk result (λ opened. opened ≡ original_of terms session.now.state) }
 {
@@ -23,7 +24,7 @@ pub fn original_of(alloc: Global, session: &Session, terms: Terms) -> Result<Ori
     Ok(Original::new(frames, markers, pulses, terms))
 }
 
-/// The markers of frames, as pulses from 0.
+/// The markers of frames: the place of the first pulse of each, from 0.
 fn markers_of(alloc: Global, frames: &[Seen]) -> Result<Vec<usize>, AllocError>
     ensures { IfOk result (λ markers. markers.items ≡ map (λ y. y.marker) frames.now) }
 {
@@ -35,7 +36,7 @@ fn markers_of(alloc: Global, frames: &[Seen]) -> Result<Vec<usize>, AllocError>
 }
 
 /// The pulses of a session, whose rises and falls never go back. An error means that memory ran
-/// out.
+/// out. The pulses of a session count from 1.
 fn pulses_of(alloc: Global, session: &Session) -> Result<Vec<Pulse>, AllocError>
     ensures all { IfOk result (λ pulses. pulses.items ≡ session.now.state.pulses) }
     ensures rising { IfOk result (λ pulses.

@@ -1,6 +1,6 @@
 //! The frames of another recording of the same code. They say something of this one if a frame next
-//! to them agrees with them: the two are near enough for their distance to say how many frame
-//! periods it is, and their times are as many apart.
+//! to them agrees with them, so that damage did not make them alone: the two are near enough for
+//! their distance to say how many frame periods it is, and their times are as many apart.
 
 ghost use Rattle.std.specs.Prelude.{◌≡◌, ◌≤◌, ◌^◌, ◌++◌, ℕ, Err, List, Option, length, Ok, IfErr};
 ghost use Rattle.std.specs.Prelude.{IfSome, OnOk};
@@ -19,9 +19,9 @@ use irig_recording::Recording;
 use irig_safety::{Shown, backed};
 use std::alloc::{AllocError, Global};
 
-/// Puts the frames of another recording that say something of this one after those of others, by
-/// what was read of its dump. `Dump` if it cannot be opened, `OutOfMemory` if memory runs out after
-/// that.
+/// Adds to `others` the frames of another recording that say something of this one. `recording` and
+/// `journal`, the text of its journal if it has one, are what was read of its dump. `Dump` if it
+/// cannot be opened, `OutOfMemory` if memory runs out after that.
 pub fn add_frames(
     alloc: Global,
     recording: Recording,
@@ -49,7 +49,7 @@ pub fn add_frames(
     }
 }
 
-/// Puts the frames of a session that say something of another recording after others.
+/// Adds to `others` the frames of a session that say something of another recording.
 fn add_shown(
     alloc: Global,
     session: &Session,

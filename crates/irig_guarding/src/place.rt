@@ -1,5 +1,7 @@
-//! Where a command of a repair changes the pulses of a session. Each function returns the place of
-//! one command. Addresses count pulses from 1, with 0 for none.
+//! Where a command of a repair changes the pulses of a session, so that what is known of other
+//! pulses can be kept. Each function returns the place of one command, if it is obeyed. Addresses
+//! count pulses from 1, with 0 for none: `ends` gives the first and the last pulse of a range, and
+//! `number_at` that of an address. So one less is how many pulses are before it.
 
 ghost use Rattle.std.specs.Prelude.{◌≡◌, ℕ, ℤ, IfSome, length};
 ghost use Rattle.irig_codes.specs.declared.width.Element.{Element as SomeElement};
@@ -22,7 +24,8 @@ pub struct Place {
     pub come: u128,
 }
 
-/// Where a command changes the pulses if it is obeyed; `None` if that is not known.
+/// Where a command changes the pulses if it is obeyed. `None` if that is not known: of `invert`,
+/// which adds or removes an edge at either time, and of commands that edit no pulses.
 pub fn place_of(session: &Session, command: &Command) -> Option<Place>
     ensures { (new : Machine) → Obeys command.now session.now Silent new
         → IfSome result (λ p. Became p.at p.come session.now.state.pulses new.state.pulses) }
@@ -39,7 +42,7 @@ pub fn place_of(session: &Session, command: &Command) -> Option<Place>
     }
 }
 
-/// The place of pulses that are removed.
+/// The place of pulses that are removed: none come instead.
 fn place_of_delete(session: &Session, range: &Range) -> Place
     ensures { (new : Machine) → Obeys (Command.Delete range.now) session.now Silent new
         → Became result.at result.come session.now.state.pulses new.state.pulses }
@@ -51,7 +54,7 @@ fn place_of_delete(session: &Session, range: &Range) -> Place
     }
 }
 
-/// The place of pulses that move: as many come as go.
+/// The place of pulses that move: as many come as go, those from `first` to `last`, both included.
 fn place_of_shift(session: &Session, range: &Range) -> Place
     ensures { (by : ℤ) (new : Machine) → Obeys (Command.Shift range.now by) session.now Silent new
         → Became result.at result.come session.now.state.pulses new.state.pulses }
@@ -113,8 +116,8 @@ fn place_of_insert(session: &Session, to: &Time) -> Place
     }
 }
 
-/// The place of frames that are generated: a hundred pulses for each, from the first that does not
-/// rise before the start on.
+/// The place of frames that are generated: a hundred pulses for each come after all pulses that
+/// rise before the start.
 fn place_of_regen(session: &Session, start: &Time, frames: u64) -> Place
     ensures { (moment : MomentView) (control : ℕ) (new : Machine)
         → Obeys (Command.Regen start.now frames moment control) session.now Silent new
@@ -127,7 +130,7 @@ fn place_of_regen(session: &Session, start: &Time, frames: u64) -> Place
 }
 
 /// How many pulses rise before a time, in microseconds. `find` counts those that rise up to a time,
-/// also at it.
+/// also at it, so it is asked for the microsecond before.
 fn rising_before(session: &Session, time: u64) -> usize
     ensures { result ≡ length (rising_before time session.now.state.pulses) }
 {

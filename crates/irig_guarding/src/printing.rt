@@ -1,4 +1,4 @@
-//! The script that is printed: what is kept, and the rest as comments.
+//! The script that is printed: what is kept, and the rest as comments. All is added to `out`.
 
 ghost use Rattle.std.specs.Prelude.{◌≡◌, ◌++◌, ◌∷◌, [], ℕ, List, OnOk};
 ghost use Rattle.std.specs.List.{AllByRecursion};
@@ -13,10 +13,11 @@ use crate::line::Line;
 use irig_safety::Shown;
 use std::alloc::AllocError;
 
-/// How many bytes of a line a comment keeps.
+/// How many bytes of a line a comment keeps: with the number sign it is less than the 1000 that a
+/// line of a script may have.
 const KEPT: usize = 900;
 
-/// Prints a line.
+/// Prints a line, and a newline after it.
 fn put_line(out: &mut Vec<u8>, line: &[u8]) -> Result<(), AllocError>
     ensures { OnOk result (out.new.items ≡ out.old.items ++ (line.now ++ 10 ∷ [])) }
 {
@@ -25,7 +26,8 @@ fn put_line(out: &mut Vec<u8>, line: &[u8]) -> Result<(), AllocError>
     Ok(())
 }
 
-/// Prints first that there is nothing to go by, if no frame of the recording reads well.
+/// Prints first that there is nothing to go by, if no frame of the recording reads well (`opened`
+/// is these frames).
 pub fn put_head(out: &mut Vec<u8>, opened: &[Shown]) -> Result<(), AllocError>
     ensures { OnOk result (out.new.items ≡ out.old.items ++ unlines (head_lines opened.now)) }
 {
@@ -39,7 +41,7 @@ pub fn put_head(out: &mut Vec<u8>, opened: &[Shown]) -> Result<(), AllocError>
     }
 }
 
-/// Prints lines.
+/// Prints lines as they are.
 pub fn put_lines(out: &mut Vec<u8>, lines: &[Line]) -> Result<(), AllocError>
     ensures text { OnOk result (out.new.items ≡ out.old.items ++ unlines (texts lines.now)) }
     ensures plain { AllByRecursion IsPlain (texts lines.now) }
@@ -50,8 +52,8 @@ pub fn put_lines(out: &mut Vec<u8>, lines: &[Line]) -> Result<(), AllocError>
     Ok(())
 }
 
-/// Prints a line as a comment: a comment as it is, of any other line the front after a number
-/// sign.
+/// Prints a line as a comment: a comment as it is, of any other line the first 900 bytes after a
+/// number sign.
 fn put_remark(out: &mut Vec<u8>, line: &Line) -> Result<(), AllocError>
     ensures { OnOk result ((remark : List ℕ) × IsRemark remark × IsRemarkOf line.now.bytes.items remark
         × (out.new.items ≡ out.old.items ++ (remark ++ 10 ∷ []))) }

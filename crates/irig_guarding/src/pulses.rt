@@ -25,7 +25,8 @@ use irig_edit::Session;
 use irig_safety::{Fault, Original, Shown, Witnesses, frame_at, near_in, rise_or};
 
 /// Whether the pulses of each frame that reads well are where they may be, by the frames at the old
-/// places. If not, the first that is at fault. Those of known frames are not looked at.
+/// places. If not, the first that is at fault. Those of known frames are not looked at. Both lists
+/// are in rising order, so they are passed together.
 pub fn check_stand(
     session: &Session,
     opened: &Original,
@@ -68,7 +69,7 @@ fn is_unmoved(old: &[Shown], known: &[Option<usize>], place: usize, frame: &Seen
 }
 
 /// How many of the former frames are passed after one more frame, if `passed` are before it; or why
-/// it is at fault.
+/// it is at fault. It is between former frames if the next of these begins later or there is none.
 fn pass(
     session: &Session,
     opened: &Original,
@@ -116,8 +117,8 @@ fn pass(
     }
 }
 
-/// How many former frames are passed after a frame that was not fine: `passed` as before. `near` is
-/// the former ones next to it. `Misplaced` if a pulse of it is neither an anchor nor on the line
+/// How many former frames are passed after a frame that was not fine: still `passed`. `near` is the
+/// former ones next to it. `Misplaced` if a pulse of it is neither an anchor nor on the line
 /// between those next to it.
 fn come(
     session: &Session,
@@ -135,8 +136,8 @@ fn come(
     }
 }
 
-/// Whether most pulses of each frame that reads well, 60 or more, are anchors. If not, the first
-/// that is at fault.
+/// Whether most pulses of each frame that reads well, 60 or more of its 100, are anchors. If not,
+/// the first frame that is at fault.
 pub fn check_rooted(session: &Session, opened: &Original, frames: &[Seen]) -> Result<(), Fault>
     ensures rooted { OnOk result
         (AllByRecursion (IsRooted opened.now session.now.state) frames.now) }
@@ -152,7 +153,8 @@ pub fn check_rooted(session: &Session, opened: &Original, frames: &[Seen]) -> Re
     Ok(())
 }
 
-/// Whether the pulses of a frame rise as those of the former one at a place.
+/// Whether the pulses of a frame rise as those of the former one at a place of `old`: that is
+/// known, or they are compared.
 fn stands_as(
     session: &Session,
     opened: &Original,
@@ -171,7 +173,7 @@ fn stands_as(
 }
 
 /// Whether each pulse of the frame of a marker rises as long after the marker as in the former
-/// frame of another marker.
+/// frame of the marker `former`.
 pub fn keeps_rises(session: &Session, opened: &Original, former: usize, marker: usize) -> bool
     ensures { IsTrue result ↔ KeepsRises opened.now.pulses former session.now.state.pulses marker }
 {

@@ -21,7 +21,7 @@ pub fn fine_frames(alloc: Global, session: &Session) -> Result<Vec<Shown>, Alloc
     Ok(shown)
 }
 
-/// Puts what the frame of a number, from 1, shows after others if it reads well.
+/// Adds what the frame of a number, from 1, shows to `shown`, if it reads well.
 fn put_frame(shown: &mut Vec<Shown>, session: &Session, number: usize) -> Result<(), AllocError>
     requires { (1 ≤ number) × (number ≤ length (frames_of session.now.state)) }
     ensures { (r : Record) → slice_get (frames_of session.now.state) (number - 1) ≡ Some r
@@ -33,7 +33,8 @@ fn put_frame(shown: &mut Vec<Shown>, session: &Session, number: usize) -> Result
     put_verdict(shown, rise, frame.verdict)
 }
 
-/// Puts what a frame shows that begins at a time, in microseconds, after others if it reads well.
+/// Adds what a frame shows that begins at `rise`, in microseconds, to `shown`, if it reads well: it
+/// is read, and nothing is wrong.
 fn put_verdict(shown: &mut Vec<Shown>, rise: u64, verdict: Verdict) -> Result<(), AllocError>
     ensures { OnOk result (shown.new.items ≡ shown.old.items ++ shown_at rise verdict) }
 {

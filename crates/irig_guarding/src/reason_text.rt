@@ -1,4 +1,4 @@
-//! Why a repair is not kept, as a comment.
+//! Why a repair is not kept, as a comment that is added to `out`.
 
 ghost use Rattle.std.specs.Prelude.{◌≡◌, ◌++◌, ◌∷◌, [], OnOk};
 ghost use Rattle.irig_guarding.specs.Reasons.{fault_text, frame_text, reason_line};
@@ -10,7 +10,7 @@ use irig_edit::Refusal;
 use irig_safety::{Fault, Shown};
 use std::alloc::AllocError;
 
-/// Prints why a repair is not kept.
+/// Prints why a repair is not kept, as a line `# not kept: ` with the reason.
 pub fn put_reason(out: &mut Vec<u8>, reason: Reason) -> Result<(), AllocError>
     ensures { OnOk result (out.new.items ≡ out.old.items ++ (reason_line reason ++ 10 ∷ [])) }
 {
@@ -20,7 +20,7 @@ pub fn put_reason(out: &mut Vec<u8>, reason: Reason) -> Result<(), AllocError>
     Ok(())
 }
 
-/// Prints the reason itself.
+/// Prints the reason itself, without the number sign and the newline.
 fn put_text(out: &mut Vec<u8>, reason: Reason) -> Result<(), AllocError>
     ensures { OnOk result (out.new.items ≡ out.old.items ++ reason_text reason) }
 {
@@ -65,7 +65,7 @@ fn put_what(out: &mut Vec<u8>, frame: &Shown, what: &[u8]) -> Result<(), AllocEr
     out.extend_from_slice(what)
 }
 
-/// Prints the editor's refusal.
+/// Prints that the editor refuses a line, and its refusal.
 fn put_refusal(out: &mut Vec<u8>, why: Refusal) -> Result<(), AllocError>
     ensures { OnOk result (out.new.items ≡ out.old.items ++ reason_text (Reason.Refused why)) }
 {

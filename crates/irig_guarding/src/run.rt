@@ -1,8 +1,8 @@
 //! A run under guard on a dump, from the bytes that come in to those that go out. Under guard,
 //! commands that are not safe by `terms` are left out: these have frames of other recordings of the
-//! same code, and say whether frames of the recording may move. `Kept` is how a run ended: whether
-//! all of the script was accepted, and how many frames have control functions that are not in the
-//! recording.
+//! same code, and say whether frames of the recording may move. The shelf is where the text of the
+//! track is written, as a file. `Kept` is how a run ended: whether all of the script was accepted,
+//! and how many frames have control functions that are not in the recording.
 
 ghost use Rattle.std.specs.Prelude.{◌≡◌, ◌≤◌, ◌^◌, ℕ, Err, List, None, Option, length, Ok, IfErr, IfOk};
 ghost use Rattle.std.specs.Prelude.{IfSome, OnErr, OnOk, [], ◌∷◌};
@@ -28,8 +28,8 @@ use std::io::{Read, Write};
 
 /// Opens a dump by what was read of it, its recording and the text of its journal, and runs a
 /// proposed script on it under guard. The script that is accepted is printed to `out`, and what
-/// `product` asks for, nothing, the track or the session, is put on the shelf. `Err` is the first
-/// fault of the dump, of memory, of a read of the script or of a write.
+/// `product` asks for, nothing, the track or the session, is written to the shelf. `Err` is the
+/// first fault of the dump, of memory, of a read of the script or of a write.
 pub fn guard_on_parts<R: Read, W: Write, S: Shelf>(
     alloc: Global,
     recording: Recording,
@@ -60,8 +60,8 @@ pub fn guard_on_parts<R: Read, W: Write, S: Shelf>(
     }
 }
 
-/// Opens a dump by what was read of it. No group is open. The call that ends a group says so: it is
-/// refused, and changes nothing.
+/// Opens a dump by what was read of it. No group is open: an `end` is tried to prove it, which is
+/// refused then, and changes nothing.
 fn open_closed(
     alloc: Global,
     recording: Recording,
@@ -90,7 +90,7 @@ fn open_closed(
 }
 
 /// Runs a proposed script on a session under guard, prints the script that is accepted to `out`,
-/// and puts what `product` asks for on the shelf. What the calls' own errors say is not kept: the
+/// and writes what `product` asks for to the shelf. What the calls' own errors say is not kept: the
 /// fault says which step failed.
 pub fn guard_session<R: Read, W: Write, S: Shelf>(
     alloc: Global,
@@ -125,7 +125,7 @@ pub fn guard_session<R: Read, W: Write, S: Shelf>(
     }
 }
 
-/// Puts what is asked for of a session on the shelf: nothing, its track, or its track with the
+/// Writes what is asked for of a session to the shelf: nothing, its track, or its track with the
 /// journal.
 fn write_product<S: Shelf>(
     session: &Session,
@@ -145,7 +145,7 @@ fn write_product<S: Shelf>(
     }
 }
 
-/// Writes a text to the shelf. How long it was is not asked for.
+/// Writes a text to the shelf. How many bytes it has, which `put` returns, is not needed.
 fn write<T: Text, S: Shelf>(text: &mut T, shelf: &mut S) -> Result<(), ShelfFault>
     ensures ok { OnOk result (Puts (S.known shelf.old) (S.known shelf.new)
         (T.rest text.old ∷ []) 0) }

@@ -79,8 +79,8 @@ pub fn is_as_before(old: &[Shown], place: usize, frame: &Seen) -> bool
     }
 }
 
-/// Puts the frame of a number, from 1, after others if it reads well. The pulses of a session count
-/// from 1, too.
+/// Adds the frame of a number, from 1, to `seen`, if it reads well. The pulses of a session count
+/// from 1, too, so 1 is taken off its marker.
 fn put_frame(seen: &mut Vec<Seen>, session: &Session, number: usize) -> Result<(), AllocError>
     requires { (1 ≤ number) × (number ≤ length (frames_of session.now.state)) }
     ensures { (r : Record) → slice_get (frames_of session.now.state) (number - 1) ≡ Some r
@@ -92,8 +92,8 @@ fn put_frame(seen: &mut Vec<Seen>, session: &Session, number: usize) -> Result<(
     put_verdict(seen, rise, frame.marker - 1, frame.verdict)
 }
 
-/// Puts a frame that begins at a time, in microseconds, after others if it reads well. Its marker
-/// counts from 0.
+/// Adds a frame that begins at `rise`, in microseconds, to `seen`, if it reads well: it is read,
+/// and nothing is wrong. Its marker counts from 0.
 fn put_verdict(
     seen: &mut Vec<Seen>,
     rise: u64,

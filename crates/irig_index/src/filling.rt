@@ -2,12 +2,12 @@
 //!
 //! A marker is the pulse with which a frame begins: a position identifier in step after another
 //! one. Pulses count from 0. A place is the number of a pulse; a marker after place k is pulse k +
-//! 1, and pulse k is the position identifier before it. A record has a marker and the verdict on
-//! its frame.
+//! 1, and pulse k is the position identifier before it. So the last place with a pulse after it is
+//! the number of pulses less 2. A record has a marker and the verdict on its frame. Records are in
+//! a gap buffer, in rising order: `put` inserts left of the gap. Those right of it count their
+//! markers from the back of `pulses`, which is how many pulses the track had.
 //!
-//! A lens shows the pulses of a track and counts each look at one; `looks` gets the same count. The
-//! records right of the gap count their markers from the back of `pulses`, which is how many pulses
-//! the track had.
+//! A lens shows the pulses of a track and counts each look at one; `looks` gets the same count.
 //!
 //! What is marked "Read for .." does nothing: it only lets the proof use what a type promises.
 //!
@@ -32,7 +32,7 @@ use irig_gap::Gap;
 use irig_track::{Lens, Span};
 use std::alloc::AllocError;
 
-/// How many markers the lens's track has. Adds the looks that it takes to `looks`.
+/// How many markers the lens's track has in this format. Adds the looks that it takes to `looks`.
 pub fn count_markers(lens: &mut Lens<'_>, looks: &mut u64, format: Format) -> usize
     ensures count { result ≡ length (frames format lens.old.track.pulses) }
     ensures looked { Looked lens.old lens.new looks.old looks.new
@@ -49,7 +49,8 @@ pub fn count_markers(lens: &mut Lens<'_>, looks: &mut u64, format: Format) -> us
 }
 
 /// Puts the records of the markers after the places `from` to `to`, `to` not included, left of the
-/// gap. If there is room for them it does not grow; else it fails if memory runs out.
+/// gap, in order. If there is room for them the buffer does not grow; else it fails if memory runs
+/// out.
 pub fn fill(
     records: &mut Gap<Stored>,
     lens: &mut Lens<'_>,
@@ -77,13 +78,15 @@ pub fn fill(
     while let Some((before, first)) = next_marker(lens, looks, format, place, to) {
         let marker = before + 1;
         let verdict = verdict(lens, looks, format, marker, first);
+        // Left of the gap a record has its marker's number from the front, as here.
         put(records, Stored::new(marker, verdict))?;
         place = next_place(marker, verdict, to);
     }
     Ok(())
 }
 
-/// As `fill`, into room that is there: the gap does not grow, so `unwrap` finds no error.
+/// As `fill`, if there is room for the records, which `Index::reserve` made before: the buffer does
+/// not grow, so `unwrap` finds no error.
 pub fn refill(
     records: &mut Gap<Stored>,
     lens: &mut Lens<'_>,
@@ -106,9 +109,11 @@ pub fn refill(
     fill(records, lens, looks, format, from, to).unwrap();
 }
 
-/// Checks the frame of the last marker up to the pulse `from` again, unless that frame ends there,
-/// with its marker 99 pulses or more before: the pulses after `from` have changed. Returns whether
-/// the next record is of a marker up to the pulse `last`.
+/// Checks again the one frame before an edit that can reach into it: the pulses after `from` have
+/// changed. That is the frame of the last marker up to the pulse `from`: the check of each frame
+/// before that ends at the next marker at the latest. If this marker is 99 pulses or more before
+/// `from`, its frame ends by then and stays. Returns whether the next record, which is not changed,
+/// is of a marker up to the pulse `last`: then at least one record goes, to be sought again.
 pub fn retell_up_to(
     records: &mut Gap<Stored>,
     pulses: usize,
@@ -138,8 +143,10 @@ pub fn retell_up_to(
     more
 }
 
-/// Checks the frame of the last of the first `count` markers again, unless that marker is a pulse
-/// up to `settled`: such a frame ends before what has changed.
+/// Checks the frame of the last of the first `count` markers again, and writes its new record. If
+/// that marker is a pulse up to `settled`, its frame ends before what has changed, and nothing is
+/// done; nor if `count` is 0. The look at the marker itself is counted here, and `verdict` counts
+/// those at the pulses after it.
 fn retell(
     records: &mut Gap<Stored>,
     pulses: usize,
@@ -174,8 +181,9 @@ fn retell(
     set_record(records, pulses, count - 1, Stored::new(marker, verdict));
 }
 
-/// Up to which place a repair seeks markers: the first pulse after the edit, or the last pulse of
-/// the track.
+/// Up to which place a repair seeks markers, not included: so the last pulse that can be a new
+/// marker is the first one after the edit, or the last pulse of the track. Each later pulse and the
+/// one before it are as they were.
 pub fn last_place(lens: &Lens<'_>, edit: Span) -> usize
     requires { edit.at + edit.new ≤ length lens.now.track.pulses }
     ensures least { result ≡ min (length lens.now.track.pulses - 1) (edit.at + edit.new) }
@@ -207,8 +215,10 @@ pub fn next_marked(
     }
 }
 
-/// The place from which on the next marker is sought, none later than `to`. A verdict on the frame
-/// of `marker` has looked at the pulses after it up to there, and none of these is a marker.
+/// The place from which on the next marker is sought, none later than `to`. The verdict on the
+/// frame of `marker` has looked at some pulses after it. Of these only the last can be a marker, as
+/// a frame has no two position identifiers in a row; so the place is that of the pulse before the
+/// last.
 fn next_place(marker: usize, verdict: Verdict, to: usize) -> usize
     requires { marker ≤ to }
     ensures order { marker ≤ result }

@@ -1,7 +1,9 @@
 //! The verdict on a frame.
 //!
 //! A marker is the pulse with which a frame begins: a position identifier in step after another
-//! one. An interval is in microseconds, from one rise to the next. A lens shows the pulses of a
+//! one. It is element 0 of its frame; elements 9, 19, 29 up to 99 are position identifiers, too,
+//! and all others digits, Zero or One. Two rises are in step if they are one interval apart, to a
+//! tenth. An interval is in microseconds, from one rise to the next. A lens shows the pulses of a
 //! track and counts each look at one.
 //!
 //! A verdict is `Read`, with the fields and the note of a sound frame, or `Broken`, with the least
@@ -28,8 +30,8 @@ use irig_track::{Lens, Pulse};
 /// How many elements a frame has.
 pub const ELEMENTS: usize = 100;
 
-/// The verdict on the frame of the marker `first`, which is pulse `at`, from 0. It takes 99 looks
-/// at most, which `looks` counts, too.
+/// The verdict on the frame of the marker `first`, which is pulse `at` of the track, from 0. It
+/// looks at 99 pulses at most; `looks` gets their count, too.
 pub fn verdict(
     lens: &mut Lens<'_>,
     looks: &mut u64,
@@ -50,8 +52,8 @@ pub fn verdict(
     verdict
 }
 
-/// How many looks a verdict took: one for each pulse after the marker up to the one that fails. If
-/// the track ended before that one, it is not there to be looked at.
+/// How many looks a verdict took: one for each pulse after the marker, up to the one that fails,
+/// included. If that one fails since the track has ended, there is no such pulse to look at.
 pub fn looks_of(verdict: Verdict) -> u64
     ensures { result ≡ looks_of verdict }
 {
@@ -62,9 +64,9 @@ pub fn looks_of(verdict: Verdict) -> u64
     }
 }
 
-/// As `verdict`, with the looks counted by the lens alone: the verdict shows how many they are. The
-/// marker is element 0, which is no One, and each pulse after it has to be in step and of a class
-/// that may be there.
+/// As `verdict`, with the looks counted by the lens alone: the verdict shows how many they are.
+/// Each pulse after the marker has to be in step with the one before it, and of a class that may be
+/// there. `Gathering` takes whether each element is One, from element 0 on; the marker is not One.
 fn check(lens: &mut Lens<'_>, format: Format, at: usize, first: Pulse) -> Verdict
     requires track { IsTrack lens.old.track.micros lens.old.track.pulses }
     requires first { slice_get lens.old.track.pulses at ≡ Some first }
@@ -81,7 +83,7 @@ fn check(lens: &mut Lens<'_>, format: Format, at: usize, first: Pulse) -> Verdic
     let count = (lens.len() - at).min(ELEMENTS);
     let mut ones = Gathering::none().and(false);
     let mut before = first;
-    // This many digits are left before the next position identifier.
+    // This many digits are left before the next position identifier: elements 1 to 8 before 9.
     let mut digits = 8u64;
     for k in 1..count {
         let pulse = lens.pulse(at + k);
@@ -101,8 +103,8 @@ fn check(lens: &mut Lens<'_>, format: Format, at: usize, first: Pulse) -> Verdic
     read(format, ones)
 }
 
-/// The verdict on a frame in which no pulse fails, by which of its elements are One: `gathered` has
-/// all 100.
+/// The verdict on a frame in which no pulse fails: its fields and their note. `gathered` says of
+/// all 100 elements whether they are One.
 fn read(format: Format, gathered: Gathering) -> Verdict
     ensures verdict { (frame : List Element) → length frame ≡ 100 → raised frame ≡ gathered
         → result ≡ Read (decoded format frame).0 (decoded format frame).1 }
@@ -113,9 +115,9 @@ fn read(format: Format, gathered: Gathering) -> Verdict
 }
 
 /// Whether an element of this width is One, and how many digits are left after it before the next
-/// position identifier. `digits` is how many are left before it. `None` if it must not be there: if
-/// no digit is left only a position identifier may be, after which nine digits come, and else only
-/// a digit.
+/// position identifier. `digits` is how many are left, this element included. `None` if it must not
+/// be there: if no digit is left only a position identifier may be, which is not One and after
+/// which nine digits come; else only a digit.
 #[inline(always)]
 fn told(interval: u64, width: u64, digits: u64) -> Option<(bool, u64)>
     requires { HasTwentieths interval }

@@ -1,4 +1,5 @@
-//! Records by their place among all, from 0, whichever side of the gap they are on.
+//! Records by their place among all, from 0, on whichever side of the gap they are. They are in a
+//! gap buffer: a list with a gap, at which records come and go.
 //!
 //! Records are in rising order of their markers, which are numbers of pulses from 0. Those left of
 //! the gap count from the front of the track; those right of it count from its back, so `pulses`,
@@ -11,8 +12,8 @@ use crate::sides::{begins_up_to, ends_after, record_at, turned};
 use crate::stored::Stored;
 use irig_gap::Gap;
 
-/// How many records are of markers up to pulse `last`, if they rise. It is a search by halves that
-/// begins at the gap.
+/// How many records are of markers up to pulse `last`, included. It is a search by halves, which
+/// needs the rising order. It begins with the bounds that the gap gives.
 pub fn count_up_to(records: &Gap<Stored>, pulses: usize, last: usize) -> usize
     ensures within { result ≤ length records.now.items }
     ensures before { EndsUpTo last (take result (shown pulses records.now)) }
@@ -31,8 +32,10 @@ pub fn count_up_to(records: &Gap<Stored>, pulses: usize, last: usize) -> usize
     low
 }
 
-/// A number that is not above how many records are of markers up to `last`: that of those left of
-/// the gap, if all of them are, or 0. The gap is often where the search ends.
+/// A lower bound of what `count_up_to` seeks: the number of records left of the gap, if the last of
+/// them is of a marker up to `last` or there is none; else 0. `ends_after` says whether that last
+/// one is of a later marker. The gap is mostly where the last edit was, and the search often ends
+/// there.
 fn least_up_to(records: &Gap<Stored>, pulses: usize, last: usize) -> usize
     ensures within { result ≤ records.now.place }
     ensures before { EndsUpTo last (take result (shown pulses records.now)) }
@@ -44,7 +47,9 @@ fn least_up_to(records: &Gap<Stored>, pulses: usize, last: usize) -> usize
     }
 }
 
-/// A number that the records of markers up to `last` do not exceed: those left of the gap, or all.
+/// An upper bound of what `count_up_to` seeks: the number of all records, if the first one right of
+/// the gap is of a marker up to `last`, as `begins_up_to` says; else, also if none is there, the
+/// number of those left of the gap.
 fn most_up_to(records: &Gap<Stored>, pulses: usize, last: usize) -> usize
     ensures from { records.now.place ≤ result }
     ensures within { result ≤ length records.now.items }
@@ -57,7 +62,7 @@ fn most_up_to(records: &Gap<Stored>, pulses: usize, last: usize) -> usize
     }
 }
 
-/// Whether the record at place `k`, from 0, is of a marker up to `last`.
+/// Whether there is a record at place `k`, from 0, and it is of a marker up to `last`.
 pub fn is_up_to(records: &Gap<Stored>, pulses: usize, k: usize, last: usize) -> bool
     requires { k ≤ length records.now.items }
     ensures { result ≡ false → BeginsAfter last (drop k (shown pulses records.now)) }

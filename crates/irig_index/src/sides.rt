@@ -1,8 +1,11 @@
-//! The records on both sides of a gap.
+//! The records on both sides of a gap. They are in a gap buffer: a list with a gap, at which
+//! records come and go.
 //!
 //! Records are in rising order of their markers, which are numbers of pulses from 0. Those left of
-//! the gap count from the front of the track; those right of it count from its back, so `pulses`,
-//! how many it has, gives their numbers. `first` and `last` are numbers of pulses, from the front.
+//! the gap count from the front of the track; those right of it count from its back, so that an
+//! edit at the gap leaves them as they are. `pulses`, how many the track has, gives their numbers:
+//! pulse k is counted as `pulses - k` there. `first` and `last` are numbers of pulses, from the
+//! front.
 //!
 //! What is marked "Read for .." does nothing: it only lets the proof use what a type promises.
 
@@ -17,8 +20,8 @@ use crate::stored::Stored;
 use irig_gap::Gap;
 use std::alloc::AllocError;
 
-/// The record with its marker's number counted from the other end of this many pulses: from the
-/// front to the back, or from the back to the front.
+/// The record with its marker's number counted from the other end of the track: `pulses` less the
+/// number. It turns one count into the other, both ways. For a marker of the track nothing wraps.
 pub fn turned(pulses: usize, kept: Stored) -> Stored
     ensures turned { result ≡ turned pulses kept }
     ensures fits { kept.marker < 2 ^ 64 }
@@ -39,7 +42,7 @@ pub fn record_at(records: &Gap<Stored>, pulses: usize, k: usize) -> Stored
     }
 }
 
-/// Removes all records.
+/// Removes all records: those left of the gap, and then those right of it.
 pub fn clear(records: &mut Gap<Stored>)
     ensures items { records.new.items ≡ [] }
     ensures capacity { records.new.capacity ≡ records.old.capacity }
@@ -52,8 +55,8 @@ pub fn clear(records: &mut Gap<Stored>)
     }
 }
 
-/// Removes the records of the markers after `first`, up to `last`, and leaves the gap where they
-/// were. Those left of the gap go first, so that it does not have to pass them.
+/// Removes the records of the markers after `first`, up to `last`, included, and leaves the gap
+/// where they were. Those left of the gap go first, so that it does not have to move over them.
 pub fn cut_out(records: &mut Gap<Stored>, pulses: usize, first: usize, last: usize)
     requires { first ≤ last }
     ensures sides { (start middle rest : List Record)
@@ -66,7 +69,7 @@ pub fn cut_out(records: &mut Gap<Stored>, pulses: usize, first: usize, last: usi
     drop_up_to(records, pulses, last);
 }
 
-/// Moves the gap to after the records of the markers up to `last`.
+/// Moves the gap after the records of the markers up to `last`, and before all others.
 fn part(records: &mut Gap<Stored>, pulses: usize, last: usize)
     ensures shown { shown pulses records.new ≡ shown pulses records.old }
     ensures left { EndsUpTo last (left_of records.new) }
@@ -83,8 +86,8 @@ fn part(records: &mut Gap<Stored>, pulses: usize, last: usize)
 }
 
 /// Moves the gap left over the records of the markers after `last`, and then removes the records
-/// left of it that are of markers after `first`. If the records rise, those that are still to go
-/// are right of the gap then.
+/// left of it that are of markers after `first`. Records are in rising order, so all others that
+/// are to go are right of the gap then.
 fn drop_back_to(records: &mut Gap<Stored>, pulses: usize, first: usize, last: usize)
     ensures cut { Cut first last (shown pulses records.old)
         (left_of records.new) (right_of pulses records.new) }
@@ -150,6 +153,7 @@ fn step_left(records: &mut Gap<Stored>, pulses: usize)
     ensures length { length records.new.items ≡ length records.old.items }
     ensures capacity { records.new.capacity ≡ records.old.capacity }
 {
+    // The caller has seen that a record is left of the gap.
     let last = records.gap_at() - 1;
     let record = records.get(last);
     records.set(last, turned(pulses, record));
@@ -166,14 +170,15 @@ fn step_right(records: &mut Gap<Stored>, pulses: usize)
     ensures length { length records.new.items ≡ length records.old.items }
     ensures capacity { records.new.capacity ≡ records.old.capacity }
 {
+    // The caller has seen that a record is right of the gap.
     let first = records.gap_at();
     let record = records.get(first);
     records.set(first, turned(pulses, record));
     records.step_right();
 }
 
-/// Inserts a record left of the gap. If it has room it does not grow; else it fails if memory runs
-/// out.
+/// Inserts a record left of the gap, its marker counted from the front. If there is room the buffer
+/// does not grow; else it fails if memory runs out.
 pub fn put(records: &mut Gap<Stored>, found: Stored) -> Result<(), AllocError>
     ensures left { OnOk result (left_of records.new ≡ left_of records.old ++ (found ∷ [])) }
     ensures right { OnOk result (kept_right records.new ≡ kept_right records.old) }

@@ -39,8 +39,8 @@ impl Model for Stored {
 }
 
 impl Stored {
-    /// The record of a marker, by the number of its pulse, and the verdict on its frame, each of
-    /// whose numbers has to fit in the bytes for it.
+    /// The record of a marker, by the number of its pulse, and the verdict on its frame. Each
+    /// number of the verdict fits in the bytes for it, as a frame has few bits for it.
     pub fn new(marker: usize, verdict: Verdict) -> Stored
         requires { IsNarrow verdict }
         ensures { result ≡ record { marker = marker; verdict = verdict } }
@@ -59,7 +59,7 @@ impl Stored {
         self.marker
     }
 
-    /// The record of the same verdict and of a marker with another number.
+    /// The record of the same verdict, with another number for its marker.
     #[inline(always)]
     pub fn at(self, marker: usize) -> Stored
         ensures { result ≡ record { marker = marker; verdict = self.verdict } }
@@ -81,8 +81,8 @@ impl Stored {
     }
 }
 
-/// A verdict, each number in no more bytes than it needs. A part that the frame lacks is the
-/// greatest number of its type, which no frame carries.
+/// A verdict, each number in no more bytes than it needs. A field that the format does not have is
+/// kept as the greatest number of its type, which no frame carries.
 #[derive(Clone, Copy)]
 pub enum Kept {
     /// The least element that fails, and why.
@@ -101,7 +101,9 @@ pub enum Kept {
     },
 }
 
-/// A verdict in the bytes in which it is kept.
+/// The verdict as it is kept: each number shortened to its bytes, which loses nothing. A number of
+/// two decimal digits of at most four bits each is at most 165, and the days, whose hundreds have
+/// two bits, at most 465.
 fn keep(verdict: Verdict) -> Kept
     requires { IsNarrow verdict }
     ensures { result ≡ kept_of verdict }
@@ -122,7 +124,7 @@ fn keep(verdict: Verdict) -> Kept
     }
 }
 
-/// The verdict that is kept in these bytes, in full.
+/// The verdict in full, from what is kept of it.
 fn verdict(kept: Kept) -> Verdict
     ensures { result ≡ verdict_kept kept }
 {
@@ -154,7 +156,8 @@ fn verdict(kept: Kept) -> Verdict
     }
 }
 
-/// A part of two digits in a byte, or 255 for `None`. The part is below 255.
+/// A field of two decimal digits in a byte, or 255 for `None`. Two digits of four bits make at most
+/// 165, so the field is below 255.
 #[inline(always)]
 fn byte(part: Option<u32>) -> u8
     requires { unwrap_or part 0 < 255 }
@@ -166,7 +169,7 @@ fn byte(part: Option<u32>) -> u8
     }
 }
 
-/// The part of two digits that a byte keeps; 255 is `None`.
+/// The field of two decimal digits that a byte keeps; 255 is `None`.
 #[inline(always)]
 fn two_digits(byte: u8) -> Option<u32>
     ensures { result ≡ part_of 255 byte }
@@ -174,7 +177,8 @@ fn two_digits(byte: u8) -> Option<u32>
     if byte == 255 { None } else { Some(byte as u32) }
 }
 
-/// The straight binary seconds that are kept; the greatest number is `None`.
+/// The straight binary seconds that are kept; the greatest number is `None`, since they have 17
+/// bits.
 #[inline(always)]
 fn binary(sbs: u32) -> Option<u32>
     ensures { result ≡ part_of (2 ^ 32 - 1) sbs }
@@ -182,7 +186,8 @@ fn binary(sbs: u32) -> Option<u32>
     if sbs == u32::MAX { None } else { Some(sbs) }
 }
 
-/// The control functions that are kept; the greatest number is `None`.
+/// The control functions that are kept; the greatest number is `None`, since they have at most 45
+/// bits.
 #[inline(always)]
 fn functions(control: u64) -> Option<u64>
     ensures { result ≡ part_of (2 ^ 64 - 1) control }

@@ -17,7 +17,7 @@ pub(crate) struct Entry {
     pub(crate) cursor: usize,
 }
 
-/// How many changes steps have, all together.
+/// How many changes the steps of these entries have, all together.
 pub(crate) fn count_all(entries: &[Entry]) -> usize
     requires few { counts_of entries.now < 2 ^ 64 }
     ensures { result ≡ counts_of entries.now }
@@ -29,8 +29,10 @@ pub(crate) fn count_all(entries: &[Entry]) -> usize
     count
 }
 
-/// Makes one group of the steps after the first `at` of the list: it has all their changes and
-/// leads to `cursor`. It takes no memory: the list has a place, so `unwrap` finds no error.
+/// Makes one group of the steps after the first `at` of the list, which are the nearest ones: it
+/// has all their changes and leads to `cursor`. Only the entries are joined: the changes are in
+/// another list and stay there. It takes no memory: the list has a place (the caller makes one if
+/// no step goes), so `unwrap` finds no error.
 pub(crate) fn join_beyond(entries: &mut Vec<Entry>, at: usize, cursor: usize)
     requires within { at ≤ vec_len entries.old }
     requires place { at < vec_capacity entries.old }

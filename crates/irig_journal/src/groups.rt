@@ -1,10 +1,10 @@
 //! Groups: several edits that one undo reverses.
 //!
 //! The past has the steps that can be undone, the future those that can be redone. The nearest step
-//! of a side is the one that is undone or redone next, the farthest the last one. A list of the
-//! past begins with the farthest, which is the oldest. An `Entry` of it has how many changes a step
-//! has, and the cursor of the state it leads to. To turn a step is to make its change, and to leave
-//! the change that leads back in it.
+//! of a side is the one that is undone or redone next, the farthest the last one. Each side has a
+//! list of entries, one for a step; that of the past begins with the farthest, which is the oldest.
+//! An `Entry` of it has how many changes a step has, and the cursor of the state it leads to. To
+//! turn a step is to make its change, and to leave the change that leads back in it.
 //!
 //! A floor is the begin of the open group, an `Opening`: how many steps the past had, and the
 //! cursor. An undo does not go below it. `known` does nothing: it only lets the proof use what
@@ -29,8 +29,8 @@ use crate::side::Side;
 use crate::{JournalFault, Reversible};
 
 impl<R: Reversible> Journal<R> {
-    /// Opens a group at the present, whose cursor this is. It takes no memory, and the only error
-    /// is `GroupOpen`: there is one already.
+    /// Opens a group at the present; `cursor` is that of the present. It takes no memory, and the
+    /// only error is `GroupOpen`: a group is open already.
     pub fn begin(&mut self, cursor: usize) -> Result<(), JournalFault>
         ensures grouped { OnOk result ((s : R.Content) →
             begun (grouped_of R.turned R.delta s cursor self.old)
@@ -52,8 +52,9 @@ impl<R: Reversible> Journal<R> {
         Ok(())
     }
 
-    /// Closes the open group: the steps made since its begin become one. One alone stays as it is.
-    /// It takes no memory, and the only error is `NoGroup`.
+    /// Closes the open group: the steps made since its begin become one. A single step stays as it
+    /// is, and without a step none is made. It takes no memory, and the only error is `NoGroup`: no
+    /// group is open.
     pub fn end(&mut self, state: &R) -> Result<(), JournalFault>
         requires ready { AreReady R.fits R.turned R.delta (R.has_room (R.places state.now))
             (R.content state.now) self.old }
@@ -82,9 +83,10 @@ impl<R: Reversible> Journal<R> {
         Ok(())
     }
 
-    /// Makes one group of the newest `count` steps, which leads to `cursor`. It is for steps that
-    /// are taken from elsewhere, as a saved session is opened. It takes memory only for a group of
-    /// none. The only error is `OutOfMemory`; no step changes then. No group may be open.
+    /// Makes one group of the newest `count` steps of the past, which leads to `cursor`.
+    /// `irig_edit` calls it as it opens a saved session: it makes the changes of a saved group one
+    /// by one first. It takes memory only if `count` is 0, for a group without changes. The only
+    /// error is `OutOfMemory`; no step changes then. No group may be open.
     pub fn gather(&mut self, state: &R, count: usize, cursor: usize) -> Result<(), JournalFault>
         requires within { count ≤ length (past_of R.delta self.old) }
         requires no_group { self.old.floor ≡ None }
@@ -113,9 +115,9 @@ impl<R: Reversible> Journal<R> {
         Ok(())
     }
 
-    /// Closes the open group and undoes its steps for good, one after another: state and cursor
+    /// Closes the open group and undoes its steps for good, the newest first: state and cursor
     /// become those of its begin, and nothing is left to redo. It takes no memory, and the only
-    /// error is `NoGroup`.
+    /// error is `NoGroup`: no group is open.
     pub fn abort(&mut self, state: &mut R, cursor: &mut usize) -> Result<(), JournalFault>
         requires ready { AreReady R.fits R.turned R.delta (R.has_room (R.places state.old))
             (R.content state.old) self.old }
@@ -154,8 +156,9 @@ impl<R: Reversible> Journal<R> {
     }
 }
 
-/// Makes one step of those after the first `at` of the list, if they are more than one. It leads to
-/// where the first of these leads: before the group. It takes no memory.
+/// Makes one step of those after the first `at` of the past's list, if they are more than one.
+/// Undone, it leads to where the oldest of these leads: to the state before the group. So it gets
+/// that cursor. It takes no memory.
 fn end_beyond(entries: &mut Vec<Entry>, at: usize)
     requires within { at ≤ vec_len entries.old }
     requires few { counts_of entries.old.items < 2 ^ 64 }
@@ -170,8 +173,9 @@ fn end_beyond(entries: &mut Vec<Entry>, at: usize)
     }
 }
 
-/// Undoes the newest steps until `at` are left in the past; they are in the future then. It takes
-/// no memory. Their cursors are not used.
+/// Undoes the newest steps until `at` are left in the past; those undone are in the future then. It
+/// takes no memory. The caller sets the cursor itself and clears the future, so the cursors here
+/// mean nothing.
 fn turn_beyond<R: Reversible>(
     past: &mut Side<R::Change>,
     future: &mut Side<R::Change>,

@@ -4,8 +4,8 @@
 //! changes of its steps in one list, and in another, `entries`, the number of them and the cursor
 //! of each step. The nearest step of a side is the one that is undone or redone next, the farthest
 //! the last one. To turn a change is to make it to the state, and to leave the change that leads
-//! back. Each side has its places before, so `unwrap` finds no error. `known` does nothing: it only
-//! lets the proof use what holds of the state.
+//! back. Each side has its places before (`places` makes them), so `unwrap` of a `push` finds no
+//! error. `known` does nothing: it only lets the proof use what holds of the state.
 
 ghost use Rattle.std.specs.Prelude.{◌≡◌, ◌+◌, ◌<◌, ◌≤◌, ◌∷◌, [], reverse, vec_capacity, vec_len};
 ghost use Rattle.irig_journal.specs.History.{step, stepped_back};
@@ -18,8 +18,9 @@ use crate::Reversible;
 use crate::side::Side;
 use std::mem;
 
-/// Turns a change that has its room, and adds what leads back as the nearest step of the past.
-/// `before` is the cursor of the state before the change. The future loses its steps.
+/// Turns a new change, for which room was made, and adds the change that leads back as the nearest
+/// step of the past. `before` is the cursor of the state before the change. The future loses its
+/// steps, as they no longer follow.
 pub(crate) fn turn_new<R: Reversible>(
     past: &mut Side<R::Change>,
     future: &mut Side<R::Change>,
@@ -54,8 +55,9 @@ pub(crate) fn turn_new<R: Reversible>(
 }
 
 /// Turns the nearest step of one side, and moves it to the other: from the past it is an undo, from
-/// the future a redo. `cursor` becomes that of the state the step leads to, and the step gets the
-/// former one.
+/// the future a redo. The two cursors are swapped: `cursor` becomes that of the state the step
+/// leads to, and the step, which now leads back, gets the former one. There is a step in `from`;
+/// the caller has looked.
 pub(crate) fn turn_nearest<R: Reversible>(
     from: &mut Side<R::Change>,
     to: &mut Side<R::Change>,
@@ -88,7 +90,8 @@ pub(crate) fn turn_nearest<R: Reversible>(
 }
 
 /// Turns the nearest `count` changes of one list, one after another, and moves each to the other. A
-/// list ends with the nearest.
+/// list ends with the nearest; so in the other list they are in the opposite order, in which they
+/// are turned back.
 fn turn_changes<R: Reversible>(
     from: &mut Vec<R::Change>,
     to: &mut Vec<R::Change>,

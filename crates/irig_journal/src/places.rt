@@ -1,8 +1,9 @@
 //! Room for a step and for its way to the other side: places on both sides, and in the state.
 //!
 //! The past has the steps that can be undone, the future those that can be redone. A place is room
-//! in a list for one item. Each side has a place for every step of both, as a step can move to the
-//! other side. An error is that memory ran out.
+//! in a list for one item. A side has a list of changes and one of entries, one entry for a step.
+//! Each side has a place for every step of both, as a step can move to the other side. An error is
+//! that memory ran out.
 //!
 //! Where `let .. else` hands an error on, `?` would do the same; the proof of it takes longer.
 
@@ -16,8 +17,8 @@ use crate::entry::Entry;
 use crate::side::Side;
 use std::alloc::AllocError;
 
-/// Makes room for a change, its undo and its redo: on both sides, and in the state. What they hold
-/// stays, also on an error. The change is one that can be made.
+/// Makes room for a change, its undo and its redo: on both sides, and in the state. What sides and
+/// state hold stays, also on an error. The change must be one that can be made.
 pub(crate) fn reserve_change<R: Reversible>(
     past: &mut Side<R::Change>,
     future: &mut Side<R::Change>,
@@ -47,9 +48,9 @@ pub(crate) fn reserve_change<R: Reversible>(
     state.prepare(change)
 }
 
-/// Makes a place in the past for a step of one change more, and places in the future for all that
-/// the past has then: the new step drops the steps of the future, and undos may move all of the
-/// past there. The steps stay, also on an error.
+/// Makes a place in the past for one more step of one change, and places in the future for all that
+/// the past has then. The new step drops the steps of the future, so that is empty then; later
+/// undos may move all of the past there. The steps stay, also on an error.
 fn reserve_step<C>(past: &mut Side<C>, future: &mut Side<C>) -> Result<(), AllocError>
     requires { AreSides past.old future.old }
     ensures past { IsSameSide past.old past.new }
@@ -64,8 +65,8 @@ fn reserve_step<C>(past: &mut Side<C>, future: &mut Side<C>) -> Result<(), Alloc
     reserve_one(&mut past.entries, &mut future.entries)
 }
 
-/// Makes a place in one list for an item more, and places in the other, which will be empty then,
-/// for all that the first has then. The items stay, also on an error.
+/// Makes a place in `list` for one item more, and places in `other` for all items that `list` has
+/// then: `other` will be empty when it gets them. The items stay, also on an error.
 fn reserve_one<T>(list: &mut Vec<T>, other: &mut Vec<T>) -> Result<(), AllocError>
     ensures list { (list.new.items ≡ list.old.items) × (vec_len list.new ≡ vec_len list.old) }
     ensures other { (other.new.items ≡ other.old.items) × (vec_len other.new ≡ vec_len other.old) }
@@ -84,9 +85,9 @@ fn reserve_one<T>(list: &mut Vec<T>, other: &mut Vec<T>) -> Result<(), AllocErro
     other.reserve(places.saturating_sub(other.len()))
 }
 
-/// Makes a place in each of two lists for a group of `count` steps of the first, next to the steps
-/// of both. A group takes the place of one of its steps, so memory is taken only for a group of
-/// none. The steps stay, also on an error.
+/// Makes a place for the group that `gather` makes of `count` steps of the past, in each list for
+/// all steps of both. The group takes the place of one of its steps, so memory is taken only if
+/// `count` is 0. The steps stay, also on an error.
 pub(crate) fn reserve_group(
     past: &mut Vec<Entry>,
     future: &mut Vec<Entry>,

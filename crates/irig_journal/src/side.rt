@@ -1,4 +1,5 @@
-//! The steps on one side of the present.
+//! The steps on one side of the present: those that can be undone, or those that can be redone. The
+//! nearest is undone or redone next.
 
 ghost use Rattle.std.specs.Prelude.{◌≡◌, ◌+◌, ◌<◌, ◌≤◌, ◌∷◌, [], vec_capacity, vec_len};
 ghost use Rattle.irig_journal.specs.{Held.Alone, Held.held, Sides.IsWhole, Sides.steps_on};
@@ -51,7 +52,7 @@ impl<C> Side<C> {
 }
 
 impl<C: Drop> Side<C> {
-    /// Drops all steps, and keeps the memory for as many.
+    /// Drops all steps, and keeps the memory of both lists.
     pub(crate) fn clear(&mut self)
         ensures steps { steps_on self.new ≡ [] }
         ensures whole { IsWhole self.new }

@@ -35,7 +35,9 @@ impl<R: Reversible> Journal<R> {
     }
 
     /// Swaps past and future: what could be undone can be redone, and the other way round. The
-    /// oldest step becomes the last one to redo. This takes no memory.
+    /// oldest step becomes the last one to redo. A session that is opened from a saved journal
+    /// needs it: the steps back are made as edits, undone, and then changed over. This takes no
+    /// memory.
     pub fn turn_round(&mut self)
         requires no_group { self.old.floor ≡ None }
         ensures past { past_of R.delta self.new ≡ future_of R.delta self.old }

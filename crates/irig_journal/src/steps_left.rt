@@ -14,7 +14,9 @@ use crate::entry::Entry;
 use crate::step::{Step, weight_of};
 use std::marker::Model;
 
-/// The steps of one side that are left to be shown, one after another. This takes no memory.
+/// The steps of one side that are left to be shown, one after another: those of `entries`, whose
+/// changes are all of `changes`, in the same order. If `from_oldest` the first of the lists comes
+/// next, else the last. This takes no memory.
 #[derive(Drop)]
 pub struct StepsLeft<'j, C> {
     pub(crate) changes: &'j [C],
@@ -34,7 +36,7 @@ impl<'j, C> Model for StepsLeft<'j, C> {
 }
 
 impl<'j, C> StepsLeft<'j, C> {
-    /// How many are left.
+    /// How many steps are left.
     pub fn len(&self) -> usize
         ensures { result ≡ length self.now }
     {
@@ -55,7 +57,7 @@ impl<'j, C> StepsLeft<'j, C> {
     }
 }
 
-/// The first entry if `first`, else the last one, and the others. `None` if there is none.
+/// The first entry if `first`, else the last one, and all others. `None` if there is none.
 fn entry_at_end(entries: &[Entry], first: bool) -> Option<(&Entry, &[Entry])>
     ensures { MatchOption result (entries.now ≡ [])
         (λ p. entries.now ≡ with_end first (p.0.now ∷ []) p.1.now) }
@@ -67,7 +69,8 @@ fn entry_at_end(entries: &[Entry], first: bool) -> Option<(&Entry, &[Entry])>
     }
 }
 
-/// The first `count` changes if `first`, else the last ones, and the others, in this order.
+/// The first `count` changes if `first`, else the last `count`; and then all others. There are at
+/// least `count`: a step's changes are in the list.
 fn changes_at_end<C>(changes: &[C], count: usize, first: bool) -> (&[C], &[C])
     requires { count ≤ length changes.now }
     ensures parts { changes.now ≡ with_end first result.0.now result.1.now }
@@ -92,7 +95,8 @@ fn step_with<'j, C>(entry: Entry, changes: &'j [C]) -> Step<'j, C>
     }
 }
 
-/// How much the changes of steps hold, all together, in units of the state's own.
+/// How much the changes of steps hold, all together, in the unit that the state's `weight` has.
+/// Less than 2^64 steps hold less than 2^64 each, so the sum fits.
 pub(crate) fn weight_of_all<R: Reversible>(mut steps: StepsLeft<'_, R::Change>) -> u128
     ensures { result ≡ sum_by (λ h. R.weighs (R.delta h.parts)) steps.entry }
 {

@@ -17,6 +17,7 @@ pub fn kept_frames_keep_their_times()
     ensures has { TimesStay }
     ensures counted { CountedTimesStay }
 {
+    // The proof begins with the contracts of these two.
     parts_are_exact();
     safe_states_are_kept_or_borne_out();
 }

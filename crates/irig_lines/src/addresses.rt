@@ -48,7 +48,7 @@ fn base(text: &[u8]) -> Result<Base, BadLine>
 }
 
 /// The offset of an address: the text from its sign on, or no text if it has no sign. No text is 0,
-/// and a sign alone is 1 or -1.
+/// and a sign alone is 1 or -1. A text that begins with no sign does not come from `address`.
 fn offset(text: &[u8]) -> Result<i64, BadLine>
     ensures { Finds (IsOffset text.now) result }
 {
@@ -60,7 +60,8 @@ fn offset(text: &[u8]) -> Result<i64, BadLine>
     }
 }
 
-/// An address: a base and an offset, either of which may be missing, but not both.
+/// An address: a base and an offset, either of which may be missing, but not both. It is cut before
+/// its first plus or minus.
 pub fn address(text: &[u8]) -> Result<Address, BadLine>
     ensures { Finds (IsAddress text.now) result }
 {
@@ -93,6 +94,7 @@ pub fn address_or_cursor(text: &[u8]) -> Result<Address, BadLine>
 }
 
 /// A range: two addresses with a comma between them, or one; that of the cursor if there is none.
+/// `rest` begins with the comma, or is empty if there is none.
 pub fn range(text: &[u8]) -> Result<Range, BadLine>
     ensures { Finds (IsRange text.now) result }
 {

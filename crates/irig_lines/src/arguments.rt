@@ -15,7 +15,7 @@ use crate::words::{no_word, split_word, two_words};
 use irig_codes::{Element, Kind, element_named, kind_named};
 use irig_moment::Moment;
 
-/// Two times, which are all words of a text.
+/// Two times, which have to be all the words of a text.
 pub fn times(arguments: &[u8]) -> Result<(Time, Time), BadLine>
     ensures { Finds (λ t. AreTimes (words_of arguments.now) t.0 t.1) result }
 {
@@ -34,7 +34,7 @@ pub fn moment(word: &[u8]) -> Result<Moment, BadLine>
 }
 
 /// The control functions at the end of a line, as a number whose lowest bit is the first; 0 if
-/// there are none.
+/// there are none. They are one word, the last.
 pub fn controls(text: &[u8]) -> Result<u64, BadLine>
     ensures { Finds (AreControls (words_of text.now)) result }
 {

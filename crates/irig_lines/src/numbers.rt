@@ -8,10 +8,10 @@ ghost use Rattle.irig_lines.specs.Numbers.{size, hex_digit};
 use crate::command::BadLine;
 use crate::cutting::is_sign;
 
-/// The most digits of a number in a script.
+/// The most digits of a number in a script: so each number is below 2^63, with a sign too.
 const DIGITS_LIMIT: usize = 18;
 
-/// The most hexadecimal digits of control functions.
+/// The most hexadecimal digits of control functions: 48 bits, as no format has more than 45.
 const CONTROL_LIMIT: usize = 12;
 
 /// The number that a word of 1 to 18 digits is.
@@ -39,7 +39,8 @@ fn is_digit(byte: u8) -> bool
     matches!(byte, b'0'..=b'9')
 }
 
-/// The distance in microseconds that a word is: a number with an optional sign.
+/// The distance in microseconds that a word is: a number with an optional sign. Without a sign it
+/// is above zero or zero.
 pub fn distance(word: &[u8]) -> Result<i64, BadLine>
     ensures { Finds (IsDistance word.now) result }
 {

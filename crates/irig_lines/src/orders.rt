@@ -35,21 +35,21 @@ pub fn show(front: &[u8]) -> Result<Command, BadLine>
     Ok(Command::Show(address(front)?))
 }
 
-/// What the range `front` asks for before `list`, which takes no arguments.
+/// What the range `front` asks for before `list`, which takes no arguments: to list its pulses.
 pub fn list(front: &[u8], arguments: &[u8]) -> Result<Command, BadLine>
     ensures { Finds (Asks Keyword.List front.now (words_of arguments.now)) result }
 {
     Ok(Command::List(ranged(front, arguments)?))
 }
 
-/// What the range `front` asks for before `delete`, which takes no arguments.
+/// What the range `front` asks for before `delete`, which takes no arguments: to remove its pulses.
 pub fn delete(front: &[u8], arguments: &[u8]) -> Result<Command, BadLine>
     ensures { Finds (Asks Keyword.Delete front.now (words_of arguments.now)) result }
 {
     Ok(Command::Delete(ranged(front, arguments)?))
 }
 
-/// What the range `front` asks for before `join`, which takes no arguments.
+/// What the range `front` asks for before `join`, which takes no arguments: to make its pulses one.
 pub fn join(front: &[u8], arguments: &[u8]) -> Result<Command, BadLine>
     ensures { Finds (Asks Keyword.Join front.now (words_of arguments.now)) result }
 {
@@ -146,7 +146,8 @@ pub fn unmark(front: &[u8], arguments: &[u8]) -> Result<Command, BadLine>
     Ok(Command::Unmark(letter(name)?))
 }
 
-/// What the arguments of `regen` ask for, if there is no range: the frames that `frames` reads.
+/// What the arguments of `regen` ask for, if there is no range: frames, as `frames` below reads
+/// them.
 pub fn regen(front: &[u8], arguments: &[u8]) -> Result<Command, BadLine>
     ensures { Finds (Asks Keyword.Regen front.now (words_of arguments.now)) result }
 {
@@ -156,7 +157,7 @@ pub fn regen(front: &[u8], arguments: &[u8]) -> Result<Command, BadLine>
     frames(arguments)
 }
 
-/// The range `front` before a word that takes no argument.
+/// The range `front` before a word that takes no argument; `BadLine` if there is one.
 fn ranged(front: &[u8], arguments: &[u8]) -> Result<Range, BadLine>
     ensures { Finds (λ r. IsRange front.now r × (words_of arguments.now ≡ [])) result }
 {

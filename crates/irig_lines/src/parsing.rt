@@ -18,7 +18,8 @@ use crate::orders::{
 };
 use crate::words::{no_word, split_word};
 
-/// What a line asks for, its newline left out; `BadLine` if it is not valid.
+/// What a line asks for, its newline left out; `BadLine` if it is not valid. White space in front
+/// does not count.
 pub fn parse_line(line: &[u8]) -> Result<Command, BadLine>
     ensures meant { IfOk result (λ command. Means command line.now) }
     ensures bad { OnErr result ((command : Command) → Means command line.now → ⊥) }
@@ -38,7 +39,8 @@ fn is_nothing(text: &[u8]) -> bool
     matches!(text, [] | [b'#', ..])
 }
 
-/// What a text asks for that begins with no white space.
+/// What a text asks for that begins with no white space: it is a range, a word and arguments, each
+/// of which may be missing.
 fn in_text(text: &[u8]) -> Result<Command, BadLine>
     ensures { Finds (λ c. Orders c text.now) result }
 {
@@ -71,8 +73,8 @@ fn ends_range(quoted: bool, byte: u8) -> bool
     is_space(byte) || !quoted && byte.is_ascii_lowercase()
 }
 
-/// What a range (`front`), a word and the arguments after it ask for. The words that are not named
-/// here are those that are alone in a line.
+/// What a range (`front`), a word and the arguments after it ask for. `Missing` is no word. The
+/// words that are not named here are those that are alone in a line.
 fn asked(front: &[u8], word: Keyword, arguments: &[u8]) -> Result<Command, BadLine>
     ensures { Finds (Asks word front.now (words_of arguments.now)) result }
 {

@@ -32,7 +32,7 @@ pub fn no_word(text: &[u8]) -> Result<(), BadLine>
     }
 }
 
-/// The word, if there is just one.
+/// The word, if there is just one; no word and a second one are errors.
 pub fn one_word(text: &[u8]) -> Result<&[u8], BadLine>
     ensures ok { IfOk result (λ w. words_of text.now ≡ w.now ∷ []) }
     ensures err { OnErr result ((x : List ℕ) → words_of text.now ≡ x ∷ [] → ⊥) }
@@ -45,7 +45,7 @@ pub fn one_word(text: &[u8]) -> Result<&[u8], BadLine>
     Ok(word)
 }
 
-/// The words, if there are just two.
+/// The words, if there are just two: the first, and then `one_word` of what is after it.
 pub fn two_words(text: &[u8]) -> Result<(&[u8], &[u8]), BadLine>
     ensures ok { IfOk result (λ w. words_of text.now ≡ w.0.now ∷ w.1.now ∷ []) }
     ensures err { OnErr result ((x : List ℕ) → (y : List ℕ) → words_of text.now ≡ x ∷ y ∷ [] → ⊥) }

@@ -1,7 +1,7 @@
 //! The fields of frames that are generated.
 //!
-//! A day is a number of days after the first one of jiff's calendar. A field that the format does
-//! not carry is `None`.
+//! A day is a number of days after the first one of jiff's calendar; jiff is a library of dates. A
+//! field that the format does not carry is `None`.
 
 ghost use Rattle.std.specs.Prelude.{◌≡◌, ◌+◌, ◌%◌, ◌^◌, ◌≤◌, ◌<◌, IsTrue};
 ghost use Rattle.irig_codes.specs.{Format.control_count_of, Fields.fits_in};
@@ -10,8 +10,9 @@ ghost use Rattle.irig_moment.specs.{Calendar.new_year_of, Generated.period_of, G
 use crate::calendar::year_and_place;
 use irig_codes::{Fields, Format};
 
-/// How long a frame of the format takes, in hundredths of a second: 10,000 microseconds each, in
-/// which the format itself counts.
+/// How long a frame of the format takes, in hundredths of a second. The format counts in
+/// microseconds: 10,000 are a hundredth. Each format's frame is a whole number of them, from 1 (G)
+/// to 1,000 (E).
 pub fn period(format: Format) -> u32
     ensures value { result ≡ period_of format }
     ensures least { 1 ≤ result }
@@ -20,8 +21,10 @@ pub fn period(format: Format) -> u32
     (format.frame_period() / 10_000) as u32
 }
 
-/// The fields of the frame that begins at a day and a time, in hundredths of a second since its
-/// midnight. The year is modulo 100. The lowest bit of `control` is the first control element.
+/// The fields of the frame that begins on a day at `time`, in hundredths of a second since its
+/// midnight, below 8,640,000. The year is modulo 100, as a frame has two digits for it. The
+/// straight binary seconds are the whole seconds since midnight. The lowest bit of `control` is the
+/// first control element.
 pub fn fields_at(format: Format, day: u32, time: u32, control: u64) -> Fields
     requires from { new_year_of 1 ≤ day }
     requires before { day < new_year_of 9999 + 365 }

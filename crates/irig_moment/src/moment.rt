@@ -1,7 +1,7 @@
 //! Moments: a day and a time of day, to hundredths of a second.
 //!
-//! A day is a number of days after the first one of jiff's calendar; a day has 8,640,000 hundredths
-//! of a second.
+//! A day is a number of days after the first one of jiff's calendar (a library of dates); a day has
+//! 8,640,000 hundredths of a second, without leap seconds.
 
 ghost use Rattle.std.specs.Prelude.{◌≡◌, ◌<◌, ◌^◌, IsTrue, IfSome};
 ghost use Rattle.irig_codes.specs.{Format.control_count_of, Fields.fits_in};
@@ -38,6 +38,8 @@ impl Moment {
     pub fn parse(text: &[u8]) -> Option<Moment>
         ensures { result ≡ moment_of text.now }
     {
+        // In a form a 0 is any digit. The time begins at byte 9 after a day of three digits, and at
+        // byte 11 after month and day.
         if has_form(b"0000-000T00:00:00", text) {
             Moment::of(ordinal_date(text), time(text, 9))
         } else if has_form(b"0000-000T00:00:00.00", text) {
@@ -51,7 +53,8 @@ impl Moment {
         }
     }
 
-    /// The moment of a day and the hundredths of a second since its midnight, if both are there.
+    /// The moment of a day and the hundredths of a second since its midnight. `None` if one of them
+    /// is `None`: there is no such day or time.
     fn of(day: Option<u32>, hundredths: Option<u32>) -> Option<Moment>
         requires days { IfSome day IsDay }
         requires times { IfSome hundredths (λ time. time < 8640000) }
@@ -63,16 +66,18 @@ impl Moment {
         }
     }
 
-    /// Whether a frame of the format begins at the moment. One begins at each full minute, 6,000
-    /// hundredths, and then one each frame period.
+    /// Whether a frame of the format can begin at the moment. One begins at each full minute, which
+    /// has 6,000 hundredths of a second, and then one each frame period, which a minute has a whole
+    /// number of.
     pub fn starts(&self, format: Format) -> bool
         ensures { result ≡ starts_in format self.now }
     {
         self.hundredths % 6_000 % period(format) == 0
     }
 
-    /// The fields of frame `k`, from 0, if frame 0 begins at the moment: those of the moment plus
-    /// `k` frame periods, which may be on the next day.
+    /// The fields of frame `k`, from 0 to 9,999, if frame 0 begins at the moment: those of the
+    /// moment plus `k` frame periods, which may be on a later day. A frame of the format must begin
+    /// at the moment (`starts`).
     ///
     /// The year is modulo 100; the lowest bit of `control` is the first control element.
     pub fn fields(&self, format: Format, k: u64, control: u64) -> Fields

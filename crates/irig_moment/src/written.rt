@@ -1,7 +1,7 @@
 //! Numbers in a text of fixed form.
 //!
-//! Places in a text count from 0. Numbers are read only from texts of a form, so each byte that is
-//! read is a digit.
+//! Places in a text count from 0. Numbers are read only from texts that `has_form` found to have a
+//! form, so each byte that is read as a digit is one.
 
 ghost use Rattle.std.specs.Prelude.{◌≡◌, ◌+◌, ◌≤◌, ◌<◌, length, IsTrue, IfSome};
 ghost use Rattle.irig_moment.specs.Calendar.{IsDay};
@@ -10,8 +10,8 @@ ghost use Rattle.irig_moment.specs.Written.{time_at, fine_time_at, ordinal_date,
 
 use crate::calendar::{civil_day, ordinal_day};
 
-/// Whether a text has a form: a digit where the form has 0, and the form's character everywhere
-/// else.
+/// Whether a text has a form: it is as long as the form, has a digit at each place at which the
+/// form has 0, and the form's character at all others.
 pub fn has_form(form: &[u8], text: &[u8]) -> bool
     ensures value { result ≡ has_form_of form.now text.now }
     ensures long { IsTrue result → length text.now ≡ length form.now }
@@ -27,7 +27,8 @@ pub fn has_form(form: &[u8], text: &[u8]) -> bool
     true
 }
 
-/// Whether a byte fits a character of a form: a digit if that is 0, and else that character.
+/// Whether a byte fits a character of a form: any digit if the character is 0, else the same
+/// character.
 fn fits_form(form: u8, byte: u8) -> bool
     ensures { result ≡ fits_form_of form byte }
 {
@@ -38,7 +39,7 @@ fn fits_form(form: u8, byte: u8) -> bool
     }
 }
 
-/// The number of the `count` decimal digits from a place on, at most four.
+/// The number that `count` decimal digits from a place of a text on make; they are at most four.
 pub fn number(text: &[u8], place: usize, count: usize) -> u32
     requires few { count ≤ 4 }
     requires there { place + count ≤ length text.now }
@@ -51,8 +52,8 @@ pub fn number(text: &[u8], place: usize, count: usize) -> u32
     value
 }
 
-/// The day number, as jiff counts days, of a text that begins with `YYYY-DDD`. `None` if there is
-/// no such day.
+/// The day number, as jiff counts days, of the date `YYYY-DDD` with which a text begins: the year,
+/// and the day in it from 1. `None` if there is no such day.
 pub fn ordinal_date(text: &[u8]) -> Option<u32>
     requires { 8 ≤ length text.now }
     ensures value { result ≡ ordinal_date text.now }
@@ -61,8 +62,8 @@ pub fn ordinal_date(text: &[u8]) -> Option<u32>
     ordinal_day(number(text, 0, 4), number(text, 5, 3))
 }
 
-/// The day number, as jiff counts days, of a text that begins with `YYYY-MM-DD`. `None` if there is
-/// no such day.
+/// The day number, as jiff counts days, of the date `YYYY-MM-DD` with which a text begins. `None`
+/// if there is no such day.
 pub fn civil_date(text: &[u8]) -> Option<u32>
     requires { 10 ≤ length text.now }
     ensures value { result ≡ civil_date text.now }
@@ -71,7 +72,8 @@ pub fn civil_date(text: &[u8]) -> Option<u32>
     civil_day(number(text, 0, 4), number(text, 5, 2), number(text, 8, 2))
 }
 
-/// The hundredths of a second from midnight to a time of day. `None` if there is no such time.
+/// The hundredths of a second from midnight to a time of day; the last parameter is the hundredths
+/// within the second. `None` if there is no such time; second 60 is none.
 fn hundredths(hours: u32, minutes: u32, seconds: u32, hundredths: u32) -> Option<u32>
     ensures value { result ≡ hundredths_of hours minutes seconds hundredths }
     ensures range { IfSome result (λ time. time < 8640000) }

@@ -1,4 +1,6 @@
-//! Dumps and what they say, texts and what is read of them.
+//! Dumps and what they say, texts and what is read of them. Lengths and edges are in microseconds.
+//! The parts of a dump are its recording and its journal, if a comment holds one. `wire` is the
+//! reference or the code that is asked for; without one it is the one wire of one bit.
 
 ghost use Rattle.std.specs.Prelude.{◌≤◌, ◌^◌, length};
 
@@ -17,14 +19,15 @@ use std::process::Abort;
 /// The declarations of one wire, 63 bytes, before the changes.
 const HEADER: &str = "$timescale 1 us $end $var wire 1 ! c $end $enddefinitions $end ";
 
-/// What a dump has to be read as: a length and edges, or a fault.
+/// What a dump has to be read as: a length and edges (rise, fall, rise and so on), or a fault.
 #[derive(Clone, Copy)]
 enum Wanted {
     Edges(u64, &'static [u64]),
     Fault(VcdFault),
 }
 
-/// Changes after that header, and what the dump has to be read as.
+/// Changes after that header, and what the dump has to be read as. The offset of a fault counts the
+/// 63 bytes of the header too.
 type Row = (&'static str, Wanted);
 
 /// Whether a recording is what is wanted.
@@ -55,7 +58,8 @@ fn is_read(alloc: Global, dump: &[u8], wire: Option<&[u8]>, want: &Wanted) -> bo
     }
 }
 
-/// Whether a dump is read with its parts as is wanted, and has no journal. It is short.
+/// Whether a dump is read with its parts as is wanted, and has no journal. It is short:
+/// `read_parts` takes at most 2^28 bytes.
 fn is_read_alone(alloc: Global, dump: &[u8], wire: Option<&[u8]>, want: &Wanted) -> bool
     requires { length dump.now ≤ 2 ^ 28 }
 {
@@ -65,14 +69,15 @@ fn is_read_alone(alloc: Global, dump: &[u8], wire: Option<&[u8]>, want: &Wanted)
     }
 }
 
-/// Whether a dump without a journal is read as is wanted, with its parts too.
+/// Whether a dump without a journal is read as is wanted, with its parts too. False if it has more
+/// than 2^28 bytes: `read` takes no more.
 fn is_right(alloc: Global, dump: &[u8], wire: Option<&[u8]>, want: &Wanted) -> bool {
     dump.len() <= 1 << 28
         && is_read(alloc, dump, wire, want)
         && is_read_alone(alloc, dump, wire, want)
 }
 
-/// Adds these texts to a dump, one after another.
+/// Adds these texts to a dump, one after another. False if memory runs out.
 fn put_texts(dump: &mut Vec<u8>, texts: &[&str]) -> bool {
     for text in texts {
         if dump.extend_from_slice(text.as_bytes()).is_err() {
@@ -82,13 +87,13 @@ fn put_texts(dump: &mut Vec<u8>, texts: &[&str]) -> bool {
     true
 }
 
-/// Whether the dump of these texts is read as is wanted.
+/// Whether the dump of these texts, one after another, is read as is wanted. It has one wire.
 fn are_right(alloc: Global, texts: &[&str], want: &Wanted) -> bool {
     let mut dump = Vec::new(alloc);
     put_texts(&mut dump, texts) && is_right(alloc, dump.as_slice(), None, want)
 }
 
-/// Reads the dump of each row.
+/// Each dump is read as its row wants: the header, and the changes of the row.
 fn check_rows(rt: &impl Abort, alloc: Global, rows: &[Row]) {
     for (changes, want) in rows {
         assert!(rt; are_right(alloc, &[HEADER, changes], want));

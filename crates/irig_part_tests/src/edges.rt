@@ -1,11 +1,11 @@
-//! Edges, and the pulses and the tracks that have them.
+//! Edges, and the pulses and the tracks that have them. An error is that memory ran out.
 
 use irig_gap::Gap;
 use irig_recording::{Pulse, Recording};
 use irig_track::Track;
 use std::alloc::{AllocError, Global};
 
-/// Whether pulses have these edges, in order.
+/// Whether pulses have these edges, in order: rise, fall, rise and so on, and no more.
 pub(crate) fn have_edges(pulses: &Gap<Pulse>, edges: &[u64]) -> bool {
     let mut left = edges;
     for index in 0..pulses.len() {
@@ -18,7 +18,8 @@ pub(crate) fn have_edges(pulses: &Gap<Pulse>, edges: &[u64]) -> bool {
     left.is_empty()
 }
 
-/// The track of a length and edges. These are a recording, or the error is that of memory.
+/// The track of a length and edges, in microseconds. If these are no recording, the error is that
+/// of memory, too: no test uses such edges here.
 pub(crate) fn track_of(alloc: Global, length: u64, edges: &[u64]) -> Result<Track, AllocError> {
     match Recording::new(alloc, length, edges)? {
         Some(recording) => Track::new(recording),
@@ -26,8 +27,8 @@ pub(crate) fn track_of(alloc: Global, length: u64, edges: &[u64]) -> Result<Trac
     }
 }
 
-/// The edges of 2^22 pulses, the most there may be: up from 0 on for a microsecond, and down for
-/// one.
+/// The edges of 2^22 pulses, the most there may be: up at each even microsecond from 0 on, and down
+/// at the next.
 pub(crate) fn most_edges(alloc: Global) -> Result<Vec<u64>, AllocError> {
     let mut edges = Vec::with_capacity(alloc, 1 << 23)?;
     for edge in 0..1u64 << 23 {

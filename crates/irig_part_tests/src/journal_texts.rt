@@ -1,5 +1,5 @@
 //! The worked journal: of two pulses the first was deleted, and a mark was set and undone. And
-//! texts with a wrong line.
+//! texts with a wrong line. What writes returns false if memory runs out. Lines count from 1.
 
 ghost use Rattle.std.specs.Prelude.{◌<◌, ◌^◌, length};
 
@@ -22,7 +22,7 @@ const DELETED: Pulse = Pulse {
     fall: 120,
 };
 
-/// The number of the wrong line; 0 if there is none.
+/// The number of the wrong line; 0 if there is none, and 1000, which no row has, without memory.
 fn fault(alloc: Global, text: &[u8]) -> usize
     requires { length text.now < 2 ^ 63 }
 {
@@ -33,7 +33,7 @@ fn fault(alloc: Global, text: &[u8]) -> usize
     }
 }
 
-/// Each text has its wrong line as its row says.
+/// Each text, far below the 2^63 bytes of `fault`, has its wrong line as its row says.
 fn check(rt: &impl Abort, alloc: Global, rows: &[(&[u8], usize)]) {
     for (text, line) in rows {
         assert!(rt; text.len() < 1 << 20 && fault(alloc, text) == *line);
@@ -43,9 +43,11 @@ fn check(rt: &impl Abort, alloc: Global, rows: &[(&[u8], usize)]) {
 /// Texts, and the number of the wrong line at the head.
 static HEADS: [(&[u8], usize); 11] = [
     (b"", 1),
+    // A line without its end, a space or a return before it.
     (b"irig-journal-1", 1),
     (b"irig-journal-1 \n", 1),
     (b"irig-journal-1\r\n", 1),
+    // No kind C, a 0 before a number, no expression 8, a sign, 2^64, marks out of order or twice.
     (b"irig-journal-1\nformat C 2\n", 2),
     (b"irig-journal-1\nformat G 02\n", 2),
     (b"irig-journal-1\nformat G 8\n", 2),
@@ -69,7 +71,9 @@ fn the_first_line_at_fault_at_the_head_is_told(rt: HostRuntime) {
     check(&rt, rt.alloc(), &HEADS);
 }
 
-/// Texts, and the number of the wrong line after the head; 0 if there is none.
+/// Texts, and the number of the wrong line after the head; 0 if there is none. A line that is
+/// missing is at fault, not the count before it. Letters of a shift are in order. A group holds no
+/// group.
 static STEPS: [(&[u8], usize); 11] = [
     (
         b"irig-journal-1\nformat G 2\ncursor 1\npast 18446744073709551615\n",
@@ -139,7 +143,7 @@ fn is_mark(step: &SavedStep) -> bool {
     step.cursor == 1 && letter.place() == 0 && *time == Some(110)
 }
 
-/// Whether the journal begins as the worked one.
+/// Whether the journal begins as the worked one: format G 2, cursor 1, no mark.
 fn has_head(saved: &Saved) -> bool {
     saved.kind == Kind::G && saved.expression == 2 && saved.cursor == 1 && saved.marks == [None; 26]
 }
@@ -163,19 +167,19 @@ fn the_worked_journal_is_read(rt: HostRuntime) {
     assert!(rt; is_worked_read(rt.alloc()));
 }
 
-/// Writes all lines of a change.
+/// Writes all lines of a change: `usize::MAX` bytes are never enough, so none is left for later.
 fn put_lines(text: &mut Vec<u8>, single: Single) -> bool {
     SingleLines::of(&single).fill(text, usize::MAX).is_ok()
 }
 
-/// The pulse that was deleted, to be inserted.
+/// The pulse that was deleted, to be inserted. An error if memory runs out.
 fn deleted(alloc: Global) -> Result<Pulses, AllocError> {
     let mut put = Pulses::new(alloc);
     put.push(DELETED)?;
     Ok(put)
 }
 
-/// Writes the lines of the change that inserts it.
+/// Writes the lines of the change that inserts the deleted pulse.
 fn put_splice(text: &mut Vec<u8>) -> bool {
     let (at, count) = (1, 0);
     match deleted(*text.allocator()) {
@@ -184,7 +188,8 @@ fn put_splice(text: &mut Vec<u8>) -> bool {
     }
 }
 
-/// Writes the lines of its step forward.
+/// Writes the lines of the worked journal's step forward, which sets the mark a. `put_step` gets
+/// the cursor, whether the step is a group, and how many changes it has.
 fn put_forward(text: &mut Vec<u8>) -> bool {
     let (letter, time) = (Letter::new(0), Some(110));
     put_future(text, 1).is_ok()
@@ -198,7 +203,7 @@ const MARKS: [bool; 26] = [
     false, false, false, false, false, false, false, false, false, false, false, false, true,
 ];
 
-/// Writes the lines of a group of changes of other kinds.
+/// Writes the lines of a group of changes of other kinds, a step that leads to cursor 4.
 fn put_changes(text: &mut Vec<u8>) -> bool {
     let (i, j, by, marks) = (1, 2, -20, MARKS);
     let (kind, expression) = (Kind::E, 1);
@@ -208,7 +213,8 @@ fn put_changes(text: &mut Vec<u8>) -> bool {
         && put_lines(text, Single::SetFormat { kind, expression })
 }
 
-/// Whether the lines of the worked journal are written into an empty text.
+/// Whether the lines of the worked journal are written into an empty text. `put_head` gets the
+/// cursor, the marks and how many steps back there are.
 fn is_worked_put(text: &mut Vec<u8>, format: Format) -> bool {
     put_head(text, format, 1, &[None; 26], 1).is_ok()
         && put_step(text, 2, false, 1).is_ok()
@@ -225,7 +231,7 @@ fn is_group_put(text: &mut Vec<u8>) -> bool {
     put_changes(text) && text.as_slice() == GROUP
 }
 
-/// Whether both are written, each into the emptied text.
+/// Whether the worked journal and that group are written, each into an empty text.
 fn are_put(text: &mut Vec<u8>) -> bool {
     let Ok(format) = Format::new(Kind::G, 2) else {
         return false;

@@ -1,4 +1,9 @@
-//! Calls of a journal over the stack, with what each answers and leaves, worked out by hand.
+//! Calls of a journal over the stack, with what each answers and leaves, worked out by hand. The
+//! journal keeps steps back and forward; each turn of a step makes one change to the stack. The
+//! cursor is a number that each step keeps and gives back.
+//!
+//! That a journal is ready at a stack, as the contracts ask, says that its steps fit the stack. A
+//! group is steps from `begin` to `end`, which become one step; `abort` undoes them instead.
 
 ghost use Rattle.std.specs.Prelude.{◌≡◌, None, vec_capacity};
 ghost use Rattle.irig_journal.specs.Journal.{AreReady};
@@ -12,7 +17,8 @@ use irig_journal::{Journal, JournalFault, Reversible};
 use std::alloc::Global;
 use std::process::Abort;
 
-/// What a user asks for: an edit with the cursor that it leaves, a move of the cursor, or a step.
+/// What a user asks for: an edit with the cursor that it leaves, a move of the cursor, a step back
+/// or forward, or the begin or one of the two ends of a group.
 #[derive(Clone, Copy)]
 enum Call {
     Push(u8, usize),
@@ -33,8 +39,8 @@ enum Reply {
     Refused(JournalFault),
 }
 
-/// A call, its reply, then the bytes, the cursor, the steps back and forward, the turns made, and
-/// what past and future hold.
+/// A call, its reply, then the bytes, the cursor, how many steps back and forward there are, how
+/// many turns were made, and how many bytes the steps of past and future hold.
 type Row = (
     Call,
     Reply,
@@ -97,7 +103,9 @@ fn reply_to(answer: Result<(), JournalFault>) -> Reply {
     }
 }
 
-/// Obeys a call.
+/// Obeys a call: an edit (`make`), a move of the cursor to a place, or any other (`step`). An edit
+/// leaves the cursor `after`, and its step keeps the one before it. One that does not apply is
+/// `Unfit`. `step` does nothing for edits and moves, which do not reach it.
 fn obey(journal: &mut Journal<Stack>, stack: &mut Stack, cursor: &mut usize, call: Call) -> Reply
     requires { AreReady CanEdit edited (λ d. d) (HasPlaceFor (vec_capacity stack.old.items))
         stack.old.items.items journal.old }

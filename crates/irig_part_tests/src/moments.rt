@@ -1,14 +1,17 @@
-//! Rows from outside: texts of moments, and the frames from them on.
+//! Rows from outside: texts of moments, and the frames from them on. A moment is a date (day of the
+//! year, or month and day) and a time of day, to hundredths. Frames follow one another by a period:
+//! 10 seconds in E, 1 in B, a tenth in A, a hundredth in G. An expression says what they carry: 2
+//! the time alone, 4 also the year, the seconds of the day (sbs) and control functions, 6 the year.
 
 use irig_codes::{Fields, Format, Kind};
 use irig_moment::Moment;
 use std::process::Abort;
 
-/// A moment, a format, the number of a frame from the moment on, and its fields with no control
-/// function set.
+/// A moment, a format (kind and expression), the number of a frame from the moment on, from 0, and
+/// its fields with no control function set.
 type Row = (&'static [u8], Kind, u8, u64, Fields);
 
-/// The fields of day 1 at midnight, with no other part.
+/// The fields of day 1 at midnight, with no other part. Rows change some of them.
 const DAY: Fields = Fields {
     hundredths: None,
     seconds: 0,
@@ -20,12 +23,13 @@ const DAY: Fields = Fields {
     control: None,
 };
 
-/// Whether frame k from the moment on has these fields.
+/// Whether frame k, from 0 at the moment, has these fields. The calls need a frame that begins
+/// there, and no row has more than 10,000.
 fn has_fields(moment: Moment, format: Format, k: u64, fields: &Fields) -> bool {
     moment.starts(format) && k < 10_000 && moment.fields(format, k, 0) == *fields
 }
 
-/// Whether the frame of a row has its fields.
+/// Whether the frame of a row has its fields; a moment or a format that is none is false.
 fn is_told((text, kind, expression, k, fields): &Row) -> bool {
     match (Moment::parse(text), Format::new(*kind, *expression)) {
         (Some(moment), Ok(format)) => has_fields(moment, format, *k, fields),
@@ -40,7 +44,8 @@ fn check(rt: &impl Abort, rows: &[Row]) {
     }
 }
 
-/// The fields of 12:34:56 on the first of March 2024.
+/// The fields of 12:34:56 on the first of March 2024: day 31 + 29 + 1, and second 12 * 3,600 + 34 *
+/// 60 + 56 of the day.
 const NOON: Fields = Fields {
     seconds: 56,
     minutes: 34,
@@ -52,6 +57,8 @@ const NOON: Fields = Fields {
     ..DAY
 };
 
+/// Frames of B: frame 1 is one second after the moment, also over the end of a year. The first two
+/// texts are one moment.
 static WHOLE: [Row; 3] = [
     (b"2024-061T12:34:55", Kind::B, 4, 1, NOON),
     (b"2024-03-01T12:34:55", Kind::B, 4, 1, NOON),
@@ -74,6 +81,8 @@ fn frames_of_b_tell_the_moment_and_whole_periods(rt: HostRuntime) {
     check(&rt, &WHOLE);
 }
 
+/// Frames of G and A, which have hundredths or tenths of a second: frame 1 of G is one hundredth
+/// after the moment, frame 9 of A nine tenths. 2024 has 366 days.
 static PARTS: [Row; 2] = [
     (
         b"2024-001T00:00:00",
@@ -107,6 +116,8 @@ fn frames_of_a_and_g_tell_parts_of_a_second(rt: HostRuntime) {
     check(&rt, &PARTS);
 }
 
+/// Frames of E, which begin every ten seconds; also over the end of a year and of February. A year
+/// is carried as its last two digits.
 static TENS: [Row; 3] = [
     (
         b"9998-12-31T23:59:50",
@@ -118,7 +129,7 @@ static TENS: [Row; 3] = [
             ..DAY
         },
     ),
-    // 1900 has no leap day.
+    // 1900 has no leap day: the first of March is day 60.
     (
         b"1900-02-28T23:59:50",
         Kind::E,
@@ -127,6 +138,7 @@ static TENS: [Row; 3] = [
         Fields { days: 60, ..DAY },
     ),
     (
+        // 99,990 seconds are a day, 3 hours, 46 minutes and 30 seconds.
         b"0001-001T00:00:00",
         Kind::E,
         2,
@@ -146,7 +158,8 @@ fn frames_of_e_tell_whole_ten_seconds(rt: HostRuntime) {
     check(&rt, &TENS);
 }
 
-/// A moment, a kind with expression 2, and whether a frame begins there.
+/// A moment, a kind with expression 2, and whether a frame begins there: each second, or each 10
+/// seconds, tenth or hundredth, from midnight on.
 static STARTS: [(&[u8], Kind, bool); 6] = [
     (b"2024-001T00:00:05", Kind::E, false),
     (b"2024-001T00:00:10", Kind::E, true),
@@ -156,7 +169,7 @@ static STARTS: [(&[u8], Kind, bool); 6] = [
     (b"2024-061T12:34:55.55", Kind::G, true),
 ];
 
-/// Whether a frame begins at a moment as its row says.
+/// Whether a frame begins at a moment as its row says; false for a text or a format that is none.
 fn begins((text, kind, want): &(&[u8], Kind, bool)) -> bool {
     match (Moment::parse(text), Format::new(*kind, 2)) {
         (Some(moment), Ok(format)) => moment.starts(format) == *want,
@@ -173,11 +186,14 @@ fn frames_begin_at_whole_periods(rt: HostRuntime) {
 
 /// Texts of no moment.
 static OTHERS: [&[u8]; 10] = [
+    // No leap day in 2023.
     b"2023-02-29T00:00:00",
+    // Years are 1 to 9998, and days those of their year.
     b"0000-001T00:00:00",
     b"9999-001T00:00:00",
     b"2024-367T00:00:00",
     b"2023-366T00:00:00",
+    // A space, a second 60, one digit of hundredths, a day of two digits, and nothing.
     b"2024-061 12:34:55",
     b"2024-061T12:34:60",
     b"2024-061T12:34:55.5",
@@ -185,7 +201,7 @@ static OTHERS: [&[u8]; 10] = [
     b"",
 ];
 
-/// Whether leap days are moments, by both ways to write a date.
+/// Whether leap days are moments, by both ways to write a date: day 60 of 2024 is 29 February.
 fn are_leap_days() -> bool {
     let day = Moment::parse(b"2024-060T00:00:00");
     Moment::parse(b"2024-366T23:59:59.99").is_some()

@@ -11,10 +11,10 @@ ghost use Rattle.irig_patch.specs.Scripts.{AsLong, PatchesMake, PatchesStop, Pat
 /// Does nothing. Its contract: the text of a patch is a script that makes the one recording of the
 /// other.
 ///
-/// It is run on a session of the recording before. No edge of the one after is above its length.
-/// If no line is refused, it leaves a session with the edges of the recording after, with one step
-/// for each stretch. A line is refused by E5 or E11 alone. With `write` after it, the text that is
-/// written is the dump of these edges. So it is if what `irig_diff` prints is run on the file
+/// It is run on a session of the recording before. No edge of the one after is above its length. If
+/// no line is refused, it leaves a session with the edges of the recording after, with one step for
+/// each stretch. A line is refused by E5 or E11 alone. With `write` after it, the text that is
+/// written is the dump of these edges. The same holds if what `irig_diff` prints is run on the file
 /// before, a dump or a saved session, and no line is refused. If both recordings are as long, that
 /// is the recording after.
 pub fn patches_are_scripts()

@@ -1,9 +1,11 @@
 //! Texts that are written in front of others, from the last to the first. `end` is the index, from
-//! 0, after the last byte that is written, and what is given back the index of the first.
+//! 0, after the last byte that is written, and what is given back is the index of the first. Bytes
+//! from `end` on do not change.
 
 ghost use Rattle.std.specs.Prelude.{◌≡◌, ◌≤◌, ◌+◌, ◌++◌, ◌∷◌, length, drop, decimal};
 
-/// Writes a text so that it ends at `end`, and gives where it starts.
+/// Writes a text so that it ends at `end`, and gives where it starts. There is room for it before
+/// `end`.
 #[inline(always)]
 pub fn write_text(bytes: &mut [u8], end: usize, text: &[u8]) -> usize
     requires { (length text.now ≤ end) × (end ≤ length bytes.old) }
@@ -16,7 +18,8 @@ pub fn write_text(bytes: &mut [u8], end: usize, text: &[u8]) -> usize
     start
 }
 
-/// Writes a number in decimal and a space so that they end at `end`, and gives where they start.
+/// Writes a number in decimal and a space so that they end at `end`, and gives where they start. A
+/// number has at most 20 digits, so 21 bytes before `end` have to be there.
 #[inline(always)]
 pub fn write_number(bytes: &mut [u8], end: usize, number: u64) -> usize
     requires { (21 ≤ end) × (end ≤ length bytes.old) }

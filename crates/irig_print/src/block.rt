@@ -39,7 +39,7 @@ impl Block {
         }
     }
 
-    /// Writes what is held back.
+    /// Writes what is held back. After that the block is empty, also on an error.
     pub fn flush<W: Write>(&mut self, out: &mut W) -> Result<(), PrintFault>
         ensures empty { self.new ≡ [] }
         ensures printed { Prints (W.contents out.old) (W.contents out.new) self.old result }
@@ -50,6 +50,7 @@ impl Block {
     }
 
     /// Takes a text of at most 256 bytes, and writes what is held back first if there is no room.
+    /// An error says that this write failed: then the text is not taken.
     pub fn put<W: Write>(&mut self, out: &mut W, text: &[u8]) -> Result<(), PrintFault>
         requires { length text.now ≤ 256 }
         ensures ok { OnOk result (Sends

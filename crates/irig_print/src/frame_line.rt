@@ -1,5 +1,6 @@
 //! The line that the command `frames` prints of a record. A row is a line of at most 256 bytes
-//! while it is put together.
+//! while it is put together; each function writes at its end, and its condition says how much is in
+//! it before, so that there is room.
 
 ghost use Rattle.std.specs.Prelude.{◌≡◌, ◌≤◌, ◌+◌, ◌++◌, length};
 ghost use Rattle.irig_print.specs.FrameLine.{cause_word, name_word, note_text, time_text};
@@ -10,7 +11,8 @@ use crate::row::Row;
 use irig_codes::{Fields, Name, Note};
 use irig_index::{Cause, Verdict};
 
-/// Writes why a frame is broken.
+/// Writes why a frame is broken at an element: the pulses end, its pulse is not in step, or its
+/// width is of no class that may be there.
 fn put_cause(row: &mut Row, cause: Cause)
     requires room { length row.old ≤ 249 }
     ensures text { row.new ≡ row.old ++ cause_word cause }
@@ -40,7 +42,8 @@ fn put_name(row: &mut Row, name: Name)
 }
 
 /// Writes what is noted of a frame that was read: that it is fine, which field is wrong, that the
-/// seconds of the day disagree with the time, or at which element, from 0, a pulse is stray.
+/// seconds of the day disagree with the time, or which element, from 0, is the first 1 that no
+/// field uses.
 fn put_note(row: &mut Row, note: Note)
     requires room { length row.old ≤ 220 }
     ensures text { row.new ≡ row.old ++ note_text note }
@@ -72,7 +75,7 @@ fn put_hundredths(row: &mut Row, hundredths: Option<u32>)
     }
 }
 
-/// Writes hours, minutes and seconds.
+/// Writes hours, minutes and seconds, each with two digits.
 fn put_clock(row: &mut Row, fields: &Fields)
     requires room { length row.old ≤ 200 }
     ensures text { row.new ≡ row.old ++ clock_text fields.now }

@@ -72,7 +72,8 @@ impl Row {
         self.len = len + text.len();
     }
 
-    /// Writes a number in decimal.
+    /// Writes a number in decimal. `write_digits` puts the digits at the end of the array, and
+    /// gives where they start.
     pub fn put_number(&mut self, number: u64)
         requires room { length self.old ≤ 236 }
         ensures text { self.new ≡ self.old ++ decimal number }
@@ -84,7 +85,7 @@ impl Row {
     }
 
     /// Writes a number in decimal, with zeros in front if it has fewer digits than `width`, which
-    /// is at most 3.
+    /// is at most 3. A number with more digits is written whole.
     pub fn put_padded(&mut self, width: usize, number: u32)
         requires narrow { width ≤ 3 }
         requires room { length self.old ≤ 246 }
@@ -98,7 +99,8 @@ impl Row {
         self.put(&digits[start..]);
     }
 
-    /// Writes a number in lower-case hexadecimal, without zeros in front.
+    /// Writes a number in lower-case hexadecimal, without zeros in front: the last digit first, at
+    /// the end of the array.
     pub fn put_hexadecimal(&mut self, number: u64)
         requires room { length self.old ≤ 240 }
         ensures text { self.new ≡ self.old ++ hexadecimal number }

@@ -8,7 +8,8 @@ use crate::row::Row;
 use irig_index::Verdict;
 use std::alloc::AllocError;
 
-/// Writes what the command `frames` reports of a frame, as in its line.
+/// Writes what the command `frames` reports of a frame, as in its line. It fails only if memory
+/// runs out.
 pub fn put_verdict_text(block: &mut Vec<u8>, verdict: &Verdict) -> Result<(), AllocError>
     ensures { OnOk result (block.new.items ≡ block.old.items ++ verdict_text verdict.now) }
 {

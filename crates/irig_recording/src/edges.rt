@@ -1,11 +1,11 @@
-//! Edges that are kept as pulses.
+//! Edges of a wire that are read one after another, and kept as pulses.
 //!
 //! Two edges are a pulse: a rise and a fall. If the last edge is a rise, it waits in `rise`, and
 //! `is_open` is true. A recording has at most 2^22 pulses, so 2^23 edges; one edge more is kept, to
 //! know that there are too many. Times are in microseconds.
 //!
-//! The pulses are in a buffer with a gap, its room for more. The gap is always after all pulses, so
-//! `gap_at` is how many there are.
+//! The pulses are in a gap buffer: a list whose free room, the gap, can be anywhere in it. Here it
+//! is always after all pulses, so `gap_at` is how many there are.
 
 ghost use Rattle.std.specs.Prelude.{◌≡◌, ◌≤◌, ◌<◌, ◌+◌, ◌^◌, ◌↔◌, ◌∷◌, [], ◌++◌, true, false, not};
 ghost use Rattle.std.specs.Prelude.{◌*◌, length, IsTrue, OnErr, OnOk};
@@ -17,7 +17,7 @@ use irig_gap::Gap;
 use std::alloc::{AllocError, Global};
 use std::marker::Model;
 
-/// How many pulses a first block has room for.
+/// How many pulses a first block has room for: 16 KiB.
 const FIRST_ROOM: usize = 1024;
 
 /// The times at which a level rises and falls in turn, in microseconds. At most one more is kept
@@ -61,15 +61,16 @@ impl Edges {
         self.is_open
     }
 
-    /// Whether there is one edge more than a recording may have: a rise after as many pulses as it
-    /// may have.
+    /// Whether there is one edge more than a recording may have: a rise that waits after 2^22
+    /// pulses.
     pub fn is_full(&self) -> bool
         ensures { IsTrue result ↔ (2 ^ 23 < length self.now) }
     {
         self.is_open && self.pulses.gap_at() == PULSES_LIMIT
     }
 
-    /// Whether two edges more can be added, so that at most 2^23 + 1 are kept.
+    /// Whether two edges more may be added: then at most 2^23 + 1 are kept, one more than a
+    /// recording may have. False from 2^22 pulses on.
     #[inline(always)]
     pub fn has_room(&self) -> bool
         ensures { result ≡ true ↔ (length self.now + 2 ≤ edges_kept) }
@@ -77,8 +78,9 @@ impl Edges {
         self.pulses.gap_at() < PULSES_LIMIT
     }
 
-    /// Adds an edge, a time, after the others. Only a fall takes memory. It fails only if memory
-    /// runs out.
+    /// Adds an edge, a time after those of the others: a fall if the last one is a rise, else a
+    /// rise. Only a fall takes memory, for the pulse that it ends. It fails only if memory runs
+    /// out.
     pub fn push(&mut self, edge: u64) -> Result<(), AllocError>
         requires { length self.old ≤ 2 ^ 23 }
         ensures { OnOk result (self.new ≡ self.old ++ edge ∷ []) }
@@ -94,8 +96,9 @@ impl Edges {
         Ok(())
     }
 
-    /// Adds a fall and the next rise, two times, after the others, the last of which is a rise. It
-    /// fails only if memory runs out.
+    /// Adds a fall and the next rise, two times after those of the others. The last edge has to be
+    /// a rise, to which this fall belongs; the new rise waits then. It fails only if memory runs
+    /// out.
     #[inline(always)]
     pub fn close_and_open(&mut self, fall: u64, rise: u64) -> Result<(), AllocError>
         requires risen { is_even_long self.old ≡ false }
@@ -108,8 +111,8 @@ impl Edges {
         Ok(())
     }
 
-    /// The pulses of the edges, none of which is copied. The last edge has to be a fall. The gap of
-    /// the buffer is after them all.
+    /// The pulses of the edges, in the same block: none is copied. The last edge has to be a fall.
+    /// The gap of the buffer is after them all.
     pub fn into_pulses(self) -> Gap<Pulse>
         requires { is_even_long self ≡ true }
         ensures edges { edges_of result.items ≡ self }
@@ -138,8 +141,9 @@ fn put(pulses: &mut Gap<Pulse>, pulse: Pulse) -> Result<(), AllocError>
     Ok(())
 }
 
-/// Makes room in a full buffer: twice as much as before and that of a first block, but never more
-/// than for the most pulses and a first block. If memory runs out, nothing changes.
+/// Makes the capacity of a full buffer larger: twice the old one and a first block, so that few
+/// growths come; but never more than for the most pulses, 2^22, and a first block. If memory runs
+/// out, nothing changes.
 #[inline(never)]
 fn grow(pulses: &mut Gap<Pulse>) -> Result<(), AllocError>
     requires few { length pulses.old.items ≤ 2 ^ 22 }

@@ -2,7 +2,7 @@
 //!
 //! The four lines are `#RISE`, `1!`, `#FALL` and `0!`. Most pulses come soon after the one before,
 //! so their times have the same digits but for the last four. These digits are written over the old
-//! ones, and all else is kept.
+//! ones, and all else is kept: that is faster than to make each line from its number.
 //!
 //! The lines of an edge end with four bytes, a newline, the level, the code and a newline; the last
 //! four digits of its time come just before these.
@@ -23,8 +23,9 @@ static PAIRS: [u8; 200] = *b"\
     6061626364656667686970717273747576777879\
     8081828384858687888990919293949596979899";
 
-/// The four lines of a pulse at the front of a buffer, `long` bytes for the two lines of each edge.
-/// `base` has the digits of its times, in microseconds, with 0 for the last four.
+/// The four lines of a pulse at the front of `bytes`; the two lines of each edge have `long` bytes,
+/// at most 20. `base` is a time in microseconds: the digits that both times have in front of their
+/// last four, and then 0000.
 #[derive(Drop)]
 pub struct KeptPulse {
     bytes: [u8; 56],
@@ -33,7 +34,8 @@ pub struct KeptPulse {
 }
 
 impl KeptPulse {
-    /// The lines of a pulse whose edges are both at 10,000 microseconds, to be written over.
+    /// The lines of a pulse whose edges are both at 10,000 microseconds, the least time of five
+    /// digits. It is no pulse of a recording: its lines are written over.
     pub fn new() -> KeptPulse
         ensures { HoldsPulse result }
     {
@@ -45,8 +47,9 @@ impl KeptPulse {
         }
     }
 
-    /// Counts up the digit in front of the last four if it is one too low for the rise. Returns
-    /// whether the times of the pulse, in microseconds, have the digits that are kept then.
+    /// Makes the kept digits fit a pulse, if that takes at most to count up one digit: the one in
+    /// front of the last four, if it is one too low for the rise. Returns whether both times, in
+    /// microseconds, have the kept digits then. A digit that was counted up stays so in any case.
     #[inline(always)]
     pub fn catch_up(&mut self, rise: u64, fall: u64) -> bool
         requires holds { HoldsPulse self.old }
@@ -56,10 +59,10 @@ impl KeptPulse {
         self.catch_up_to(rise) && self.is_near(fall)
     }
 
-    /// Makes new lines, with both edges at a time in microseconds of 5 to 15 digits. They are made
-    /// in `line`: a time ends before byte 21, from 0, and the bytes 21 to 24 are a newline, the
-    /// level, the code and a newline. So the lines of an edge are those from the start of the time
-    /// to byte 24.
+    /// Makes new lines, with both edges at a time in microseconds of 5 to 15 digits: one digit in
+    /// front of the last four is needed, and more do not fit. They are made in `line`: a time ends
+    /// before byte 21, from 0, and the bytes 21 to 24 are a newline, the level, the code and a
+    /// newline. So the lines of an edge are the bytes from `start`, that of the `#`, to byte 24.
     pub fn renew(&mut self, line: &mut [u8], time: u64)
         requires some { 10000 ≤ time }
         requires few { time < 10 ^ 15 }
@@ -79,8 +82,9 @@ impl KeptPulse {
     }
 
     /// Writes the lines of a pulse whose times, in microseconds, have the digits that are kept. The
-    /// last four of each begin 8 bytes before the end of its lines. A fixed number of bytes, 48, is
-    /// written, which is fast, and those too many are removed. It fails only if memory runs out.
+    /// last four digits of each time begin 8 bytes before the end of its lines. A fixed number of
+    /// bytes, 48, is added to the text, which is fast, and those after the lines are removed. It
+    /// fails only if memory runs out.
     #[inline(always)]
     pub fn put(&mut self, text: &mut Vec<u8>, rise: u64, fall: u64) -> Result<(), AllocError>
         requires holds { HoldsPulse self.old }
@@ -102,7 +106,7 @@ impl KeptPulse {
         Ok(())
     }
 
-    /// Whether a time, in microseconds, has the digits that are kept in front of its last four.
+    /// Whether a time, in microseconds, has the kept digits in front of its last four.
     #[inline(always)]
     fn is_near(&self, time: u64) -> bool
         ensures { result ≡ true ↔ IsNear self.now time }
@@ -110,8 +114,8 @@ impl KeptPulse {
         self.base <= time && time - self.base < 10000
     }
 
-    /// Counts up by one the digits in front of the last four, if that gives them those of a time,
-    /// in microseconds. Returns whether the time has the digits that are kept then.
+    /// Makes the kept digits those of a time, in microseconds, if they are so already or are one
+    /// too low. Returns whether the time has the kept digits then.
     #[inline(always)]
     fn catch_up_to(&mut self, time: u64) -> bool
         requires holds { HoldsPulse self.old }
@@ -128,9 +132,9 @@ impl KeptPulse {
         past < 20000 && self.count_up()
     }
 
-    /// Counts up by one the digits in front of the last four, in both times, if that changes only
-    /// one digit: one that is not 9. It is 9 bytes before the end of its lines. Returns whether it
-    /// did.
+    /// Counts up the kept digits by one, in the lines of both edges, if that changes only the last
+    /// of them: if it is not 9. That digit is 9 bytes before the end of the lines of an edge.
+    /// Returns whether it did; `false` changes nothing.
     #[inline(always)]
     fn count_up(&mut self) -> bool
         requires holds { HoldsPulse self.old }
@@ -152,8 +156,9 @@ impl KeptPulse {
     }
 }
 
-/// Copies the 24 bytes of a line from byte `start` on, from 0, to the place `at` of a buffer, from
-/// 0. There is room for them.
+/// Copies 24 bytes of `line`, from byte `start` on, to the place `at` of `bytes`; both count from
+/// 0. There is room for them. The lines of an edge have at most 20 bytes; a fixed number of bytes
+/// is copied fast.
 fn put_part(bytes: &mut [u8], at: usize, line: &[u8], start: usize)
     requires room { at + 24 ≤ length bytes.old }
     requires some { start + 24 ≤ length line.now }
@@ -163,7 +168,8 @@ fn put_part(bytes: &mut [u8], at: usize, line: &[u8], start: usize)
     bytes[at..at + 24].copy_from_slice(&line[start..start + 24]);
 }
 
-/// Writes the four digits of a number below 10,000 at the place `at` of a buffer, from 0.
+/// Writes the four digits of a number below 10,000, with leading zeros, at the place `at` of a
+/// buffer, from 0.
 #[inline(always)]
 fn put_four(bytes: &mut [u8], at: usize, number: u64)
     requires few { number < 10000 }
@@ -175,7 +181,8 @@ fn put_four(bytes: &mut [u8], at: usize, number: u64)
     put_two(bytes, at + 2, number % 100);
 }
 
-/// Writes the two digits of a number below 100 at the place `at` of a buffer, from 0.
+/// Writes the two digits of a number below 100, with a leading zero, at the place `at` of a buffer,
+/// from 0.
 #[inline(always)]
 fn put_two(bytes: &mut [u8], at: usize, number: u64)
     requires few { number < 100 }

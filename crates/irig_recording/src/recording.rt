@@ -1,5 +1,5 @@
-//! A length and the pulses of a level. The pulses are in a gap buffer: its place is where items
-//! come and go.
+//! A length and the pulses of a level. The pulses are in a gap buffer, a list with a place where
+//! items come and go. Here the place is always after all pulses.
 
 ghost use Rattle.std.specs.Prelude.{◌≡◌, ◌≤◌, ◌↔◌, ◌^◌, IsTrue, IsSome, IfOk, IfSome, OnErr, true};
 ghost use Rattle.std.specs.Prelude.{length, ◌≢◌, ◌*◌, ◌+◌, []};
@@ -13,10 +13,10 @@ use irig_gap::Gap;
 use std::alloc::{AllocError, Global};
 use std::marker::Model;
 
-/// The most microseconds of a recording.
+/// The most microseconds of a recording, about 12.7 days: this project's own limit.
 pub const LENGTH_LIMIT: u64 = 1 << 40;
 
-/// The most pulses of a recording.
+/// The most pulses of a recording: this project's own limit.
 pub const PULSES_LIMIT: usize = 1 << 22;
 
 /// The most edges of a recording: two for each pulse.
@@ -57,8 +57,9 @@ impl Recording {
         Ok(Some(Recording::from_parts(length, pulses)))
     }
 
-    /// The recording of a length and pulses, both in microseconds, that are known to make one, in
-    /// a block that is not much larger. The place is after them all.
+    /// The recording of a length and pulses, both in microseconds. The caller knows that they make
+    /// one: no limit is tested here. The place must be after all pulses, and their block not much
+    /// larger than they need.
     pub fn from_parts(micros: u64, pulses: Gap<Pulse>) -> Recording
         requires lawful { IsRecording micros (edges_of pulses.items) }
         requires place { pulses.place ≡ length pulses.items }
@@ -98,7 +99,7 @@ impl Recording {
     }
 }
 
-/// The pulses of an even number of edges. It fails only if memory runs out.
+/// The pulses of an even number of edges that rise, two for each. It fails only if memory runs out.
 fn pulses_of(alloc: Global, edges: &[u64]) -> Result<Gap<Pulse>, AllocError>
     requires few { length edges.now ≤ 2 ^ 23 }
     requires even { is_even_long edges.now ≡ true }
@@ -115,7 +116,7 @@ fn pulses_of(alloc: Global, edges: &[u64]) -> Result<Gap<Pulse>, AllocError>
 }
 
 /// Whether these are the length and the edges of a recording, both in microseconds: no limit is
-/// passed, and the edges rise in pairs.
+/// passed, each edge is after the one before it, and each rise has its fall.
 fn is_recording(length: u64, edges: &[u64]) -> bool
     ensures { IsTrue result ↔ IsRecording length edges.now }
 {
@@ -132,7 +133,7 @@ fn is_recording(length: u64, edges: &[u64]) -> bool
 }
 
 /// Whether each edge is above the one before it, and none above the length. `low` is the least time
-/// that the next edge may have.
+/// that the next edge may have. It cannot overflow, as the caller has tested the length.
 fn is_rising(length: u64, edges: &[u64]) -> bool
     requires { length ≤ 2 ^ 40 }
     ensures { IsTrue result ↔ (RisesFrom 0 edges.now × UpTo length edges.now) }

@@ -1,7 +1,8 @@
-//! A recording is written.
+//! Writes a recording as the text of a dump, in the form of `docs/FORMATS.md`, under "The dump that
+//! is written".
 //!
 //! Each function adds to `text`, and fails only if memory runs out. A line of a time is `#` and its
-//! microseconds; a line of a level is `1!` or `0!`.
+//! microseconds; a line of a level is `1!` or `0!`. An edge has both lines.
 
 ghost use Rattle.std.specs.Prelude.{◌≡◌, ◌≤◌, ◌<◌, ◌^◌, ◌+◌, ◌/◌, true, false, ◌++◌, ◌∷◌, OnOk};
 ghost use Rattle.std.specs.Prelude.{IfOk, length, drop, decimal, vec_capacity, vec_len, IsOk};
@@ -19,7 +20,9 @@ use std::alloc::{AllocError, Global};
 use std::marker::Model;
 
 /// Writes the text of a dump, edge by edge, after the bytes of a text that the caller has. `last`
-/// is the last time that was written, in microseconds; lines are made in `line`, or in `pulse`.
+/// is the last time that was written, in microseconds; lines are made in `line`, or in `pulse`,
+/// which keeps those of the last pulse. In `line` a time ends before byte 21, from 0, and a
+/// newline, the level, the code and a newline are the bytes 21 to 24.
 #[derive(Drop)]
 pub struct TextWriter {
     line: [u8; 48],
@@ -51,8 +54,8 @@ impl TextWriter {
         }
     }
 
-    /// Begins a text: writes the lines before the first edge above 0. `high` says that an edge is
-    /// at 0.
+    /// Begins a text: writes the lines before the first edge above 0. `high` says whether an edge,
+    /// a rise, is at 0.
     pub fn begin(&mut self, text: &mut Vec<u8>, high: bool) -> Result<(), AllocError>
         ensures text { OnOk result (text.new.items ≡ text.old.items ++ header_text high) }
         ensures last { self.new.last ≡ 0 }
@@ -63,8 +66,8 @@ impl TextWriter {
         put_header(text, high)
     }
 
-    /// Writes the lines of an edge, in microseconds, from which on the level is high or low. An
-    /// edge at 0 is part of the header, so it has no lines.
+    /// Writes the lines of an edge at a time in microseconds, from which on the level is high
+    /// (`high`) or low. An edge at 0 is part of the header, so it has no lines.
     #[inline(always)]
     pub fn put_edge(&mut self, text: &mut Vec<u8>, edge: u64, high: bool) -> Result<(), AllocError>
         ensures text { OnOk result (text.new.items ≡ text.old.items ++ lines_at high edge) }
@@ -81,8 +84,10 @@ impl TextWriter {
     }
 
     /// Writes the lines of a pulse: the level is high from its rise on and low from its fall on, in
-    /// microseconds. Most times have the last pulse's digits in front of the last four, or have
-    /// them after one digit counts up. Then only the last four are written.
+    /// microseconds. Most times have the same digits in front of their last four as the pulse
+    /// before, or have them after one digit counts up. Then only the last four are written. If not,
+    /// new lines are made, if both times have the same front digits; else the edges are written one
+    /// by one.
     #[inline(always)]
     pub fn put_pulse(&mut self, text: &mut Vec<u8>, rise: u64, fall: u64) -> Result<(), AllocError>
         ensures text { OnOk result
@@ -104,7 +109,8 @@ impl TextWriter {
         self.pulse.put(text, rise, fall)
     }
 
-    /// Writes the line of the length, in microseconds, unless the last edge is there.
+    /// Writes the line of the length, in microseconds, unless the last time that was written is the
+    /// length.
     pub fn finish(&self, text: &mut Vec<u8>, length: u64) -> Result<(), AllocError>
         ensures text { OnOk result
             (text.new.items ≡ text.old.items ++ length_line self.now.last length) }
@@ -120,8 +126,9 @@ impl TextWriter {
 }
 
 /// The canonical dump of a recording, as `docs/FORMATS.md` says: nine lines, two for each edge
-/// above 0, and one for the length if no edge is there. At first it asks for 36 bytes a pulse and
-/// 140 for the rest. `read` of `irig_vcd` gives the recording back.
+/// above 0, and one for the length if no edge is there. At first it asks for as much as the longest
+/// text takes: two edges of 18 bytes a pulse, and 140 for the header and the length. `read` of
+/// `irig_vcd` gives the recording back.
 pub fn text(alloc: Global, recording: &Recording) -> Result<Vec<u8>, AllocError>
     ensures written { IfOk result (λ text. text.items ≡ file_text recording.now) }
     ensures short { IfOk result (λ text. length text.items ≤ 2 ^ 28) }
@@ -131,7 +138,7 @@ pub fn text(alloc: Global, recording: &Recording) -> Result<Vec<u8>, AllocError>
     Ok(text)
 }
 
-/// Writes the text of a recording: the header, its pulses, and the length.
+/// Adds the text of a recording to `text`: the header, its pulses, and the length.
 fn put_text(text: &mut Vec<u8>, recording: &Recording) -> Result<(), AllocError>
     ensures { OnOk result (text.new.items ≡ text.old.items ++ file_text recording.now) }
 {
@@ -146,7 +153,7 @@ fn put_text(text: &mut Vec<u8>, recording: &Recording) -> Result<(), AllocError>
 }
 
 /// Whether two times, in microseconds, have 5 to 15 digits and the same ones in front of the last
-/// four: then their lines fit into those that are kept.
+/// four: then a `KeptPulse` can hold their lines.
 fn share_front(rise: u64, fall: u64) -> bool
     ensures same { result ≡ true → rise / 10000 ≡ fall / 10000 }
     ensures some { result ≡ true → 10000 ≤ rise }
@@ -179,9 +186,10 @@ fn put_header(text: &mut Vec<u8>, high: bool) -> Result<(), AllocError>
     Ok(())
 }
 
-/// Writes the two lines of an edge, in microseconds, by a buffer in which the time ends before byte
-/// 21, from 0, and its newline, the level, the code and a newline come then. A fixed number of
-/// bytes is written, which is fast. Those too many are removed.
+/// Writes the two lines of an edge, in microseconds, by the buffer `line`: the time ends before
+/// byte 21, from 0, and the bytes 21 to 24 are a newline, the level, the code and a newline. A
+/// fixed number of bytes, 25, is added to the text, which is fast, and those after the lines are
+/// removed.
 #[inline(always)]
 fn put_lines(text: &mut Vec<u8>, line: &mut [u8], edge: u64, high: bool) -> Result<(), AllocError>
     requires room { 48 ≤ length line.old }
@@ -200,8 +208,8 @@ fn put_lines(text: &mut Vec<u8>, line: &mut [u8], edge: u64, high: bool) -> Resu
     Ok(())
 }
 
-/// Writes a number sign and the digits of a time, in microseconds, into a buffer, so that they end
-/// before byte 21, from 0. Returns the byte at which the sign is.
+/// Writes `#` and the digits of a time, in microseconds, into a buffer, so that they end before
+/// byte 21, from 0. Returns the byte, from 0, at which the `#` is.
 pub(crate) fn put_digits(line: &mut [u8], time: u64) -> usize
     requires room { 21 ≤ length line.old }
     ensures within { result ≤ length line.new }
@@ -213,7 +221,7 @@ pub(crate) fn put_digits(line: &mut [u8], time: u64) -> usize
     start
 }
 
-/// Writes the line that sets a time, in microseconds.
+/// Writes the line of a time, in microseconds, without a line of a level after it.
 fn put_time(text: &mut Vec<u8>, time: u64) -> Result<(), AllocError>
     ensures text { OnOk result (text.new.items ≡ text.old.items ++ time_line time) }
     ensures enough { time ≤ 2 ^ 40 → vec_len text.old + 15 ≤ vec_capacity text.old → IsOk result }

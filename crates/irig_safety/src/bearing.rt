@@ -1,6 +1,6 @@
 //! How the times and the rises of two frames go together. `other` is a frame that begins after
 //! `one`. Rises and distances are in microseconds. The stray of two frames is by how much their
-//! distance differs from that of their times.
+//! distance differs from the nominal one, which is as many frame periods as their times are apart.
 
 ghost use Rattle.std.specs.Prelude.{◌≡◌, ◌+◌, ◌*◌, ◌%◌, ◌==◌, ◌^◌, ◌<◌};
 ghost use Rattle.irig_safety.specs.Bearing.{agrees, allows, apart, clock_after, clock_of};
@@ -13,8 +13,8 @@ ghost use Rattle.irig_moment.specs.Generated.{period_of};
 use crate::shown::Shown;
 use irig_codes::{Fields, Format};
 
-/// The hundredths of a second from a day before the year begins, since days count from 1. Clocks
-/// are only compared.
+/// The hundredths of a second from a day before the year begins to a time, since days count from 1;
+/// a time without hundredths has 0. Clocks are only compared.
 pub fn clock(fields: &Fields) -> u128
     ensures value { result ≡ clock_of fields.now }
     ensures small { result < 2 ^ 60 }
@@ -27,7 +27,7 @@ pub fn clock(fields: &Fields) -> u128
     8_640_000 * days + 360_000 * hours + 6_000 * minutes + 100 * seconds + hundredths
 }
 
-/// The frame period in hundredths of a second.
+/// The frame period in hundredths of a second, which are 10,000 microseconds each.
 fn period(format: Format) -> u128
     ensures value { result ≡ period_of format }
     ensures some { 0 < result }
@@ -35,15 +35,15 @@ fn period(format: Format) -> u128
     u128::from(format.frame_period()) / 10_000
 }
 
-/// Whether the second year of a century is the one after the first: 0 comes after 99.
+/// Whether the year `other` is the one after `one`, both of two digits: 0 comes after 99.
 fn is_next(one: u32, other: u32) -> bool
     ensures { result ≡ ((one + 1) % 100 == other) }
 {
     (u64::from(one) + 1) % 100 == u64::from(other)
 }
 
-/// Whether the second year is the first one or the one after it, or neither is known. False if just
-/// one is known.
+/// Whether the year `other` is `one` or the one after it, or neither is known. False if just one is
+/// known.
 fn is_near_year(one: Option<u32>, other: Option<u32>) -> bool
     ensures { result ≡ is_near_year one other }
 {
@@ -66,10 +66,10 @@ fn year(is_long: bool) -> u128
     }
 }
 
-/// By how many hundredths of a second the year of `other` begins after that of `one`: 0 if it is
-/// the same year. Without years it is the next one if the clock would go back else. A year is long
-/// if its number is a multiple of 4, or without years if `one` is on its day 366. 0 if just one
-/// year is known.
+/// By how many hundredths of a second the year of `other` begins after that of `one`; 0 if it is
+/// not the next year. Without years it is the next one if the clock would go back otherwise. A year
+/// is long if its number is a multiple of 4, as from 1901 to 2099; without years if `one` is on its
+/// day 366. 0 if just one year is known.
 fn turn(one: &Fields, other: &Fields) -> u128
     ensures value { result ≡ turn_of one.now.year other.now.year one.now other.now }
     ensures small { result < 2 ^ 32 }
@@ -94,7 +94,8 @@ fn turn(one: &Fields, other: &Fields) -> u128
 }
 
 /// The hundredths of a second that the inserted second 60 of `one` adds to the clock of `other`:
-/// 100, or 0 if `one` is in no second 60, or `other` is, too.
+/// 100, or 0 if `one` is in no second 60, or `other` is, too. Second 60 has the clock of second 0
+/// of the next minute, but is a second before it.
 fn inserted(one: &Fields, other: &Fields) -> u128
     ensures value { result ≡ inserted_of one.now other.now }
     ensures small { result < 2 ^ 8 }
@@ -106,7 +107,8 @@ fn inserted(one: &Fields, other: &Fields) -> u128
     }
 }
 
-/// The time of `other` on the clock of the year of `one`, in hundredths of a second.
+/// The time of `other` on the clock of the year of `one`, in hundredths of a second: with the turn
+/// of the year and the inserted second that are between them.
 fn clock_after(one: &Shown, other: &Shown) -> u128
     ensures value { result ≡ clock_after one.now other.now }
     ensures small { result < 2 ^ 61 }
@@ -135,8 +137,8 @@ fn goes_back(one: &Fields, other: &Fields) -> bool
         && one.minutes == other.minutes
 }
 
-/// Whether the time of the second frame is whole frame periods after that of the first, no later
-/// than in the next year. A time that goes back from second 60 in its minute is refused first: the
+/// Whether the time of `other` is whole frame periods after that of `one`, and no later than in the
+/// next year. False also if it goes back from second 60 to an earlier second of that minute: the
 /// inserted second, or a turn of the year, would make it seem later.
 pub fn is_later(format: Format, one: &Shown, other: &Shown) -> bool
     ensures { result ≡ is_later format one.now other.now }
@@ -168,8 +170,8 @@ pub fn apart(one: u128, other: u128) -> u128
     }
 }
 
-/// By how many microseconds the distance of two frames differs from that of their times, in whole
-/// periods.
+/// By how many microseconds the distance of two frames differs from as many nominal frame periods
+/// as their times are apart.
 pub fn stray(format: Format, one: &Shown, other: &Shown) -> u128
     ensures value { result ≡ stray format one.now other.now }
     ensures small { result < 2 ^ 90 }
@@ -178,8 +180,9 @@ pub fn stray(format: Format, one: &Shown, other: &Shown) -> u128
     apart(distance(one, other), expected)
 }
 
-/// How much a frame may stray from another: half an interval, and a thousandth of the distance. It
-/// is in two-thousandths of a microsecond, so that nothing is divided.
+/// How much a frame may stray from another: half an interval, up to which a pulse is nearest to its
+/// own place, and a thousandth of the distance, for a clock that is off. Both are this project's
+/// own. The answer is in two-thousandths of a microsecond, so that nothing is divided.
 fn slack(format: Format, one: &Shown, other: &Shown) -> u128
     ensures value { result ≡ slack format one.now other.now }
 {
@@ -187,7 +190,8 @@ fn slack(format: Format, one: &Shown, other: &Shown) -> u128
 }
 
 /// Whether two frames are so far from each other that their distance does not say how many frame
-/// periods it is: they may stray by half a period or more. It is in two-thousandths, too.
+/// periods it is: they may stray by half a period or more, which is so from 495 periods on. Both
+/// sides are in two-thousandths of a microsecond, as `slack` is.
 pub fn is_far(format: Format, one: &Shown, other: &Shown) -> bool
     ensures { result ≡ is_far format one.now other.now }
 {
@@ -230,8 +234,10 @@ pub fn agrees(format: Format, one: &Shown, other: &Shown) -> bool
     !is_far(format, one, other) && is_shown(format, one, other)
 }
 
-/// Whether `from` and `frame` stray by no more than half an interval more than `one` and `other`
-/// do, or the distance of `one` and `other` does not fit their times.
+/// Whether `from` and `frame` stray by half an interval more than `one` and `other` at most. These
+/// are the frames on both sides of a stretch, and the former are the ends of a part of it, which
+/// strays no more than all of it. True if the distance of `one` and `other` does not fit their
+/// times: then it says nothing.
 pub fn is_within(format: Format, one: &Shown, other: &Shown, from: &Shown, frame: &Shown) -> bool
     ensures { result ≡ is_within format one.now other.now from.now frame.now }
 {

@@ -2,7 +2,11 @@
 //! frame period takes in the recording, by their distance and their times. It is off if that is not
 //! the nominal period. Two frames agree if the later one's time is whole periods later, and they
 //! are that far apart, to half a period. `before2`, `before`, `after` and `after2` are the two
-//! frames before a frame, the nearer one last, and the two after it.
+//! frames before a frame, the nearer one last, and the two after it. `periods` is how many frame
+//! periods the time of the second frame is after that of the first, and `stray` by how many
+//! microseconds their distance differs from that many nominal periods.
+//! The bounds are this project's own. Half an interval is as far as a pulse is nearest to its own
+//! place, and 8 in 100 as far as a recorder's clock may be off.
 
 ghost use Rattle.std.specs.Prelude.{◌≡◌, ◌<◌, ◌^◌, Some};
 ghost use Rattle.irig_safety.specs.Clocks.{is_by_clock, is_by_next, is_in_time, shows_any_clock};
@@ -14,8 +18,9 @@ use crate::bearing::{apart, distance, is_later, is_shown, periods, stray};
 use crate::shown::Shown;
 use irig_codes::Format;
 
-/// Whether two frames agree, and so show by how much the clock is off: by a fortieth at most, or by
-/// 8 in 100 if one is the next after the other.
+/// Whether two frames agree, and so show by how much the clock is off. It is a fortieth at most:
+/// more can be a step between them, at which the recorder lost something or has it twice. If one is
+/// the next after the other it is 8 in 100 at most, since then all pulses between them are in step.
 pub fn shows_clock(format: Format, one: &Shown, other: &Shown) -> bool
     ensures { result ≡ shows_clock format one.now other.now }
 {
@@ -24,8 +29,9 @@ pub fn shows_clock(format: Format, one: &Shown, other: &Shown) -> bool
     is_shown(format, one, other) && (40 * off <= many * frame || many == 1 && 25 * off <= 2 * frame)
 }
 
-/// Whether by the clock of two frames (`one`, `other`) a frame begins when it should after `from`,
-/// to half an interval.
+/// Whether by the clock of two frames (`one`, `other`) `frame` begins when it should after `from`,
+/// to half an interval. Both sides are multiplied by the periods of the two (`whole`), so nothing
+/// is divided.
 fn is_in_time(format: Format, one: &Shown, other: &Shown, from: &Shown, frame: &Shown) -> bool
     ensures { result ≡ is_in_time format one.now other.now from.now frame.now }
 {
@@ -36,16 +42,17 @@ fn is_in_time(format: Format, one: &Shown, other: &Shown, from: &Shown, frame: &
         && 2 * apart(here, wanted) <= whole * u128::from(format.interval())
 }
 
-/// Whether a frame begins when it should after `from`, to half an interval, by the clock that two
-/// other frames show.
+/// Whether `one` and `other` show a clock (`shows_clock`), and by it `frame` begins when it should
+/// after `from`, to half an interval.
 pub fn is_by_clock(format: Format, one: &Shown, other: &Shown, from: &Shown, frame: &Shown) -> bool
     ensures { result ≡ is_by_clock format one.now other.now from.now frame.now }
 {
     shows_clock(format, one, other) && is_in_time(format, one, other, from, frame)
 }
 
-/// Whether a frame begins when it should after `from`, to half an interval, by the clock of two
-/// other frames that are one period apart. It has to be no more than two periods after `from`.
+/// As `is_by_clock`, of two frames that are one period apart. `frame` has to be no more than two
+/// periods after `from`: two frames so near say nothing of the clock further on, since it can
+/// wander.
 pub fn is_by_next(format: Format, one: &Shown, other: &Shown, from: &Shown, frame: &Shown) -> bool
     ensures { result ≡ is_by_next format one.now other.now from.now frame.now }
 {
@@ -54,7 +61,8 @@ pub fn is_by_next(format: Format, one: &Shown, other: &Shown, from: &Shown, fram
         && is_by_clock(format, one, other, from, frame)
 }
 
-/// Whether two frames agree, and show a clock that is off by 8 in 100 at most.
+/// Whether two frames agree, and show a clock that is off by 8 in 100 at most, however far they are
+/// apart.
 pub fn shows_any_clock(format: Format, one: &Shown, other: &Shown) -> bool
     ensures { result ≡ shows_any_clock format one.now other.now }
 {
@@ -64,7 +72,8 @@ pub fn shows_any_clock(format: Format, one: &Shown, other: &Shown) -> bool
 }
 
 /// Whether the times of two frames are whole frame periods apart, on a clock that is off by 8 in
-/// 100 at most.
+/// 100 at most. Unlike in `shows_any_clock` the two do not have to agree: over many periods such a
+/// clock is off by more than half a period.
 fn is_off(format: Format, one: &Shown, other: &Shown) -> bool
     ensures { result ≡ is_off format one.now other.now }
 {
@@ -72,9 +81,10 @@ fn is_off(format: Format, one: &Shown, other: &Shown) -> bool
     is_later(format, one, other) && 25 * stray(format, one, other) <= 2 * whole
 }
 
-/// Whether `from` and `to` show the clock that `one` and `other` show, to half an interval, and are
-/// no more than a hundred times as far from each other as these. Neither clock is off by more than
-/// 8 in 100.
+/// Whether `from` and `to` show the clock that `one` and `other` show, to half an interval. Neither
+/// clock is off by more than 8 in 100. `from` and `to` are no more than a hundred times as far
+/// apart as `one` and `other`: the rises of these are off by a tenth of an interval each at most,
+/// so up to there the clock says how many frames it is.
 fn is_same_clock(format: Format, one: &Shown, other: &Shown, from: &Shown, to: &Shown) -> bool
     ensures { result ≡ is_same_clock format one.now other.now from.now to.now }
 {
@@ -120,8 +130,9 @@ fn long_by(format: Format, one: &Shown, other: &Shown, many: u128) -> u128
     }
 }
 
-/// Whether a distance of `micros` microseconds is between what two clocks say, `one` and `other`,
-/// to half an interval, and these differ by six intervals at most. All are in microseconds.
+/// Whether a distance (`micros`) is between what two clocks say that it is (`one`, `other`), to
+/// half an interval: no more than that below both or above both. The two differ by six intervals at
+/// most, since a step as large as their difference could hide there. All are in microseconds.
 fn is_amidst(interval: u64, one: u128, other: u128, micros: u128) -> bool
     requires { micros < 2 ^ 64 }
     ensures { result ≡ is_amidst interval one other micros }
@@ -133,8 +144,9 @@ fn is_amidst(interval: u64, one: u128, other: u128, micros: u128) -> bool
         && (least <= one || least <= other)
 }
 
-/// Whether the clock wanders: the frames on both sides are as far apart as lies between what the
-/// clock of the two before says and that of the two after. False if one of the four is not there.
+/// Whether the clock wanders, from that of the two frames before to that of the two after: `before`
+/// and `after` are as far apart as lies between what both say. False if one of the four is not
+/// there.
 fn is_amid(
     format: Format,
     before2: Option<Shown>,
@@ -150,9 +162,9 @@ fn is_amid(
     }
 }
 
-/// Whether `before` and `after` are as far apart as lies between what the clock of the two before
-/// says and that of the two after. None of the clocks is off by more than 8 in 100, and `before`
-/// and `after` are no more than a hundred times as far apart as the two before.
+/// As `is_amid`, of four frames that are there. None of the clocks is off by more than 8 in 100.
+/// `before` and `after` are no more than a hundred times as far apart as the two before, as in
+/// `is_same_clock`.
 fn is_amid_of(
     format: Format,
     before2: &Shown,
@@ -176,9 +188,9 @@ fn is_amid_of(
         )
 }
 
-/// Whether the frames on both sides show the clock of the recording, and by it a frame begins when
-/// it should after `before`, and `after` after the frame. They show it if two on one side do, too,
-/// or if it is between the clocks of both sides.
+/// Whether `before` and `after` show the recording's own clock, and by it `frame` begins when it
+/// should after `before`, and `after` after `frame`. They show it if the two frames before show the
+/// same, or the two after do, or if theirs is between the clocks of both pairs.
 pub fn is_by_own_clock(
     format: Format,
     before2: Option<Shown>,

@@ -1,5 +1,6 @@
-//! The control functions of a frame, which its time does not decide. Functions and elements count
-//! from 0.
+//! The control functions of a frame, which its time does not decide. Each is one bit, carried by
+//! one element. Functions and elements count from 0. Former frames are those of the recording that
+//! read well when it was opened.
 
 ghost use Rattle.std.specs.Prelude.{◌≡◌, ◌<◌, ◌≤◌};
 ghost use Rattle.irig_codes.specs.Format.{control_count_of, has_year};
@@ -10,7 +11,7 @@ use crate::shown::Shown;
 use crate::witnesses::Witnesses;
 use irig_codes::{Format, Kind, control_count};
 
-/// How many control functions a frame has.
+/// How many control functions a frame has; 0 if its format carries none.
 pub fn functions(format: Format) -> u32
     ensures value { result ≡ control_count_of format }
     ensures few { result ≤ 45 }
@@ -18,7 +19,9 @@ pub fn functions(format: Format) -> u32
     control_count(format)
 }
 
-/// The element of a frame with the first control function.
+/// The element of a frame with the first control function, by the standard's layout: the digits of
+/// the time are before it. In G the hundredths take ten elements more; so does the year in each
+/// format, if the expression has one.
 fn first_function(format: Format) -> usize
     ensures value { result ≡ first_function format.kind (has_year format.expression) }
     ensures few { result ≤ 70 }
@@ -31,8 +34,8 @@ fn first_function(format: Format) -> usize
     }
 }
 
-/// The element of a frame with a control function, both from 0. After nine of them comes a position
-/// identifier.
+/// The element of a frame with a control function, both from 0. Functions are in groups of nine
+/// elements, and a position identifier follows each group.
 pub fn function_element(format: Format, function: u32) -> usize
     ensures { result ≡ function_element format function }
 {
@@ -40,7 +43,8 @@ pub fn function_element(format: Format, function: u32) -> usize
     first_function(format) + function + function / 9
 }
 
-/// A control function of a frame: 1 or 0.
+/// The value of a control function in a frame, 1 or 0: the first one is the lowest bit. 0 if the
+/// frame has none.
 pub fn function_of(frame: &Shown, function: u32) -> u64
     requires { function < 64 }
     ensures { result ≡ function_of function frame.now }
@@ -48,7 +52,7 @@ pub fn function_of(frame: &Shown, function: u32) -> u64
     (frame.fields.control.unwrap_or(0) >> function) % 2
 }
 
-/// Whether another frame is there, and has a control function as a frame has it.
+/// Whether `other` is there, and has a control function as `frame` has it.
 fn shares(other: Option<Shown>, frame: &Shown, function: u32) -> bool
     requires { function < 64 }
     ensures { result ≡ shares function other frame.now }
@@ -59,8 +63,9 @@ fn shares(other: Option<Shown>, frame: &Shown, function: u32) -> bool
     }
 }
 
-/// Whether the two frames nearest to a frame are there and have a control function as it has it:
-/// one on each side, or the two of one side if the other has none.
+/// Whether the two former frames nearest to a frame have a control function as `frame` has it. They
+/// are one on each side, or the two of one side if the other has none. False if one of the two is
+/// not there.
 pub fn is_shared(near: &Witnesses, frame: &Shown, function: u32) -> bool
     requires { function < 64 }
     ensures { result ≡ is_shared function near.now frame.now }

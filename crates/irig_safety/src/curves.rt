@@ -1,7 +1,10 @@
 //! Whether a pulse is on the curve on which the clock of two frames becomes that of two others. The
 //! clock of two frames is how long a frame period takes in the recording, by their distance and
-//! their times. Distances are in microseconds. An anchor is a pulse whose place is known: its
-//! `steps` are how many elements it is away, and `rise` is when it rises.
+//! their times. If it changes evenly between two anchors, as on a tape, pulses are not on the
+//! straight line between these but on a parabola. An anchor is a pulse whose place is known: its
+//! `steps` are how many elements it is away from the pulse that is looked at, and `rise` is when it
+//! rises. Distances are in microseconds, and `periods` is how many frame periods the times of two
+//! frames are apart. The bounds are this project's own.
 
 ghost use Rattle.std.specs.Prelude.{◌≡◌, ◌≤◌, ◌<◌, ◌*◌, ◌^◌, IsTrue};
 ghost use Rattle.irig_codes.specs.Format.{interval_of};
@@ -26,7 +29,8 @@ pub struct Sides {
     pub after2: Shown,
 }
 
-/// Whether each of the frames is at most 500 frame periods before the next.
+/// Whether each of the frames is at most 500 frame periods before the next: up to there no number
+/// below is too large for its type.
 fn are_few(format: Format, sides: &Sides) -> bool
     ensures value { result ≡ are_few format sides.now }
     ensures before { IsTrue result → periods format sides.now.before2 sides.now.before ≤ 500 }
@@ -39,7 +43,8 @@ fn are_few(format: Format, sides: &Sides) -> bool
 }
 
 /// How many microseconds a frame period takes by the clock of the two before, times `seen_over`: so
-/// nothing is divided. The periods of the two before cancel.
+/// nothing is divided. The periods of the two before cancel, and those of the two after (`many`)
+/// are left.
 fn long_before(format: Format, sides: &Sides) -> u128
     requires { periods format sides.now.after sides.now.after2 ≤ 500 }
     ensures value { result ≡ long_before format sides.now }
@@ -50,7 +55,7 @@ fn long_before(format: Format, sides: &Sides) -> u128
 }
 
 /// How many microseconds a frame period takes by the clock of the two after, times `seen_over`: the
-/// periods of the two after cancel.
+/// periods of the two after cancel, and those of the two before (`many`) are left.
 fn long_after(format: Format, sides: &Sides) -> u128
     requires { periods format sides.now.before2 sides.now.before ≤ 500 }
     ensures value { result ≡ long_after format sides.now }
@@ -60,7 +65,8 @@ fn long_after(format: Format, sides: &Sides) -> u128
     distance(&sides.after, &sides.after2) * many
 }
 
-/// How many frame periods the two before are apart, times how many the two after are.
+/// What both clocks are multiplied by, so that they can be compared: how many frame periods the two
+/// before are apart, times how many the two after are.
 fn seen_over(format: Format, sides: &Sides) -> u128
     requires before { periods format sides.now.before2 sides.now.before ≤ 500 }
     requires after { periods format sides.now.after sides.now.after2 ≤ 500 }
@@ -71,8 +77,8 @@ fn seen_over(format: Format, sides: &Sides) -> u128
     many * periods(format, &sides.after, &sides.after2)
 }
 
-/// Whether the frames on both sides are as far apart as the mean of both clocks says, to half an
-/// interval.
+/// Whether `before` and `after` are as far apart as the mean of both clocks says, to half an
+/// interval: they are if the clock changes evenly. Both sides are times twice `seen_over`.
 fn is_mean(format: Format, sides: &Sides) -> bool
     requires before { periods format sides.now.before2 sides.now.before ≤ 500 }
     requires across { periods format sides.now.before sides.now.after ≤ 500 }
@@ -101,9 +107,10 @@ fn is_turning(format: Format, sides: &Sides) -> bool
         && is_mean(format, sides)
 }
 
-/// What a bend is divided by: `all`, times `seen_over`, which is in the difference of the clocks,
-/// times 100 twice, since a frame has 100 elements. `all` is twice the frame periods from the
-/// middle of the two before to the middle of the two after: over these the clock changes evenly.
+/// What `bend` divides by. The clock changes by `difference` / `seen_over` from the middle of the
+/// two before to the middle of the two after, and `all` is twice the frame periods between these.
+/// 100 is in it twice, since `since` and `until` of the bend are in elements, 100 to a frame
+/// period.
 fn turned_over(format: Format, sides: &Sides) -> u128
     requires before { periods format sides.now.before2 sides.now.before ≤ 500 }
     requires across { periods format sides.now.before sides.now.after ≤ 500 }
@@ -117,7 +124,9 @@ fn turned_over(format: Format, sides: &Sides) -> u128
 }
 
 /// How many microseconds the curve is off the straight line, `since` elements after one anchor and
-/// `until` before another: a parabola, since the clock changes evenly.
+/// `until` before another. If a frame period is longer than the one before it by an even c, the
+/// curve is a parabola: s frame periods after one anchor and u before the other it is off by c * s
+/// * u / 2. 0 if the times of the frames are less than a period apart.
 fn bend(format: Format, sides: &Sides, since: u128, until: u128) -> u128
     requires before { periods format sides.now.before2 sides.now.before ≤ 500 }
     requires across { periods format sides.now.before sides.now.after ≤ 500 }
@@ -144,8 +153,10 @@ fn difference(format: Format, sides: &Sides) -> u128
     apart(long_before(format, sides), long_after(format, sides))
 }
 
-/// Microseconds on the curve, as they are on the straight line: the bend later if the frame periods
-/// become longer, else earlier.
+/// Takes the bend (`by`) out of a time on the curve, `micros` microseconds after the first anchor,
+/// so that it can be compared with the straight line. If the frame periods become longer, the first
+/// ones are shorter than their mean, and the curve is earlier than the line: so the bend is added.
+/// Else it is taken off.
 fn straightened(format: Format, sides: &Sides, by: u128, micros: u128) -> u128
     requires before { periods format sides.now.before2 sides.now.before ≤ 500 }
     requires after { periods format sides.now.after sides.now.after2 ≤ 500 }
@@ -160,7 +171,7 @@ fn straightened(format: Format, sides: &Sides, by: u128, micros: u128) -> u128
     }
 }
 
-/// Two intervals, in microseconds.
+/// Two intervals, in microseconds: the most that a curve may bend.
 fn two_intervals(format: Format) -> u128
     ensures value { result ≡ 2 * interval_of format.kind }
     ensures small { result < 2 ^ 19 }
@@ -168,8 +179,8 @@ fn two_intervals(format: Format) -> u128
     2 * u128::from(format.interval())
 }
 
-/// Whether a time is on the curve between two anchors, to a tenth of an interval. A curve that
-/// bends by more than two intervals is none.
+/// Whether a time (`rise`) is on the curve between two anchors, to a tenth of an interval. False if
+/// the clock does not change evenly, or the curve bends by more than two intervals.
 fn is_bent(format: Format, sides: &Sides, before: &Anchor, rise: u64, after: &Anchor) -> bool
     requires { (before.now.steps ≤ 2 ^ 17) × (after.now.steps ≤ 2 ^ 17) }
     ensures { result ≡ is_bent format sides.now before.now rise after.now }
@@ -185,7 +196,8 @@ fn is_bent(format: Format, sides: &Sides, before: &Anchor, rise: u64, after: &An
     is_straight(format, before, micros, after)
 }
 
-/// Whether a time is on the curve that the four nearest frames give, if all are there.
+/// Whether a time (`rise`) is on the curve between two anchors (`before`, `after`) that the four
+/// nearest frames (`near`) give. False if one of the four is not there.
 pub fn is_on_curve(
     format: Format,
     near: &Witnesses,

@@ -2,9 +2,10 @@
 
 ghost use Rattle.irig_safety.specs.Meaning.{SafeMeans};
 
-/// Does nothing. Its contract is what it means that frames are safe by former ones: each former one
-/// is one of them, or was wrong and one of them mends it; each of them that is neither is borne out
-/// by the former frames next to it, which have its time there.
+/// Does nothing: its contract is a theorem. It says what it means that new frames are safe by
+/// former ones. Each former frame is among the new ones, or its time or its control functions were
+/// wrong, and the new frame that rises when it did mends it. Each new frame that is neither is
+/// borne out: the former frames next to it have its time there.
 pub fn safe_frames_are_kept_or_borne_out()
     ensures { SafeMeans }
 {}

@@ -1,9 +1,12 @@
-//! Whether a pulse is on the line between two whose place is known. `near` is the frames next to a
-//! frame: `before2` and `before` before it, the nearer one last, `after` and `after2` after it. The
-//! clock of two frames is how long a frame period takes in the recording, by their distance and
-//! their times. Two frames agree if they are near enough for their distance to say how many periods
-//! it is, and their times are as many apart. `steps` are elements, and `micros` the microseconds
-//! that they took.
+//! Whether a pulse is on the line between two whose place is known: all elements between them take
+//! equally long, to a tenth of an interval. That is how far two neighbours in step may be off; it
+//! is this project's own. A marker is the pulse with which a frame begins. `near` is the frames
+//! next to a frame: `before2` and `before` before it, the nearer one last, `after` and `after2`
+//! after it. The clock of two frames is how long a frame period takes in the recording, by their
+//! distance and their times. The recording's own clock is that of `before` and `after`, if other
+//! frames next to them bear it out. Two frames agree if they are near enough for their distance to
+//! say how many periods it is, and their times are as many apart. `steps` are elements, and
+//! `micros` the microseconds that they took.
 
 ghost use Rattle.std.specs.Prelude.{◌≡◌, ◌≤◌, ◌<◌, ◌+◌, ◌-◌, ◌*◌, ◌/◌, ◌^◌, IfSome, IsTrue};
 ghost use Rattle.irig_codes.specs.Format.{interval_of};
@@ -28,7 +31,7 @@ pub struct Anchor {
     pub rise: u64,
 }
 
-/// How many elements some frames have.
+/// How many elements that many frames have: 100 each.
 fn elements(frames: u128) -> u128
     requires { frames < 2 ^ 64 }
     ensures { result ≡ 100 * frames }
@@ -36,9 +39,9 @@ fn elements(frames: u128) -> u128
     100 * frames
 }
 
-/// Whether the distance of two frames says how many elements it is, up to 500 frames: they agree,
-/// or the recording's own clock has `frame` there. One of the two is `frame`, the other is next to
-/// it.
+/// Whether the distance of two frames says how many elements it is: they agree, or the recording's
+/// own clock has `frame` there. One of the two is `frame`, the other is next to it. They are 500
+/// frame periods apart at most: up to there no number below is too large for its type.
 fn is_counted(format: Format, near: &Witnesses, frame: &Shown, one: &Shown, other: &Shown) -> bool
     ensures value { result ≡ is_counted format near.now frame.now one.now other.now }
     ensures few { IsTrue result → periods format one.now other.now ≤ 500 }
@@ -47,8 +50,9 @@ fn is_counted(format: Format, near: &Witnesses, frame: &Shown, one: &Shown, othe
         && periods(format, one, other) <= 500
 }
 
-/// The marker of the frame before a frame as an anchor for one of its elements, from 0. `None` if
-/// there is no such frame, or its distance does not say how many elements it is.
+/// The marker of the frame before `frame` as an anchor for an element of `frame`, from 0. Its steps
+/// are the elements of the frames between, and those of `frame` before the element. `None` if there
+/// is no such frame, or its distance does not say how many elements it is.
 pub fn marker_before(
     format: Format,
     near: &Witnesses,
@@ -73,8 +77,9 @@ pub fn marker_before(
     }
 }
 
-/// The marker of the frame after a frame as an anchor for one of its elements, from 0. `None` if
-/// there is no such frame, or its distance does not say how many elements it is.
+/// The marker of the frame after `frame` as an anchor for an element of `frame`, from 0. Its steps
+/// are the elements up to it, less those of `frame` before the element. `None` if there is no such
+/// frame, or its distance does not say how many elements it is.
 pub fn marker_after(
     format: Format,
     near: &Witnesses,
@@ -98,7 +103,7 @@ pub fn marker_after(
     }
 }
 
-/// A tenth of an interval, in microseconds.
+/// A tenth of an interval, in microseconds: how far a pulse may be off.
 fn tenth(format: Format) -> u128
     ensures value { result ≡ interval_of format.kind / 10 }
     ensures small { result < 2 ^ 20 }
@@ -115,7 +120,8 @@ pub fn between(from: u64, to: u64) -> u128
 }
 
 /// Whether a time `micros` microseconds after the first of two anchors is on the line between them,
-/// to a tenth of an interval. It is as many elements from each anchor as the anchor's `steps`.
+/// to a tenth of an interval. It is as many elements from each anchor as the anchor's `steps`. Both
+/// sides are times all steps (`whole`), so nothing is divided.
 pub fn is_straight(format: Format, before: &Anchor, micros: u128, after: &Anchor) -> bool
     requires { (before.now.steps ≤ 2 ^ 17) × (after.now.steps ≤ 2 ^ 17) × (micros < 2 ^ 65) }
     ensures { result ≡ is_straight format before.now micros after.now }
@@ -137,7 +143,8 @@ fn is_between(format: Format, near: &Witnesses, before: &Anchor, rise: u64, afte
 }
 
 /// Whether `steps` elements take as many microseconds as they nominally do, to a tenth of an
-/// interval and a thousandth of `micros`.
+/// interval and a thousandth of `micros`, for a clock that is off. Both sides are times 1,000, so
+/// nothing is divided.
 fn is_nominal(format: Format, steps: u128, micros: u128) -> bool
     requires { (steps ≤ 2 ^ 17) × (micros < 2 ^ 64) }
     ensures { result ≡ is_nominal format steps micros }
@@ -146,8 +153,9 @@ fn is_nominal(format: Format, steps: u128, micros: u128) -> bool
     1_000 * apart(micros, steps * interval) <= 100 * interval + micros
 }
 
-/// Whether two frames show a clock that is not far off (`shows_clock`), and `steps` elements take
-/// as many microseconds as by that clock, to a tenth of an interval.
+/// Whether two frames show a clock that is not far off (`shows_clock`), and `steps` elements, 100
+/// to a period, take as many microseconds as by that clock, to a tenth of an interval. Both sides
+/// are times the periods of the two (`whole`).
 fn is_at_clock(format: Format, steps: u128, micros: u128, one: &Shown, other: &Shown) -> bool
     requires { (steps ≤ 2 ^ 17) × (micros < 2 ^ 64) }
     ensures { result ≡ is_at_clock format steps micros one.now other.now }
@@ -157,7 +165,7 @@ fn is_at_clock(format: Format, steps: u128, micros: u128, one: &Shown, other: &S
     shows_clock(format, one, other) && apart(micros * whole, wanted) <= whole * tenth(format)
 }
 
-/// Whether steps and microseconds fit the clock of two frames. False if one of them is not there.
+/// Whether steps and microseconds fit the clock of two frames. False if a frame is not there.
 fn is_at_clock_of(
     format: Format,
     steps: u128,
@@ -175,7 +183,7 @@ fn is_at_clock_of(
 }
 
 /// Whether steps and microseconds fit the clock of the two nearest frames: one on each side, or
-/// both on the one side that has any.
+/// both on the one side that has any. False if there are fewer.
 fn is_clocked(format: Format, near: &Witnesses, steps: u128, micros: u128) -> bool
     requires { (steps ≤ 2 ^ 17) × (micros < 2 ^ 64) }
     ensures { result ≡ is_clocked format near.now steps micros }
@@ -195,9 +203,9 @@ fn is_along(format: Format, near: &Witnesses, steps: u128, micros: u128) -> bool
     is_nominal(format, steps, micros) || is_clocked(format, near, steps, micros)
 }
 
-/// Whether a rise, in microseconds, is where the anchors have it: on the line or the curve between
-/// two; from one alone, by the nominal interval or the clock of the nearest frames. False if there
-/// is none.
+/// Whether a rise, in microseconds, is where the anchors of the pulse (`before`, `after`) have it:
+/// on the line or the curve between two; from one alone, by the nominal interval or the clock of
+/// the nearest frames. False if there is none.
 pub fn is_on_line(
     format: Format,
     near: &Witnesses,

@@ -1,6 +1,8 @@
 //! Whether a frame that read well, and is another one now, is mended by that. `former` is the frame
-//! as it was, `frame` as it is now, and `near` the former frames next to it. Two frames contradict
-//! each other if they are near, and their times are not as many frame periods apart as their rises.
+//! as it was, `frame` as it is now, `near` the former frames next to it, and `others` frames of
+//! other recordings of the same code. Two frames contradict each other if they are near, and their
+//! times are not as many frame periods apart as their rises (`allows` is false). Frames bear out
+//! another one if they have its time there (`is_borne`).
 
 ghost use Rattle.std.specs.Prelude.{◌≡◌, ◌↔◌, ◌<◌, ◌⊎◌, IsTrue, ℕ, not, ◌&&◌};
 ghost use Rattle.irig_codes.specs.Format.{control_count_of};
@@ -33,7 +35,8 @@ pub fn mends(
         || is_control_mended(format, others, near, former, frame)
 }
 
-/// Whether the time of a frame is mended.
+/// Whether the time of a frame is mended: of one between two others, or of the first or the last
+/// one.
 fn is_time_mended(
     format: Format,
     others: &[Shown],
@@ -47,7 +50,8 @@ fn is_time_mended(
     is_mended(format, near, former, frame) || is_mended_at_end(format, others, near, former, frame)
 }
 
-/// Whether the control functions of a frame alone are mended.
+/// Whether the control functions of a frame alone are mended: both frames next to it have all of
+/// them, or both have each that changed, and so have most frames of its time in other recordings.
 fn is_control_mended(
     format: Format,
     others: &[Shown],
@@ -79,8 +83,8 @@ fn is_mended(format: Format, near: &Witnesses, former: &Shown, frame: &Shown) ->
 }
 
 /// Whether the time of the first frame was wrong, or of the last, and is mended: the two next to it
-/// contradict it, and bear out what it is; and another recording has that time, and none the one
-/// that it was.
+/// contradict it, and bear out what it is. If the sender's clock was set there, it looks the same.
+/// So another recording has to have the new time, and none the one that it was.
 fn is_mended_at_end(
     format: Format,
     others: &[Shown],
@@ -97,7 +101,8 @@ fn is_mended_at_end(
         && !is_among(others, former)
 }
 
-/// Whether nothing is on one side of a frame, and the two on the other contradict it.
+/// Whether one side of a frame has no frame, and the two nearest on the other side contradict it.
+/// False if one of these two is not there, or both sides have frames.
 fn is_refuted(format: Format, near: &Witnesses, former: &Shown) -> bool
     ensures { result ≡ is_refuted format near.now.before2 near.now.before former.now near.now.after
         near.now.after2 }
@@ -136,7 +141,8 @@ fn contradicts_to(format: Format, frame: &Shown, after: Option<Shown>) -> bool
 }
 
 /// Whether a frame is the former one but for its control functions, and has those that both frames
-/// next to it have. It is not asked whether they differ from the former ones.
+/// next to it have. It does not matter whether they differ from the former ones. False if one side
+/// has no frame.
 fn has_control_of_both(near: &Witnesses, former: &Shown, frame: &Shown) -> bool
     ensures { IsTrue result
         ↔ HasControlOfBoth near.now.before former.now near.now.after frame.now }
@@ -158,8 +164,9 @@ fn both_have(one: &Shown, other: &Shown, control: Option<u64>) -> bool
     one.fields.control == control && other.fields.control == control
 }
 
-/// Whether the control functions of a frame alone are other ones, each of which both next to it
-/// have, and most frames of its time in other recordings.
+/// Whether a frame is the former one but for some control functions. Each of these has to be now as
+/// both frames next to it have it, and as most frames of its time in other recordings do. False if
+/// one side has no frame.
 fn has_control_of_most(
     format: Format,
     others: &[Shown],
@@ -200,7 +207,7 @@ fn are_functions_mended(
 }
 
 /// Whether a control function is as it was; or both frames next to it have it as it is now, and so
-/// have most others of its time.
+/// have most frames of its time in other recordings (`is_told`).
 fn is_function_mended(
     others: &[Shown],
     before: &Shown,

@@ -10,8 +10,9 @@ use crate::safety::frame_at;
 use crate::shown::Shown;
 use std::alloc::{AllocError, Global};
 
-/// The former frames where they are now: each where the first frame is that has its time, after the
-/// one at which a former frame was last found. One without such a frame is where it was.
+/// The former frames (`old`) where they are now: each where the first of the present frames (`new`)
+/// is that has its time, after the one at which a former frame was last found, since frames keep
+/// their order. One without such a frame is where it was.
 pub fn moved_in(alloc: Global, old: &[Shown], new: &[Shown]) -> Result<Vec<Shown>, AllocError>
     ensures { IfOk result (λ moved. moved.items ≡ moved_in old.now new.now) }
 {
@@ -25,8 +26,8 @@ pub fn moved_in(alloc: Global, old: &[Shown], new: &[Shown]) -> Result<Vec<Shown
     Ok(moved)
 }
 
-/// The place in the list of the first frame from `from` on that has the time of a frame, without
-/// its year; the end, if none has.
+/// The place in the list `new` of the first frame from `from` on that has the time of a frame,
+/// without its year; the end of the list, if none has.
 fn place_of(frame: &Shown, new: &[Shown], from: usize) -> usize
     requires { from ≤ length new.now }
     ensures within { result ≤ length new.now }
@@ -40,7 +41,8 @@ fn place_of(frame: &Shown, new: &[Shown], from: usize) -> usize
     new.len()
 }
 
-/// A frame with the rise of `at`, if there is one, and its own fields; else as it is.
+/// A frame with the rise of `at`, the frame that has its time now, and its own fields; as it is if
+/// there is none.
 fn moved_to(frame: &Shown, at: Option<Shown>) -> Shown
     ensures { result ≡ moved_to frame.now at }
 {

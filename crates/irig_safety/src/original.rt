@@ -1,4 +1,5 @@
-//! What is known of a recording as it was opened.
+//! What is known of a recording as it was opened. A frame's marker is its first pulse, by its place
+//! among the pulses, from 0; the pulse of element k is k places after it.
 
 ghost use Rattle.std.specs.Prelude.{◌≡◌, ◌↔◌, ◌-◌, ◌<◌, ◌≤◌, IsTrue, get_or, length, slice_get};
 ghost use Rattle.std.specs.Prelude.{Some, false, true};
@@ -47,7 +48,7 @@ impl Model for Original {
 }
 
 impl Original {
-    /// These parts as one. `markers` has the marker of each of `frames`.
+    /// These parts as one. `markers` has the marker of each of `frames`, at the same place.
     pub fn new(
         frames: Vec<Shown>,
         markers: Vec<usize>,
@@ -69,15 +70,15 @@ impl Original {
         }
     }
 
-    /// Whether frames may move.
+    /// Whether frames may move: be at another time than in the recording.
     pub fn is_moved(&self) -> bool
         ensures { result ≡ self.now.terms.moved }
     {
         self.terms.moved
     }
 
-    /// Whether most frames of other recordings that have the time of a frame have a control
-    /// function as it has it.
+    /// Whether more of the frames of other recordings that have the time of `frame` have a control
+    /// function as it has it than otherwise.
     pub fn is_told(&self, frame: &Shown, function: u32) -> bool
         requires { function < 64 }
         ensures { result ≡ is_told function self.now.terms.others frame.now }
@@ -85,21 +86,21 @@ impl Original {
         is_told(self.terms.others.as_slice(), frame, function)
     }
 
-    /// The frames of other recordings.
+    /// The frames of other recordings of the same code.
     pub fn others(&self) -> &[Shown]
         ensures { result.now ≡ self.now.terms.others }
     {
         self.terms.others.as_slice()
     }
 
-    /// The frames that read well.
+    /// The frames that read well, in rising order.
     pub fn frames(&self) -> &[Shown]
         ensures { result.now ≡ self.now.frames }
     {
         self.frames.as_slice()
     }
 
-    /// The pulse, from 0, that is the marker of the frame at a place; 0 if there is no such frame.
+    /// The marker of the frame at a place of `frames`, from 0; 0 if there is no such frame.
     pub fn marker(&self, place: usize) -> usize
         ensures { result ≡ get_or self.now.markers place 0 }
     {
@@ -116,7 +117,8 @@ impl Original {
         self.pulses.as_slice()
     }
 
-    /// When the pulse of an element of the frame with this marker rises, in microseconds; else 0.
+    /// When the pulse of an element, from 0, of the frame with this marker rises, in microseconds;
+    /// 0 if there is no such pulse.
     pub fn rise(&self, marker: usize, element: usize) -> u64
         ensures { result ≡ rise_in self.now.pulses marker element }
     {
@@ -129,8 +131,9 @@ impl Original {
     }
 
     /// Whether a pulse is there and rises when one of the recording does, or is a gap of it turned
-    /// over. A place, from 0, of the recording is looked at first, and becomes the next one to look
-    /// at: the answer does not depend on it.
+    /// over: it rises when one falls and falls when one rises. `place`, from 0, is the pulse of the
+    /// recording that is looked at first, to save a search. It becomes the next one to look at: the
+    /// answer does not depend on it.
     pub fn holds(&self, pulse: Option<Pulse>, place: &mut usize) -> bool
         ensures { result ≡ is_anchor self.now.pulses pulse }
     {
@@ -140,15 +143,16 @@ impl Original {
         }
     }
 
-    /// Whether a pulse is as recorded: one of the same class rises within a tenth of the interval
-    /// of it.
+    /// Whether a pulse is as recorded: one of the same class, which is what a width means, rises
+    /// within a tenth of an interval of it.
     pub fn has(&self, format: Format, pulse: Pulse) -> bool
         ensures { IsTrue result ↔ IsRecorded format self.now.pulses pulse }
     {
         has_alike(format, false, self.pulses.as_slice(), pulse)
     }
 
-    /// Whether a pulse that means anything was recorded within half an interval of a pulse.
+    /// Whether a pulse with some class was recorded within half an interval of a pulse: half an
+    /// interval is the place of an element.
     pub fn has_any(&self, format: Format, pulse: Pulse) -> bool
         ensures { IsTrue result ↔ IsNear format true self.now.pulses pulse }
     {
@@ -156,7 +160,8 @@ impl Original {
     }
 }
 
-/// Whether the recorded pulses hold a pulse that is there, as in `Original::holds`.
+/// Whether the recorded pulses hold a pulse that is there, as in `Original::holds`. Only the rises
+/// move the place on.
 fn is_anchor(recorded: &[Pulse], pulse: Pulse, place: &mut usize) -> bool
     requires rising { IsNonDecreasingBy (λ (p : SomePulse). p.rise) recorded.now }
     requires falling { IsNonDecreasingBy (λ (p : SomePulse). p.fall) recorded.now }
@@ -166,7 +171,7 @@ fn is_anchor(recorded: &[Pulse], pulse: Pulse, place: &mut usize) -> bool
         || has_fall(recorded, pulse.rise, *place) && is_rise(recorded, pulse.fall, *place)
 }
 
-/// Whether one of some pulses rises at a time. A place is looked at first.
+/// Whether one of some pulses rises at a time. `place` is looked at first, and does not change.
 fn is_rise(recorded: &[Pulse], time: u64, place: usize) -> bool
     requires { IsNonDecreasingBy (λ (p : SomePulse). p.rise) recorded.now }
     ensures { result ≡ is_rise recorded.now time }
@@ -185,7 +190,9 @@ pub fn rise_or(pulse: Option<Pulse>) -> u64
     }
 }
 
-/// The frames next to a place: the two before it, and the two from the next place on.
+/// The former frames next to a place: the two before it, and the two from `next` on. `next` is the
+/// place itself for a frame that is between former ones, and the place after it for one that is at
+/// a former one's place.
 pub fn near_in(frames: &[Shown], place: usize, next: usize) -> Witnesses
     requires { (place ≤ length frames.now) × (next ≤ length frames.now) }
     ensures { result ≡ near_in frames.now place next }
@@ -198,8 +205,9 @@ pub fn near_in(frames: &[Shown], place: usize, next: usize) -> Witnesses
     }
 }
 
-/// Whether one of some pulses, in rising order, is alike to a pulse and near it. `any`: any class
-/// will do.
+/// Whether one of some pulses is alike to a pulse and near it. `any`: any class will do. The pulses
+/// are in rising order, so those that can be near are in a row: from the first that is not too
+/// early (`low`) to the last that is not too late.
 fn has_alike(format: Format, any: bool, recorded: &[Pulse], pulse: Pulse) -> bool
     requires { IsNonDecreasingBy (λ (p : SomePulse). p.rise) recorded.now }
     ensures { IsTrue result ↔ IsNear format any recorded.now pulse }
@@ -219,7 +227,9 @@ fn has_alike(format: Format, any: bool, recorded: &[Pulse], pulse: Pulse) -> boo
     false
 }
 
-/// How near a pulse has to be: a tenth of an interval, or half of one if any class will do.
+/// How near a pulse has to be, in microseconds: a tenth of an interval, which is how far two in
+/// step may be off, or if any class will do half of one, which is the place of an element. Both are
+/// this project's own.
 fn reach_of(format: Format, any: bool) -> u64
     ensures { result ≡ reach_of format any }
 {
@@ -230,7 +240,7 @@ fn reach_of(format: Format, any: bool) -> u64
     }
 }
 
-/// Whether a pulse means what another one does, or anything if any class will do.
+/// Whether a pulse has the class of another one; or with `any`, whether `other` has one at all.
 fn is_alike(format: Format, any: bool, other: Pulse, pulse: Pulse) -> bool
     ensures { IsTrue result ↔ IsAlike format any other pulse }
 {
@@ -241,7 +251,7 @@ fn is_alike(format: Format, any: bool, other: Pulse, pulse: Pulse) -> bool
     }
 }
 
-/// Whether two pulses mean the same.
+/// Whether two pulses have the same class. Two bad widths count as the same.
 fn is_same_class(format: Format, one: Pulse, other: Pulse) -> bool
     ensures { IsTrue result
         ↔ (class_of format (one.fall - one.rise) ≡ class_of format (other.fall - other.rise)) }
@@ -249,7 +259,7 @@ fn is_same_class(format: Format, one: Pulse, other: Pulse) -> bool
     element(format, one) == element(format, other)
 }
 
-/// What a pulse means by its width; `None` if the width is bad.
+/// The class of a pulse: what it means by its width. `None` if the width is bad.
 fn element(format: Format, pulse: Pulse) -> Option<Element>
     ensures { result ≡ class_of format (pulse.fall - pulse.rise) }
 {

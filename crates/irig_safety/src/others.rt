@@ -22,8 +22,8 @@ pub fn is_told(others: &[Shown], frame: &Shown, function: u32) -> bool
     votes(others, frame, function, false) < votes(others, frame, function, true)
 }
 
-/// How many frames have the time of a frame, and a control function as it has it, if `so`; if not
-/// `so`, otherwise than it has it.
+/// How many of `others` have the time of `frame`, and a control function as `frame` has it (`so`),
+/// or as it does not have it (not `so`).
 fn votes(others: &[Shown], frame: &Shown, function: u32, so: bool) -> usize
     requires { function < 64 }
     ensures { result ≡ votes so function others.now frame.now }
@@ -37,8 +37,8 @@ fn votes(others: &[Shown], frame: &Shown, function: u32, so: bool) -> usize
     many
 }
 
-/// Whether another frame has the time of a frame, and a control function as it has it, if `so`; if
-/// not `so`, otherwise than it has it.
+/// Whether `other` has the time of `frame`, and a control function as `frame` has it (`so`), or as
+/// it does not have it (not `so`).
 fn is_vote(other: &Shown, frame: &Shown, function: u32, so: bool) -> bool
     requires { function < 64 }
     ensures { result ≡ is_vote so function other.now frame.now }
@@ -62,8 +62,8 @@ pub fn is_among(others: &[Shown], frame: &Shown) -> bool
     false
 }
 
-/// Whether two frames have the same time of day, day and year. No year is the same as no year, and
-/// no hundredths are 0.
+/// Whether two frames have the same time of day, day and year. No year is the same as no year
+/// alone, so it counts as 100, which no year of two digits is. No hundredths are 0.
 fn is_of_time(one: &Fields, other: &Fields) -> bool
     ensures { result ≡ is_of_time one.now other.now }
 {
@@ -76,7 +76,7 @@ fn is_of_time(one: &Fields, other: &Fields) -> bool
 }
 
 /// The frames of a recording that say something of another one: those with which a frame next to
-/// them agrees.
+/// them agrees. So one that damage made alone is left out.
 pub fn backed(alloc: Global, format: Format, frames: &[Shown]) -> Result<Vec<Shown>, AllocError>
     ensures { IfOk result (λ kept. kept.items ≡ backed format frames.now) }
 {

@@ -9,7 +9,7 @@ ghost use Rattle.irig_recording.specs.declared.pulse.Pulse.{Pulse as SomePulse};
 
 use irig_recording::Pulse;
 
-/// Whether one of some pulses rises at a time. A place is looked at first, and becomes the next one
+/// Whether one of some pulses rises at a time. `place` is looked at first, and becomes the next one
 /// to look at: the answer does not depend on it.
 pub fn has_rise(pulses: &[Pulse], time: u64, place: &mut usize) -> bool
     requires { IsNonDecreasingBy (λ (p : SomePulse). p.rise) pulses.now }
@@ -22,7 +22,8 @@ pub fn has_rise(pulses: &[Pulse], time: u64, place: &mut usize) -> bool
 }
 
 /// The place of the first of some pulses that does not rise before a time; how many there are, if
-/// all do. A place is looked at first.
+/// all do. `place` is looked at first: it is the one if the pulse there does not rise before the
+/// time and the one before it does. Else a search finds it, since the pulses are in rising order.
 fn first_rise(pulses: &[Pulse], time: u64, place: usize) -> usize
     requires { IsNonDecreasingBy (λ (p : SomePulse). p.rise) pulses.now }
     ensures before { (j : ℕ) (d : SomePulse) → j < result → j < length pulses.now
@@ -39,7 +40,7 @@ fn first_rise(pulses: &[Pulse], time: u64, place: usize) -> usize
     pulses.partition_point(|pulse| pulse.rise < time)
 }
 
-/// Whether one of some pulses falls at a time. A place is looked at first.
+/// Whether one of some pulses falls at a time. `place` is looked at first.
 pub fn has_fall(pulses: &[Pulse], time: u64, place: usize) -> bool
     requires { IsNonDecreasingBy (λ (p : SomePulse). p.fall) pulses.now }
     ensures { result ≡ is_fall pulses.now time }
@@ -49,7 +50,7 @@ pub fn has_fall(pulses: &[Pulse], time: u64, place: usize) -> bool
 }
 
 /// The place of the first of some pulses that does not fall before a time; how many there are, if
-/// all do. A place is looked at first.
+/// all do. `place` is looked at first, as in `first_rise`.
 fn first_fall(pulses: &[Pulse], time: u64, place: usize) -> usize
     requires { IsNonDecreasingBy (λ (p : SomePulse). p.fall) pulses.now }
     ensures before { (j : ℕ) (d : SomePulse) → j < result → j < length pulses.now

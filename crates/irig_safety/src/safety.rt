@@ -45,7 +45,8 @@ pub fn check_safe(
     }
 }
 
-/// Whether none reads well now, or at least three do, each of which leads to the next.
+/// Whether none reads well now, or at least three do, each of which leads to the next. Three is
+/// this project's own choice: two can fit by chance.
 fn are_of_themselves(format: Format, new: &[Shown]) -> bool
     ensures { IsTrue result ↔ AreOfThemselves format new.now }
 {
@@ -84,7 +85,8 @@ fn check_from(format: Format, others: &[Shown], old: &[Shown], new: &[Shown]) ->
 }
 
 /// How many of the former frames are passed after one more new frame, if `kept` are passed before
-/// it; or why the new one is not safe.
+/// it; or why the new one is not safe. If the next former one begins later, or none is left, the
+/// new one is between former ones or after them. A next former one that begins earlier is `Lost`.
 fn passed(
     format: Format,
     others: &[Shown],
@@ -174,14 +176,14 @@ fn near(old: &[Shown], place: usize) -> Witnesses
     }
 }
 
-/// The frame at a place, if there is one.
+/// The frame at a place, from 0, if there is one.
 pub fn frame_at(frames: &[Shown], place: usize) -> Option<Shown>
     ensures { result ≡ slice_get frames.now place }
 {
     frames.get(place).copied()
 }
 
-/// The frame before a place, if there is one.
+/// The frame before a place, which counts from 0; `None` before the first.
 pub fn frame_behind(frames: &[Shown], place: usize) -> Option<Shown>
     requires { place ≤ length frames.now }
     ensures { result ≡ behind place frames.now }

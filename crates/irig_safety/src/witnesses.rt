@@ -2,8 +2,8 @@
 //! the later one's time is whole frame periods later and it rises that long after, to half an
 //! interval and a thousandth of the distance. It contradicts a later one if the two are near enough
 //! for their distance to say how many periods it is, and their times say another number. The clock
-//! of two frames is how long a frame period takes in the recording: their distance by the periods
-//! of their times. Two frames stray by how much their distance differs from that of their times.
+//! of two frames is how long a frame period takes in the recording, by their distance and times.
+//! They stray by how much their distance is off from the nominal one.
 
 ghost use Rattle.std.specs.Prelude.{◌≡◌, Some};
 ghost use Rattle.irig_safety.specs.Heard.{heard, is_disputed, is_overruled};
@@ -48,7 +48,7 @@ fn is_led_by(format: Format, before: &Shown, after: &Shown, frame: &Shown) -> bo
         || leads(format, frame, after) && is_within(format, before, after, frame, after)
 }
 
-/// Whether the frame before does not contradict a frame.
+/// Whether the frame before a frame, if there is one, does not contradict it.
 pub fn allows_from(format: Format, before: Option<Shown>, frame: &Shown) -> bool
     ensures { result ≡ allows_from format before frame.now }
 {
@@ -58,7 +58,7 @@ pub fn allows_from(format: Format, before: Option<Shown>, frame: &Shown) -> bool
     }
 }
 
-/// Whether a frame does not contradict the frame after it.
+/// Whether a frame does not contradict the frame after it, if there is one.
 pub fn allows_to(format: Format, frame: &Shown, after: Option<Shown>) -> bool
     ensures { result ≡ allows_to format frame.now after }
 {
@@ -69,6 +69,7 @@ pub fn allows_to(format: Format, frame: &Shown, after: Option<Shown>) -> bool
 }
 
 /// Whether a frame begins when it should, to half an interval, by the clock of the two before it.
+/// False if just one is there.
 fn is_timed_from(format: Format, before2: Option<Shown>, before: &Shown, frame: &Shown) -> bool
     ensures { result ≡ is_timed_from format before2 before.now frame.now }
 {
@@ -79,6 +80,7 @@ fn is_timed_from(format: Format, before2: Option<Shown>, before: &Shown, frame: 
 }
 
 /// Whether a frame begins when it should, to half an interval, by the clock of the two after it.
+/// False if just one is there.
 fn is_timed_to(format: Format, frame: &Shown, after: &Shown, after2: Option<Shown>) -> bool
     ensures { result ≡ is_timed_to format frame.now after.now after2 }
 {
@@ -89,7 +91,7 @@ fn is_timed_to(format: Format, frame: &Shown, after: &Shown, after2: Option<Show
 }
 
 /// Whether a frame begins when it should, to half an interval, by the clock of the two before it,
-/// if these are one period apart and it is no more than two periods after them.
+/// if these are one period apart and it is no more than two periods after them. Else false.
 fn is_next_from(format: Format, before2: Option<Shown>, before: &Shown, frame: &Shown) -> bool
     ensures { result ≡ is_next_from format before2 before.now frame.now }
 {
@@ -100,7 +102,7 @@ fn is_next_from(format: Format, before2: Option<Shown>, before: &Shown, frame: &
 }
 
 /// Whether a frame begins when it should, to half an interval, by the clock of the two after it, if
-/// these are one period apart and it is no more than two periods before them.
+/// these are one period apart and it is no more than two periods before them. Else false.
 fn is_next_to(format: Format, frame: &Shown, after: &Shown, after2: Option<Shown>) -> bool
     ensures { result ≡ is_next_to format frame.now after.now after2 }
 {
@@ -122,9 +124,7 @@ fn is_timed_by(format: Format, near: &Witnesses, a: &Shown, b: &Shown, frame: &S
 }
 
 /// Whether a frame begins when it should, to half an interval, by a clock of the frames next to it:
-/// if some are on both sides, that of the nearest two, or as in `is_next_from` and `is_next_to`
-/// that of the two on one side; else that of the two on the one side. A single frame shows no
-/// clock.
+/// with frames on both sides as in `is_timed_by`, else that of the two on the one side.
 fn is_timed(format: Format, near: &Witnesses, frame: &Shown) -> bool
     ensures { result
         ≡ is_timed format near.now.before2 near.now.before near.now.after near.now.after2 frame.now }
@@ -189,7 +189,7 @@ fn is_overruled(
     }
 }
 
-/// Whether `other` is not there, and `one` and `next` are and contradict each other.
+/// Whether a side has no frame (`other`), and the two of the other side contradict each other.
 fn is_disputed(
     format: Format,
     other: Option<Shown>,

@@ -1,7 +1,9 @@
-//! Writes lines of changes.
+//! Writes lines of changes in the form of a saved journal, which is the history of a session as
+//! text; `docs/FORMATS.md` has the form.
 //!
-//! Each function adds to `text`, and fails only if memory runs out. Pulses count from 1, letters
-//! from 0; times are in microseconds.
+//! Each function adds to `text`, and fails only if memory runs out; `text` can end with a part of
+//! the line then. `put_word`, `put_number` and `put_numbers` write a space before each word. Pulses
+//! count from 1, letters from 0; times are in microseconds.
 
 ghost use Rattle.std.specs.Prelude.{◌≡◌, ◌++◌, ◌<◌, ◌∷◌, [], OnOk, codes, decimal};
 ghost use Rattle.std.specs.Fmt.{signed_decimal};
@@ -20,7 +22,8 @@ use irig_track::Pulse;
 use itoa::Buffer;
 use std::alloc::AllocError;
 
-/// Writes the first line of a change, which is all of it but for a splice.
+/// Writes the first line of a change. A splice has more lines: one for each pulse that it inserts,
+/// which `put_pulse` writes.
 pub fn put_single(text: &mut Vec<u8>, single: &Single) -> Result<(), AllocError>
     ensures { OnOk result (text.new.items
         ≡ text.old.items ++ (single_line single.now ++ 10 ∷ [])) }
@@ -42,7 +45,8 @@ fn put_splice(text: &mut Vec<u8>, at: u64, count: u64, put: u64) -> Result<(), A
     put_numbered(text, b"splice", &[at, count, put])
 }
 
-/// Writes the line of a pulse that a splice inserts: rise and fall.
+/// Writes the line of a pulse that a splice inserts: its rise and its fall, two times with a space
+/// between. The line begins with a number, so the rise is its first word.
 pub fn put_pulse(text: &mut Vec<u8>, pulse: Pulse) -> Result<(), AllocError>
     ensures { OnOk result (text.new.items ≡ text.old.items ++ (pulse_line pulse ++ 10 ∷ [])) }
 {
@@ -51,7 +55,7 @@ pub fn put_pulse(text: &mut Vec<u8>, pulse: Pulse) -> Result<(), AllocError>
     put_numbered(text, rise, &[pulse.fall])
 }
 
-/// Writes the line of a toggle from time `a` to time `b`.
+/// Writes the line of a toggle, which inverts the level from time `a` to time `b`.
 fn put_toggle(text: &mut Vec<u8>, a: u64, b: u64) -> Result<(), AllocError>
     ensures { OnOk result (text.new.items
         ≡ text.old.items ++ (single_line (Toggle a b) ++ 10 ∷ [])) }
@@ -59,8 +63,8 @@ fn put_toggle(text: &mut Vec<u8>, a: u64, b: u64) -> Result<(), AllocError>
     put_numbered(text, b"toggle", &[a, b])
 }
 
-/// Writes the line of a shift of the pulses `i` to `j` by `by` microseconds, with the marks of the
-/// letters that are true in `marks`.
+/// Writes the line of a shift of the pulses `i` to `j`, both included, by `by` microseconds (below
+/// 0 is earlier), with the marks of the letters that are true in `marks`.
 fn put_shift(text: &mut Vec<u8>, i: u64, j: u64, by: i64, marks: &Letters) -> Result<(), AllocError>
     ensures { OnOk result (text.new.items
         ≡ text.old.items ++ (single_line (Shift i j by marks.now) ++ 10 ∷ [])) }
@@ -72,6 +76,7 @@ fn put_shift(text: &mut Vec<u8>, i: u64, j: u64, by: i64, marks: &Letters) -> Re
 }
 
 /// Writes the front of the line of a shift: the pulses `i` to `j`, and by how many microseconds.
+/// The letters of the marks come after it.
 fn put_shifted(text: &mut Vec<u8>, i: u64, j: u64, by: i64) -> Result<(), AllocError>
     ensures { OnOk result (text.new.items ≡ text.old.items
         ++ line (codes "shift") (decimal i ∷ decimal j ∷ signed_decimal by ∷ [])) }
@@ -87,6 +92,7 @@ fn put_shifted(text: &mut Vec<u8>, i: u64, j: u64, by: i64) -> Result<(), AllocE
 fn put_moved(text: &mut Vec<u8>, marks: &Letters) -> Result<(), AllocError>
     ensures { OnOk result (text.new.items ≡ text.old.items ++ 32 ∷ moved_word marks.now) }
 {
+    // Each letter occurs at most once, so 26 bytes suffice; `count` of them are in use.
     let mut letters = [0; 26];
     let mut count = 0;
     for letter in 0..26 {
@@ -101,7 +107,7 @@ fn put_moved(text: &mut Vec<u8>, marks: &Letters) -> Result<(), AllocError>
     put_word(text, &letters[..count])
 }
 
-/// Writes the line that sets a format.
+/// Writes the line that sets a format: its kind, and its expression, 0 to 7.
 fn put_set_format(text: &mut Vec<u8>, kind: Kind, expression: u8) -> Result<(), AllocError>
     ensures { OnOk result (text.new.items
         ≡ text.old.items ++ (single_line (SetFormat kind expression) ++ 10 ∷ [])) }

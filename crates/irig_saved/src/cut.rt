@@ -20,7 +20,8 @@ pub fn word_of(text: &[u8]) -> Option<(&[u8], &[u8])>
     cut(text, b' ')
 }
 
-/// What is before and after the first place of a byte. `None` if it does not occur.
+/// What is before and after the first place of a byte. `None` if it does not occur. Both parts
+/// leave out the byte itself.
 fn cut(text: &[u8], byte: u8) -> Option<(&[u8], &[u8])>
     ensures { CutAt byte text.now result }
 {

@@ -1,8 +1,10 @@
-//! Lines of a saved journal.
+//! Reads lines of a saved journal, which is the history of a session as text.
 //!
-//! Each function reads a line without its newline, and answers `None` if the line has another form.
-//! Words have one space between them; `head` is the first, which has no space in it. Pulses count
-//! from 1; times are in microseconds.
+//! Each function reads a line, or the rest of one, without its newline, and answers `None` if it
+//! has another form than that of `docs/FORMATS.md`. Words have one space between them. `head` is
+//! the first word of a line, in which there is no space. `word_of` gives the first word of a text
+//! and what is after the space that ends it, `None` if there is no space. Pulses count from 1;
+//! times are in microseconds.
 //!
 //! Where `let .. else` hands `None` on, `?` would do the same; the proof of it takes longer.
 
@@ -24,7 +26,7 @@ use crate::words::{distance, expression, moved, number, time};
 use irig_codes::{Kind, kind_named};
 use irig_track::Pulse;
 
-/// What is in a line after the word `head` and a space.
+/// What is in a line after the word `head` and a space. `None` if the line does not begin so.
 fn behind<'a>(head: &[u8], text: &'a [u8]) -> Option<&'a [u8]>
     requires { IsWordy head.now }
     ensures { MatchOption result ((rest : List ℕ) → text.now ≡ head.now ++ 32 ∷ rest → ⊥)
@@ -36,7 +38,7 @@ fn behind<'a>(head: &[u8], text: &'a [u8]) -> Option<&'a [u8]>
     if first == head { Some(rest) } else { None }
 }
 
-/// The number in a line of the word `head` and one number.
+/// The number after the word `head`, in a line that has just these two words.
 pub fn counted(head: &[u8], text: &[u8]) -> Option<u64>
     requires { IsWordy head.now }
     ensures { Decodes IsNumber (λ n. numbered head.now (n ∷ [])) text.now result }
@@ -47,8 +49,8 @@ pub fn counted(head: &[u8], text: &[u8]) -> Option<u64>
     number(word)
 }
 
-/// The format in a line of the word `head`, a kind and an expression, 0 to 7. The kind may not
-/// permit that expression.
+/// The kind and the expression, 0 to 7, of a format, in a line of the word `head` and these two.
+/// Whether the kind permits the expression is not judged here.
 pub fn format(head: &[u8], text: &[u8]) -> Option<(Kind, u8)>
     requires { IsWordy head.now }
     ensures { Decodes IsFormat (λ f. line head.now (words_of_format f)) text.now result }
@@ -57,8 +59,8 @@ pub fn format(head: &[u8], text: &[u8]) -> Option<(Kind, u8)>
     Some((kind_named(name)?, expression(rest)?))
 }
 
-/// The time in the line of a mark, if it is the mark of this letter, a byte of a text from `a` to
-/// `z`.
+/// The time in a line `mark x TIME`, if x is this letter, given as its byte in a text, `a` to `z`.
+/// `None` also for the line of another letter.
 pub fn mark(letter_byte: u8, text: &[u8]) -> Option<u64>
     requires { (32 < letter_byte) × (letter_byte < 127) }
     ensures { Decodes IsNumber
@@ -72,7 +74,8 @@ pub fn mark(letter_byte: u8, text: &[u8]) -> Option<u64>
     }
 }
 
-/// The number in the first word of a text, and what is after the space that ends it.
+/// The number in the first word of a text, and what is after the space that ends this word. `None`
+/// also if there is no space.
 fn leading(text: &[u8]) -> Option<(u64, &[u8])>
     ensures { MatchOption result
         ((n : ℕ) (rest : List ℕ) → IsNumber n → text.now ≡ decimal n ++ 32 ∷ rest → ⊥)
@@ -87,7 +90,7 @@ fn leading(text: &[u8]) -> Option<(u64, &[u8])>
     }
 }
 
-/// The two numbers of a text that has them with a space between.
+/// The two numbers of a text that has just two, with a space between.
 fn pair(text: &[u8]) -> Option<(u64, u64)>
     ensures { Decodes AreTwo (λ t. numbered (decimal t.0) (t.1 ∷ [])) text.now result }
 {
@@ -100,7 +103,7 @@ fn pair(text: &[u8]) -> Option<(u64, u64)>
     }
 }
 
-/// The pulse in a line of its rise and fall.
+/// The pulse in a line that a splice has for each pulse that it inserts: its rise and its fall.
 pub fn pulse(text: &[u8]) -> Option<Pulse>
     ensures { Decodes IsPulse pulse_line text.now result }
 {
@@ -110,7 +113,8 @@ pub fn pulse(text: &[u8]) -> Option<Pulse>
     Some(Pulse { rise, fall })
 }
 
-/// The first pulse that goes, how many go, and how many come, in the first line of a splice.
+/// The first pulse that goes, how many go, and how many come, in the first line of a splice. The
+/// pulses that come are in the lines after it.
 pub fn splice(text: &[u8]) -> Option<(u64, u64, u64)>
     ensures { Decodes AreThree (λ t. line (codes "splice") (words_of_three t)) text.now result }
 {
@@ -126,7 +130,8 @@ pub fn splice(text: &[u8]) -> Option<(u64, u64, u64)>
     }
 }
 
-/// The change in a line, if it is no splice and no group.
+/// The change in a line, if it is a change of one line: no splice and no group. Each kind begins
+/// with another word, so the order in which they are tried does not matter.
 pub fn short(text: &[u8]) -> Option<Single>
     ensures { Decodes IsShort single_line text.now result }
 {
@@ -143,7 +148,7 @@ pub fn short(text: &[u8]) -> Option<Single>
     Some(Single::Shift { i, j, by, marks })
 }
 
-/// The two times in the line of a toggle.
+/// The begin and the end of a toggle, in its line.
 fn toggle(text: &[u8]) -> Option<(u64, u64)>
     ensures { Decodes AreTwo (λ t. line (codes "toggle") (words_of_two t)) text.now result }
 {
@@ -153,7 +158,8 @@ fn toggle(text: &[u8]) -> Option<(u64, u64)>
     pair(words)
 }
 
-/// The letter and the time in the line that sets a mark; the time is `None` if the line clears it.
+/// The letter and the time in the line that sets a mark. The time is `None` if the line clears the
+/// mark: `time` answers `Some(None)` for the word `-`.
 fn set_mark(text: &[u8]) -> Option<(Letter, Option<u64>)>
     ensures { Decodes IsMark (λ t. line (codes "setmark") (words_of_mark t)) text.now result }
 {
@@ -179,7 +185,8 @@ fn shift(text: &[u8]) -> Option<(u64, u64, i64, Letters)>
     Some((i, j, by, marks))
 }
 
-/// A distance in microseconds and the marks that move by it, at the end of a line.
+/// The last two words of the line of a shift: a distance in microseconds, below 0 if earlier, and
+/// the marks that move by it.
 fn move_in(text: &[u8]) -> Option<(i64, Letters)>
     ensures { Decodes IsMove
         (λ t. line (signed_decimal t.0) (moved_word t.1 ∷ [])) text.now result }

@@ -1,8 +1,11 @@
-//! Parts of a saved journal: each is read from the head of a text, and gives the rest.
+//! Parts of a saved journal, the history of a session as text. Each function reads a part from the
+//! front of a text, and returns it with the rest of the text.
 //!
 //! `Stop::At` has the rest of the text from the line on that does not belong there; `Stop::Memory`
-//! says that memory ran out. No memory is asked for by a count in the text alone, but for each line
-//! that was read. A line of another form is none: then a function of `lines` answers `None`.
+//! says that memory ran out. A count in the text asks for no memory: each line that was read does,
+//! so a wrong count cannot take much. `line_of` gives the first line and what is after its newline,
+//! `None` if there is no newline. `pulse`, `mark`, `counted`, `splice` and `short` (in `lines`)
+//! read one line, and answer `None` if the line has another form.
 //!
 //! Where `match` or `let Ok(..) else` returns an error, `?` would do the same; the proof of it
 //! takes longer.
@@ -29,7 +32,7 @@ use crate::steps::Steps;
 use crate::stop::Stop;
 use std::alloc::Global;
 
-/// Reads this many lines of pulses.
+/// Reads `count` lines of pulses: those that a splice inserts.
 pub fn pulses(alloc: Global, count: u64, text: &[u8]) -> Result<(Pulses, &[u8]), Stop<'_>>
     ensures { Parses (ArePulses count) pulse_lines (λ _. 0 < count) text.now result }
 {
@@ -50,7 +53,8 @@ pub fn pulses(alloc: Global, count: u64, text: &[u8]) -> Result<(Pulses, &[u8]),
     Ok((pulses, rest))
 }
 
-/// Reads one change that is no group. Only the pulses of a splice take memory.
+/// Reads one change that is no group: a splice has more lines than one, for its pulses, and each
+/// other kind has one line. Only the pulses of a splice take memory.
 pub fn single(alloc: Global, text: &[u8]) -> Result<(Single, &[u8]), Stop<'_>>
     ensures { Parses IsSingle single_lines BeginsSplice text.now result }
 {
@@ -69,7 +73,7 @@ pub fn single(alloc: Global, text: &[u8]) -> Result<(Single, &[u8]), Stop<'_>>
     }
 }
 
-/// Reads this many changes, none of them a group.
+/// Reads `count` changes, none of them a group.
 pub fn singles(alloc: Global, count: u64, text: &[u8]) -> Result<(Singles, &[u8]), Stop<'_>>
     ensures { Parses (AreSingles count) singles_lines Any text.now result }
 {
@@ -88,7 +92,8 @@ pub fn singles(alloc: Global, count: u64, text: &[u8]) -> Result<(Singles, &[u8]
     Ok((singles, rest))
 }
 
-/// Reads a change, or a group of them: a line with their number, and then the changes.
+/// Reads a change: a group, which is a line with its count and then as many changes, or else one
+/// change alone.
 pub fn change(alloc: Global, text: &[u8]) -> Result<(Change, &[u8]), Stop<'_>>
     ensures { Parses IsChange change_lines Any text.now result }
 {
@@ -101,13 +106,14 @@ pub fn change(alloc: Global, text: &[u8]) -> Result<(Change, &[u8]), Stop<'_>>
             Err(stop) => Err(stop),
         };
     }
+    // A change alone begins with the line itself, so it is read from there.
     match single(alloc, text) {
         Ok((one, rest)) => Ok((Change::One(one), rest)),
         Err(stop) => Err(stop),
     }
 }
 
-/// Reads a step: a line with the cursor that it leads to, and a change.
+/// Reads a step: a line with the cursor of the state that the step leads to, and a change.
 pub fn step(alloc: Global, text: &[u8]) -> Result<(SavedStep, &[u8]), Stop<'_>>
     ensures { Parses IsStep step_lines BeginsStep text.now result }
 {
@@ -123,7 +129,7 @@ pub fn step(alloc: Global, text: &[u8]) -> Result<(SavedStep, &[u8]), Stop<'_>>
     }
 }
 
-/// Reads this many steps.
+/// Reads `count` steps.
 pub fn steps(alloc: Global, count: u64, text: &[u8]) -> Result<(Steps, &[u8]), Stop<'_>>
     ensures { Parses (ManySteps count) steps_lines (BeginsSome count) text.now result }
 {
@@ -142,8 +148,8 @@ pub fn steps(alloc: Global, count: u64, text: &[u8]) -> Result<(Steps, &[u8]), S
     Ok((steps, rest))
 }
 
-/// Reads a line of the word `head`, which has no space in it, and how many steps there are, and
-/// then the steps.
+/// Reads a line of the word `head` and a count, and then that many steps. There is no space in
+/// `head`.
 pub fn counted_steps<'a>(
     alloc: Global,
     head: &[u8],
@@ -161,7 +167,8 @@ pub fn counted_steps<'a>(
     steps(alloc, count, next)
 }
 
-/// Reads the marks whose lines are at the head of a text, a to z. A mark without a line is `None`.
+/// Reads the lines of marks at the front of a text, which are in the order a to z. A mark without a
+/// line is `None`. A line out of this order is not read: it is in the rest.
 pub fn marks(text: &[u8]) -> (Marks, &[u8])
     ensures { (length result.0 ≡ 26) × Leads 97 result.0 text.now result.1.now }
 {
@@ -175,8 +182,8 @@ pub fn marks(text: &[u8]) -> (Marks, &[u8])
     (marks, rest)
 }
 
-/// Reads the time of the mark of this letter, a byte of a text, if its line is at the head of a
-/// text. Else it is `None`, and nothing was read.
+/// Reads the time of one mark, if its line is at the front of a text. Else the time is `None`, and
+/// all of the text is the rest. The letter is given as its byte in a text, `a` to `z`.
 fn marked(letter_byte: u8, text: &[u8]) -> (Option<u64>, &[u8])
     requires { (32 < letter_byte) × (letter_byte < 127) }
     ensures { Leads letter_byte (result.0 ∷ []) text.now result.1.now }

@@ -1,4 +1,5 @@
-//! The lines of a splice's pulses, in parts: those that they have in the text of a saved journal.
+//! The lines of the pulses that a splice inserts, as a saved journal has them, given in parts. A
+//! journal is the history of a session as text; each of these lines is a rise and a fall.
 //!
 //! Where `match` hands an error on, `?` would do the same; the proof of it takes longer.
 
@@ -11,8 +12,8 @@ use crate::single::Single;
 use std::alloc::AllocError;
 use std::marker::Model;
 
-/// The lines of the pulses that a splice inserts, from that of the pulse `next` on, from 0. There
-/// are none if there is no splice.
+/// The lines that are still to be given: those of `pulses` from the pulse `next` on, from 0.
+/// `pulses` is `None` if the change is no splice, and then there are no lines.
 #[derive(Drop)]
 pub(crate) struct PulseLines<'s> {
     pulses: Option<&'s Pulses>,
@@ -52,9 +53,10 @@ impl<'s> PulseLines<'s> {
         }
     }
 
-    /// Adds lines to a block until it has `enough` bytes or none is left. Returns whether no line
-    /// is left and the block has fewer; so `false` means that the block is full. It fails only if
-    /// memory runs out.
+    /// Adds lines to a block until it has `enough` bytes or none is left. The next call goes on
+    /// from there. Returns `true` if no line is left and the block has fewer bytes than `enough`,
+    /// so that more text can be added; `false` if the block has `enough`, whether a line is left or
+    /// not. It fails only if memory runs out.
     pub(crate) fn fill(&mut self, block: &mut Vec<u8>, enough: usize) -> Result<bool, AllocError>
         ensures bytes { OnOk result (block.new.items ++ self.new ≡ block.old.items ++ self.old) }
         ensures end { IfOk result (λ ended. ended ≡ true → self.new ≡ []) }

@@ -1,4 +1,5 @@
-//! Pulses in a list that can be exchanged with those of a track.
+//! Pulses in a list that can be exchanged with those of a track. The list is a `Gap`, a gap buffer:
+//! a list with a place, at which items are put in and taken out.
 //!
 //! What is marked "Read for .." does nothing: it only lets the proof use what a type promises.
 
@@ -12,8 +13,9 @@ use std::alloc::{AllocError, Global};
 use std::marker::Model;
 use std::mem;
 
-/// Pulses that a splice inserts. Their buffer grows by half, for pulses that are there: no number
-/// in a text makes it take memory.
+/// Pulses that a splice inserts. Their buffer grows by half each time that it is full, and only for
+/// pulses that were read: no number in a text makes it take memory. So it has at most half as many
+/// free places as pulses, and one. The place of the buffer is after the last pulse.
 #[derive(Drop)]
 pub struct Pulses {
     items: Gap<Pulse>,
@@ -42,8 +44,9 @@ impl Pulses {
         }
     }
 
-    /// The pulses of a buffer, which has places for at most half as many more, and one. Its place
-    /// goes after them all, so that `push` adds there.
+    /// The pulses of a buffer, which must have at most half as many free places as pulses, and one:
+    /// that bound holds of each `Pulses`. The place of the buffer goes to the end, so that `push`
+    /// adds there.
     pub fn of(mut items: Gap<Pulse>) -> Pulses
         requires tight { 2 * items.capacity ≤ 3 * length items.items + 2 }
         ensures { result ≡ items.items }
@@ -72,12 +75,13 @@ impl Pulses {
         ensures pushed { OnOk result (self.new ≡ self.old ++ pulse ∷ []) }
         ensures unchanged { OnErr result (self.new ≡ self.old) }
     {
+        // The place is after the last pulse, so `put` adds there.
         self.items.reserve(1)?;
         self.items.put(pulse);
         Ok(())
     }
 
-    /// The buffer of the pulses. It has places for at most half as many more, and one.
+    /// The buffer of the pulses. It has at most half as many free places as pulses, and one.
     pub fn as_gap(&self) -> &Gap<Pulse>
         ensures items { result.now.items ≡ self.now }
         ensures tight { 2 * result.now.capacity ≤ 3 * length self.now + 2 }
@@ -85,9 +89,12 @@ impl Pulses {
         &self.items
     }
 
-    /// Replaces the `count` pulses of a track from `at` on, from 0, by these, and keeps those that
-    /// went. This takes no memory: `taken` is empty, with places for those that go, and is empty
-    /// with the places of these pulses then. The `Span` says which pulses of the track changed.
+    /// Replaces the `count` pulses of a track from `at` on, from 0, by these pulses. Afterwards
+    /// `self` has the pulses that went, so a second call with them undoes the first.
+    ///
+    /// This takes no memory. `taken` is a spare buffer: it comes in empty, with places for those
+    /// that go, and goes out as the empty buffer that these pulses had. The `Span` says where the
+    /// track changed: at `at`, how many went and how many came.
     pub fn exchange(
         &mut self,
         track: &mut Track,
@@ -112,9 +119,10 @@ impl Pulses {
         ensures spanned { IsSpan result.at result.old result.new track.old.pulses
             track.new.pulses }
     {
-        // Read for its places alone.
+        // Read for how many places the buffer has; the answer is not used.
         let _held = self.items.len();
         let span = track.splice(at, count, &mut self.items, taken);
+        // `splice` emptied `self.items` into the track and filled `taken` with those that went.
         mem::swap(&mut self.items, taken);
         span
     }

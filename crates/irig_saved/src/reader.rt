@@ -1,9 +1,11 @@
-//! Reads a saved journal.
+//! Reads a saved journal, which is the history of a session as text; `docs/FORMATS.md` has its
+//! form.
 //!
 //! A journal has a line that names it, its format, its cursor, its marks, and the steps back and
 //! forward. A step is a change and the cursor of the state that it leads to. `Stop` says why a part
 //! was not read: `At` has the rest of the text from the line at fault on, and `Memory` says that
-//! memory ran out.
+//! memory ran out. `line_of` gives the first line and what is after its newline, `None` if there is
+//! no newline.
 //!
 //! Where `match` or `let .. else` hands an error or `None` on, `?` would do the same; the proof of
 //! it takes longer.
@@ -27,18 +29,19 @@ use std::alloc::Global;
 /// Why a text is no saved journal.
 #[derive(Clone, Copy, Drop)]
 pub enum Fault {
-    /// The line of this number, from 1, is the first with which it begins none.
+    /// The line of this number, from 1: the lines before it begin some journal, and with it they
+    /// begin none.
     Line(usize),
-    /// Memory ran out. So the text begins a journal with a step.
+    /// Memory ran out. Only steps take memory, so the text begins a journal that has one.
     Memory,
 }
 
-/// The journal whose text these bytes are: all of it from the line that names it, which is
-/// line 1, up to the newline of its last line. Memory is taken only for lines that were read,
-/// whatever the counts among them say.
+/// The journal whose text these bytes are: all of it from the line that names it, which is line 1,
+/// up to the newline of its last line. Memory is taken only for lines that were read, whatever the
+/// counts among them say.
 ///
-/// An error has the first line with which the text begins no journal. If a line is missing, that
-/// is the line at which the text ends; if there is text after the last line, that is its line.
+/// An error has the first line with which the text begins no journal. If a line is missing, that is
+/// the line at which the text ends; if there is text after the last line, that is its line.
 /// `Fault::Memory` comes only after the first lines of a journal that has a step: its head, its
 /// marks, how many steps back there are, and one line more. Whether the steps apply is not judged
 /// here.
@@ -57,18 +60,21 @@ pub fn parse(alloc: Global, text: &[u8]) -> Result<Saved, Fault>
     }
 }
 
-/// The number, from 1, of the line with which the rest of a text begins.
+/// The number, from 1, of the line of `text` with which `rest` begins. `rest` is an end of `text`,
+/// from the begin of a line on, so the difference of their lengths is not below 0.
 fn line_at(text: &[u8], rest: &[u8]) -> usize
     requires { length text.now < 2 ^ 63 }
     ensures { result
         ≡ 1 + count_by (λ b. b == 10) (take (length text.now - length rest.now) text.now) }
 {
+    // Newlines before the rest are whole lines before it.
     let before = text.len().saturating_sub(rest.len());
     1 + text[..before].iter().filter(|byte| **byte == b'\n').count()
 }
 
-/// Reads a journal from the head of a text, and what is after it. `Stop` says at which line the
-/// text begins no journal, or that memory ran out.
+/// Reads a journal from the front of a text, and returns it with what is after it. After a whole
+/// text that must be nothing, which `parse` tests. `Stop` says at which line the text begins no
+/// journal, or that memory ran out.
 fn saved(alloc: Global, text: &[u8]) -> Result<(Saved, &[u8]), Stop<'_>>
     ensures { Parses IsSaved saved_lines ReachesSteps text.now result }
 {
@@ -76,6 +82,7 @@ fn saved(alloc: Global, text: &[u8]) -> Result<(Saved, &[u8]), Stop<'_>>
         Ok(head) => head,
         Err(rest) => return Err(Stop::At(rest)),
     };
+    // This cannot fail: a line that is no mark's is left to the next part.
     let (marks, rest) = marks(rest);
     let (past, rest) = match counted_steps(alloc, b"past", rest) {
         Ok(read) => read,
@@ -96,9 +103,10 @@ fn saved(alloc: Global, text: &[u8]) -> Result<(Saved, &[u8]), Stop<'_>>
     Ok((saved, rest))
 }
 
-/// The format (a kind and an expression, which it may not permit) and the cursor in the first lines
-/// of a text, and what is after them. An error has the rest from the first line with which the text
-/// begins no journal.
+/// Reads the first three lines of a text: the name of a journal, its format and its cursor. Returns
+/// the format as a kind and an expression, 0 to 7, the cursor, and what is after the three lines.
+/// Whether the kind permits the expression is not judged here. An error has the rest from the first
+/// line with which the text begins no journal.
 fn head(text: &[u8]) -> Result<((Kind, u8), u64, &[u8]), &[u8]>
     ensures { MatchResult result
         (λ r. IsFormat r.0 × IsNumber r.1 × (text.now ≡ head_text r.0 r.1 r.2.now))
@@ -116,7 +124,8 @@ fn head(text: &[u8]) -> Result<((Kind, u8), u64, &[u8]), &[u8]>
     }
 }
 
-/// What is after the line that names the journal. `None` if the text does not begin with this line.
+/// What is after the line `irig-journal-1`, which names a journal. `None` if the text does not
+/// begin with this line.
 fn named(text: &[u8]) -> Option<&[u8]>
     ensures { MatchOption result
         ((more : List ℕ) → text.now ≡ codes "irig-journal-1" ++ 10 ∷ more → ⊥)
@@ -132,8 +141,8 @@ fn named(text: &[u8]) -> Option<&[u8]>
     }
 }
 
-/// The format in the first line of a text, and what is after it. `None` if it is no line of a
-/// format.
+/// The kind and expression in the first line of a text, and what is after the line. `None` if it is
+/// no line of a format.
 fn format_line(text: &[u8]) -> Option<((Kind, u8), &[u8])>
     ensures { FirstLine IsFormat (λ f. line (codes "format") (words_of_format f))
         text.now result }

@@ -4,14 +4,15 @@ use crate::letter::Marks;
 use crate::steps::Steps;
 use irig_codes::Kind;
 
-/// A format, a cursor, the marks a to z, and the steps to either side of the present.
+/// The history of a session: a format, a cursor, the marks a to z, and the steps that undo and redo
+/// take.
 #[derive(Drop)]
 pub struct Saved {
     /// The kind of the format.
     pub kind: Kind,
-    /// The expression of the format, 0 to 7, which may be none that is permitted.
+    /// The expression of the format, 0 to 7. Whether the kind permits it is not judged here.
     pub expression: u8,
-    /// The cursor, from 1; 0 if there is no pulse.
+    /// The cursor, a pulse from 1, or 0 before the first.
     pub cursor: u64,
     /// The marks a to z, each unset or a time in microseconds.
     pub marks: Marks,

@@ -7,11 +7,11 @@ use crate::letter::{Letter, Letters};
 use crate::pulses::Pulses;
 use irig_codes::Kind;
 
-/// One change of a track. Pulses count from 1; times are in microseconds; nothing is said of
-/// whether it applies.
+/// One change of a session. Pulses count from 1; times are in microseconds. Whether it can be made
+/// on a track is not judged here.
 #[derive(Drop)]
 pub enum Single {
-    /// Removes `count` pulses from `at` on, and inserts others.
+    /// Removes `count` pulses from `at` on, and inserts the pulses `put` there.
     Splice {
         at: u64,
         count: u64,
@@ -22,19 +22,20 @@ pub enum Single {
         a: u64,
         b: u64,
     },
-    /// Moves the pulses `i` to `j` by `by` microseconds, and the given marks.
+    /// Moves the pulses `i` to `j`, both included, by `by` microseconds (below 0 is earlier), and
+    /// the marks that are true in `marks`.
     Shift {
         i: u64,
         j: u64,
         by: i64,
         marks: Letters,
     },
-    /// Sets a format, which may be none that is permitted.
+    /// Sets a format. Whether the kind permits the expression is not judged here.
     SetFormat {
         kind: Kind,
         expression: u8,
     },
-    /// Sets a mark, or clears it.
+    /// Sets the mark of a letter to a time, or clears it if that is `None`.
     SetMark {
         letter: Letter,
         time: Option<u64>,
@@ -42,7 +43,8 @@ pub enum Single {
 }
 
 impl Single {
-    /// How many lines it has in the text of a journal: a splice has one more for each pulse.
+    /// How many lines the change has in the text of a saved journal: one, and a splice one more for
+    /// each pulse that it inserts.
     pub(crate) fn lines(&self) -> usize
         requires { length (single_lines self.now) < 2 ^ 63 }
         ensures { result ≡ length (single_lines self.now) }

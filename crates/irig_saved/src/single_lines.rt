@@ -1,4 +1,5 @@
-//! The lines of a change, in parts: those that it has in the text of a saved journal.
+//! The lines of a change, as a saved journal has them, given in parts. A journal is the history of
+//! a session as text.
 //!
 //! Where `match` hands an error on, `?` would do the same; the proof of it takes longer.
 
@@ -11,8 +12,8 @@ use crate::single::Single;
 use std::alloc::AllocError;
 use std::marker::Model;
 
-/// The lines of a change that is no group, from one of them on: its first, and those of the pulses
-/// that it inserts.
+/// The lines that are still to be given of a change that is no group. `first` is the change if its
+/// first line is one of them; `pulses` has the lines of the pulses that it inserts.
 #[derive(Drop)]
 pub struct SingleLines<'s> {
     first: Option<&'s Single>,
@@ -49,9 +50,11 @@ impl<'s> SingleLines<'s> {
         }
     }
 
-    /// Adds lines to a block until it has `enough` bytes or none is left; the first line in any
-    /// case. Returns whether no line is left and the block has fewer; so `false` means that the
-    /// block is full. It fails only if memory runs out.
+    /// Adds lines to a block until it has `enough` bytes or none is left. The first line of a
+    /// change is added even if the block has `enough`: it has at most 96 bytes. Returns `true` if
+    /// no line is left and the block has fewer bytes than `enough`, so that more text can be added;
+    /// `false` if the block has `enough`, whether a line is left or not. It fails only if memory
+    /// runs out.
     pub fn fill(&mut self, block: &mut Vec<u8>, enough: usize) -> Result<bool, AllocError>
         ensures bytes { OnOk result (block.new.items ++ self.new ≡ block.old.items ++ self.old) }
         ensures end { IfOk result (λ ended. ended ≡ true → self.new ≡ []) }

@@ -1,4 +1,4 @@
-//! Changes in the order in which they are made.
+//! Changes of one group, in the order in which they are made.
 
 ghost use Rattle.std.specs.Prelude.{◌≡◌, ◌<◌, ◌^◌, ◌++◌, ◌∷◌, [], OnOk, OnErr, length};
 ghost use Rattle.irig_saved.specs.SavedText.{singles_lines};
@@ -48,14 +48,14 @@ impl Singles {
         Ok(())
     }
 
-    /// The list of the changes.
+    /// The changes as a `Vec`, in order.
     pub fn into_vec(self) -> Vec<Single>
         ensures { result.items ≡ self }
     {
         self.items
     }
 
-    /// How many lines they have in the text of a journal.
+    /// How many lines the changes have together in the text of a saved journal.
     pub(crate) fn lines(&self) -> usize
         requires { length (singles_lines self.now) < 2 ^ 63 }
         ensures { result ≡ length (singles_lines self.now) }

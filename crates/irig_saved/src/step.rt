@@ -1,14 +1,15 @@
-//! A change and the cursor that it leads to.
+//! A step of a saved journal, which is the history of a session as text: a change and the cursor of
+//! the state that the change leads to.
 
 ghost use Rattle.std.specs.Prelude.{◌≡◌, ◌<◌, ◌^◌, length};
 ghost use Rattle.irig_saved.specs.SavedText.{step_lines};
 
 use crate::change::Change;
 
-/// A change with the cursor of the state that it leads to: a pulse, from 1, or 0.
+/// A change, and where the cursor is after it.
 #[derive(Drop)]
 pub struct SavedStep {
-    /// The cursor, from 1; 0 if there is no pulse.
+    /// The cursor, a pulse from 1, or 0 before the first.
     pub cursor: u64,
     /// The change.
     pub change: Change,

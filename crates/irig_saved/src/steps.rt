@@ -1,4 +1,5 @@
-//! Steps in the order of the text.
+//! Steps of a saved journal, in the order of its text: those back with the oldest first, those
+//! forward with the next redo first.
 
 ghost use Rattle.std.specs.Prelude.{◌≡◌, ◌<◌, ◌^◌, ◌++◌, ◌∷◌, [], OnOk, OnErr, MatchOption, length};
 ghost use Rattle.std.specs.Prelude.{reverse};
@@ -8,7 +9,7 @@ use crate::step::SavedStep;
 use std::alloc::{AllocError, Global};
 use std::marker::Model;
 
-/// Steps in the order of the text.
+/// Steps in the order of the text of a journal.
 #[derive(Drop)]
 pub struct Steps {
     items: Vec<SavedStep>,
@@ -71,7 +72,7 @@ impl Steps {
         self.items.reverse();
     }
 
-    /// How many lines they have in the text of a journal.
+    /// How many lines the steps have together in the text of a saved journal.
     pub fn lines(&self) -> usize
         requires { length (steps_lines self.now) < 2 ^ 63 }
         ensures { result ≡ length (steps_lines self.now) }

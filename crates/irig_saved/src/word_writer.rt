@@ -1,6 +1,8 @@
-//! Writes words of a line.
+//! Writes words of a line of a saved journal, which is the history of a session as text: they have
+//! one space between them.
 //!
-//! Each function adds to `text`, and fails only if memory runs out.
+//! Each function adds to `text`, and fails only if memory runs out; `text` can end with a part of
+//! its words then.
 
 ghost use Rattle.std.specs.Prelude.{◌≡◌, ◌+◌, ◌++◌, ◌<◌, ◌∷◌, [], OnOk, map, decimal};
 ghost use Rattle.irig_codes.specs.Words.{kind_word};
@@ -37,7 +39,7 @@ pub(crate) fn put_numbers(text: &mut Vec<u8>, numbers: &[u64]) -> Result<(), All
     Ok(())
 }
 
-/// Writes a line that begins with a word and has numbers after it.
+/// Writes a line that begins with the word `head` and has numbers after it, and its newline.
 pub(crate) fn put_numbered(
     text: &mut Vec<u8>,
     head: &[u8],
@@ -52,8 +54,8 @@ pub(crate) fn put_numbered(
     Ok(())
 }
 
-/// Writes a word that begins a line, and after a space the letter at a place, from 0. The line does
-/// not end.
+/// Writes the word `head`, which begins a line, a space and a letter, given by its place from 0 (0
+/// is a). The line goes on: no newline is written.
 pub(crate) fn put_lettered(text: &mut Vec<u8>, head: &[u8], letter: u8) -> Result<(), AllocError>
     requires { letter < 26 }
     ensures { OnOk result (text.new.items
@@ -63,7 +65,8 @@ pub(crate) fn put_lettered(text: &mut Vec<u8>, head: &[u8], letter: u8) -> Resul
     put_word(text, &[b'a' + letter])
 }
 
-/// Writes a line that begins with a word and names a format: its kind and its expression.
+/// Writes a line of the word `head`, the kind of a format and its expression, 0 to 7, and its
+/// newline.
 pub(crate) fn put_formatted(
     text: &mut Vec<u8>,
     head: &[u8],

@@ -1,7 +1,9 @@
-//! Words of a saved journal.
+//! Reads words of a saved journal, which is the history of a session as text; its lines have one
+//! space between words.
 //!
-//! Each function answers `None` for any other word. A number is written again and compared with the
-//! word, as `parse` also takes a sign and leading zeros, which a journal has not.
+//! Each function answers `None` for any word of another form. A number is written again and
+//! compared with the word: `parse` of the library also takes a sign `+` and leading zeros, which a
+//! journal has not, since each journal has one text.
 //!
 //! Where `let .. else` hands `None` on, `?` would do the same; the proof of it takes longer.
 
@@ -32,7 +34,8 @@ pub fn number(word: &[u8]) -> Option<u64>
     }
 }
 
-/// The distance that a word is, in microseconds: a number with a minus if it is below 0.
+/// The distance that a word is, in microseconds: a number from -2^63 to 2^63 - 1, with a minus if
+/// it is below 0, without leading zeros.
 pub fn distance(word: &[u8]) -> Option<i64>
     ensures { Decodes IsDistance (λ d. signed_decimal d) word.now result }
 {
@@ -58,7 +61,8 @@ pub fn expression(word: &[u8]) -> Option<u8>
     if value <= 7 { Some(value as u8) } else { None }
 }
 
-/// The time in microseconds that a word is, or no time, `Some(None)`, if it is `-`.
+/// The time in microseconds that a word is: `Some(Some(time))`, or `Some(None)`, no time, if the
+/// word is `-`.
 pub fn time(word: &[u8]) -> Option<Option<u64>>
     ensures { Decodes IsTime time_word word.now result }
 {
@@ -71,7 +75,8 @@ pub fn time(word: &[u8]) -> Option<Option<u64>>
     Some(Some(time))
 }
 
-/// The marks whose letters a word has, in rising order and each once; if it is `-`, no mark.
+/// The marks whose letters a word has, as `bd`: in the order of the alphabet and each once. The
+/// word `-` means no mark; an empty word is none.
 pub fn moved(word: &[u8]) -> Option<Letters>
     ensures { Decodes AreLetters moved_word word.now result }
 {
@@ -79,6 +84,8 @@ pub fn moved(word: &[u8]) -> Option<Letters>
     if word == b"-".as_slice() {
         return Some(marks);
     }
+    // One pass from a to z: each letter is taken if it comes next. A letter out of order or twice
+    // is left over.
     let mut rest = word;
     for letter in 0..26 {
         if let [first, others @ ..] = rest {

@@ -1,8 +1,10 @@
-//! Writes lines of a saved journal: those at its head, and those before changes.
+//! Writes lines of a saved journal, the history of a session as text: those before its first step,
+//! and those before the changes of a step. `docs/FORMATS.md` has their form.
 //!
-//! Each function adds to `text`, and fails only if memory runs out. A cursor is the number of a
-//! pulse, from 1, or 0 before the first. A mark is a time in microseconds. `past` and `count` are
-//! how many steps or changes come.
+//! Each function adds to `text`, and fails only if memory runs out; `text` can end with a part of
+//! its lines then. `put_number` writes a space first; `put_numbered` and `put_formatted` write a
+//! whole line. A cursor is the number of a pulse, from 1, or 0 before the first. A mark is a time
+//! in microseconds. `past` and `count` are how many steps or changes come.
 
 ghost use Rattle.std.specs.Prelude.{◌≡◌, ◌++◌, ◌+◌, ◌<◌, ◌∷◌, [], OnOk, codes, decimal};
 ghost use Rattle.irig_codes.specs.Words.{kind_word};
@@ -14,8 +16,8 @@ use crate::word_writer::{put_formatted, put_lettered, put_number, put_numbered};
 use irig_codes::{Format, Kind};
 use std::alloc::AllocError;
 
-/// Writes the lines before the steps, and the one that counts the steps of the past, `past`. A mark
-/// is a time in microseconds.
+/// Writes the lines before the steps: the name, the format, the cursor, the marks that are set, and
+/// how many steps of the past come, `past`.
 pub fn put_head(
     text: &mut Vec<u8>,
     format: Format,
@@ -34,8 +36,9 @@ pub fn put_head(
     put_past(text, past)
 }
 
-/// Writes the lines of a step before those of its changes: the cursor of the state that it leads
-/// to, and of a group how many changes it has.
+/// Writes the lines of a step that are before those of its changes: the cursor of the state that
+/// the step leads to, and if it is a group, how many changes it has. Without `is_group` the number
+/// `changes` is not used.
 pub fn put_step(
     text: &mut Vec<u8>,
     cursor: u64,
@@ -52,7 +55,7 @@ pub fn put_step(
     Ok(())
 }
 
-/// Writes the line before the steps of the future: how many there are.
+/// Writes the line before the steps of the future, which a redo takes: how many there are.
 pub fn put_future(text: &mut Vec<u8>, count: u64) -> Result<(), AllocError>
     ensures { OnOk result (text.new.items
         ≡ text.old.items ++ count_text (codes "future") count) }
@@ -68,7 +71,7 @@ fn put_name(text: &mut Vec<u8>) -> Result<(), AllocError>
     put_numbered(text, b"irig-journal-1", &[])
 }
 
-/// Writes the line of the format.
+/// Writes the line of the format: its kind, and its expression, 0 to 7.
 fn put_format(text: &mut Vec<u8>, kind: Kind, expression: u8) -> Result<(), AllocError>
     ensures { OnOk result (text.new.items ≡ text.old.items
         ++ (line (codes "format") (kind_word kind ∷ decimal expression ∷ []) ++ 10 ∷ [])) }
@@ -95,7 +98,7 @@ fn put_marks(text: &mut Vec<u8>, marks: &Marks) -> Result<(), AllocError>
     Ok(())
 }
 
-/// Writes the line of a mark, if it is set. A letter counts from 0; the time is in microseconds.
+/// Writes the line of a mark; nothing if the mark is not set. A letter counts from 0: 0 is a.
 fn put_mark(text: &mut Vec<u8>, letter: u8, time: Option<u64>) -> Result<(), AllocError>
     requires { letter < 26 }
     ensures { OnOk result (text.new.items
@@ -110,7 +113,7 @@ fn put_mark(text: &mut Vec<u8>, letter: u8, time: Option<u64>) -> Result<(), All
     Ok(())
 }
 
-/// Writes the line before the steps of the past: how many there are.
+/// Writes the line before the steps of the past, which an undo takes: how many there are.
 fn put_past(text: &mut Vec<u8>, count: u64) -> Result<(), AllocError>
     ensures { OnOk result (text.new.items
         ≡ text.old.items ++ (numbered (codes "past") (count ∷ []) ++ 10 ∷ [])) }

@@ -15,7 +15,7 @@ pub struct MemoryShelf {
     alloc: Global,
     // The number, from 1, of the write that is to fail.
     fail: Option<u64>,
-    // How many writes were asked for, and how many of them failed.
+    // How many writes were asked for, and how many of them failed; both stay at 2^64 - 1.
     puts: u64,
     failures: u64,
     texts: Vec<Vec<u8>>,

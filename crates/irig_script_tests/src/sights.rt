@@ -1,4 +1,5 @@
-//! A witness that keeps what it sees, for clauses alone: it takes no memory.
+//! A witness that keeps what it sees, for clauses alone: it takes no memory, and in the program it
+//! does nothing.
 
 ghost use Rattle.std.specs.Prelude.{◌≡◌, ◌++◌, ◌∷◌, [], List, Some, refl};
 ghost use Rattle.std.specs.Borrow.{ftrue};
@@ -39,6 +40,7 @@ impl Sights {
 impl Witness for Sights {
     ghost seen = { λ sights. Some sights.list };
 
+    // Adds an output and a shelf as they are now.
     fn see<W: Write, S: Shelf>(&mut self, out: &W, shelf: &S) {
         *self = self.and(out, shelf);
     }

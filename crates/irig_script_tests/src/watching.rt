@@ -21,7 +21,7 @@ pub fn new_files(alloc: Global) -> Files<Memory>
 }
 
 /// Runs a script on a dump. The texts that it writes are the file `t` of a folder in memory, one
-/// after another.
+/// after another: the last one stays. `room` is the memory of the writes.
 pub fn watch<W: Write>(
     alloc: Global,
     dump: Vec<u8>,
@@ -41,7 +41,8 @@ pub fn watch<W: Write>(
     run_on_dump(alloc, dump, None, format, script, screen, &mut shelf)
 }
 
-/// Runs a script on a dump, from an empty output and a new folder on.
+/// Runs a script on a dump, from an empty output and a new folder on, and returns both with how it
+/// ended.
 pub fn watch_anew(
     alloc: Global,
     dump: Vec<u8>,

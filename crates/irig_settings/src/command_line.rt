@@ -66,7 +66,8 @@ fn parse_words<'a>(alloc: Global, words: &'a [String]) -> Result<ArgMatches<'a>,
     matches_of(command(alloc)?, words)
 }
 
-/// The command line of the program: the options of `reading`, where to write, and the track.
+/// The command line of the program: the options of `reading`, where to write, and the track. It
+/// fails only if memory runs out.
 pub fn command<'a>(alloc: Global) -> Result<Command<'a>, AllocError>
     ensures { IfOk result (λ c. IsCommand (app_of c)) }
 {
@@ -80,7 +81,8 @@ pub fn command<'a>(alloc: Global) -> Result<Command<'a>, AllocError>
         .arg(track_arg(alloc))
 }
 
-/// The command with all options that say how the track is read.
+/// The command with all options that say how the track is read: those of `lettered`, and the digit
+/// of the expression.
 fn reading<'a>(alloc: Global) -> Result<Command<'a>, AllocError>
     ensures { IfOk result (λ c. IsReading (app_of c)) }
 {
@@ -115,7 +117,8 @@ fn lettered<'a>(alloc: Global) -> Result<Command<'a>, AllocError>
     ))
 }
 
-/// An option `--name` with one of these values. Its help calls the value `value`.
+/// An option `--name` with one of these values: `clap` refuses any other. Its help calls the value
+/// `value`.
 fn choice_arg<'a>(
     alloc: Global,
     name: &'a str,

@@ -49,7 +49,8 @@ pub fn align<R: Read, W: Write>(
     align_named(alloc, recording, lines, out, format, settings, name)
 }
 
-/// As `align`, if the number of the column, from 0, is known: `settings.column`.
+/// As `align`, if the number of the column, from 0, is known: `settings.column`. Nothing was read
+/// of the lines before.
 fn align_numbered<R: Read, W: Write>(
     alloc: Global,
     recording: Recording,
@@ -107,8 +108,10 @@ fn align_named<R: Read, W: Write>(
     align_track(alloc, &track, before, lines, out, format, &settings)
 }
 
-/// As `align` on a track, if the bytes `before` were read of the lines already. `held` says of each
-/// frame whether it is believed; that is found first, for the whole track.
+/// As `align` on a track, if the bytes `before` were read of the lines already. First it finds for
+/// the whole track its frames (`records`), which of them are believed (`held`), the day of the
+/// first of these, how many others have a time, and what is known of the track's times. Then the
+/// lines are read and printed.
 fn align_track<R: Read, W: Write>(
     alloc: Global,
     track: &Track,

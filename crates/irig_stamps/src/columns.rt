@@ -1,5 +1,7 @@
 //! The columns of a line. They are parted by a byte (`comma`), or if there is none by white space.
-//! Columns count from 0.
+//! Columns count from 0. `cut` parts a text in what is before the first byte of some kind, and what
+//! is from that byte on: white space (`Blank`), other bytes (`Text`) or the byte that parts columns
+//! (`Comma`).
 
 ghost use Rattle.std.specs.Prelude.{◌≡◌, Some, None};
 ghost use Rattle.irig_stamps.specs.Columns.{column_of, passed, word_at, part_at, rest_of};
@@ -17,7 +19,7 @@ pub fn column(comma: Option<u8>, k: usize, line: &[u8]) -> &[u8]
 }
 
 /// Column `k` of a line, from 0, if white space parts them. White space before the first column is
-/// not one.
+/// not one. The `k` columns before it are passed first.
 fn word(k: usize, line: &[u8]) -> &[u8]
     ensures { result.now ≡ word_at k line.now }
 {
@@ -31,7 +33,8 @@ fn word(k: usize, line: &[u8]) -> &[u8]
     word
 }
 
-/// Column `k` of a line, from 0, if a byte parts them.
+/// Column `k` of a line, from 0, if a byte parts them. The `k` columns before it are passed first,
+/// each with the byte after it.
 fn part(comma: u8, k: usize, line: &[u8]) -> &[u8]
     ensures { result.now ≡ part_at comma k line.now }
 {

@@ -18,10 +18,10 @@ use crate::settings::Settings;
 use std::alloc::Global;
 use std::io::Read;
 
-/// When 1 MiB of the lines is read, no more is read of their header.
+/// When 1 MiB of the lines is read, no more is read of their header: it is kept in memory.
 const HEADER_LIMIT: usize = 1_048_576;
 
-/// How many columns a number can name.
+/// How many columns are looked at: as many as a number on the command line can name.
 const COLUMN_LIMIT: usize = 65_536;
 
 /// What was read of the lines to find a column in their header.
@@ -43,7 +43,7 @@ struct Header {
 }
 
 /// Reads the header of the lines, and finds the column with a name in its last line. What was read
-/// goes back with it: it can reach past the header.
+/// is returned with the column, since it can reach past the header and cannot be read again.
 pub fn find<R: Read>(
     alloc: Global,
     lines: &mut R,
@@ -66,8 +66,8 @@ pub fn find<R: Read>(
     }
 }
 
-/// Reads lines until those of the header have ended, or to their end. The last read can reach past
-/// the header.
+/// Reads lines until those of the header have ended, or to their end. Returns what was read: the
+/// last read can reach past the header. After 2^32 reads without an end it is `TooManyReads`.
 fn read_header<R: Read>(
     alloc: Global,
     lines: &mut R,
@@ -94,8 +94,9 @@ fn read_header<R: Read>(
     Err(RunFault::TooManyReads)
 }
 
-/// Reads a part, by the buffer, and adds it to the header. Returns whether the header needs no more
-/// reads: all its lines have ended, or nothing is left to read.
+/// Reads a part of the lines into the buffer, and adds it to the header. Returns whether the header
+/// needs no more reads: all its lines have ended, or nothing is left to read. The limit is looked
+/// at after that, so a header that ends in the last read is not too long.
 fn read_more<R: Read>(
     lines: &mut R,
     buffer: &mut [u8; READ_LIMIT],
@@ -156,6 +157,7 @@ fn find_in(settings: &Settings<'_>, name: &[u8], bytes: &[u8]) -> Result<usize, 
         → Finds settings.now name.now lines left bytes.now result }
 {
     let ended = newlines(bytes) as u64;
+    // The header's last line can be without a newline, so one newline fewer is enough.
     if ended + 1 < settings.header {
         return Err(RunFault::NoHeader);
     }
@@ -169,7 +171,8 @@ fn find_in(settings: &Settings<'_>, name: &[u8], bytes: &[u8]) -> Result<usize, 
 }
 
 /// The column of a line with a name, from 0, of the first 65,536; `NoColumn` if none has it,
-/// `TwoColumns` if two do.
+/// `TwoColumns` if two do. Each turn of the loop looks at the first column of what is left, and
+/// passes it.
 fn place_of(comma: Option<u8>, name: &[u8], line: &[u8]) -> Result<usize, RunFault>
     ensures { IsPlace (has_name comma name.now line.now) 65536 result }
 {
@@ -202,7 +205,8 @@ fn one_more(found: Option<usize>, place: usize, named: bool) -> Result<Option<us
     }
 }
 
-/// Whether a text is a name with white space round it.
+/// Whether a text is a name, maybe with white space before it and after it: `cut` with `Text` parts
+/// white space from what comes after it.
 fn is_named(name: &[u8], text: &[u8]) -> bool
     ensures { result ≡ is_named name.now text.now }
 {

@@ -25,7 +25,8 @@ pub fn first_day(records: &mut FrameLens<'_>, held: &[bool], format: Format) -> 
     None
 }
 
-/// Whether the frame of the record at a place is believed; `None` if there is no such record.
+/// Whether the frame of the record at a place, from 0, is believed; `None` if there is no such
+/// record.
 pub fn held_at(held: &[bool], place: usize) -> Option<bool>
     ensures { result ≡ slice_get held.now place }
 {

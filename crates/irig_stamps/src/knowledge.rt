@@ -21,8 +21,9 @@ pub struct Known {
     pub whys: Option<Whys>,
 }
 
-/// What is known of the times of a track. A record is a frame of the track, and `held` says of each
-/// whether it is believed. Only memory can run out.
+/// What is known of the times of a track, the words why some have none only if `settings.why` asks
+/// for them. A record is a frame of the track, and `held` says of each whether it is believed.
+/// `Err` means that memory ran out.
 pub fn known_of(
     alloc: Global,
     pulses: &mut Lens<'_>,
@@ -44,7 +45,8 @@ pub fn known_of(
     Ok(Known { parts, whys })
 }
 
-/// Why moments have no time; `None` if `settings.why` does not ask for it.
+/// Why moments have no time; `None` if `settings.why` does not ask for it. `Err` means that memory
+/// ran out.
 fn whys_of(
     alloc: Global,
     pulses: &mut Lens<'_>,

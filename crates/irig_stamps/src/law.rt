@@ -2,8 +2,8 @@
 
 ghost use Rattle.irig_stamps.specs.Printed.{CalendarTells, OrdinalTells, SecondsTell};
 
-/// Does nothing. Its contract is what the digits of printed times show: two times that are printed
-/// alike are the same, or with the seconds alone have the same microsecond of the day.
+/// Does nothing: its contract is a theorem on the digits of printed times. Two times that are
+/// printed alike are the same, or with the seconds alone have the same microsecond of the day.
 pub fn digits_tell_times()
     ensures ordinal { OrdinalTells }
     ensures calendar { CalendarTells }

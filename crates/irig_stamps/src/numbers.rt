@@ -1,7 +1,9 @@
 //! The decimal number in a column. The result is the column's number times 10^`places`, as a whole
 //! number: rounded up if `up`, else down. Each function returns `None` if the text is no number,
-//! and 2^120 for each greater one. `whole` and `fraction` are digits in ASCII. White space is a
-//! space, a tab or a carriage return.
+//! and 2^120 for each greater one, since no recorder's time that far from zero has a time. `whole`
+//! and `fraction` are digits in ASCII, before the point and after it. White space is a space, a tab
+//! or a carriage return. `cut` parts a text before the first byte that is no white space (`Text`),
+//! or no digit (`Other`).
 
 ghost use Rattle.std.specs.Prelude.{◌≡◌, ◌^◌, ℕ, List, min, option_map, false, true};
 ghost use Rattle.irig_stamps.specs.Columns.{before, onward};
@@ -15,8 +17,8 @@ use crate::picos::Picos;
 use crate::point::{digits, point_after, to_the_left, to_the_right};
 
 /// The number in a column, if it is one: maybe a sign, digits, maybe a point and digits, and maybe
-/// an exponent, with white space round it. It is in units of which 10^`places` make one of the
-/// column, rounded down; 2^120 if it is greater.
+/// an exponent, with white space round it. It is in units, 10^`places` to one of the column,
+/// rounded down; 2^120 if it is greater.
 pub fn number(places: usize, text: &[u8]) -> Option<Picos>
     ensures { result ≡ option_map capped (number_in places text.now) }
 {
@@ -35,21 +37,22 @@ fn signed(places: usize, text: &[u8]) -> Option<Picos>
     }
 }
 
-/// The number after a minus. Its size is rounded up, so the number is rounded down.
+/// The number after a minus. Its size, without the sign, is rounded up, so the number is rounded
+/// down.
 fn negative(places: usize, text: &[u8]) -> Option<Picos>
     ensures { result ≡ option_map capped (below (size_in true places text.now)) }
 {
     below(size_in(true, places, text))
 }
 
-/// The number after a plus, or without a sign.
+/// The number after a plus, or without a sign. It is rounded down.
 fn positive(places: usize, text: &[u8]) -> Option<Picos>
     ensures { result ≡ option_map capped (above (size_in false places text.now)) }
 {
     above(size_in(false, places, text))
 }
 
-/// A number this far above zero; `None` if there is no size.
+/// A number that is `size` above zero; `None` if there is no size, since the text was no number.
 fn above(size: Option<u128>) -> Option<Picos>
     ensures { result ≡ above size }
 {
@@ -62,7 +65,7 @@ fn above(size: Option<u128>) -> Option<Picos>
     }
 }
 
-/// A number this far below zero; `None` if there is no size.
+/// A number that is `size` below zero; `None` if there is no size, since the text was no number.
 fn below(size: Option<u128>) -> Option<Picos>
     ensures { result ≡ below size }
 {
@@ -86,7 +89,7 @@ pub fn whole(text: &[u8]) -> Option<u128>
     Some(digits(0, whole))
 }
 
-/// The size of a number without a sign.
+/// The size of a number without a sign: it begins with a digit.
 fn size_in(up: bool, places: usize, text: &[u8]) -> Option<u128>
     ensures { result ≡ option_map (λ v. min v (2 ^ 120)) (size_in up places text.now) }
 {
@@ -97,7 +100,8 @@ fn size_in(up: bool, places: usize, text: &[u8]) -> Option<u128>
     with_fraction(up, places, whole, rest)
 }
 
-/// The size of a number with these digits before its point. `rest` is what is after them.
+/// The size of a number with the digits `whole` before its point. `rest` is what is after them: a
+/// point needs a digit after it.
 fn with_fraction(up: bool, places: usize, whole: &[u8], rest: &[u8]) -> Option<u128>
     ensures { result ≡ option_map (λ v. min v (2 ^ 120))
         (with_fraction up places whole.now rest.now) }
@@ -146,8 +150,8 @@ fn after_e(up: bool, places: usize, whole: &[u8], fraction: &[u8], rest: &[u8]) 
     }
 }
 
-/// The size of a number with these digits. `rest` begins with the digits of its exponent, which
-/// moves the point to the left if it has a minus, else to the right.
+/// The size of a number with these digits. `rest` begins with the digits of its exponent, at least
+/// one, which moves the point to the left if it has a minus (`left`), else to the right.
 fn powered(
     up: bool,
     left: bool,

@@ -1,6 +1,7 @@
 //! The point of a decimal number, moved. `whole` is the digits before the point and `fraction`
 //! those after it, as ASCII. The result is a whole number: what is after the moved point is
-//! dropped, or rounds it up by one if `up` and it is not 0.
+//! dropped, or rounds it up by one if `up` and it is not 0. `cut` with `Weight` parts digits before
+//! the first that is no zero.
 
 ghost use Rattle.std.specs.Prelude.{◌≡◌, ◌≤◌, ◌^◌, ◌+◌, ◌*◌, ◌-◌, ◌∷◌, ℕ, suc, List, min};
 ghost use Rattle.std.specs.Prelude.{drop, false, true, ◌&&◌, ◌||◌};
@@ -8,7 +9,7 @@ ghost use Rattle.irig_stamps.specs.Points.{digits_after, has_weight, padded, rou
 
 use crate::cutting::{Until, cut};
 
-/// No greater number is returned: 2^120.
+/// No greater number is returned: 2^120. Greater ones are all too far from zero to have a time.
 const MOST: u128 = 1_329_227_995_784_915_872_903_807_060_280_344_576;
 
 /// The number times 10^(`places` + `power`); 2^120 if it is greater.
@@ -17,7 +18,8 @@ pub fn to_the_right(up: bool, places: usize, power: u128, whole: &[u8], fraction
     ensures { (e : ℕ) → power ≡ min e (2 ^ 120)
         → result ≡ min (rounded up (places + e) 0 whole.now fraction.now) (2 ^ 120) }
 {
-    // Moved this far, each number but 0 is greater than the most: further the point is not moved.
+    // Moved this far, a number with a digit that is not 0 is 10^37 or more, which is greater than
+    // the most: further the point is not moved.
     let enough = fraction.len() as u128 + 37;
     point_after(
         up,
@@ -41,7 +43,8 @@ pub fn to_the_left(up: bool, places: usize, power: u128, whole: &[u8], fraction:
     }
 }
 
-/// The number times 10^`right`; 2^120 if it is greater.
+/// The number times 10^`right`; 2^120 if it is greater. The point goes to the right: the first
+/// `right` digits of the fraction come before it, and the rest after it.
 pub fn point_after(up: bool, right: usize, whole: &[u8], fraction: &[u8]) -> u128
     ensures { result ≡ min (rounded up right 0 whole.now fraction.now) (2 ^ 120) }
 {
@@ -50,7 +53,8 @@ pub fn point_after(up: bool, right: usize, whole: &[u8], fraction: &[u8]) -> u12
     with_one(more, value)
 }
 
-/// The number divided by 10^`left`; 2^120 if it is greater.
+/// The number divided by 10^`left`; 2^120 if it is greater. The point goes to the left: the last
+/// `left` digits of `whole`, and all of the fraction, come after it.
 fn point_before(up: bool, left: u128, whole: &[u8], fraction: &[u8]) -> u128
     ensures { result ≡ min (rounded up 0 left whole.now fraction.now) (2 ^ 120) }
 {
@@ -60,8 +64,8 @@ fn point_before(up: bool, left: u128, whole: &[u8], fraction: &[u8]) -> u128
     with_one(more, value)
 }
 
-/// Whether a number is rounded up, if these digits and the others are after its point: if `up` says
-/// so and one of them is not 0.
+/// Whether a number is rounded up, if `digits` and `others` are after its point: if `up` says so
+/// and one of them is not 0.
 fn exceeds(up: bool, digits: &[u8], others: &[u8]) -> bool
     ensures { result ≡ (up && (has_weight digits.now || has_weight others.now)) }
 {
@@ -91,7 +95,8 @@ fn has_weight(digits: &[u8]) -> bool
     !left.is_empty()
 }
 
-/// A value with one more digit, in ASCII, after it; 2^120 if it is greater.
+/// A value with one more decimal digit, in ASCII, after it; 2^120 if it is greater. A value above a
+/// tenth of that is looked at first, so that nothing overflows.
 fn more(value: u128, digit: u8) -> u128
     requires { value ≤ 2 ^ 120 }
     ensures value { result ≡ min (10 * value + (digit - 48)) (2 ^ 120) }
@@ -104,7 +109,7 @@ fn more(value: u128, digit: u8) -> u128
     }
 }
 
-/// A value with more digits, in ASCII, after it; 2^120 if it is greater.
+/// A value with more decimal digits, in ASCII, after it; 2^120 if it is greater.
 pub fn digits(value: u128, digits: &[u8]) -> u128
     requires { value ≤ 2 ^ 120 }
     ensures { result ≡ min (digits_after value digits.now) (2 ^ 120) }

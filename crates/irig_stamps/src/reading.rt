@@ -9,7 +9,7 @@ use std::io::Read;
 /// two bytes.
 pub const READ_LIMIT: usize = 32_768;
 
-/// The most reads: 2^32.
+/// The most reads: 2^32. More are the fault `TooManyReads`, so that the loops over reads end.
 pub const READS_LIMIT: u64 = 4_294_967_296;
 
 /// One read into the buffer. Returns how many bytes it gave, 0 at the end of the lines. Each error

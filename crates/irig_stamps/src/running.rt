@@ -101,7 +101,7 @@ fn run_on<R: Read, W: Write>(
 }
 
 /// Reads a part of the lines and prints what comes out for it. Returns whether nothing was left to
-/// read: then the line without a newline is ended, if there is one.
+/// read: then the last line, if no newline ended it, is ended.
 fn run_read<R: Read, W: Write>(
     lines: &mut R,
     out: &mut W,
@@ -145,7 +145,8 @@ fn run_read<R: Read, W: Write>(
     )
 }
 
-/// Takes a part of the lines and prints what comes out for it. Returns `false`: more can follow.
+/// Takes a part of the lines and prints what comes out for it. Returns `false`: more can follow. If
+/// taking it fails, `stop` prints what came out before.
 fn put_part<W: Write>(
     out: &mut W,
     state: &mut Lines,
@@ -212,7 +213,8 @@ fn end<W: Write>(
     }
 }
 
-/// Prints a text and makes it empty. Returns `ended`, as it was given, if the output took the text.
+/// Prints a text and makes it empty. Returns `ended`, as the caller gave it, if the output took the
+/// text.
 fn print<W: Write>(out: &mut W, text: &mut Vec<u8>, ended: bool) -> Result<bool, RunFault>
     ensures printed { PrintsAll (W.contents out.old) (W.contents out.new) text.old.items result }
     ensures empty { OnOk result (text.new.items ≡ []) }
@@ -225,9 +227,10 @@ fn print<W: Write>(out: &mut W, text: &mut Vec<u8>, ended: bool) -> Result<bool,
     Ok(ended)
 }
 
-/// After a line that is too long, prints the text, what comes out for the `count` lines that have
-/// ended. If memory ran out, prints nothing: the text can end in the middle of a line. Returns why
-/// the run is broken off.
+/// Returns why the run is broken off, for a part that could not be taken. `count` is how many lines
+/// have ended, so a line that is too long is the next one, `count` + 1. After such a line the text
+/// is printed first: it is what comes out for the lines that have ended. If memory ran out, nothing
+/// is printed: the text can end in the middle of a line.
 fn stop<W: Write>(out: &mut W, text: &[u8], count: u64, fault: TakeFault) -> RunFault
     ensures { Stops (W.contents out.old) (W.contents out.new) text.now count fault result }
 {

@@ -24,14 +24,16 @@ use irig_times::{Part, Time, Why, Whys, time_by, why_at};
 use irig_track::Lens;
 use std::alloc::AllocError;
 
-/// A moment so late, in picoseconds after the start of a track, has no time: 2^62.
+/// A moment so late, in picoseconds after the start of a track, has no time: 2^62. A track has at
+/// most 2^40 microseconds, which is less.
 const LATE: u128 = 4_611_686_018_427_387_904;
 
-/// After the end of each track, in picoseconds after its start: 2^62.
+/// A moment after the end of each track, in picoseconds after its start: 2^62, as `LATE`.
 const END: u64 = 4_611_686_018_427_387_904;
 
-/// A recorder's time is a moment after the start of the track: the first number less the second, in
-/// picoseconds. Both the time and the offset can be below zero.
+/// The moment of a recorder's time after the start of the track, as two numbers in picoseconds: it
+/// is the first less the second. The offset is the recorder's time at the start, so it is taken
+/// off. The time and the offset can be below zero (`negative`, `early`); the two numbers are not.
 fn span(settings: &Settings<'_>, picos: Picos) -> (u128, u128)
     requires { settings.now.offset ≤ 2 ^ 119 }
     ensures added { result.0 ≡ min (added settings.now picos) (2 ^ 128 - 1) }
@@ -46,7 +48,8 @@ fn span(settings: &Settings<'_>, picos: Picos) -> (u128, u128)
 }
 
 /// The time of year at a recorder's time; `None` if there is none, or it is before the track
-/// starts. A time of 2^120 picoseconds stands for all that are further from zero, and has none.
+/// starts. A size of 2^120 picoseconds means that or more (`number`), which is too far from zero to
+/// have a time.
 fn time_of(
     pulses: &mut Lens<'_>,
     parts: &[Part],
@@ -62,7 +65,7 @@ fn time_of(
         ↔ IsTimeOf format pulses.old.track.pulses settings.now v x }
     ensures pulses { pulses.new.track ≡ pulses.old.track }
 {
-    // The count is not used: what the call promises bounds the track.
+    // The count is not used: the call's contract bounds the track, and the proof needs that.
     let _count = pulses.len();
     let (added, taken) = span(settings, picos);
     if added < taken {
@@ -76,7 +79,7 @@ fn time_of(
 }
 
 /// Why a recorder's time has no time of year, if it has none. If it has one, the answer means
-/// nothing.
+/// nothing: it is not asked for then.
 fn why_of(
     pulses: &mut Lens<'_>,
     whys: &Whys,
@@ -91,7 +94,7 @@ fn why_of(
         → IsWhyOf format pulses.old.track.pulses settings.now v result }
     ensures pulses { pulses.new.track ≡ pulses.old.track }
 {
-    // The count is not used: what the call promises bounds the track.
+    // The count is not used: the call's contract bounds the track, and the proof needs that.
     let _count = pulses.len();
     let (added, taken) = span(settings, picos);
     if added < taken {
@@ -105,7 +108,7 @@ fn why_of(
     why_at(pulses, whys, format, since as u64)
 }
 
-/// The word of a reason.
+/// The word of a reason, as it is printed.
 fn why_word<'a>(why: Why) -> &'a [u8]
     ensures { result.now ≡ why_text why }
 {
@@ -119,7 +122,7 @@ fn why_word<'a>(why: Why) -> &'a [u8]
     }
 }
 
-/// The word of no time: a hyphen, or if that is asked for the word why there is none.
+/// The word for no time: a hyphen, or if `--why` asked for it the word why there is none.
 fn none_word<'a>(
     pulses: &mut Lens<'_>,
     known: &Known,
@@ -148,7 +151,8 @@ enum Told<'a> {
     Word(&'a [u8]),
 }
 
-/// What is known of a recorder's time; a hyphen if the column has no number.
+/// What is known of a recorder's time: its time of year, or the word for none. A hyphen if the
+/// column has no number.
 fn told_of<'a>(
     pulses: &mut Lens<'_>,
     known: &Known,
@@ -184,8 +188,8 @@ fn put_told(text: &mut Vec<u8>, settings: &Settings<'_>, told: Told<'_>) -> Resu
     }
 }
 
-/// Adds a separator, a line and a newline to a text. The separator is a tab if white space parts
-/// columns.
+/// Adds a separator, a line and a newline to a text, after the time. The separator is `comma`, or a
+/// tab if white space parts columns.
 fn put_line(text: &mut Vec<u8>, comma: Option<u8>, line: &[u8]) -> Result<(), AllocError>
     ensures { OnOk result
         (text.new.items ≡ text.old.items ++ (unwrap_or comma 9 ∷ line.now ++ 10 ∷ [])) }
@@ -210,7 +214,7 @@ fn header_word<'a>(settings: &Settings<'a>, count: u64) -> &'a [u8]
 }
 
 /// Adds a line to a text with its time before it. Returns whether the column of the recorder's time
-/// has a number.
+/// has a number: a line without one is printed, too, with a hyphen.
 fn stamp(
     text: &mut Vec<u8>,
     pulses: &mut Lens<'_>,

@@ -46,7 +46,8 @@ pub fn list<W: Write>(
     list_track(alloc, &track, out, format, settings)
 }
 
-/// As `list`, on a track.
+/// As `list`, on a track. First it finds which frames are believed (`held`), the day of the first
+/// of them, which decides their year, and how many others have a time.
 fn list_track<W: Write>(
     alloc: Global,
     track: &Track,
@@ -85,7 +86,8 @@ fn list_track<W: Write>(
     }
 }
 
-/// The text of the table, a row for each record whose frame has a time.
+/// The text of the table, a row for each record whose frame has a time. `Err` means that memory ran
+/// out.
 fn table(
     alloc: Global,
     pulses: &mut Lens<'_>,
@@ -135,7 +137,8 @@ fn put_frame(
     put_start(text, settings, held_at(held, place), start)
 }
 
-/// Adds the row of a frame; nothing if there is no start, since the frame has no time.
+/// Adds the row of a frame, by where it starts; nothing if there is no start, since the frame has
+/// no time.
 fn put_start(
     text: &mut Vec<u8>,
     settings: &Settings<'_>,
@@ -152,8 +155,8 @@ fn put_start(
     }
 }
 
-/// Adds the row of a frame: the microsecond of its rise, its time, and the word of `answer`. `held`
-/// says whether it is believed.
+/// Adds the row of a frame: the microsecond of its rise, its time, and the word of `answer`, parted
+/// as columns are, by a tab if that is white space. `held` says whether it is believed.
 fn put_row(
     text: &mut Vec<u8>,
     settings: &Settings<'_>,

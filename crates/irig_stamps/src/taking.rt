@@ -18,6 +18,7 @@ use std::alloc::AllocError;
 const LINE_LIMIT: usize = 1_048_576;
 
 /// Takes a byte: a newline ends the line so far, and what comes out for it is added to the text.
+/// Another byte is added to the line.
 fn take_byte(
     lines: &mut Lines,
     text: &mut Vec<u8>,
@@ -45,7 +46,7 @@ fn take_byte(
     }
 }
 
-/// Adds a byte to the line so far; `TooLong` if the line has 1 MiB already.
+/// Adds a byte, which is no newline, to the line so far; `TooLong` if the line has 1 MiB already.
 fn push_byte(lines: &mut Lines, byte: u8) -> Result<(), TakeFault>
     requires plain { byte ≢ 10 }
     ensures { PushesAs byte lines.old lines.new result }
@@ -87,7 +88,8 @@ pub fn end_line(
     Ok(())
 }
 
-/// Takes some bytes, of the middle of a line or of many lines. The bytes before a fault are taken.
+/// Takes some bytes, of the middle of a line or of many lines. A fault is that of the first byte
+/// that cannot be taken; those before it are taken.
 pub fn take_part(
     lines: &mut Lines,
     text: &mut Vec<u8>,

@@ -1,4 +1,4 @@
-//! Times as texts.
+//! Times as texts. Days of the year, months and days of a month count from 1.
 
 ghost use Rattle.std.specs.Prelude.{◌≡◌, ◌<◌, ◌≤◌, ◌^◌, ◌++◌, ◌∷◌, ◌+◌, ◌*◌, decimal, drop, length};
 ghost use Rattle.std.specs.Prelude.{OnOk, IfSome};
@@ -15,7 +15,8 @@ use std::alloc::AllocError;
 /// The most digits of a number of 64 bits.
 const ROOM: usize = 20;
 
-/// The decimal digit of a number, in ASCII, whose unit is 1, 10, 100 and so on.
+/// One decimal digit of a number, in ASCII: that of the ones if `unit` is 1, of the tens if it is
+/// 10, and so on.
 fn digit(unit: u64, number: u64) -> u8
     requires { 0 < unit }
     ensures { result ≡ digit_at unit number }
@@ -79,7 +80,8 @@ fn put_year(text: &mut Vec<u8>, year: Option<u32>) -> Result<(), AllocError>
     }
 }
 
-/// Adds a time with the date of its day, or a hyphen if the year is not known or has no such day.
+/// Adds a time as `YYYY-MM-DDThh:mm:ss.ffffff`, or a hyphen if the year is not known or has no such
+/// day.
 fn put_calendar(text: &mut Vec<u8>, year: Option<u32>, time: &Time) -> Result<(), AllocError>
     requires { IfSome year (λ y. y ≤ 9999) }
     ensures { OnOk result (text.new.items ≡ text.old.items ++ calendar_text year time.now) }
@@ -109,7 +111,7 @@ fn day_seconds(time: &Time) -> u64
     3600 * time.hours as u64 + 60 * time.minutes as u64 + time.micros / 1_000_000
 }
 
-/// Adds a whole number in decimal.
+/// Adds a whole number in decimal. Its digits end where `digits` does, and begin at `start`.
 pub fn put_number(text: &mut Vec<u8>, number: u64) -> Result<(), AllocError>
     ensures { OnOk result (text.new.items ≡ text.old.items ++ decimal number) }
 {
@@ -142,7 +144,8 @@ fn date(month: u32, day: u32) -> [u8; 5]
     ]
 }
 
-/// The time of a day, as `Thh:mm:ss.ffffff`. `micros` counts from the start of the minute.
+/// The time of a day, as `Thh:mm:ss.ffffff`. `micros` counts from the start of the minute, so it
+/// has the seconds, too; they can be 60.
 fn clock(time: &Time) -> [u8; 16]
     ensures { result ≡ clock_text time.now }
 {
@@ -166,7 +169,7 @@ fn clock(time: &Time) -> [u8; 16]
     ]
 }
 
-/// The part of a second that some microseconds have, as `.ffffff`.
+/// The part of a second in some microseconds, as `.ffffff`. Whole seconds in them are left out.
 fn fraction(micros: u64) -> [u8; 7]
     ensures { result ≡ fraction_text micros }
 {

@@ -9,7 +9,8 @@ use std::alloc::{AllocError, Global};
 /// How many bytes of a text go on at a time, at least, but for the last: 64 KiB.
 pub const ENOUGH: usize = 65_536;
 
-/// How many bytes more a block has room for: no part that is added last has more.
+/// How many bytes more a block has room for: no part that is added last, which may go past
+/// `ENOUGH`, has more.
 const LAST: usize = 2048;
 
 /// A block with no bytes. It has room for all parts that are added until it has `ENOUGH` bytes. It

@@ -6,8 +6,8 @@ use crate::text::Text;
 use std::alloc::{AllocError, Global};
 
 /// All bytes of a text that comes in parts. `room` is how many bytes are asked for at first; if
-/// these do not suffice it takes more. `fill` answers whether the text has ended; no number of
-/// bytes is `enough` before. It fails only if memory runs out.
+/// these do not suffice it takes more. `fill` answers whether the text has ended; `usize::MAX`
+/// bytes are never `enough` before. It fails only if memory runs out.
 pub fn whole<T: Text>(alloc: Global, room: usize, text: &mut T) -> Result<Vec<u8>, AllocError>
     ensures { IfOk result (λ all. all.items ≡ T.rest text.old) }
 {

@@ -1,8 +1,8 @@
 //! The command line, read by `clap`. Its matches are what `clap` found in its words. Only memory
 //! can run out for a `Command` or an `Arg`. The options come in this order: `taking`, `reading`,
-//! `placing`, `writing`, `marking`, each of which adds some to those before. A `UsageFault` is
-//! `Words` if `clap` does not accept the words, or they ask for help, and `Value` if an option has
-//! a value that it cannot have.
+//! `placing`, `writing`, `marking`, and each adds some to those before, and `command` adds the
+//! track. A `UsageFault` is `Words` if `clap` does not accept the words, or they ask for help, and
+//! `Value` if an option has a value that it cannot have.
 
 ghost use Rattle.std.specs.Prelude.{◌≡◌, IfErr, IfOk, map, string_bytes};
 ghost use Rattle.clap.specs.Words.{HasMatchesOf, app_of, found_of};
@@ -35,7 +35,7 @@ pub fn chosen<'a>(alloc: Global, words: &'a [String]) -> Result<Chosen<'a>, Usag
     }
 }
 
-/// The values of a command line.
+/// The values of a command line: the words, as `clap` takes them apart.
 fn asked<'a>(alloc: Global, words: &'a [String]) -> Result<Asked<'a>, Error>
     ensures values { IfOk result (Values the_command AreValues
         (map string_bytes words.entry.now)) }
@@ -47,7 +47,7 @@ fn asked<'a>(alloc: Global, words: &'a [String]) -> Result<Asked<'a>, Error>
     }
 }
 
-/// The values of the matches, as they are written.
+/// The values of the matches, each as it was written. `Err` means that memory ran out.
 fn values_of<'a>(matches: &ArgMatches<'a>) -> Result<Asked<'a>, Error>
     ensures values { IfOk result (AreValues (found_of matches.now)) }
     ensures memory { IfErr result WantsMemory }
@@ -85,7 +85,7 @@ fn parse_words<'a>(alloc: Global, words: &'a [String]) -> Result<ArgMatches<'a>,
     matches_of(command(alloc)?, words)
 }
 
-/// The command line of the program.
+/// The command line of the program: all options, and the path of the track.
 pub fn command<'a>(alloc: Global) -> Result<Command<'a>, AllocError>
     ensures { IfOk result (λ c. IsCommand (app_of c)) }
 {
@@ -95,7 +95,7 @@ pub fn command<'a>(alloc: Global) -> Result<Command<'a>, AllocError>
     marking.arg(needed_arg(alloc, "TRACK", "the dump; lines come on standard input"))
 }
 
-/// The command with all options: the last say what the header is, and how a time is written.
+/// The command with the options up to those that say what the header is, and how a time is written.
 fn writing<'a>(alloc: Global) -> Result<Command<'a>, AllocError>
     ensures { IfOk result (λ c. IsWriting (app_of c)) }
 {
@@ -106,7 +106,7 @@ fn writing<'a>(alloc: Global) -> Result<Command<'a>, AllocError>
     placing(alloc)?.arg(header)?.arg(name)?.arg(year)?.arg(form)
 }
 
-/// The command with the options up to those that say which frames are taken, and what is printed.
+/// The command with all options: the last say which frames are taken, and what is printed.
 fn marking<'a>(alloc: Global) -> Result<Command<'a>, AllocError>
     ensures { IfOk result (λ c. IsMarking (app_of c)) }
 {
@@ -167,7 +167,8 @@ fn reading<'a>(alloc: Global) -> Result<Command<'a>, AllocError>
     taking(alloc)?.arg(format)?.arg(expression)
 }
 
-/// The command with the options that say which part of the dump is read.
+/// The command with the options that say which part of the dump is read: its wire, and the window,
+/// `--from` and `--to`, which `windowed` adds.
 fn taking<'a>(alloc: Global) -> Result<Command<'a>, AllocError>
     ensures { IfOk result (λ c. IsTaking (app_of c)) }
 {

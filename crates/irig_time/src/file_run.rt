@@ -71,8 +71,8 @@ fn run_track<'a, R: Read, W: Write>(
     }
 }
 
-/// Prints the table of a recording. The ending says first of all if frames have a time and are not
-/// believed, and then if none is believed.
+/// Prints the table of a recording. The ending is the first of these that holds: frames have a time
+/// and are not believed, some frame is believed, or none is.
 fn list_track<'a, W: Write>(
     alloc: Global,
     chosen: &Chosen<'a>,
@@ -90,8 +90,9 @@ fn list_track<'a, W: Write>(
     }
 }
 
-/// Aligns lines with a recording. The ending says first of all if frames have a time and are not
-/// believed, and then if none is believed; last, whether the column of each line has a number.
+/// Aligns lines with a recording. The ending is the first of these that holds: frames have a time
+/// and are not believed; some frame is believed, and then whether the column of each line has a
+/// number; or none is.
 fn align_track<'a, R: Read, W: Write>(
     alloc: Global,
     chosen: &Chosen<'a>,

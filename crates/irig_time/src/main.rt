@@ -28,7 +28,7 @@ use std::rt::Runtime;
 use std::{env, io};
 
 // Gets the files of the system and the words of the command line; then the lines on the input are
-// aligned. The status is 2 if one of these cannot be had.
+// aligned. The status is 2 if one of these cannot be had: the track was not looked for then.
 fn main(rt: HostRuntime) -> ExitCode {
     let Ok(files) = system_files(&rt) else {
         return program().tell(&rt, 2, &io::Error::from(io::ErrorKind::OutOfMemory));
@@ -43,18 +43,20 @@ fn main(rt: HostRuntime) -> ExitCode {
             &mut io::writer(&rt),
             &mut io::writer(&rt),
         ),
+        // The command is for what `clap` says of a word that is not UTF-8.
         Err(error) => program().tell_no_words(&rt, &error, command(rt.alloc())),
     }
 }
 
-/// The words of the command line, the program's name being the first.
+/// The words of the command line, the program's name being the first. `Err` if one of them is not
+/// UTF-8, the system gives none, or memory runs out.
 fn arguments<R: Runtime + AllocGlobal>(rt: &R) -> io::Result<Vec<String>> {
     let words = env::args(rt)?.collect(rt.alloc())?;
     Ok(words)
 }
 
-/// Aligns lines with the track that the words name, by the files of this system, and reports how
-/// that ended.
+/// Aligns lines with the track that the words name, by the files of this system (`disk`), and
+/// reports how that ended. `out` is the output for the lines, and `help` that for the help.
 fn start<P: Eprint + AllocGlobal, C: FileSystem, R: Read, W: Write, H: Write>(
     rt: &P,
     words: &[String],

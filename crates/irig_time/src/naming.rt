@@ -11,8 +11,9 @@ use crate::asked::Asked;
 use crate::chosen::OptionFault;
 use irig_words::text_or;
 
-/// The name of the column of times, if `comma` parts columns, or white space without it, and the
-/// header has `header` lines. A name that is given needs a header.
+/// The name of the column of times, `time` if none is given. `comma` parts columns, or white space
+/// without it, and the header has `header` lines. `Name` if a column cannot have the name,
+/// `Unnamed` if it is given and there is no header to write it in.
 pub fn name_of<'a>(
     asked: &Asked<'a>,
     comma: Option<u8>,
@@ -34,7 +35,8 @@ pub fn name_of<'a>(
     Ok(name)
 }
 
-/// Whether a column can have a name: it has a byte, and no quote, end of a line or separator.
+/// Whether a column can have a name: it has a byte, and no quote, end of a line or separator, with
+/// which it would not be one name in one column.
 fn is_name(comma: Option<u8>, name: &[u8]) -> bool
     ensures { result ≡ is_name comma name.now }
 {
@@ -45,7 +47,7 @@ fn is_name(comma: Option<u8>, name: &[u8]) -> bool
         && !has_comma(comma, name)
 }
 
-/// Whether a text has something that parts columns.
+/// Whether a text has something that parts columns: `comma`, or without it a space or a tab.
 fn has_comma(comma: Option<u8>, text: &[u8]) -> bool
     ensures { result ≡ has_comma comma text.now }
 {

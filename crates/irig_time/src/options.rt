@@ -1,4 +1,4 @@
-//! What the values of a command line mean.
+//! What the values of a command line mean. An option without a value is `true` if it is given.
 
 ghost use Rattle.std.specs.Prelude.{◌≡◌, IfErr, IfOk};
 ghost use Rattle.irig_time.specs.Chosen.{HasSettings, IsChosen, IsSound, asks_why};
@@ -14,7 +14,8 @@ use irig_codes::Format;
 use irig_stamps::{Form, Settings};
 use irig_words::{format_named, text_or, window_named};
 
-/// What the values of a command line ask for.
+/// What the values of a command line ask for. An error is a fault that they have: a value that its
+/// option cannot have, dates without a year, or the table with an option for lines.
 pub fn chosen_of<'a>(asked: &Asked<'a>) -> Result<Chosen<'a>, OptionFault>
     ensures chosen { IfOk result (IsChosen asked.now) }
     ensures sound { IfOk result (λ c. IsSound c.settings) }
@@ -46,21 +47,21 @@ pub fn chosen_of<'a>(asked: &Asked<'a>) -> Result<Chosen<'a>, OptionFault>
     })
 }
 
-/// Whether the table is asked for.
+/// Whether the table is asked for: `--table`.
 fn wants_table(asked: &Asked<'_>) -> bool
     ensures { result ≡ wants_table asked.now }
 {
     is_text(text_or(asked.table, "false"), b"true")
 }
 
-/// Whether each fine frame is believed.
+/// Whether each fine frame is believed, also if no other one supports it: `--alone`.
 fn stands_alone(asked: &Asked<'_>) -> bool
     ensures { result ≡ stands_alone asked.now }
 {
     is_text(text_or(asked.alone, "false"), b"true")
 }
 
-/// Whether a word says why a line has no time.
+/// Whether a word is to say why a line has no time: `--why`.
 fn asks_why(asked: &Asked<'_>) -> bool
     ensures { result ≡ asks_why asked.now }
 {
@@ -68,7 +69,7 @@ fn asks_why(asked: &Asked<'_>) -> bool
 }
 
 /// Whether an option is given that says how lines are read or printed, so that the table cannot be
-/// asked for.
+/// asked for. `--comma` is none: it parts the columns of the table, too.
 fn tells_of_lines(asked: &Asked<'_>) -> bool
     ensures { result ≡ tells_of_lines asked.now }
 {
@@ -80,7 +81,7 @@ fn tells_of_lines(asked: &Asked<'_>) -> bool
         || asks_why(asked)
 }
 
-/// How lines are read and stamped.
+/// How lines are read and stamped. The first day is found in the track later, so it is 0 here.
 fn settings_of<'a>(asked: &Asked<'a>) -> Result<Settings<'a>, OptionFault>
     ensures settings { IfOk result (HasSettings asked.now) }
     ensures sound { IfOk result IsSound }
@@ -109,8 +110,8 @@ fn settings_of<'a>(asked: &Asked<'a>) -> Result<Settings<'a>, OptionFault>
     })
 }
 
-/// Whether a date is asked for that nothing gives a year: the expressions from 4 on carry one in
-/// each frame.
+/// Whether dates are asked for and nothing gives them a year: no option does, and the expressions
+/// below 4 carry none in their frames.
 fn lacks_year(format: Format, settings: &Settings<'_>) -> bool
     ensures { result ≡ lacks_year format settings.now }
 {

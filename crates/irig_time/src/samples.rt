@@ -1,4 +1,5 @@
-//! How the lines of the samples are read, and how a time is written.
+//! How the lines that a recorder wrote, its samples, are read, and how a time is written: by the
+//! values of the options.
 
 ghost use Rattle.std.specs.Prelude.{◌≡◌, ◌≤◌, ◌<◌, ◌^◌, IfErr, IfOk, IfSome, Some, codes, true};
 ghost use Rattle.irig_time.specs.Faults.{HasFault};
@@ -14,16 +15,16 @@ use crate::values::{comma_named, form_named, offset_named, places_named, whole_b
 use irig_stamps::{Form, Picos, whole};
 use irig_words::text_or;
 
-/// The last column.
+/// The last column that a number can name, from 1: this project's own limit.
 const COLUMN_LIMIT: u128 = 65_536;
 
-/// The most lines that are handed through: 2^32.
+/// The most lines that a header can have: 2^32. This project's own limit.
 const HEADER_LIMIT: u128 = 4_294_967_296;
 
-/// The century, if no year is given.
+/// The century of years of two digits, if no year is given: 2000 to 2099.
 const CENTURY: u32 = 20;
 
-/// The last year.
+/// The last year: a track can reach into the next one, which has four digits, too.
 const YEAR_LIMIT: u128 = 9_998;
 
 /// Where the recorder's time is in a line.
@@ -49,6 +50,7 @@ pub struct Column<'a> {
 }
 
 /// Where the recorder's time is in a line: its unit, its offset, its column and what parts columns.
+/// Without the options: microseconds, no offset, column 1 and white space.
 pub fn columns_of<'a>(asked: &Asked<'a>) -> Result<Columns<'a>, OptionFault>
     ensures columns { IfOk result (λ c. HasColumns asked.now c.places c.offset c.column c.comma) }
     ensures sound { IfOk result (λ c. c.offset.size ≤ 2 ^ 119) }
@@ -75,7 +77,7 @@ pub fn columns_of<'a>(asked: &Asked<'a>) -> Result<Columns<'a>, OptionFault>
 }
 
 /// The column that is asked for: a number from 1, which becomes one from 0, or a name if it is no
-/// number. `Column` if it is neither, or too great.
+/// number. `Column` if it is a number out of range, or has no byte.
 fn column_of<'a>(asked: &Asked<'a>) -> Result<Column<'a>, OptionFault>
     ensures column { IfOk result (IsColumn asked.now) }
     ensures named { IfOk result (λ c. IfSome c.named (λ n. names_column asked.now ≡ true)) }
@@ -105,8 +107,9 @@ fn is_column_name(text: &[u8]) -> bool
     !text.is_empty() && whole(text).is_none()
 }
 
-/// How many lines are the header: 0 if that is not given. A column that is given by its name
-/// (`named`) needs one.
+/// How many lines are the header: 0 if that is not given. `Header` if it is no such number;
+/// `Headless` if it is 0 and a column is given by its name (`named`), which is looked for in the
+/// header.
 pub fn header_of(asked: &Asked<'_>, named: Option<&[u8]>) -> Result<u64, OptionFault>
     requires { IfSome named (λ n. names_column asked.now ≡ true) }
     ensures header { IfOk result (λ header.
@@ -152,8 +155,8 @@ pub struct Dates {
     pub form: Form,
 }
 
-/// How a time is written. The century is that of the year, if one is given, else 20, of 2000 to
-/// 2099.
+/// How a time is written. The century is that of the year, if one is given, else 20, for 2000 to
+/// 2099. `Form` if there is no such form, `Year` if it is no year from 1 to 9998.
 pub fn dates_of(asked: &Asked<'_>) -> Result<Dates, OptionFault>
     ensures dates { IfOk result (λ d. HasDates asked.now d.century d.year d.form) }
     ensures sound { IfOk result (λ d. (d.century ≤ 99) × IfSome d.year (λ y. y ≤ 9998)) }

@@ -34,7 +34,8 @@ pub fn report<R: Eprint, H: Write>(rt: &R, ending: &Ending<'_>, help: &mut H) ->
     }
 }
 
-/// Says how many frames of a track are not believed. The status is 1.
+/// Says how many frames of the track at this path have a time and are not believed. The status is
+/// 1.
 fn tell_doubted<R: Eprint>(rt: &R, path: &str, count: usize) -> ExitCode
     ensures { exit_status result ≡ 1 }
 {

@@ -9,10 +9,11 @@ ghost use Rattle.irig_time.specs.Values.{prefix_places, whole_between, within};
 
 use irig_stamps::{Form, Picos, number, whole};
 
-/// The greatest offset: 2^119 picoseconds.
+/// The greatest offset, before zero and after it: 2^119 picoseconds. Its sum with a recorder's time
+/// of at most 2^120 fits 128 bits.
 const LATEST: u128 = 664_613_997_892_457_936_451_903_530_140_172_288;
 
-/// The whole number that a text is, if it is one from the first to the last.
+/// The whole number that a text is, if it is one from `first` to `last`, both included.
 pub fn whole_between(first: u128, last: u128, text: &[u8]) -> Option<u128>
     requires { last < 2 ^ 120 }
     ensures value { result ≡ whole_between first last text.now }
@@ -24,7 +25,7 @@ pub fn whole_between(first: u128, last: u128, text: &[u8]) -> Option<u128>
     }
 }
 
-/// A number, if it is one from the first to the last.
+/// A number, if it is one from `first` to `last`, both included.
 fn within(first: u128, last: u128, number: u128) -> Option<u128>
     ensures value { result ≡ within first last (Some number) }
     ensures range { IfSome result (λ v. (first ≤ v) × (v ≤ last)) }
@@ -72,7 +73,7 @@ pub fn offset_named(places: usize, text: &[u8]) -> Option<Picos>
     }
 }
 
-/// A time, if it is no further than 2^119 picoseconds from zero.
+/// A time, if it is no further than 2^119 picoseconds from zero, before it or after it.
 fn near(picos: Picos) -> Option<Picos>
     ensures value { result ≡ near (Some picos) }
     ensures range { IfSome result (λ v. v.size ≤ 2 ^ 119) }
@@ -84,7 +85,7 @@ fn near(picos: Picos) -> Option<Picos>
     }
 }
 
-/// The byte that can part columns, if the text is just one.
+/// The byte that parts columns, if the text is just one byte, and this can part them.
 pub fn comma_named(text: &[u8]) -> Option<u8>
     ensures { result ≡ comma_named text.now }
 {

@@ -1,9 +1,10 @@
 //! The pulses between two frames that have a time. A part is pulses in a row, as elements of one
-//! frame whose time is known. Pulses and elements count from 0. `from` and `to` are two believed
-//! frames, `to` the next after `from` of those that have a time; `missing` is what frames have to
-//! be between them by their times. A pair of parts is the pulses counted on from `from` and those
-//! counted back from `to`. A frame is believed if another one near it supports its time. Pulses are
-//! in step if each rises one interval after the one before.
+//! frame whose time is known; it may have no pulse. Pulses and elements count from 0. `from` and
+//! `to` are two believed frames, `to` the next after `from` of those that have a time; `missing` is
+//! what frames have to be between them by their times. A pair of parts is the pulses counted on
+//! from `from` and those counted back from `to`, each side at most a frame, which is 100 pulses. A
+//! frame is believed if another one near it supports its time. Pulses are in step if each rises one
+//! interval after the one before.
 
 ghost use Rattle.std.specs.Prelude.{◌≡◌, ◌≤◌, ◌<◌, ◌+◌, ◌-◌, ◌^◌, IfSome, min, slice_get};
 ghost use Rattle.irig_codes.specs.Format.{frame_period_of};
@@ -58,8 +59,9 @@ pub fn gap(from: &Part, to: &Part) -> usize
 
 /// The pulses that are counted between two parts, on from the first and back from the second;
 /// `None` if a pulse would be of both. `after` pulses follow the first in step, and `before` ones
-/// lead to the second; `in_step` says whether these meet in step. If just one frame of 100 pulses
-/// is missing, and both counts reach over all of it, all of them go on from the first.
+/// lead to the second; `in_step` says whether these meet in step. If just one frame is missing,
+/// there are 100 pulses, and the two counts overlap, then all are in step: all of them go on from
+/// the first.
 fn sides(
     from: &Part,
     to: &Part,
@@ -86,7 +88,7 @@ fn sides(
 }
 
 /// The parts of the first `head` pulses after a part and the last `tail` before another, or none if
-/// a pulse would be of both. If the two sides meet out of step, one pulse has no time.
+/// a pulse would be of both. If the two sides meet out of step, one pulse there has no time.
 fn sides_by(
     from: &Part,
     to: &Part,
@@ -112,7 +114,9 @@ fn sides_by(
 }
 
 /// Whether two sides that do not meet in step are together all pulses of one or two missing frames:
-/// the recorder slipped where they meet, so the time must not go on there.
+/// the recorder slipped where they meet, as it lost or added some time, so the time must not go on
+/// there. With any other number of pulses the elements of the two sides do not follow each other
+/// anyway.
 fn is_seam(in_step: bool, gap: usize, head: usize, tail: usize) -> bool
     requires { (head ≤ 100) × (tail ≤ 100) }
     ensures { result ≡ is_seam in_step gap head tail }
@@ -120,7 +124,8 @@ fn is_seam(in_step: bool, gap: usize, head: usize, tail: usize) -> bool
     !in_step && head + tail == gap && (gap == 100 || gap == 200)
 }
 
-/// How many pulses of the first side have a time: its last one has none at a slip.
+/// How many pulses of the first side have a time: at a slip (`seam`) its last one has none. A pulse
+/// gives its time to both intervals next to it or to none, and over the slip none goes on.
 fn head_left(seam: bool, head: usize) -> usize
     ensures left { result ≡ head_left seam head }
     ensures few { result ≤ head }
@@ -128,8 +133,8 @@ fn head_left(seam: bool, head: usize) -> usize
     if seam { head.saturating_sub(1) } else { head }
 }
 
-/// How many pulses of the second side have a time: its first one has none at a slip, if the first
-/// side has no pulse.
+/// How many pulses of the second side have a time: at a slip its first one has none, if the first
+/// side has no pulse that could be left out.
 fn tail_left(seam: bool, head: usize, tail: usize) -> usize
     ensures left { result ≡ tail_left seam head tail }
     ensures few { result ≤ tail }
@@ -142,7 +147,8 @@ fn tail_left(seam: bool, head: usize, tail: usize) -> usize
 }
 
 /// Of the `count` elements that one side reaches, how many the other side, which reaches `other`,
-/// does not reach too, if both are of one frame (`is_one`); else all.
+/// does not reach too, if both are of one frame (`is_one`); else all. An element that both reach
+/// would be two different pulses, so neither side keeps it.
 fn kept(is_one: bool, count: usize, other: usize) -> usize
     requires { other ≤ 100 }
     ensures kept { result ≡ kept is_one count other }
@@ -155,9 +161,9 @@ fn kept(is_one: bool, count: usize, other: usize) -> usize
     }
 }
 
-/// The frames that are missing between two, whose times must be as many periods apart as their
-/// markers, to the nearest period; else `None`, and if none is missing or a marker is not there.
-/// `century` is 20 for 2000 to 2099.
+/// The frames that are missing between two. The times of the two must be as many periods apart as
+/// their markers, to the nearest period. `None` if they are not, if no frame is missing, or if a
+/// marker is not there. `century` is 20 for 2000 to 2099.
 pub fn missing_by(
     pulses: &mut Lens<'_>,
     format: Format,
@@ -187,7 +193,8 @@ pub fn missing_by(
 }
 
 /// The parts between two, if `after` pulses after the first are in step and `before` ones before
-/// the second. `None` if a pulse would be of both.
+/// the second: the two meet in step if the next pulse after the kept ones of the first is. `None`
+/// if a pulse would be of both.
 pub fn sides_at(
     pulses: &mut Lens<'_>,
     format: Format,
@@ -216,8 +223,9 @@ pub fn min(one: usize, other: usize) -> usize
     if one <= other { one } else { other }
 }
 
-/// What is counted between a frame and the one before it (`from`): `None` if one of them is not
-/// believed, which is a part without pulses. Without a frame before it, what is counted before it.
+/// What is counted between a frame (`to`) and the one before it (`from`), or before `to` if it is
+/// the first. `None` if one of them is not believed, which is a part without pulses, or if nothing
+/// can be counted there.
 pub fn sides_before(
     pulses: &mut Lens<'_>,
     format: Format,

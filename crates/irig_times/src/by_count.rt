@@ -1,4 +1,6 @@
-//! The time of a microsecond by the pulses whose time is known. Pulses and elements count from 0.
+//! The time of a microsecond by the pulses whose time is known. Pulses and elements count from 0. A
+//! part is pulses in a row, as elements of one frame whose time is known. `place_of` gives the
+//! element of a pulse and its frame's time, or `None` if the pulse is of no part.
 
 ghost use Rattle.std.specs.Prelude.{◌≡◌, ◌↔◌, ◌<◌, ◌≤◌, ◌+◌, ◌*◌, ◌^◌, ℕ, IsTrue, length, Some};
 ghost use Rattle.irig_track.specs.Looks.{LookedThrough};
@@ -16,7 +18,8 @@ use irig_track::Lens;
 const PICOS: u64 = 1_000_000;
 
 /// The time of year some picoseconds after the start of a track. `None` unless the pulse before it
-/// and the next one have times, one interval apart: between them the time goes evenly.
+/// and the next one have times, one interval apart: between them the time goes evenly. `find` says
+/// how many pulses have risen by a microsecond, so the last of them has one number less.
 ///
 /// The years of two digits are of this century: 20 for 2000 to 2099.
 pub fn time_by(
@@ -46,12 +49,14 @@ pub fn time_by(
         return None;
     }
     let from = pulses.pulse(number).rise;
+    // The next pulse is there: `goes_on` found its place.
     let to = pulses.pulse(number + 1).rise;
     Some(shared(format, &place, picos - PICOS * from, to - from))
 }
 
 /// Whether the pulse after the one of a number, which is `place` in its frame, has the time one
-/// interval later: as the next element, or as the first of a frame one period later.
+/// interval later: as the next element, or as the first of a frame one period later. False if it
+/// has no time.
 fn goes_on(parts: &[Part], format: Format, century: u32, number: usize, place: &Place) -> bool
     requires parts { (n : ℕ) × AreParts format 0 n parts.now }
     requires century { century ≤ 99 }
@@ -86,7 +91,9 @@ fn shared(format: Format, place: &Place, part: u64, whole: u64) -> Time
 }
 
 /// How many microseconds of a nominal interval are over, if `micros` microseconds and `picos`
-/// picoseconds of the recorded one are, which is `whole` microseconds long. Rounded down.
+/// picoseconds of the recorded one are, which is `whole` microseconds long. Rounded down. The two
+/// are multiplied apart, as one product in picoseconds could overflow. What the inner division
+/// drops is less than 1, so it does not change the result, which is rounded down too.
 fn share(interval: u64, micros: u64, picos: u64, whole: u64) -> u64
     requires interval { interval ≤ 100000 }
     requires picos { picos < 1000000 }
@@ -97,7 +104,8 @@ fn share(interval: u64, micros: u64, picos: u64, whole: u64) -> u64
     (micros * interval + picos * interval / PICOS) / whole
 }
 
-/// The time `micros` microseconds after another. Nothing is carried: it is in the same minute.
+/// The time `micros` microseconds after another, that of a frame. Nothing is carried: a frame ends
+/// with its minute at the latest.
 fn later_by(time: &Time, micros: u64) -> Time
     requires small { micros < 2 ^ 53 }
     requires minute { time.now.micros < 2 ^ 53 }

@@ -1,9 +1,10 @@
 //! All pulses of a track that have a time. A part is pulses in a row, as elements of one frame
 //! whose time is known. A frame that has a time and is not believed is a part without pulses. A
 //! frame is believed if another one near it supports its time. Pulses next to it are counted if
-//! they are in step with it: as elements of the frame before it or after it. A pair of parts is
-//! what is counted on from a frame and what is counted back from the next. `century` is that of
-//! years of two digits: 20 for 2000 to 2099.
+//! they are in step with it: as elements of the frame before it or after it. A pair of parts
+//! (`sides`) is what is counted on from a frame and what is counted back from the next. The time
+//! jumps between two frames if a clock was set there. `century` is that of years of two digits: 20
+//! for 2000 to 2099. An error says that memory ran out.
 
 ghost use Rattle.std.specs.Prelude.{[], ◌≡◌, ◌≤◌, ◌<◌, ◌++◌, ◌∷◌, IfOk, None, OnOk, Some, length};
 ghost use Rattle.irig_index.specs.Frames.{frames};
@@ -46,8 +47,8 @@ pub fn timed_parts(
     counted_parts(alloc, pulses, &whole, format, century)
 }
 
-/// The pulses of the frames that are believed, and those that are counted next to them. `whole` is
-/// all frames that have a time.
+/// The pulses of the frames that are believed, and those that are counted next to them, before each
+/// frame and after the last. `whole` is all frames that have a time.
 fn counted_parts(
     alloc: Global,
     pulses: &mut Lens<'_>,
@@ -87,9 +88,10 @@ fn part_at(parts: &[Part], place: usize) -> Option<Part>
     }
 }
 
-/// Adds to a list what is counted before a frame, and what the frame keeps of its own pulses: only
-/// a part of them if the time jumps before it or after it. `before` and `next` are the frames
-/// before it and after it.
+/// Adds to a list what is counted before a frame (`part`), and what the frame keeps of its own
+/// pulses: if the time jumps before it, those after the elements of its time; if the time jumps
+/// after it, only its marker; if both, none. `before` and `next` are the frames before and after
+/// it.
 fn put_frame(
     list: &mut Vec<Part>,
     pulses: &mut Lens<'_>,
@@ -119,8 +121,8 @@ fn put_frame(
     Ok(())
 }
 
-/// What is counted before a frame (`part`); nothing if the time jumps there. `before` is the frame
-/// before it.
+/// What is counted before a frame (`part`); `None` if the time `jumps` there, or if nothing can be
+/// counted. `before` is the frame before it.
 fn sides_without(
     pulses: &mut Lens<'_>,
     format: Format,

@@ -1,6 +1,8 @@
-//! The pulses at the two ends of a track that have a time. A pulse says an element by its width.
-//! Pulses and elements count from 0. `wanted` is the elements that a frame should have. A frame is
-//! believed if another one near it supports its time; one that is not is a part without pulses.
+//! The pulses at the two ends of a track that have a time. A pulse says an element by its width:
+//! its class is 0, 1 or a position identifier, or none. Pulses and elements count from 0. `wanted`
+//! is the elements that a frame should have. A frame is believed if another one near it supports
+//! its time; one that is not is a part without pulses. At each end a hundred pulses in step are
+//! counted at most, which is a frame: further on a slip of one interval would go unseen.
 
 ghost use Rattle.std.specs.Prelude.{◌≡◌, ◌≤◌, ◌<◌, ◌+◌, ◌-◌, ◌^◌, IfSome, length, min, slice_get};
 ghost use Rattle.irig_codes.specs.Format.{frame_period_of};
@@ -44,7 +46,8 @@ fn part(there: bool, value: u32) -> Option<u32>
 }
 
 /// How many elements, from the first on, carry the day, the hour, the minute, the second and its
-/// tenths and hundredths.
+/// tenths and hundredths, as the standard places them. The last one is 41 (days) in B and E, 48
+/// (tenths) in A, and 53 (hundredths) in G. The year comes after them.
 pub fn time_elements(format: Format) -> usize
     ensures { result ≡ time_elements format.kind }
 {
@@ -56,7 +59,7 @@ pub fn time_elements(format: Format) -> usize
     }
 }
 
-/// Whether a class is there and not the one that is wanted.
+/// Whether a class is there and not the one that is wanted. A width of no class says nothing.
 fn is_other(class: Option<Element>, wanted: Element) -> bool
     ensures { result ≡ is_other class wanted }
 {
@@ -82,7 +85,8 @@ pub fn is_identifier(element: Element) -> bool
 }
 
 /// Whether the pulse of a number is as wide as another element than the wanted one. Only the
-/// elements of the time and position identifiers are compared; a width of no element says nothing.
+/// elements of the time and position identifiers are compared, as nobody knows what control
+/// functions a frame has. A pulse that is not there, or has a width of no element, says nothing.
 pub fn contradicts(
     pulses: &mut Lens<'_>,
     format: Format,
@@ -135,7 +139,7 @@ fn contradictions(
     count
 }
 
-/// One more, if it is so.
+/// The count, and one more if `is_so`.
 fn more(count: usize, is_so: bool) -> usize
     requires { count < 2 ^ 32 }
     ensures { result ≡ (if is_so then count + 1 else count) }
@@ -157,8 +161,10 @@ pub fn telling(pulses: &Lens<'_>, part: &Part) -> usize
     }
 }
 
-/// Whether a part can have its time: a frame of that time is there, ends with its minute, and no
-/// pulse of the part that can say another time contradicts it.
+/// Whether a part can have its time: a frame of that time ends with its minute at the latest
+/// (`is_whole`), the format can carry that time (`fits`), and no pulse of the part that can say
+/// another time contradicts it. One that does is enough: a clock that is set by an hour changes no
+/// more.
 fn is_borne_out(pulses: &mut Lens<'_>, format: Format, part: &Part) -> bool
     requires few { part.now.element + part.now.count ≤ 100 }
     requires small { (part.now.number < 2 ^ 32) × (part.now.time.micros < 2 ^ 60) }
@@ -193,9 +199,10 @@ fn alone(pulses: &mut Lens<'_>, format: Format, part: Part) -> Option<(Part, Par
     }
 }
 
-/// The pulses after the last frame that have a time, up to a hundred in step, as the frame one
-/// period later. `None` if the last frame is not there, not believed or ends the day, or a pulse
-/// says another time.
+/// The pulses after the last frame that have a time, up to a hundred in step (`ahead`), as the
+/// frame one period later. `None` if the last frame is not there, not believed, ends the day or
+/// shows a second 60 (`next_time`: nothing is counted over midnight or after that), or they cannot
+/// have that time (`is_borne_out`).
 pub fn end_after(pulses: &mut Lens<'_>, format: Format, from: Option<Part>) -> Option<(Part, Part)>
     requires { IfSome from (λ a. (a.time.micros < 2 ^ 59) × (a.number + a.count < 2 ^ 30)) }
     ensures end { result ≡ end_after format pulses.old.track.pulses from }
@@ -215,9 +222,10 @@ pub fn end_after(pulses: &mut Lens<'_>, format: Format, from: Option<Part>) -> O
     alone(pulses, format, head_of(&from, count, time))
 }
 
-/// The pulses before the first frame that have a time, up to a hundred in step, as the frame one
-/// period earlier. `None` if the first frame is not believed or begins the day, or a pulse says
-/// another time.
+/// The pulses before the first frame that have a time, up to a hundred in step (`behind`), as the
+/// frame one period earlier. `None` if the first frame is not believed or begins the day
+/// (`time_before`: nothing is counted over midnight), or they cannot have that time
+/// (`is_borne_out`).
 pub fn end_before(pulses: &mut Lens<'_>, format: Format, to: &Part) -> Option<(Part, Part)>
     requires { (to.now.time.micros < 2 ^ 59) × (to.now.number < 2 ^ 30) }
     ensures end { result ≡ end_before format pulses.old.track.pulses to.now }

@@ -62,7 +62,8 @@ pub fn same_time(a: &Time, b: &Time) -> bool
 }
 
 /// Whether the second time is on the day after that of the first, if the first one's year has
-/// `count` days.
+/// `count` days: 1 January comes after the last. A first time after the last day of its year has no
+/// day after it.
 fn is_day_after(count: u32, a: &Time, b: &Time) -> bool
     ensures { result ≡ is_day_after count a.now b.now }
 {
@@ -118,7 +119,8 @@ fn minute_follows(century: u32, a: &Time, b: &Time) -> bool
 }
 
 /// Whether the second time is a frame period later, if the first is in a minute of this length in
-/// microseconds.
+/// microseconds: in the same minute, or in the next one if the period leads past the end. False if
+/// the first time is past that minute.
 fn is_later_in(length: u64, century: u32, period: u64, a: &Time, b: &Time) -> bool
     requires century { century ≤ 99 }
     requires small { (length < 2 ^ 32) × (period < 2 ^ 32) }
@@ -136,7 +138,8 @@ fn is_later_in(length: u64, century: u32, period: u64, a: &Time, b: &Time) -> bo
     }
 }
 
-/// Whether the second time is one frame period after the first, in a minute of 60 seconds or of 61.
+/// Whether the second time is one frame period after the first, in a minute of 60 seconds or of 61:
+/// each minute may have a second 60, since the time zone is not known.
 pub fn is_later(century: u32, period: u64, a: &Time, b: &Time) -> bool
     requires century { century ≤ 99 }
     requires small { period < 2 ^ 32 }

@@ -1,4 +1,5 @@
-//! An index that counts the looks at its records.
+//! An index that counts the looks at its records. A record is a frame of the track, and its marker
+//! is the number of its first pulse, from 0. Records are in the order of their markers.
 
 ghost use Rattle.std.specs.Prelude.{◌≡◌, ◌<◌, ◌≤◌, ◌^◌, ℕ, length, slice_get, Some};
 ghost use Rattle.irig_track.specs.Looks.{counted};
@@ -55,8 +56,9 @@ impl<'a> FrameLens<'a> {
         self.index.record(k)
     }
 
-    /// How many records are of markers up to the pulse `number`, from 0. It makes at most as many
-    /// looks as the number of the records has binary digits.
+    /// How many records have a marker that is the pulse `number`, from 0, or one before it. It
+    /// halves the records that are left at each look, so it makes at most as many looks as the
+    /// number of the records has binary digits.
     pub fn find(&mut self, number: usize) -> usize
         requires { MarkersRise self.old.records }
         ensures parted { PartedAt self.old.records number result }

@@ -1,6 +1,8 @@
 //! Which frames are on an island: wrong alike, between frames that agree. Two frames agree if they
 //! are near enough for their distance to say how many periods it is, and their times are as many
-//! apart. A shore is a frame next to the island that does not agree with it.
+//! apart. A shore is a frame next to the island that does not agree with it. `Three` is the nearest
+//! frame on one side, or a farther one, and the two next to it that are farther still; `None` if
+//! there is no such frame.
 
 ghost use Rattle.std.specs.Prelude.{◌≡◌, ◌&&◌, List};
 ghost use Rattle.irig_safety.specs.declared.shown.Shown.{Shown};
@@ -15,7 +17,8 @@ use irig_safety::{Shown, agrees};
 /// Whether a frame is on an island: there are two shores, one before it and one after it, that
 /// agree with each other, and at most three frames are between them. `before` and `after` are the
 /// five nearest frames on each side. `near`, `next` and `far` give three of these, from the first,
-/// the second and the third on.
+/// the second and the third on: so one line below is for an island of this frame alone, two for one
+/// of two frames, and three for one of three. A longer run that is wrong alike is rare.
 pub fn is_on_island(format: Format, before: &Nearest, frame: &Shown, after: &Nearest) -> bool
     ensures { (left : List Shown) (right : List Shown) → before.now ≡ nearest left
         → after.now ≡ nearest right → result ≡ is_on_island format left frame.now right }
@@ -29,7 +32,7 @@ pub fn is_on_island(format: Format, before: &Nearest, frame: &Shown, after: &Nea
 }
 
 /// Whether the first of three frames before a frame and the first of three after it are shores, and
-/// agree.
+/// agree. The first is the nearest; the others can support it.
 fn is_between(format: Format, before: Three, frame: &Shown, after: Three) -> bool
     ensures { result ≡ (is_shore_before format before.2 before.1 before.0 frame.now
         && (is_shore_after format frame.now after.0 after.1 after.2
@@ -40,8 +43,9 @@ fn is_between(format: Format, before: Three, frame: &Shown, after: Three) -> boo
         && agree(format, before.0, after.0)
 }
 
-/// Whether the first of three frames before a frame is there and does not agree with it, and the
-/// second or the third of them agrees with the first, or the second is not there.
+/// Whether the first of three frames before a frame is a shore: it is there and does not agree with
+/// the frame. Also, the second or the third has to agree with the first, so that no single wrong
+/// frame is a shore. If there is no second, and so no third, that is not asked for.
 pub fn is_shore_before(format: Format, before: Three, frame: &Shown) -> bool
     ensures { result ≡ is_shore_before format before.2 before.1 before.0 frame.now }
 {

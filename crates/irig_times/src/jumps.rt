@@ -24,7 +24,7 @@ use irig_track::Lens;
 /// The pulses of a frame.
 const FRAME_PULSES: usize = 100;
 
-/// Whether each pulse after a frame, up to the marker of another, is in step.
+/// Whether each pulse after a frame, up to the marker of another and with it, is in step.
 fn are_joined(pulses: &mut Lens<'_>, format: Format, from: &Part, to: &Part) -> bool
     requires order { from.now.number + from.now.count ≤ to.now.number }
     requires small { to.now.number < 2 ^ 30 }
@@ -35,7 +35,8 @@ fn are_joined(pulses: &mut Lens<'_>, format: Format, from: &Part, to: &Part) -> 
     all_follow(pulses, format, from.number + FRAME_PULSES, many + 1)
 }
 
-/// How many pulses are between two frames, believed or not.
+/// How many pulses are between two frames. A frame has its hundred pulses here, believed or not. 0
+/// if they overlap.
 fn pulses_between(from: &Part, to: &Part) -> usize
     requires small { from.now.number < 2 ^ 30 }
     ensures { result ≡ pulses_between from.now to.now }
@@ -43,8 +44,9 @@ fn pulses_between(from: &Part, to: &Part) -> usize
     to.number.saturating_sub(from.number + FRAME_PULSES)
 }
 
-/// Whether no time is lost by the count of pulses: whole hundreds of them are between two frames,
-/// and the second time is as many periods later.
+/// Whether the time runs on by the count of pulses: between two frames are whole hundreds of them,
+/// which are whole frames, and the second time is as many periods later. If there are none, it is
+/// one period later. False for three periods or more over midnight (`missing_in`).
 fn runs_on(format: Format, century: u32, from: &Part, to: &Part) -> bool
     requires century { century ≤ 99 }
     requires times { (from.now.time.micros < 2 ^ 59) × (to.now.time.micros < 2 ^ 59) }
@@ -66,7 +68,7 @@ fn runs_on(format: Format, century: u32, from: &Part, to: &Part) -> bool
 
 /// Whether the time jumps between two frames, one the next after the other of those that have a
 /// time: pulses are all in step and the times do not fit their count, or markers are whole periods
-/// apart and the times are not as many.
+/// apart and the times are not as many (`slips`).
 fn is_jump(pulses: &mut Lens<'_>, format: Format, century: u32, from: &Part, to: &Part) -> bool
     requires century { century ≤ 99 }
     requires times { (from.now.time.micros < 2 ^ 59) × (to.now.time.micros < 2 ^ 59) }
@@ -95,8 +97,8 @@ fn is_whole_apart(period: u64, interval: u64, distance: u64) -> bool
     2 * rest <= interval || 2 * (period - rest) <= interval
 }
 
-/// Whether two times can be those of frames that are `count` periods apart. More than two are not
-/// counted over midnight, so then any times can be.
+/// Whether two times can be those of frames that are `count` periods apart. Three and more are not
+/// counted over midnight, so then any times can be. `middle` is the time of the one frame between.
 pub fn are_apart(century: u32, period: u64, count: u64, from: &Time, to: &Time) -> bool
     requires century { century ≤ 99 }
     requires small { (period < 2 ^ 25) × (count < 2 ^ 42 + 2) }
@@ -151,8 +153,8 @@ fn slips_by(format: Format, century: u32, from: &Time, to: &Time, first: Pulse, 
     !are_apart(century, period, count, from, to)
 }
 
-/// Whether the last frame is believed, a time follows it on its day, and pulses after it say
-/// another time.
+/// Whether the last frame (`from`) is believed, a time follows it on its day, and yet nothing is
+/// counted after it: pulses there say another time.
 fn is_denied_after(pulses: &mut Lens<'_>, format: Format, from: &Part) -> bool
     requires small { (from.now.time.micros < 2 ^ 59) × (from.now.number + from.now.count < 2 ^ 30) }
     ensures denied { result ≡ is_denied_after format pulses.old.track.pulses from.now }
@@ -163,8 +165,8 @@ fn is_denied_after(pulses: &mut Lens<'_>, format: Format, from: &Part) -> bool
         && end_after(pulses, format, Some(*from)).is_none()
 }
 
-/// Whether the first frame is believed, a time is before it on its day, and pulses before it say
-/// another time.
+/// Whether the first frame (`to`) is believed, a time is before it on its day, and yet nothing is
+/// counted before it: pulses there say another time.
 fn is_denied_before(pulses: &mut Lens<'_>, format: Format, to: &Part) -> bool
     requires small { (to.now.time.micros < 2 ^ 59) × (to.now.number < 2 ^ 30) }
     ensures denied { result ≡ is_denied_before format pulses.old.track.pulses to.now }
@@ -215,7 +217,8 @@ pub fn before_jump(jumps: bool, part: Part) -> Part
 }
 
 /// A frame, if the time `jumps` before it: of its pulses those after the elements of its time keep
-/// it, since the time was surely right from there on. Else as it is.
+/// it, since the time was surely right from there on. Else as it is. A frame of fewer pulses keeps
+/// none.
 pub fn after_jump(format: Format, jumps: bool, part: Part) -> Part
     requires small { (part.number < 2 ^ 32) × (part.element < 2 ^ 32) }
     ensures { result ≡ after_jump format.kind jumps part }

@@ -1,5 +1,6 @@
-//! The times of frames that are missing between two others. Periods are in microseconds. `None` if
-//! no frames can be missing there by these times. `century` is 20 for 2000 to 2099.
+//! The times of frames that are missing between two others. Periods are in microseconds, and so are
+//! the times of rises. `None` if no frames can be missing there by these times. `century` is 20 for
+//! 2000 to 2099.
 
 ghost use Rattle.std.specs.Prelude.{IfSome, ◌≡◌, ◌≤◌, ◌+◌, ◌*◌, ◌^◌, ◌<◌};
 ghost use Rattle.irig_times.specs.Between.{at_micros, at_minute, day_micros, is_middle, is_whole};
@@ -46,15 +47,15 @@ fn at_minute(time: &Time, hours: u32, minutes: u32, micros: u64) -> Time
     }
 }
 
-/// The microseconds of a minute: the last of an hour can have a leap second, so it has 61 seconds
-/// here.
+/// The microseconds of a minute: the last of an hour can have a leap second, in one time zone or
+/// another, so it has 61 seconds here.
 fn minute_end(minutes: u32) -> u64
     ensures { result ≡ minute_end minutes }
 {
     if minutes == 59 { LONG_MINUTE } else { MINUTE }
 }
 
-/// Whether a frame of a time ends in its minute, or with it.
+/// Whether a frame of a time ends in its minute, or with it; `period` is how long it lasts.
 pub fn is_whole(period: u64, time: &Time) -> bool
     requires { (period < 2 ^ 32) × (time.now.micros < 2 ^ 60) }
     ensures { result ≡ is_whole period time.now }
@@ -76,7 +77,8 @@ fn is_middle(century: u32, period: u64, from: &Time, time: &Time, to: &Time) -> 
 }
 
 /// The time of the one frame that is missing between two: one period after the first, in its minute
-/// or in that of the second.
+/// or in that of the second. `None` if no time is one period from both, or its frame does not end
+/// in its minute.
 pub fn middle(century: u32, period: u64, from: &Time, to: &Time) -> Option<Time>
     requires century { century ≤ 99 }
     requires small { period < 2 ^ 32 }
@@ -98,8 +100,8 @@ pub fn middle(century: u32, period: u64, from: &Time, to: &Time) -> Option<Time>
     }
 }
 
-/// The time one period later, in a minute of 60 seconds; `None` if it is on another day, or the
-/// time is in a second 60.
+/// The time one period later, in minutes of 60 seconds; `None` if it is on another day, as callers
+/// count nothing over midnight, or if the time is in a second 60, which such minutes do not have.
 pub fn next_time(period: u64, time: &Time) -> Option<Time>
     requires small { period < 2 ^ 32 }
     ensures time { result ≡ next_time period time.now }
@@ -120,7 +122,8 @@ pub fn next_time(period: u64, time: &Time) -> Option<Time>
     }
 }
 
-/// The time one period earlier, in a minute of 60 seconds; `None` if it is on another day.
+/// The time one period earlier, in minutes of 60 seconds; `None` if it is on another day, as
+/// callers count nothing over midnight.
 pub fn time_before(period: u64, time: &Time) -> Option<Time>
     requires small { (period < 2 ^ 25) × (time.now.micros < 2 ^ 59) }
     ensures time { result ≡ time_before period time.now }
@@ -161,9 +164,10 @@ pub fn rounded(period: u64, from: u64, to: u64) -> u64
     (2 * to.saturating_sub(from) + period) / (2 * period)
 }
 
-/// The times of the frames that are missing between two, which are `count` periods apart. `None` if
-/// none is missing, the times are not so far apart, or the first or the last missing one does not
-/// end in its minute. More than one are not counted over midnight.
+/// The times of the frames that are missing between two, which are `count` periods apart, so one
+/// less is missing. `None` if none is missing, the times are not so far apart, or the first or the
+/// last missing one does not end in its minute. More than one are not counted over midnight: their
+/// times are compared by the microseconds of one day.
 pub fn missing_in(century: u32, period: u64, count: u64, from: &Time, to: &Time) -> Option<Missing>
     requires century { century ≤ 99 }
     requires small { (period < 2 ^ 25) × (count < 2 ^ 42 + 2) }
@@ -182,7 +186,8 @@ pub fn missing_in(century: u32, period: u64, count: u64, from: &Time, to: &Time)
     missing_more(period, next_time(period, from), time_before(period, to))
 }
 
-/// The microseconds from the midnight before a time to `count` periods after that time.
+/// The microseconds from the midnight before a time to `count` periods after that time: in 128
+/// bits, as the product can be above 2^64.
 pub fn later_micros(period: u64, count: u64, from: &Time) -> u128
     requires small { (period < 2 ^ 25) × (count < 2 ^ 42 + 2) }
     requires times { from.now.micros < 2 ^ 59 }

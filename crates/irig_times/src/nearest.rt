@@ -1,4 +1,6 @@
 //! The five frames that are nearest to one. They are frames that have a time, on one side of it.
+//! Five, since each of the first three can be a shore of an island, and the two after it support
+//! that one.
 
 ghost use Rattle.std.specs.Prelude.{◌≡◌, List, []};
 ghost use Rattle.irig_safety.specs.declared.shown.Shown.{Shown};
@@ -33,8 +35,8 @@ impl Nearest {
         }
     }
 
-    /// The nearest of `frame`, which is nearer than these, and of these; if there is no such frame,
-    /// these.
+    /// These with `frame` before them, which is nearer: the fifth is dropped. Without a frame they
+    /// stay as they are.
     pub fn with(self, frame: Option<Shown>) -> Nearest
         ensures { (frames : List Shown) → self ≡ nearest frames
             → result ≡ nearest (with_frame frame frames) }

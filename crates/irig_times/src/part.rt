@@ -59,8 +59,9 @@ pub fn parts_up_to(parts: &[Part], format: Format, number: usize) -> usize
     low
 }
 
-/// The element that the pulse of a number, from 0, is, if the time of its frame is known; else
-/// `None`. The format is for contracts alone.
+/// The element that the pulse of a number, from 0, is, if the time of its frame is known. `None` if
+/// the pulse is before the first part, or after the end of the last part that begins at or before
+/// it. The format is for contracts alone.
 pub fn place_of(parts: &[Part], format: Format, number: usize) -> Option<Place>
     requires { (n : ℕ) × AreParts format 0 n parts.now }
     ensures { MatchOption result

@@ -1,4 +1,7 @@
-//! What holds of the times by the pulses that have one.
+//! What holds of the times by the pulses that have one. A part is pulses in a row, as elements of
+//! one frame whose time is known. A frame is believed if another one near it supports its time. A
+//! moment is between two pulses, or at the first of them. Its time is by both, if the second one
+//! has the time one interval later.
 
 ghost use Rattle.irig_times.specs.PartLaws.{BeforeTheNextPoint, ExactAtParts, InMinuteByParts};
 ghost use Rattle.irig_times.specs.PartLaws.{NeverFallsInPart, OneTimeByParts, PicosecondsByParts};
@@ -6,9 +9,19 @@ ghost use Rattle.irig_times.specs.PartLaws.{KeepsTimes, NeverFallsByParts, OfCal
 ghost use Rattle.irig_times.specs.Origins.{FramesAreSupported, TimesAreCounted};
 ghost use Rattle.irig_times.specs.PartLaws.{TimedPartsAreParts};
 
-/// Does nothing. Its contract is what holds of the times by the pulses that have one: each moment
-/// has one time at most, it is exact when such a pulse rises, and it never goes back before the
-/// next; and each of these pulses follows from a frame that is believed.
+/// Does nothing. Its contract is what holds of the times by the pulses that have one:
+///
+/// - A moment has one time at most (`one`), exact as a pulse rises (`points`).
+/// - Time never falls within a part (`falls`), or over pulses that all have a time that goes on
+///   (`over`). It is not before the last pulse's time, and it is before the next pulse's time
+///   (`between`).
+/// - It is in its minute of at most 61 seconds (`minute`), and of the calendar (`calendar`).
+/// - To round moments down to picoseconds changes no time (`picos`).
+/// - No pulse is in two parts (`parts`). A pulse of a part is of a believed frame, or is counted
+///   from one, at most a hundred pulses on or back (`counted`).
+/// - Another frame agrees with each believed frame, or it is the only one (`supported`).
+/// - A moment that has a time by a believed frame alone has it by the parts too, except next to a
+///   jump of the time and in a last element that no believed frame follows (`keeps`).
 pub fn parts_are_exact()
     ensures one { OneTimeByParts }
     ensures points { ExactAtParts }

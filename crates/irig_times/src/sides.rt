@@ -1,8 +1,11 @@
-//! What is counted between two frames: from both sides, as far as it is borne out. `from` and `to`
-//! are two believed frames, as parts; a pair is the part on from the one and the part back from the
-//! other. A side is the pulses next to one of them, from it on or back; pulse 0 of a side is the
-//! nearest. `wanted` is the elements that the frame there should have. Pulses are in step if each
-//! rises one interval after the one before.
+//! What is counted between two frames, from both sides, as far as it is borne out. Pulses are borne
+//! out up to the last position identifier at its place before one that says another element. `from`
+//! and `to` are two believed frames, as parts; a pair is the part on from the one and the part back
+//! from the other. A side is the pulses next to one of them, from it on or back; pulse 0 of a side
+//! is the nearest. `wanted` is the elements that the frame there should have. Pulses are in step if
+//! each rises one interval after the one before. `denies`: a pulse says another element;
+//! `confirms`: it is a position identifier at its place. A side counts a hundred pulses at most, a
+//! frame: further on a slip of one interval would go unseen.
 
 ghost use Rattle.std.specs.Prelude.{◌≡◌, ◌≤◌, ◌<◌, ◌+◌, ◌^◌};
 ghost use Rattle.irig_times.specs.Sides.{between, borne, borne_at, confirmed, side_after};
@@ -87,7 +90,7 @@ fn borne(
 }
 
 /// How many of the first `most` pulses of a side are kept, by the elements of a frame of this time;
-/// none if no frame has it.
+/// none if no frame has it, as it is past its minute or does not fit the format.
 fn borne_at(pulses: &mut Lens<'_>, format: Format, time: &Time, side: &Side, most: usize) -> usize
     requires { (side.now.number < 2 ^ 32) × (most ≤ 100) }
     ensures count { result ≡ borne_at format pulses.old.track.pulses time.now side.now most }
@@ -116,7 +119,7 @@ fn side_after(part: &Part) -> Side
     }
 }
 
-/// The side before a frame.
+/// The side before a frame. One whose marker is pulse 0 has none: then no pulse of it is asked for.
 fn side_before(part: &Part) -> Side
     ensures { result ≡ side_before part.now }
 {
@@ -127,8 +130,9 @@ fn side_before(part: &Part) -> Side
 }
 
 /// The parts between two frames, if intervals are lost there. `after` pulses after the first and
-/// `before` ones before the second are in step. Nothing is counted if tens of intervals are lost:
-/// each position identifier is then at the place of another.
+/// `before` ones before the second are in step; of these each side keeps what is borne out. `None`
+/// if tens of intervals are lost, as each position identifier is then at the place of another; or
+/// if a pulse would be of both sides.
 fn torn_sides(
     pulses: &mut Lens<'_>,
     format: Format,
@@ -179,9 +183,10 @@ fn sides_in(
     }
 }
 
-/// The pulses between two frames that have a time: up to a hundred in step with the first, and up
-/// to a hundred in step with the second. `None` if the times of the two do not fit their distance.
-/// `century` is 20 for 2000 to 2099.
+/// The pulses between two frames that have a time: up to a hundred in step with the first
+/// (`ahead`), and up to a hundred in step with the second (`behind`). `None` if the times of the
+/// two do not fit their distance, or nothing can be counted (`sides_in`). `century` is 20 for 2000
+/// to 2099.
 pub fn between(
     pulses: &mut Lens<'_>,
     format: Format,

@@ -26,7 +26,7 @@ pub struct FrameStart {
     pub is_followed: bool,
 }
 
-/// Where the frame of the record at a place starts, if it has a time.
+/// Where the frame of the record at a place starts; `None` if it has no time.
 pub fn start_of(
     pulses: &mut Lens<'_>,
     records: &mut FrameLens<'_>,
@@ -59,8 +59,9 @@ pub fn start_of(
     }
 }
 
-/// Where the frame of a marker, a pulse, starts. Its own record is the last of the first `next`, so
-/// the next frame's is at the place `next`.
+/// Where the frame that begins with the pulse `marker` starts; it has a hundred pulses, so its last
+/// one is 99 later. `next` is the place after its record, where that of the next frame is if there
+/// is one.
 fn started(
     pulses: &mut Lens<'_>,
     records: &mut FrameLens<'_>,
@@ -93,7 +94,8 @@ fn started(
 
 /// Whether the next frame begins right after one with these fields, and its time is one frame
 /// period later. `number` is the last pulse of the frame with these fields, and `next` the place of
-/// the next frame's record.
+/// the next frame's record. False if there is no next frame, or it has no time. A marker is never
+/// pulse 0, since another position identifier is before it.
 fn is_followed(
     records: &mut FrameLens<'_>,
     format: Format,

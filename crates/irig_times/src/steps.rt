@@ -25,7 +25,7 @@ pub fn pulse_at(pulses: &mut Lens<'_>, number: usize) -> Option<Pulse>
 }
 
 /// Whether the pulse of a number rises one interval after the one before it, to a tenth, and that
-/// step is as long as those next to it.
+/// step is as long as those next to it. By the first alone a late rise would pass on a fast clock.
 fn is_in_step_at(pulses: &mut Lens<'_>, format: Format, number: usize) -> bool
     requires { number < 2 ^ 33 }
     ensures step { result ≡ is_in_step_at format pulses.old.track.pulses number }
@@ -59,7 +59,8 @@ fn are_in_step(format: Format, before: Option<Pulse>, here: Option<Pulse>) -> bo
     }
 }
 
-/// How long after the one before it the pulse of a number rises; 0 if one of them is not there.
+/// How long after the one before it the pulse of a number rises, in microseconds; 0, which is not
+/// in step, if one of them is not there.
 fn step_at(pulses: &mut Lens<'_>, number: usize) -> u64
     ensures step { result ≡ step_at pulses.old.track.pulses number }
     ensures low { result ≤ 2 ^ 40 }
@@ -139,8 +140,8 @@ pub fn all_follow(pulses: &mut Lens<'_>, format: Format, number: usize, many: us
     true
 }
 
-/// How many of the last pulses up to the one of a number, `most` at most, are in step, back to the
-/// first that is not. Each one counts the pulse before it.
+/// How many pulses before the one of a number lead to it in step, `most` at most: each pulse that
+/// is in step counts the one before it, back to the first that is not in step.
 pub fn behind(pulses: &mut Lens<'_>, format: Format, number: usize, most: usize) -> usize
     requires { (most ≤ number) × (number < 2 ^ 32) }
     ensures count { result ≡ behind format pulses.old.track.pulses number most }

@@ -1,8 +1,10 @@
 //! Which frames are believed: those that another one near them supports, and that are on no island.
 //! Two frames agree if they are near enough for their distance to say how many periods it is, and
 //! their times are as many apart. An island is up to three frames that are wrong alike, between two
-//! that agree with each other. A record is a frame of the track; places count from 0. `before` and
-//! `after` are the five frames nearest to a frame that have a time.
+//! that agree with each other, its shores. A record is a frame of the track; places count from 0.
+//! `before` and `after` are the five frames nearest to a frame that have a time; their `near`,
+//! `next` and `far` are three in a row, from the first, the second and the third on. What a frame
+//! shows (`Shown`) is its fields and when its marker rises. An error says that memory ran out.
 
 ghost use Rattle.std.specs.Prelude.{◌≡◌, ◌<◌, ◌&&◌, IfOk, None, Some, [], drop, is_some, length};
 ghost use Rattle.std.specs.Prelude.{List, not, slice_get};
@@ -21,8 +23,8 @@ use irig_safety::Shown;
 use irig_track::Lens;
 use std::alloc::{AllocError, Global};
 
-/// Of each record, whether its frame is believed: one that is supported and on no island, or if
-/// frames stand alone each one that has a time.
+/// Of each record, whether its frame is believed: one that is supported and on no island, or each
+/// one that has a time if a caller wants that (`alone`).
 pub fn held_frames(
     alloc: Global,
     pulses: &mut Lens<'_>,
@@ -48,7 +50,7 @@ pub fn held_frames(
     Ok(list)
 }
 
-/// What the frame of the record at a place shows, if it has a time.
+/// What the frame of the record at a place shows; `None` if it has no time.
 fn shown_at(
     pulses: &mut Lens<'_>,
     records: &mut FrameLens<'_>,
@@ -74,7 +76,8 @@ fn shown_at(
     }
 }
 
-/// The five frames nearest to the place `from` that have a time, of the records from it on.
+/// The five frames nearest to the place `from` that have a time, of the records from it on; `None`
+/// for each that is not there.
 fn shown_after(
     pulses: &mut Lens<'_>,
     records: &mut FrameLens<'_>,
@@ -166,8 +169,9 @@ fn is_held(
     is_believed(format, before, &frame, &after)
 }
 
-/// Whether the frame before agrees with a frame, and no frame before that shows that it is on an
-/// island: so it is believed, whatever comes after it.
+/// Whether the nearest frame before a frame agrees with it, so that it is no shore, and the second
+/// (`next`) and the third (`far`) before it are none. An island needs a shore among these three. So
+/// the frame is on no island, is supported, and is believed, whatever comes after it.
 fn is_sure(format: Format, before: &Nearest, frame: &Shown) -> bool
     ensures { result ≡ (agrees_from format before.now.first frame.now
         && (not (is_shore_before format before.now.fourth before.now.third before.now.second
@@ -189,7 +193,7 @@ fn is_believed(format: Format, before: &Nearest, frame: &Shown, after: &Nearest)
 }
 
 /// Whether one of the two frames before a frame or the two after it agrees with it, or there is no
-/// other frame at all.
+/// other frame with a time at all.
 fn is_supported(format: Format, before: &Nearest, frame: &Shown, after: &Nearest) -> bool
     ensures { result ≡ is_supported format before.now.second before.now.first after.now.first
         after.now.second frame.now }

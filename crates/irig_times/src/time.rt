@@ -24,7 +24,8 @@ pub struct Time {
     pub micros: u64,
 }
 
-/// The microseconds from the start of its minute to a frame with these fields.
+/// The microseconds from the start of its minute to a frame with these fields: 10,000 for each
+/// hundredth of a second. A frame without hundredths is at a whole second.
 fn minute_micros(fields: &Fields) -> u64
     ensures value { result ≡ minute_micros fields.now }
     ensures small { result < 2 ^ 53 }
@@ -50,7 +51,7 @@ pub fn time_in(fields: &Fields, micros: u64) -> Time
 }
 
 /// The fields of a fine frame that ends with its minute of 61 seconds at the latest: so it has a
-/// time. `None` if it is not fine, or ends later.
+/// time. `None` if it is not fine (broken, or read with a note of something wrong), or ends later.
 pub fn timed(format: Format, verdict: Verdict) -> Option<Fields>
     ensures { result ≡ timed format verdict }
 {

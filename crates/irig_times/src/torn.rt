@@ -1,6 +1,6 @@
-//! Whether intervals are lost between two frames, and what pulses say of the elements there. `from`
-//! and `to` are two frames, as parts. Tenths are of an interval. An element is said by a pulse's
-//! width.
+//! Whether intervals are lost between two frames (the stretch is torn), and what pulses say of the
+//! elements there. `from` and `to` are two frames, as parts. Tenths are of an interval. An element
+//! is said by a pulse's width: its class is 0, 1 or a position identifier.
 
 ghost use Rattle.std.specs.Prelude.{◌≡◌, ◌≤◌, ◌<◌, ◌+◌, ◌*◌, ◌^◌, Some, slice_get};
 ghost use Rattle.irig_codes.specs.Format.{frame_period_of};
@@ -49,7 +49,7 @@ fn from_to(pulses: &mut Lens<'_>, one: usize, other: usize) -> u64
 }
 
 /// How many microseconds two frames last together, each from its marker to its last element: 198
-/// intervals.
+/// intervals. A frame of which a pulse is missing counts 0.
 fn both_last(pulses: &mut Lens<'_>, from: &Part, to: &Part) -> u64
     requires { (from.now.number < 2 ^ 32) × (to.now.number < 2 ^ 32) }
     ensures time { result ≡ both_last pulses.old.track.pulses from.now to.now }
@@ -77,7 +77,8 @@ fn tenths_by(both: u64, time: u64) -> u64
 }
 
 /// How many tenths of an interval the second frame is after the first, as it was recorded: the 990
-/// of the first frame, and those from its last element to the second marker.
+/// of the first frame, from its marker to its last element, and those from there to the second
+/// marker.
 pub fn tenths_found(pulses: &mut Lens<'_>, from: &Part, to: &Part) -> u64
     requires { (from.now.number < 2 ^ 32) × (to.now.number < 2 ^ 32) }
     ensures count { result ≡ tenths_found pulses.old.track.pulses from.now to.now }
@@ -100,7 +101,8 @@ fn tenths_told(pulses: &mut Lens<'_>, format: Format, from: &Part, to: &Part) ->
     1000 * rounded(format.frame_period(), 0, time)
 }
 
-/// Whether two numbers of tenths are the same, to half an interval.
+/// Whether two numbers of tenths are the same, to half an interval (5), as intervals are lost
+/// whole.
 fn are_near(one: u64, other: u64) -> bool
     requires { (one ≤ 2 ^ 54) × (other ≤ 2 ^ 54) }
     ensures { result ≡ are_near one other }
@@ -108,7 +110,8 @@ fn are_near(one: u64, other: u64) -> bool
     one <= other + 5 && other <= one + 5
 }
 
-/// Whether these tenths are tens of intervals, to a fifth of one.
+/// Whether these tenths are tens of intervals, to a fifth of one: a whole number of hundreds, to 2.
+/// If the loss is further off, pulses there are not in step, so that counting ends by itself.
 pub fn are_tens(count: u64) -> bool
     requires { count ≤ 2 ^ 54 }
     ensures { result ≡ are_tens count }
@@ -142,7 +145,8 @@ pub fn is_torn(
     !are_near(found, told)
 }
 
-/// The number, from 0, of pulse `place` of a side.
+/// The number, from 0, of pulse `place` of a side. `place` is 0 for the nearest. On a side that
+/// goes back, no more are asked for than there are.
 fn pulse_of(side: &Side, place: usize) -> usize
     requires { (side.now.number < 2 ^ 32) × (place < 2 ^ 32) }
     ensures { result ≡ pulse_of side.now place }
@@ -181,7 +185,7 @@ pub fn denies(
     contradicts(pulses, format, wanted, number, element)
 }
 
-/// Whether a pulse is there and is a position identifier, and one is wanted.
+/// Whether a pulse is there and is a position identifier by its width, and one is wanted.
 fn is_mark(format: Format, pulse: Option<Pulse>, wanted: Element) -> bool
     ensures { result ≡ is_mark format pulse (Some wanted) }
 {

@@ -1,5 +1,6 @@
-//! The frames of a track that have a time, as parts. A frame is believed if another one near it
-//! supports its time.
+//! The frames of a track that have a time, as parts: pulses in a row, as elements of one frame. A
+//! frame is believed if another one near it supports its time; one that is not is a part without
+//! pulses. A fine frame has a time (`timed`).
 
 ghost use Rattle.std.specs.Prelude.{◌≡◌, ◌<◌, IfOk, Some, length, slice_get};
 ghost use Rattle.irig_index.specs.{Frames.frames, declared.record.Record.Record};
@@ -13,7 +14,7 @@ use irig_codes::{Fields, Format};
 use std::alloc::{AllocError, Global};
 
 /// The frames of a track that have a time, in order: of each record, which is a frame, `held` says
-/// whether it is believed.
+/// whether it is believed. It fails only if memory runs out.
 pub fn whole_parts(
     alloc: Global,
     records: &mut FrameLens<'_>,
@@ -34,7 +35,7 @@ pub fn whole_parts(
     Ok(list)
 }
 
-/// The frame of the record at a place, from 0, if it has a time.
+/// The frame of the record at a place, from 0; `None` if it has no time.
 fn whole_at(
     records: &mut FrameLens<'_>,
     format: Format,
@@ -53,7 +54,8 @@ fn whole_at(
     }
 }
 
-/// A frame: its hundred pulses if it is believed, else none.
+/// The part of a frame that begins with the pulse `marker`, from 0: its hundred pulses if it is
+/// believed (`is_held`), else none.
 fn whole(marker: usize, is_held: bool, fields: &Fields) -> Part
     ensures { result ≡ whole marker is_held fields.now }
 {

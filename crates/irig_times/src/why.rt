@@ -1,5 +1,5 @@
 //! Why moments have no time. A frame is believed if another one near it supports its time; one that
-//! is not is a part without pulses. Pulses count from 0.
+//! is not is a part without pulses. Pulses count from 0. An error is that memory ran out.
 
 ghost use Rattle.std.specs.Prelude.{◌≡◌, ◌≤◌, ◌<◌, ◌+◌, ◌/◌, ◌^◌, ℕ, IfOk, IfSome, List, Bool, Some};
 ghost use Rattle.std.specs.Prelude.{MatchOption, length, slice_get};
@@ -146,7 +146,7 @@ fn why_steady(
     }
 }
 
-/// Why pulses between two frames have no time.
+/// Why pulses between two frames have no time, if it does not jump: not believed, or as `Why` says.
 fn why_between(pulses: &mut Lens<'_>, format: Format, century: u32, from: &Part, to: &Part) -> Why
     requires century { century ≤ 99 }
     requires times { (from.now.time.micros < 2 ^ 59) × (to.now.time.micros < 2 ^ 59) }
@@ -166,7 +166,7 @@ fn why_between(pulses: &mut Lens<'_>, format: Format, century: u32, from: &Part,
     }
 }
 
-/// Whether the times of two frames are as many periods apart as their markers, which are there.
+/// Whether the times of two frames are as many periods apart as their markers, or one is not there.
 fn are_apart_by(pulses: &mut Lens<'_>, format: Format, century: u32, from: &Part, to: &Part) -> bool
     requires century { century ≤ 99 }
     requires times { (from.now.time.micros < 2 ^ 59) × (to.now.time.micros < 2 ^ 59) }
@@ -189,7 +189,7 @@ fn are_apart_by(pulses: &mut Lens<'_>, format: Format, century: u32, from: &Part
     }
 }
 
-/// Why the moment some picoseconds after the start of a track has no time, if it has none.
+/// Why a moment in picoseconds has no time, if it has none; `Before` if no pulse has risen by then.
 pub fn why_at(pulses: &mut Lens<'_>, known: &Whys, format: Format, picos: u64) -> Why
     requires known { (held : List Bool) × (century : ℕ)
         × IsKnown format held century pulses.old.track.pulses known.now }
@@ -206,7 +206,7 @@ pub fn why_at(pulses: &mut Lens<'_>, known: &Whys, format: Format, picos: u64) -
     why_of(&known.frames, &known.gaps, format, risen - 1)
 }
 
-/// Why the pulse of a number has no time: `whys` has one before each part, one after the last.
+/// Why pulse `number` has no time. `whys[k]` is the reason before part k, its last one after all.
 fn why_of(parts: &[Part], whys: &[Why], format: Format, number: usize) -> Why
     requires known { (held : List Bool) × (century : ℕ) × (ps : List Pulse)
         × IsKnownBy format held century ps parts.now whys.now }
@@ -223,8 +223,8 @@ fn why_of(parts: &[Part], whys: &[Why], format: Format, number: usize) -> Why
     why_after(format, number, &part, whys[count - 1], later)
 }
 
-/// Why the pulse of a number has no time, at or after the first pulse of `frame`: `earlier` is the
-/// reason before that frame, and `later` the one after it.
+/// Why pulse `number`, in or after `frame`, has no time: `earlier` is the reason before the frame,
+/// `later` after it. A frame has 100 pulses. After a step those of its date and time have none.
 fn why_after(format: Format, number: usize, frame: &Part, earlier: Why, later: Why) -> Why
     requires small { frame.now.number ≤ number }
     ensures { result ≡ why_after format number (Some frame.now) earlier later }

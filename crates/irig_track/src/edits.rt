@@ -1,10 +1,11 @@
 //! The edits of a track: splice, shift and toggle, each with the test that it may be made.
 //!
-//! None of them takes memory or can fail: the test and the room come before.
+//! None of the edits takes memory or can fail: a caller asks the test first, and makes room before.
 //!
-//! Times are in microseconds. The limits: pulses do not touch and lie within the length, and there
-//! are at most 2^22. The place of a gap buffer is where items come and go. A `Span` says that from
-//! pulse `at` on, from 0, `old` pulses became `new`.
+//! Times are in microseconds. The limits: pulses do not touch (each rises at least 1 after the fall
+//! before it), they lie within the length, and there are at most 2^22. The place of a gap buffer is
+//! where items come and go. A `Span` says that from pulse `at` on, from 0, `old` pulses became
+//! `new`. `room` is how many more pulses the limit permits.
 //!
 //! What is marked "Read for .." does nothing: it only lets the proof use what a type promises.
 
@@ -28,11 +29,13 @@ use irig_recording::Pulse;
 
 impl Track {
     /// Whether replacing `count` pulses from `at` on, from 0, by those of `put` leaves a track
-    /// within the limits. It is false, too, if the pulses that would go are not there.
+    /// within the limits. It is false, too, if the pulses that would go are not there. Only `put`
+    /// is looked through: all other pulses stay as they are.
     pub fn can_splice(&self, at: usize, count: usize, put: &Gap<Pulse>) -> bool
         ensures { IsTrue result ↔ CanSplice self.now.micros at count put.now.items self.now.pulses }
     {
         let len = self.len();
+        // If `at` is above `len`, the difference is not taken, so it cannot wrap.
         if at > len || count > len - at {
             return false;
         }
@@ -42,9 +45,10 @@ impl Track {
         stands(put, self.free_from(at), self.free_to(at + count))
     }
 
-    /// Replaces the `count` pulses from `at` on, from 0, by the pulses of `put`, which is empty
-    /// then. The replaced ones go to `taken`, which is empty before and whose place is after them
-    /// then. The Span has `at`, and how many went and came.
+    /// Replaces the `count` pulses from `at` on, from 0, by the pulses of `put`; `can_splice` must
+    /// hold. `put` is empty afterwards. The replaced pulses go to `taken`, which must be empty and
+    /// have room for them; its place is after them then. The Span has `at`, and how many went and
+    /// came.
     pub fn splice(
         &mut self,
         at: usize,
@@ -82,8 +86,10 @@ impl Track {
     }
 
     /// Whether moving the pulses `i` to `j`, both included and from 0, by `by` microseconds leaves
-    /// a track within the limits. It is false, too, if one of them is not there. It compares sums,
-    /// as times cannot go below 0.
+    /// a track within the limits. It is false, too, if one of them is not there, or `i` is above
+    /// `j`. `ahead_of(by)` is `by`, or 0 if that is below 0; `back_of(by)` is how far `by` is below
+    /// 0, or 0. Each side of a comparison is a sum, since a difference could go below 0. No sum
+    /// overflows: a time is at most 2^40 + 1, and a distance at most 2^63.
     pub fn can_shift(&self, i: usize, j: usize, by: i64) -> bool
         ensures { IsTrue result ↔ CanShift self.now.micros i j by self.now.pulses }
     {
@@ -96,8 +102,9 @@ impl Track {
         self.free_from(i) + back <= first && last < self.free_to(j + 1) + back
     }
 
-    /// Moves the pulses `i` to `j`, both included and from 0, by `by` microseconds. Below 0 they
-    /// come earlier. The Span has them all.
+    /// Moves the pulses `i` to `j`, both included and from 0, by `by` microseconds, below 0 to
+    /// earlier times; `can_shift` must hold. `ahead_of` and `back_of` are the parts of `by` above
+    /// and below 0: one of them is 0. The Span has the pulses that moved.
     pub fn shift(&mut self, i: usize, j: usize, by: i64) -> Span
         requires { CanShift self.old.micros i j by self.old.pulses }
         ensures pulses { self.new.pulses ≡ shifted i j by self.old.pulses }
@@ -119,9 +126,10 @@ impl Track {
         }
     }
 
-    /// Whether toggling the edges `a` and `b`, in microseconds, leaves a track within the limits.
-    /// It is false, too, unless `a` is before `b` and `b` within the length. Only if no edge is at
-    /// either of them is there a pulse more afterwards.
+    /// Whether toggling the edges at the times `a` and `b`, in microseconds, leaves a track within
+    /// the limits. It is false, too, unless `a` is before `b` and `b` within the length. There is
+    /// one pulse more afterwards only if there is an edge at neither of them, so only then room for
+    /// one is needed.
     pub fn can_toggle(&self, a: u64, b: u64) -> bool
         ensures { IsTrue result ↔ CanToggle self.now.micros a b self.now.pulses }
     {
@@ -131,8 +139,9 @@ impl Track {
         self.room() > 0 || self.is_edge_at(a) || self.is_edge_at(b)
     }
 
-    /// Makes the edges their symmetric difference with `a` and `b`, in microseconds: if an
-    /// edge is there it goes, and if none is there one comes.
+    /// Toggles the edges at the times `a` and `b`, in microseconds: if an edge is at such a time it
+    /// goes, and if none is there one comes. So the level is inverted from `a` to `b`. `can_toggle`
+    /// must hold.
     ///
     /// The Span holds the pulses that rise at or before `b` and fall at or after `a`, before and
     /// afterwards.
@@ -150,6 +159,8 @@ impl Track {
             × (result.at + result.new ≡ risen_by b self.new.pulses) }
         ensures spanned { IsSpan result.at result.old result.new self.old.pulses self.new.pulses }
     {
+        // Pulses before `at` fall before `a`, and pulses from `before` on rise after `b`: these
+        // stay. `toggle_right` leaves the gap after the pulses that rise at or before `b` then.
         let at = self.first_reaching(a);
         let before = self.find(b);
         self.pulses.move_to(at);
@@ -164,8 +175,8 @@ impl Track {
         }
     }
 
-    /// The least time, in microseconds, at which a pulse may rise that is put in just before pulse
-    /// `at`, from 0: one after the fall before it.
+    /// The least time, in microseconds, at which a pulse may rise that is inserted just before
+    /// pulse `at`, from 0: one after the fall of pulse `at` - 1; 0 if `at` is 0.
     fn free_from(&self, at: usize) -> u64
         requires { at ≤ length self.now.pulses }
         ensures time { result ≡ following 0 (edges_of (take at self.now.pulses)) }
@@ -178,8 +189,8 @@ impl Track {
         }
     }
 
-    /// The time, in microseconds, before which a pulse has to fall that is put in just before pulse
-    /// `at`, from 0: the rise of pulse `at`, or one after the length if that is not there.
+    /// The time, in microseconds, before which a pulse has to fall that is inserted just before
+    /// pulse `at`, from 0: the rise of pulse `at`; one after the length if there is no such pulse.
     fn free_to(&self, at: usize) -> u64
         requires { at ≤ length self.now.pulses }
         ensures time { result ≡

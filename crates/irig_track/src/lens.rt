@@ -1,4 +1,5 @@
-//! A track that counts the looks at its pulses.
+//! A track shown through a lens, which counts the looks at its pulses. So contracts can say how
+//! much work a search takes.
 
 ghost use Rattle.std.specs.Prelude.{◌≡◌, ◌<◌, ◌≤◌, ◌^◌, ℕ, length, slice_get, Some};
 ghost use Rattle.irig_track.specs.Looks.{LookedThrough, lens_view, counted};
@@ -83,6 +84,7 @@ impl<'a> Lens<'a> {
         let mut high = self.len();
         while low < high {
             let middle = low + (high - low) / 2;
+            // Pulses before `low` rise by then; those from `high` on rise later.
             if self.pulse(middle).rise <= time {
                 low = middle + 1;
             } else {

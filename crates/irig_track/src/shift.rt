@@ -1,4 +1,4 @@
-//! Moves pulses in time.
+//! Moves pulses in time. `Gap` is a gap buffer: a list that items are put into at a place.
 //!
 //! A distance is in microseconds, and below 0 if it goes back to earlier times.
 //!
@@ -13,7 +13,7 @@ ghost use Rattle.irig_track.specs.{Edges.edges_of, Splices.spliced, Splices.piec
 use irig_gap::Gap;
 use irig_recording::Pulse;
 
-/// By how many microseconds a distance goes on, to later times: 0 if it goes back.
+/// By how many microseconds a distance `by` goes on, to later times: 0 if it goes back.
 pub(crate) fn ahead_of(by: i64) -> u64
     ensures distance { result ≡ ahead by }
     ensures within { result < 2 ^ 63 }
@@ -21,7 +21,7 @@ pub(crate) fn ahead_of(by: i64) -> u64
     if by < 0 { 0 } else { by.unsigned_abs() }
 }
 
-/// By how many microseconds a distance goes back: 0 if it goes on.
+/// By how many microseconds a distance `by` goes back, to earlier times: 0 if it goes on.
 pub(crate) fn back_of(by: i64) -> u64
     ensures distance { result ≡ back by }
     ensures within { result ≤ 2 ^ 63 }
@@ -30,7 +30,8 @@ pub(crate) fn back_of(by: i64) -> u64
 }
 
 /// Moves `count` pulses from `at` on, from 0: by `on` microseconds later, and then by `off`
-/// earlier. One of these two is 0; no time comes before 0.
+/// earlier. One of these two is 0. The caller has tested that no time comes before 0, so nothing is
+/// cut off at 0. Times are at most 2^40 and `on` below 2^63, so no sum overflows.
 pub(crate) fn move_pulses(pulses: &mut Gap<Pulse>, at: usize, count: usize, on: u64, off: u64)
     requires there { at + count ≤ length pulses.old.items }
     requires short { UpTo (2 ^ 40) (edges_of pulses.old.items) }

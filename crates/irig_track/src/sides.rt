@@ -26,7 +26,7 @@ pub(crate) fn next(pulses: &Gap<Pulse>) -> Option<Pulse>
     }
 }
 
-/// Removes the first pulse right of the gap.
+/// Removes the first pulse right of the gap; does nothing if there is none.
 pub(crate) fn take_next(pulses: &mut Gap<Pulse>)
     requires { pulses.old.place < length pulses.old.items }
     ensures took { (p : Pulse) →
@@ -38,7 +38,8 @@ pub(crate) fn take_next(pulses: &mut Gap<Pulse>)
     pulses.take_right();
 }
 
-/// Adds a pulse just left of the gap, by its times in microseconds. There is room for it.
+/// Adds a pulse just left of the gap, by its times in microseconds. The caller has made room for
+/// it.
 pub(crate) fn put_last(pulses: &mut Gap<Pulse>, rise: u64, fall: u64)
     requires { length pulses.old.items < pulses.old.capacity }
     ensures wrote { Wrote (pulse rise fall) pulses.old pulses.new }

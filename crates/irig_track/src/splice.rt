@@ -11,9 +11,9 @@ ghost use Rattle.irig_track.specs.Splices.{spliced, piece};
 use irig_gap::Gap;
 use irig_recording::Pulse;
 
-/// Replaces the `count` pulses from `at` on, from 0, by all those of `put`, which is empty then.
-/// The replaced ones go to `taken`, which is empty before. If as many come as go, no other pulse
-/// moves.
+/// Replaces the `count` pulses from `at` on, from 0, by all those of `put`, which is empty
+/// afterwards. The replaced ones go to `taken`, which must be empty. There is room for all, so no
+/// memory is taken. If as many come as go, no other pulse is moved in memory.
 pub(crate) fn replace(
     pulses: &mut Gap<Pulse>,
     at: usize,
@@ -33,6 +33,7 @@ pub(crate) fn replace(
         × (put.new.capacity ≡ put.old.capacity) × (taken.new.capacity ≡ taken.old.capacity) }
 {
     let come = put.len();
+    // So all pulses of `put` are right of its gap, from which they are taken in order.
     put.move_to(0);
     taken.move_to(0);
     if count == come {
@@ -46,8 +47,9 @@ pub(crate) fn replace(
     }
 }
 
-/// As `replace`, if as many come as go: each of the `count` pulses from `at` on is replaced in its
-/// place, so the gap stays where it is. `put` has `count` pulses, so `None` does not come.
+/// As `replace`, if as many come as go: each of the `count` pulses from `at` on is written over by
+/// one of `put`, so the gap stays where it is. `put` has `count` pulses, all right of its gap, so
+/// `None` does not come.
 fn exchange(
     pulses: &mut Gap<Pulse>,
     at: usize,
@@ -81,8 +83,8 @@ fn exchange(
     }
 }
 
-/// Takes `count` pulses right of the gap of `from`, and moves them to the left of the gap of `to`.
-/// They are there, so `None` does not come.
+/// Takes `count` pulses right of the gap of `from`, and puts them left of the gap of `to`, in the
+/// same order. The caller has seen that they are there, so `None` does not come.
 fn carry(from: &mut Gap<Pulse>, count: usize, to: &mut Gap<Pulse>)
     requires there { from.old.place + count ≤ length from.old.items }
     requires room { length to.old.items + count ≤ to.old.capacity }

@@ -1,4 +1,4 @@
-//! Whether pulses fit between two times.
+//! Whether pulses fit between two times, as those that a splice puts in.
 
 ghost use Rattle.std.specs.Prelude.{◌≡◌, ◌+◌, ◌<◌, ◌≤◌, ◌++◌, ◌∷◌, [], IsTrue, ◌↔◌};
 ghost use Rattle.irig_recording.specs.Recording.{RisesFrom};
@@ -8,8 +8,8 @@ use irig_gap::Gap;
 use irig_recording::Pulse;
 
 /// Whether the pulses fit from `start` up to `high`, which is not included, all in microseconds:
-/// they rise in order, each after the fall before it, and end before `high`. If there is no pulse,
-/// whether `start` is not above `high`.
+/// the first rises at `start` or later, each next one after the fall before it, each falls after
+/// its rise, and the last before `high`. If there is no pulse, whether `start` is not above `high`.
 pub(crate) fn stands(put: &Gap<Pulse>, start: u64, high: u64) -> bool
     ensures { IsTrue result ↔ RisesFrom start (edges_of put.now.items ++ high ∷ []) }
 {

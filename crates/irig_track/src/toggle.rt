@@ -1,8 +1,9 @@
 //! Toggles two times among the pulses right of a gap.
 //!
-//! After the first time there is an odd number of edges: pulses left of the gap, a rise that waits
-//! for its fall, and pulses right of the gap. `next` is the first pulse right of it, and `put_last`
-//! adds one just left of it.
+//! The pulses are in a gap buffer, a list with a gap; left of it is what is done. When the first
+//! time is toggled and the second is not yet, there is an odd number of edges: pulses left of the
+//! gap, a rise that waits for its fall, and pulses right of the gap. `next` is the first pulse
+//! right of it, and `put_last` adds one just left of it.
 //!
 //! To toggle a time: an edge there goes, or if there was none one comes. Times are in microseconds.
 
@@ -17,8 +18,9 @@ use irig_gap::Gap;
 use irig_recording::Pulse;
 
 /// Toggles `a`, and returns the rise that waits for its fall. If the next pulse rises at `a` or
-/// before it, it loses an edge at `a` or is cut there; else `a` itself is the rise. No pulse left
-/// of the gap reaches `a`.
+/// before it, it loses its edge at `a`, or is cut at `a` if it has none there; its other edge then
+/// waits. Else `a` itself is the rise. Pulses left of the gap fall before `a`, those right of it at
+/// `a` or later.
 fn begin(pulses: &mut Gap<Pulse>, a: u64) -> u64
     requires rises { RisesFrom 0 (edges_of pulses.old.items) }
     requires left { Under a (edges_of (left_of pulses.old)) }
@@ -43,9 +45,9 @@ fn begin(pulses: &mut Gap<Pulse>, a: u64) -> u64
     }
 }
 
-/// Goes on to the last pulse that rises before time `b`, from the rise `start`, and returns the
-/// rise that waits there. One edge more is before these pulses, so each rise on the way becomes a
-/// fall and each fall a rise.
+/// Goes on over all pulses that rise before time `b`, with `start` as the rise that waits, and
+/// returns the rise that waits after them. There is one edge more before these pulses, so each of
+/// their rises becomes a fall and each fall a rise.
 fn go_on(pulses: &mut Gap<Pulse>, start: u64, b: u64) -> u64
     requires rises { RisesFrom 0 (waiting pulses.old start) }
     requires left { Under b (edges_of (left_of pulses.old)) }
@@ -67,8 +69,10 @@ fn go_on(pulses: &mut Gap<Pulse>, start: u64, b: u64) -> u64
     rise
 }
 
-/// Toggles `b`: it ends the pulse of the rise that waits, so that each rise has its fall again. If
-/// an edge is at `b`, it goes.
+/// Toggles `b`, so that the rise that waits gets its fall. If the next pulse rises at `b`, that
+/// edge goes, and the pulse ends at its fall. Else `b` is the fall. If the rise that waits is after
+/// `b`, it was the fall of a pulse over `b`, and `b` is the rise. If the rise that waits is at `b`,
+/// the toggle removes it, and no pulse is added.
 fn finish(pulses: &mut Gap<Pulse>, rise: u64, b: u64)
     requires rises { RisesFrom 0 (waiting pulses.old rise) }
     requires left { Under b (edges_of (left_of pulses.old)) }
@@ -91,8 +95,8 @@ fn finish(pulses: &mut Gap<Pulse>, rise: u64, b: u64)
     }
 }
 
-/// Toggles `a` and `b`, of which `a` is earlier. The pulses that reach `a` or come later are right
-/// of the gap; in the end those that rise after `b` are.
+/// Toggles `a` and `b`; `a` is the earlier one. Before the call the pulses that fall at `a` or
+/// later are right of the gap; after it those that rise after `b` are.
 pub(crate) fn toggle_right(pulses: &mut Gap<Pulse>, a: u64, b: u64)
     requires order { a < b }
     requires rises { RisesFrom 0 (edges_of pulses.old.items) }

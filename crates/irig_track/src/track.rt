@@ -1,4 +1,4 @@
-//! A length and pulses in order.
+//! A length and pulses in order: a wire as a session edits it.
 //!
 //! What is marked "Read for .." does nothing: it only lets the proof use what a type promises.
 
@@ -15,7 +15,7 @@ use irig_text::whole;
 use std::alloc::{AllocError, Global};
 use std::marker::Model;
 
-/// How many more pulses than it has a new track has room for, at least.
+/// How many more pulses a new track has room for, at least: some kilobytes.
 const NEW_SPARE: usize = 1024;
 
 /// A length and pulses, in microseconds. The edges rise strictly and lie within the length.
@@ -40,11 +40,11 @@ impl Model for Track {
 }
 
 impl Track {
-    /// The track with the recording's length and edges, in its block. An error drops the recording.
+    /// The track with the recording's length and edges; it takes over the recording's block of
+    /// memory. An error, if memory runs out, drops the recording.
     ///
-    /// It has some spare room, so that the first pulse that comes does not move it to another
-    /// block, and later ones move many pulses at a time. It takes memory only if the block has no
-    /// such room.
+    /// It gets some spare room, so that the first pulse that comes does not move all pulses to
+    /// another block. It takes memory only if the block has no such room.
     pub fn new(recording: Recording) -> Result<Track, AllocError>
         ensures length { IfOk result (λ t. t.micros ≡ recording.micros) }
         ensures edges { IfOk result (λ t. edges_of t.pulses ≡ recording.edges) }
@@ -57,8 +57,8 @@ impl Track {
         Ok(Track { micros, pulses })
     }
 
-    /// The recording with the track's length and edges: a copy. They are within its limits, so
-    /// `unwrap` finds one. It fails only if memory runs out.
+    /// The recording with the track's length and edges: a copy. A track keeps the limits of a
+    /// recording, so `unwrap` finds one. It fails only if memory runs out.
     pub fn recording(&self, alloc: Global) -> Result<Recording, AllocError>
         ensures exact { IfOk result (λ r.
             r ≡ recording_view self.now.micros (edges_of self.now.pulses)) }
@@ -68,8 +68,8 @@ impl Track {
         Ok(Recording::new(alloc, self.micros, edges.as_slice())?.unwrap())
     }
 
-    /// The times at which the level rises and falls in turn, in microseconds. It fails only if
-    /// memory runs out.
+    /// The times of all edges in order, a rise and a fall in turn, in microseconds. It fails only
+    /// if memory runs out.
     fn edges(&self, alloc: Global) -> Result<Vec<u64>, AllocError>
         ensures exact { IfOk result (λ edges. edges.items ≡ edges_of self.now.pulses) }
         ensures refused { OnErr result (0 < length self.now.pulses) }
@@ -77,6 +77,7 @@ impl Track {
         let mut edges = Vec::with_capacity(alloc, 2 * self.pulses.len())?;
         for index in 0..self.pulses.len() {
             let pulse = self.pulses.get(index);
+            // There is room for two edges of each pulse.
             edges.push_reserved(pulse.rise);
             edges.push_reserved(pulse.fall);
         }
@@ -84,8 +85,10 @@ impl Track {
     }
 
     /// The text of the recording with the track's length and edges, as `irig_recording::text`
-    /// writes it: a dump. At first it asks for 36 bytes a pulse and 140 for the rest. It fails only
-    /// if memory runs out.
+    /// writes it: a dump. `whole` collects its parts. At first it asks for as much as the longest
+    /// text takes: two edges of 18 bytes a pulse, and 140 for the header and the length. An edge is
+    /// two lines: `#` with a time of at most 13 digits (2^40), and a level with the wire's
+    /// identifier of one byte. It fails only if memory runs out.
     pub fn text(&self, alloc: Global) -> Result<Vec<u8>, AllocError>
         ensures { IfOk result (λ text. text.items
             ≡ file_text (recording_view self.now.micros (edges_of self.now.pulses))) }
@@ -160,8 +163,9 @@ impl Track {
         self.lens().find(time)
     }
 
-    /// How many pulses end before `time`, in microseconds. So it is also the number, from 0, of the
-    /// first that reaches `time`. Only the last that rises at or before it can be that one.
+    /// How many pulses fall before `time`, in microseconds. So it is also the number, from 0, of
+    /// the first pulse that falls at `time` or later. That is the last one that rises at or before
+    /// `time`, or the one after it.
     pub(crate) fn first_reaching(&self, time: u64) -> usize
         ensures { result ≡ ended_before time self.now.pulses }
     {
@@ -173,8 +177,8 @@ impl Track {
         }
     }
 
-    /// Whether a pulse rises or falls at `time`, in microseconds. Only the last that rises at or
-    /// before it can have an edge there.
+    /// Whether a pulse rises or falls at `time`, in microseconds. Only the last pulse that rises at
+    /// or before `time` can have an edge there.
     pub(crate) fn is_edge_at(&self, time: u64) -> bool
         ensures { result ≡ is_edge time self.now.pulses }
     {

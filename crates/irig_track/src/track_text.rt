@@ -1,8 +1,8 @@
 //! The text of a track, in parts.
 //!
 //! The text is a dump: header lines, two lines for each edge, and one for the length if no edge is
-//! there. The writer writes them, and has the last time that it wrote. What fails, fails only if
-//! memory runs out.
+//! there. The writer (`TextWriter` of irig_recording) writes them, and has the last time that it
+//! wrote. What fails, fails only if memory runs out.
 
 ghost use Rattle.std.specs.Prelude.{◌≡◌, ◌≤◌, ◌<◌, ◌++◌, drop, length, vec_len, IfOk, IsSome};
 ghost use Rattle.irig_recording.specs.{FileText.file_text, Recording.recording_view};
@@ -59,8 +59,8 @@ impl<'t> Model for TrackText<'t> {
 impl Text for TrackText<'_> {
     ghost rest = { λ t. t };
 
-    // Writes the next parts until the block has `enough` bytes. Returns whether the text has ended.
-    // It fails only if memory runs out.
+    // Adds the next parts to the block until it has `enough` bytes. Returns whether the text has
+    // ended. The next call goes on from there. It fails only if memory runs out.
     fn fill(&mut self, block: &mut Vec<u8>, enough: usize) -> Result<bool, AllocError> {
         match put_next(&mut self.writer, block, self.track, self.next, enough)? {
             Some(first) => {
@@ -75,8 +75,9 @@ impl Text for TrackText<'_> {
     }
 }
 
-/// Writes what comes next, until a text has `enough` bytes. Returns the number of the pulse that
-/// comes next, from 0; `None` if the text has ended.
+/// Adds what comes next to `text`, until that has `enough` bytes. Returns the number of the pulse
+/// that comes next, from 0; the count of pulses means the line of the length; `None` that the text
+/// has ended.
 #[inline(always)]
 fn put_next(
     writer: &mut TextWriter,
@@ -95,8 +96,9 @@ fn put_next(
     }
 }
 
-/// Writes the header, if that comes next. Returns the number of the pulse that comes next, from 0;
-/// `None` if the text has ended.
+/// Adds the header to `text` if that comes next, else nothing. The header has the level from time 0
+/// on, so `begin` takes whether a pulse rises at 0. Returns the number of the pulse that comes
+/// next, from 0; `None` if the text has ended.
 fn put_header(
     writer: &mut TextWriter,
     text: &mut Vec<u8>,
@@ -116,9 +118,9 @@ fn put_header(
     }
 }
 
-/// Writes the lines of the pulses from the one of number `first` on, from 0, and after the last
-/// pulse the line of the length, until a text has `enough` bytes. Returns the number of the pulse
-/// that comes next, from 0; `None` after the line of the length.
+/// Adds the lines of the pulses from number `first` on, from 0, to `text`, until that has `enough`
+/// bytes. After the last pulse the line of the length is added in any case, since it is short.
+/// Returns the number of the pulse that comes next, from 0; `None` after the line of the length.
 fn put_lines(
     writer: &mut TextWriter,
     text: &mut Vec<u8>,
@@ -139,8 +141,8 @@ fn put_lines(
     Ok(None)
 }
 
-/// Writes the lines of the pulses from the one of number `first` on, from 0, until a text has
-/// `enough` bytes. Returns the number of the pulse after them, from 0.
+/// Adds the lines of the pulses from number `first` on, from 0, to `text`, until that has `enough`
+/// bytes. Returns the number of the pulse after them; the count of pulses if none is left.
 fn put_pulses(
     writer: &mut TextWriter,
     text: &mut Vec<u8>,

@@ -1,7 +1,8 @@
 //! Values on other codes of one byte. They are skipped, with the newline after them.
 //!
-//! `code` is that of the wire that is read; a value on another code says nothing of it. Places are
-//! those of bytes in `source`, from 0.
+//! `code` is that of the wire that is read; a value on another code, one "apart", says nothing of
+//! it. Places are those of bytes in `source`, from 0. `false` or `None` says only that nothing is
+//! taken here: the way for any token, which is slower, then reads what is there.
 
 ghost use Rattle.std.specs.Prelude.{◌≡◌, ◌≤◌, ◌<◌, ◌+◌, ◌∷◌, ◌↔◌, [], true, false, length, drop};
 ghost use Rattle.std.specs.Prelude.{◌⊎◌, ℕ, map, slice_index, IfSome};
@@ -22,7 +23,8 @@ fn is_byte(code: &[u8], byte: u8) -> bool
     }
 }
 
-/// Whether a 0 or a 1 on another code of one byte, with a newline after it, is at a place.
+/// Whether a 0 or a 1 on another code of one printable byte, with a newline after it, is at a
+/// place.
 #[inline(always)]
 fn is_apart(source: &[u8], start: usize, code: &[u8]) -> bool
     requires room { start + 3 ≤ length source.now }
@@ -40,7 +42,8 @@ fn is_apart(source: &[u8], start: usize, code: &[u8]) -> bool
     source[start + 2] == b'\n'
 }
 
-/// A bit for each byte that is not above a space, white space among them: bit k for byte k.
+/// A bit for each byte that is not above a space: bit k for byte k. White space is among them; a
+/// value that ends at another one of them is left to the slower way.
 #[inline(always)]
 fn spaces(bytes: u8x16) -> u64
     ensures { result ≡ mask_l (map is_low bytes) }
@@ -48,7 +51,8 @@ fn spaces(bytes: u8x16) -> u64
     bytes.simd_le(u8x16::splat(b' ')).to_bitmask()
 }
 
-/// How many bytes above a space there are from a place on, 16 at most.
+/// How many bytes above a space there are from a place on, 16 at most: that many are compared at
+/// once.
 #[inline(always)]
 fn dark_count(source: &[u8], from: usize) -> usize
     requires { from + 16 ≤ length source.now }
@@ -64,8 +68,8 @@ fn dark_count(source: &[u8], from: usize) -> usize
 }
 
 /// The end of the bytes above a space from a place on, or a place among them if fewer than 16 bytes
-/// are left. A function of its own for the machine too: the loop over the tokens keeps its
-/// registers.
+/// are left: the caller looks whether a space is there. A function of its own so that the loop over
+/// the tokens, which reaches it seldom, keeps its values in registers.
 #[inline(never)]
 fn dark_end(source: &[u8], from: usize) -> usize
     requires { from ≤ length source.now }
@@ -93,8 +97,9 @@ fn begins_value(byte: u8) -> bool
     matches!(byte, b'b' | b'B' | b'r' | b'R' | b's' | b'S')
 }
 
-/// The place after the vector, the real or the text at a place, if another code of one byte and a
-/// newline are after it. Its bytes are not looked at. `None` if something else is there.
+/// The place after the vector, the real or the text at a place, if a space, another code of one
+/// byte and a newline are after it. Its own bytes are not looked at: on another code they may be
+/// any. `None` if something else is there.
 #[inline(always)]
 fn value_apart(source: &[u8], start: usize, code: &[u8]) -> Option<usize>
     requires { start < length source.now }

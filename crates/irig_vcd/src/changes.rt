@@ -1,9 +1,10 @@
 //! The changes of a wire.
 //!
 //! `code` is that of the wire that is read. A clock is a time of the dump, in its unit. The trace
-//! follows the level of the wire and keeps its edges. `journals` has the places of the journals so
-//! far, and `pending` what is open after the last token: a value without its code, or a comment. An
-//! error is the first fault of the changes, or that memory ran out.
+//! follows the level of the wire and keeps its edges; `trace.put` gives it the level (`true` is
+//! high) from a microsecond on. `journals` has the places of the journals so far, and `pending`
+//! what is open after the last token: a value without its code, or a comment. An error is the first
+//! fault of the changes, or that memory ran out.
 //!
 //! Where `match` hands an error on, `?` would do the same; the proof of it takes longer.
 
@@ -36,7 +37,7 @@ fn is_hash(kind: Kind) -> bool
     matches!(kind, Kind::Hash)
 }
 
-/// What is after the first byte of a word; nothing if it is empty.
+/// What is after the first byte of a word, for a time after its `#`; nothing if the word is empty.
 fn digits_of(word: &[u8]) -> &[u8]
     ensures { result.now ≡ rest_of word.now }
 {
@@ -47,8 +48,8 @@ fn digits_of(word: &[u8]) -> &[u8]
 }
 
 /// Takes a token with those that go with it, and gives the time then: a token of a time sets it,
-/// and a value of the wire goes into the trace at `clock`. A function of its own for the machine
-/// too: the loop over the tokens that are read in one step keeps its registers.
+/// and a value of the wire goes into the trace at `clock`. A function of its own so that the loop
+/// over the tokens that are read in one step keeps its values in registers.
 #[inline(never)]
 fn take(
     token: Token<'_>,
@@ -79,8 +80,9 @@ fn take(
     Ok(clock)
 }
 
-/// Takes the first tokens, if something is open before them: the code of a value, or the rest of a
-/// comment. The value is one at the time `clock`.
+/// Takes the first tokens of a part, if something is open from the part before it: the code of a
+/// value, or the rest of a comment. The value is one at the time `clock`. If something is still
+/// open then, no token is left.
 fn resume(
     tokens: &mut Tokens,
     unit: Unit,
@@ -113,8 +115,9 @@ pub struct Body {
     pub journals: Journals,
 }
 
-/// Follows the tokens of a part of the changes, from a time on, and gives the time then. A function
-/// of its own for the machine too: what it is called from would take its registers.
+/// Follows the tokens of a part of the changes, from a time on, and gives the time then. What is
+/// open from the part before is taken first. A function of its own for the machine too: what it is
+/// called from would take its registers.
 #[inline(never)]
 pub fn follow(
     tokens: &mut Tokens,
@@ -140,7 +143,8 @@ pub fn follow(
 }
 
 /// Follows the tokens that are left, from a time on, and gives the time then. First come those that
-/// are taken in one step, then one of any kind, and so on. If something is still open, no token is
+/// are taken in one step (`follow_short`), which `is_plain` and `is_quick` permit for short codes
+/// and small units, then one of any kind (`take`), and so on. The answer comes when no token is
 /// left.
 #[inline(always)]
 fn follow_on(
@@ -179,7 +183,7 @@ fn follow_on(
 }
 
 /// Reads what is after the declarations, up to the end of the dump: the last time, the edges of the
-/// wire, and the places of the journals.
+/// wire, and the places of the journals. There is no window (`None`), so all edges are kept.
 pub fn changes(
     alloc: Global,
     tokens: &mut Tokens,

@@ -2,8 +2,8 @@
 //!
 //! A window is the part of the dump, in microseconds, that is kept. Bytes are held until they are
 //! read: until at least `wanted` of them are there, so that the same bytes are not read again for
-//! each small part. The unit is that of the dump's times. An error is a fault of the dump,
-//! `OutOfMemory` among them.
+//! each small part. `gone` counts those that were read and let go. The unit is that of the dump's
+//! times. An error is a fault of the dump, `OutOfMemory` among them.
 //!
 //! Where `match` hands an error on, `?` would do the same; the proof of it takes longer.
 
@@ -30,7 +30,7 @@ use irig_recording::Recording;
 use std::alloc::{AllocError, Global};
 use std::marker::Model;
 
-/// The most bytes of a dump that comes in parts.
+/// The most bytes of a dump that comes in parts: far more than files have, and no place overflows.
 const LIMIT: usize = 1 << 48;
 
 /// A dump that comes in parts. It keeps the edges and the bytes of the first journal, not the dump.
@@ -86,7 +86,8 @@ impl DumpReader {
         })
     }
 
-    /// Whether that many bytes more are within 2^48, which a dump in parts may have.
+    /// Whether that many bytes more are within 2^48, which a dump in parts may have. Each test
+    /// subtracts from the limit, so no sum overflows.
     pub fn has_room(&self, count: usize) -> bool
         ensures { IsTrue result ↔ (bytes_read self.now + count ≤ 2 ^ 48) }
     {
@@ -97,9 +98,10 @@ impl DumpReader {
     }
 
     /// Reads the next part of the dump, or holds it until there is enough to read. With it the dump
-    /// has at most 2^48 bytes so far. A fault is one of the dump, whatever comes after the part.
-    /// Memory runs out only for the bytes that are held, for an edge before the first fault, and,
-    /// if there is no fault so far, for the code of the wire and the first journal.
+    /// has at most 2^48 bytes so far, which the caller asks `has_room`. A fault is one of the dump,
+    /// whatever comes after the part. Memory runs out only for the bytes that are held, for an edge
+    /// before the first fault, and, if there is no fault so far, for the code of the wire and the
+    /// first journal.
     pub fn put(self, part: &[u8]) -> Result<DumpReader, VcdFault>
         requires short { bytes_read self + length part.now ≤ 2 ^ 48 }
         ensures read { IfOk result (λ r. (wire : Option (List ℕ)) (bytes : List ℕ)
@@ -177,9 +179,10 @@ fn put_part(progress: &mut Progress, part: &[u8]) -> Result<(), VcdFault>
     read_held(progress)
 }
 
-/// Reads the bytes that are held up to the last white space, and lets them go, as no word goes on
-/// after it. It reads nothing while `read_to` has an inner error: that is a fault of the
-/// declarations, which more bytes may mend. Then `let_go(0)` only sets how many bytes it waits for.
+/// Reads the bytes that are held up to the last white space (`whole_len`), since no word goes on
+/// after it. Of these it keeps what belongs to the first journal (`gather`), and lets them go. It
+/// reads nothing while `read_to` has an inner error: that is a fault of the declarations, which
+/// more bytes may mend. Then `let_go(0)` only sets how many bytes it waits for.
 fn read_held(progress: &mut Progress) -> Result<(), VcdFault>
     requires reader { IsReader progress.old }
     ensures reader { OnOk result (IsReader progress.new) }
@@ -245,7 +248,8 @@ fn read_rest(progress: &mut Progress) -> Result<Unit, VcdFault>
 }
 
 /// What was read, if nothing comes after it: the recording, and the journal that was gathered, if
-/// there is one.
+/// there is one. The faults of the whole come last: too many edges (`kept`), then a second journal
+/// (`one`).
 fn finish(
     reading: Reading,
     journal: Vec<u8>,

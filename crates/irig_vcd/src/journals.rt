@@ -28,8 +28,8 @@ pub struct Place {
 }
 
 impl Place {
-    /// The bytes at this place that a part of the dump has, which comes after `gone` bytes. There
-    /// may be none.
+    /// The bytes of this place that are in `part`, a part of the dump with `gone` bytes of the dump
+    /// before it. There may be none.
     pub fn within<'a>(self, part: &'a [u8], gone: usize) -> &'a [u8]
         ensures bytes { result.now ≡ part_at (Some (self.start, self.end)) gone part.now }
         ensures short { length result.now ≤ length part.now }
@@ -89,8 +89,8 @@ impl Journals {
         Pending::Nothing
     }
 
-    /// Passes a comment, from its first word on, and notes where a journal is. Returns what is open
-    /// then: the comment, if its `$end` is not among the tokens.
+    /// Passes a comment, from its first word on, and notes where a journal is. A comment may also
+    /// end at once. Returns what is open then: the comment, if its `$end` is not among the tokens.
     pub fn take_comment(&mut self, tokens: &mut Tokens) -> Pending
         ensures read { (code : List ℕ) (unit : ℕ) (s : Scan) → Keeps s self.old pending.Comment
             → Reaches code unit s tokens.old None tokens.new self.new result }
@@ -105,8 +105,8 @@ impl Journals {
         self.take_rest(journal_at(first), tokens)
     }
 
-    /// The place of the first journal so far, if there is one. If it is still open, as `pending`
-    /// says, it goes up to `top`, in bytes of the dump from 0.
+    /// The place of the first journal so far; `None` if there is none, and none is open. If it is
+    /// still open, as `pending` says, it goes up to `top`, in bytes of the dump from 0.
     pub fn so_far(self, pending: Pending, top: usize) -> Option<Place>
         ensures { place_view result ≡ so_far (place_view self.first) pending top }
     {
@@ -119,8 +119,8 @@ impl Journals {
         }
     }
 
-    /// `bytes`, which were gathered of the first journal, if there is one. `BadJournal(1)` if there
-    /// is a second one.
+    /// `bytes`, which were gathered of the first journal, if there is one; else they are dropped.
+    /// `BadJournal(1)` if there is a second one.
     pub fn one(self, bytes: Vec<u8>) -> Result<Option<Vec<u8>>, VcdFault>
         ensures one { (all : List Comment) (dump : List ℕ) → Holds all self
             → IfSome self.first (λ p. text_at dump (Some p) ≡ Some bytes.items)
@@ -139,6 +139,7 @@ impl Journals {
     }
 
     /// The text of the one journal, if there is one. `BadJournal(1)` if there is a second one.
+    /// `source` is the whole dump.
     pub fn text<'a>(self, source: &'a [u8]) -> Result<Option<&'a [u8]>, VcdFault>
         requires within { LiesIn source.now self }
         ensures one { (all : List Comment) → Holds all self

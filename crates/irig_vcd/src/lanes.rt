@@ -1,9 +1,10 @@
 //! Digits, sixteen at a time, each as its value, 0 to 9. Places are those of bytes in `source`,
 //! from 0.
 //!
-//! Two neighbours a and b are one word a + 2^k b. That times base 2^k + 1 has base a + b in its
-//! upper half, which the shift leaves. So digits become numbers of two, four and eight digits. The
-//! first of sixteen digits is in the lowest byte.
+//! Two neighbours a and b are one word a + 2^k b of 2k bits. That times base * 2^k + 1 is a + 2^k
+//! (base * a + b): what is above 2k bits is lost. The shift by k leaves base * a + b. So digits
+//! become numbers of two, four and eight digits, with the bases 10, 100 and 10000. The first of
+//! sixteen digits is in the lowest byte.
 
 ghost use Rattle.std.specs.Prelude.{◌≡◌, ◌≤◌, ◌<◌, ◌+◌, ◌-◌, ◌*◌, ◌^◌, ◌++◌, ℕ, length, drop, map};
 ghost use Rattle.std.specs.Prelude.{replicate, slice_index};
@@ -13,7 +14,7 @@ ghost use Rattle.irig_vcd.specs.{Code.Lanes.joined, Code.Lanes.shows_none, Code.
 
 use std::simd::prelude::*;
 
-/// Sixteen lanes that go, and sixteen that stay.
+/// Sixteen lanes that are cleared by `&`, and sixteen that stay.
 const KEEP: [u8; 32] = [
     0, 0, 0, 0, 0, 0, 0, 0, 0, 0, 0, 0, 0, 0, 0, 0, 255, 255, 255, 255, 255, 255, 255, 255, 255,
     255, 255, 255, 255, 255, 255, 255,
@@ -39,8 +40,8 @@ fn fours(twos: u16x8) -> u32x4
     (u32x4::from_le_bytes(twos.to_le_bytes()) * u32x4::splat(6553601)) >> u32x4::splat(16)
 }
 
-/// The number of eight digits that two of four make, in one word. 42949672960001 is 10000 * 2^32 +
-/// 1.
+/// The number of eight digits that two numbers of four make, in one word. 42949672960001 is 10000 *
+/// 2^32 + 1.
 #[inline(always)]
 fn eight(pair: u64) -> u64
     ensures { (a b : ℕ) → pair ≡ a + 2 ^ 32 * b → a < 10000 → b < 10000 → result ≡ 10000 * a + b }
@@ -71,7 +72,8 @@ pub fn sixteen(digits: u8x16) -> u64
     parts[0] * 100_000_000 + parts[1]
 }
 
-/// A bit for each byte of a text that shows no digit. Bit k is for byte k.
+/// A bit for each byte of a text that shows no digit. Bit k is for byte k. A byte below `0` wraps
+/// around to a number above 9.
 #[inline(always)]
 fn no_digits(bytes: u8x16) -> u64
     ensures { result ≡ mask_l (map shows_none bytes) }
@@ -81,7 +83,8 @@ fn no_digits(bytes: u8x16) -> u64
         .to_bitmask()
 }
 
-/// The last `count` of sixteen lanes, with 0 in the others.
+/// The last `count` of sixteen lanes, with 0 in the others: sixteen bytes of `KEEP` from `count` on
+/// begin with 16 - `count` zeros.
 #[inline(always)]
 fn last_lanes(lanes: u8x16, count: usize) -> u8x16
     requires { count ≤ 16 }
@@ -90,7 +93,8 @@ fn last_lanes(lanes: u8x16, count: usize) -> u8x16
     lanes & u8x16::from_slice(&KEEP[count..])
 }
 
-/// How many bytes from a place on show digits, at most 15; 0 if there are more.
+/// How many bytes from a place on show digits, at most 15. 0 also if all sixteen do: the number may
+/// then go on, and the caller reads it in another way.
 #[inline(always)]
 fn digits_count(source: &[u8], from: usize) -> usize
     requires { from + 16 ≤ length source.now }
@@ -109,7 +113,7 @@ fn digits_count(source: &[u8], from: usize) -> usize
 /// there is none, or more than 15.
 ///
 /// It reads the sixteen bytes from the place on, to count the digits, and the sixteen up to their
-/// end, so that they are the last lanes. So the place is 16 or more.
+/// end, so that they are the last lanes. So the place has to be 16 or more.
 #[inline(always)]
 pub fn lanes_end(source: &[u8], from: usize) -> (usize, u64)
     requires back { 16 ≤ from }

@@ -101,7 +101,8 @@ impl Progress {
     }
 
     /// Gathers the bytes of the first journal among those that are held, up to the place `whole`,
-    /// from 0. These were read, and not yet gathered. It fails only if memory runs out.
+    /// from 0. These were read, and not yet gathered. It fails only if memory runs out. `so_far` is
+    /// the place of that journal in the dump, and `within` what of it is held here.
     pub fn gather(&mut self, whole: usize) -> Result<(), AllocError>
         requires within { whole ≤ vec_len self.old.held }
         requires short { self.old.gone + vec_len self.old.held ≤ 2 ^ 48 }
@@ -134,7 +135,7 @@ impl Progress {
     }
 
     /// Lets the first `count` bytes go, which are read. Then it waits until twice as many bytes are
-    /// held as stay.
+    /// held as stay, so that little is read again, however small the parts are.
     pub fn let_go(&mut self, count: usize)
         requires within { count ≤ vec_len self.old.held }
         requires short { self.old.gone + vec_len self.old.held ≤ 2 ^ 48 }
@@ -153,7 +154,7 @@ impl Progress {
     }
 }
 
-/// A wire's name that is kept, as it is given to a call.
+/// A wire's name that is kept, as it is given to a call. `None` if none was asked for.
 fn name(wire: &Option<Vec<u8>>) -> Option<&[u8]>
     ensures { name_of result ≡ bytes_of wire.now }
 {
@@ -163,7 +164,7 @@ fn name(wire: &Option<Vec<u8>>) -> Option<&[u8]>
     }
 }
 
-/// Drops the first `count` bytes.
+/// Drops the first `count` bytes: the others move to the front.
 fn drop_front(bytes: &mut Vec<u8>, count: usize)
     requires { count ≤ vec_len bytes.old }
     ensures { bytes.new.items ≡ drop count bytes.old.items }

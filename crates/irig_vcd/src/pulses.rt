@@ -21,7 +21,8 @@ use crate::trace::{Stretch, Trace};
 use crate::unit::Unit;
 use std::alloc::AllocError;
 
-/// The most bytes that two edges have.
+/// Fewer bytes than these are left to the slower way. Two edges have at most 40: each a `#`, 15
+/// digits, a newline, a value, a code and a newline. The rest is room to read sixteen at once.
 const LONGEST_PULSE: usize = 64;
 
 /// A time with a value at it, and the place after both lines, in bytes from 0.
@@ -113,9 +114,9 @@ fn pulse_at(
 
 /// Takes the pulses here, after the time `from`, and returns the time of the last fall, or `from`
 /// if there is none. It stops at what is no pulse, at an edge in the microsecond of the one before
-/// it, where fewer bytes are left than a pulse may have, and where no more edges are kept. It reads
-/// sixteen bytes at a time from before a place, so nothing in the first sixteen. It fails only if
-/// memory runs out.
+/// it, where fewer bytes are left than a pulse may have, and where no more edges are kept.
+/// `pulse_at` reads up to sixteen bytes before a place, so nothing is taken in the first sixteen.
+/// It fails only if memory runs out.
 #[inline(always)]
 fn pulses_in(
     tokens: &mut Tokens,
@@ -137,6 +138,7 @@ fn pulses_in(
     ensures kept { OnErr result (stretch.is_kept ≡ true) }
 {
     let source = tokens.source;
+    // The proof alone uses this.
     let base = tokens.base;
     let mut at = tokens.at;
     if at < 16 {
@@ -159,8 +161,8 @@ fn pulses_in(
 }
 
 /// Takes the pulses here as `pulses_in` does, of a dump in microseconds: after the time `from`, and
-/// returns the time of the last fall. A function of its own for the machine: its state stays in
-/// registers.
+/// returns the time of the last fall, both in microseconds. A function of its own for the machine:
+/// its state stays in registers.
 #[inline(never)]
 fn pulses_in_micros(
     tokens: &mut Tokens,

@@ -1,7 +1,8 @@
 //! What was read after the declarations.
 //!
 //! `code` is that of the wire that is read, and `unit` that of the dump's times. A clock is a time
-//! in that unit. The trace follows the level of the wire and keeps its edges.
+//! in that unit. The trace follows the level of the wire and keeps its edges. `moved` gives the
+//! microsecond of the window that a microsecond of the dump falls on.
 //!
 //! Where `match` hands an error on, `?` would do the same; the proof of it takes longer.
 
@@ -69,8 +70,8 @@ impl Reading {
     }
 
     /// What was read, if nothing comes after it: the length in microseconds, which is that of the
-    /// window if there is one; the edges; and the places of the journals. It is a fault if
-    /// something is open, as a comment without its end.
+    /// window if there is one and the dump is not shorter; the edges; and the places of the
+    /// journals. It is a fault if something is open (`closed`), as a comment without its end.
     pub fn finish(self, unit: Unit) -> Result<Body, VcdFault>
         requires time { IsOn unit self.trace self.clock }
         ensures exact { (s : Scan) → StandsAt unit s self

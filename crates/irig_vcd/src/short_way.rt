@@ -2,7 +2,8 @@
 //!
 //! A clock is a time of the dump, in its unit. The trace follows the level of the wire and keeps
 //! its edges. A code is plain if it has 1 to 18 printable bytes. `is_quick` says that whole pulses
-//! are taken in one step. All else is left to the way for any token, which is slower.
+//! are taken in one step. A stretch of the trace is how far that may go. All else is left to the
+//! way for any token, which is slower.
 //!
 //! Where `match` hands an error on, `?` would do the same; the proof of it takes longer.
 
@@ -46,8 +47,8 @@ pub fn is_quick(is_plain: bool, unit: Unit, code: &[u8]) -> bool
 }
 
 /// Takes the tokens here that are taken in one step, up to the first that is not, and gives the
-/// time then. `from` is the time before them. An error is a time that may not come there, or that
-/// memory ran out.
+/// time then. `from` is the time before them. A value on another code (`Apart`) is only passed. An
+/// error is a time that may not come there, or that memory ran out.
 #[inline(always)]
 pub fn follow_short(
     is_plain: bool,
@@ -99,7 +100,8 @@ fn has_sign(source: &[u8], at: usize) -> bool
 }
 
 /// Takes the pulses here, if they are taken in one step, and returns the time then. A pulse begins
-/// at a low level with the number sign of its time. It fails only if memory runs out.
+/// at a low level with the number sign of its time. Without a stretch none is taken: the next
+/// change goes the usual way. It fails only if memory runs out.
 #[inline(always)]
 fn ahead(
     is_quick: bool,

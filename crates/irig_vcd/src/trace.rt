@@ -2,7 +2,8 @@
 //!
 //! Times are in microseconds of the dump. `moved` gives the microsecond of the window that a time
 //! falls on. Several changes can be in one microsecond, so an edge is kept only when a later one
-//! comes: if the level then differs from that of the microsecond before.
+//! comes: if the level then differs from that of the microsecond before. `LENGTH_LIMIT` is the
+//! latest time that a dump may have.
 
 ghost use Rattle.std.specs.Prelude.{◌≡◌, ◌≤◌, ◌<◌, ◌+◌, ◌^◌, true, false, ◌∷◌, [], ◌++◌, ℕ, List};
 ghost use Rattle.std.specs.Prelude.{◌↔◌, OnOk, OnErr, IfOk, IfSome, length, take};
@@ -16,8 +17,9 @@ use crate::window::{Window, moved};
 use irig_recording::{Edges, LENGTH_LIMIT};
 use std::alloc::{AllocError, Global};
 
-/// A level that was followed up to a time of a dump: the edges before it, the level before it, and
-/// the level from it on. Edges and the level before it are those of a window of the dump.
+/// A level that was followed up to `time`, in microseconds of a dump: the edges before it, the
+/// level before it (`before`), and the level from it on (`now`). Edges and the level before it are
+/// those of a window of the dump.
 #[derive(Drop)]
 pub struct Trace {
     pub window: Option<Window>,
@@ -27,8 +29,9 @@ pub struct Trace {
     edges: Edges,
 }
 
-/// What becomes of the next edges of a level that is low, up to a limit in microseconds: they are
-/// kept, each at its time less that of the begin of the window, or none of them is in the window.
+/// What becomes of the next edges of a level that is low, up to a limit in microseconds of the
+/// dump: they are kept, each at its time less `from`, that of the begin of the window, or none of
+/// them is in the window.
 #[derive(Clone, Copy)]
 pub struct Stretch {
     pub from: u64,
@@ -37,7 +40,7 @@ pub struct Stretch {
 }
 
 impl Trace {
-    /// A trace that has followed no change.
+    /// A trace that has followed no change: the level is low from time 0 on.
     pub fn new(alloc: Global, window: Option<Window>) -> Trace
         ensures start { result.time ≡ 0 }
         ensures follows { Follows [] result }
@@ -52,9 +55,9 @@ impl Trace {
         }
     }
 
-    /// Continues to a time, which is not before the last. If it is in a later microsecond of the
-    /// window, an edge is kept at the last time if the level changed there. It fails only if memory
-    /// runs out.
+    /// Continues to a time, which is not before the last. If that is in a later microsecond of the
+    /// window, no change comes any more in the last microsecond (`place`): an edge is kept there if
+    /// the level changed. It fails only if memory runs out.
     fn advance(&mut self, time: u64) -> Result<(), AllocError>
         requires { self.old.time ≤ time }
         ensures ok { OnOk result
@@ -104,8 +107,8 @@ impl Trace {
 
     /// The stretch from here on in which pulses are taken in one step. The level is low. No edge is
     /// in the window before its begin or from its end on. Within it edges are kept if a rise waits
-    /// for its fall, which is at the last time. Else it is `None`: the next change is to be taken
-    /// in the usual way.
+    /// for its fall, and that fall is at the last time: then each step keeps this fall and the next
+    /// rise. Else it is `None`: the next change is to be taken in the usual way.
     #[inline(always)]
     pub fn stretch(&self) -> Option<Stretch>
         requires { self.now.now ≡ false }
@@ -121,6 +124,7 @@ impl Trace {
         if self.time >= to {
             return Some(apart(LENGTH_LIMIT));
         }
+        // High before and low now: a fall is at the last time. `is_open`: a rise waits for it.
         if self.before && self.edges.is_open() {
             return Some(Stretch {
                 from,
@@ -139,8 +143,10 @@ impl Trace {
         self.edges.has_room()
     }
 
-    /// Takes a rise and a fall on a stretch, at times in microseconds. If edges are kept, these are
-    /// the fall at the last time and this rise: this fall is kept with the next rise.
+    /// Takes a rise and a fall on a stretch, at times in microseconds. If edges are kept, it keeps
+    /// the fall at the last time, which waited, and this rise; the fall that is given waits in its
+    /// turn. All are then at or after `stretch.from`. If none are kept, only the time goes on: the
+    /// level is low before and after.
     #[inline(always)]
     pub fn put_pulse(&mut self, rise: u64, fall: u64, stretch: Stretch) -> Result<(), AllocError>
         requires here { LiesOn stretch self.old }
@@ -167,7 +173,7 @@ impl Trace {
     }
 
     /// The edges of the recording of the window, of a dump that ends at a time. If the level is
-    /// high just before the end, its pulse ends there. It fails only if memory runs out.
+    /// high just before the end (`before`), its pulse ends there. It fails only if memory runs out.
     pub fn finish(mut self, end: u64) -> Result<Edges, AllocError>
         requires { self.time ≤ end }
         ensures edges { IfOk result
@@ -182,7 +188,7 @@ impl Trace {
     }
 }
 
-/// The stretch up to a limit, of which no edge is in the window.
+/// The stretch up to a limit in which no edge is in the window, so that none is kept.
 fn apart(limit: u64) -> Stretch
     ensures limit { result.limit ≡ limit }
     ensures apart { result.is_kept ≡ false }
@@ -202,8 +208,8 @@ pub fn differ(level: bool, other: bool) -> bool
 }
 
 /// Adds an edge, a microsecond of the window, after the others, if `is_edge` says that there is
-/// one. If there is one too many already, it adds none and asks for no memory. It fails only if
-/// memory runs out.
+/// one. If they are more than a recording may have already, it adds none and asks for no memory. It
+/// fails only if memory runs out.
 fn keep(edges: &mut Edges, is_edge: bool, edge: u64) -> Result<(), AllocError>
     ensures ok { OnOk result
         ((all : List ℕ) → edges.old ≡ take edges_kept all

@@ -1,6 +1,7 @@
 //! The unit of time of a dump.
 //!
-//! A time is a number of units. Its whole part is in microseconds, or in units if these are longer.
+//! A time is a number of units. Its whole part is in microseconds, or in units if these are longer:
+//! `factor` is how many microseconds one of these is.
 
 ghost use Rattle.std.specs.Prelude.{◌≡◌, ◌≤◌, ◌-◌, ◌==◌, nat_le};
 ghost use Rattle.irig_vcd.specs.Code.Time.{factor_of, limit_of};
@@ -8,7 +9,7 @@ ghost use Rattle.irig_vcd.specs.Code.Time.{factor_of, limit_of};
 use irig_recording::LENGTH_LIMIT;
 use std::marker::Model;
 
-/// A unit of time: a power of ten of femtoseconds, from 0 to 17.
+/// A unit of time: a power of ten of femtoseconds, from 0 (1 fs) to 17 (100 s).
 #[derive(Clone, Copy)]
 pub struct Unit {
     exponent: u8,
@@ -27,7 +28,7 @@ impl Model for Unit {
 }
 
 impl Unit {
-    /// The unit of a power of ten of femtoseconds.
+    /// The unit of a power of ten of femtoseconds, from 0 to 17.
     pub fn new(exponent: u8) -> Unit
         requires { exponent ≤ 17 }
         ensures { result ≡ exponent }
@@ -68,7 +69,7 @@ impl Unit {
     }
 
     /// The largest whole part of a time that is within 2^40 microseconds: 2^40 over `factor`,
-    /// rounded down.
+    /// rounded down. `LENGTH_LIMIT` is 2^40.
     #[tactic(auto, unfolding(crate::specs::Code::Time::limit_of))]
     pub fn limit(self) -> u64
         ensures { result ≡ limit_of self }
@@ -86,7 +87,8 @@ impl Unit {
         }
     }
 
-    /// How many microseconds one of the whole part of a time is.
+    /// How many microseconds 1 in the whole part of a time is: more than 1 only if the unit is
+    /// longer than a microsecond.
     #[tactic(auto, unfolding(crate::specs::Code::Time::factor_of))]
     pub fn factor(self) -> u64
         ensures { result ≡ factor_of self }

@@ -5,7 +5,7 @@
 ghost use Rattle.std.specs.Prelude.{◌≡◌};
 ghost use Rattle.irig_vcd.specs.Window.{moved};
 
-/// The part of a dump from one microsecond up to another, which is not in it.
+/// The part of a dump from the microsecond `from` up to the microsecond `to`, which is not in it.
 #[derive(Clone, Copy)]
 pub struct Window {
     pub from: u64,

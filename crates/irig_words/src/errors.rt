@@ -25,7 +25,7 @@ pub fn matches_of<'a>(command: Command<'a>, words: &'a [String]) -> Result<ArgMa
 }
 
 /// What `clap` says of an argument that is not UTF-8. `command` is the program's own, or it says
-/// that memory ran out for it: then that is what is said.
+/// that memory ran out for it: then that is what is said. Either is an error to print.
 pub fn not_text(command: Result<Command<'_>, AllocError>) -> Error
     ensures { IsMistake result }
 {

@@ -18,7 +18,7 @@ pub enum FormatFault {
 }
 
 /// The format with a letter and an expression: B and 2, where they are not given. An error says
-/// which of them is wrong.
+/// which of them is wrong. Some formats do not permit all expressions 0 to 7.
 pub fn format_named(letter: Option<&str>, number: Option<&str>) -> Result<Format, FormatFault>
     ensures format { IfOk result (IsFormat (given letter.entry) (given number.entry)) }
     ensures fault { IfErr result (HasFormatFault (given letter.entry) (given number.entry)) }
@@ -45,7 +45,8 @@ pub fn text_or<'a>(value: Option<&'a str>, other: &'a str) -> &'a [u8]
     }
 }
 
-/// The number of a text that is one digit, 0 to 9. `None` for any other text.
+/// The number of a text that is one digit, 0 to 9. `None` for any other text. Which digits a format
+/// permits is tested after that.
 fn digit_named(text: &[u8]) -> Option<u8>
     ensures { result ≡ digit_named text.now }
 {

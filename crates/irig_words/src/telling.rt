@@ -57,7 +57,7 @@ impl<'a> Program<'a> {
         ExitCode::from(status)
     }
 
-    /// Says why the words of the command line could not be read, and returns the status: one of
+    /// Says why the words of the command line could not be read, and returns the status, 2: one of
     /// them is not UTF-8, which is `InvalidData`, or the system gave none. `command` is the
     /// program's own, or it says that memory ran out for it.
     pub fn tell_no_words<R: Eprint>(
@@ -75,8 +75,8 @@ impl<'a> Program<'a> {
         }
     }
 
-    /// Says why a command line asks for nothing, and returns the status. If the words ask for help,
-    /// it is printed on `help`, the program's output.
+    /// Says why a command line asks for nothing, and returns the status, 2. If the words ask for
+    /// help, it is printed on `help`, the program's output, and the status is that of `print_help`.
     pub fn explain<R: Eprint, F: Display, H: Write>(
         &self,
         rt: &R,
@@ -106,8 +106,8 @@ impl<'a> Program<'a> {
         self.print_help(rt, help)
     }
 
-    /// Prints the help on `help`, the program's output. The exit status says whether all of it was
-    /// printed.
+    /// Prints the help on `help`, the program's output. The exit status is 0 if all of it was
+    /// printed, and else that of a failed output, `self.status`.
     fn print_help<R: Eprint, H: Write>(&self, rt: &R, help: &mut H) -> ExitCode
         ensures { Helps self.now.help.now self.now.status (H.contents help.old)
             (H.contents help.new) (exit_status result) }
@@ -119,7 +119,7 @@ impl<'a> Program<'a> {
     }
 }
 
-/// Says which mistake the words have, in the words of `clap`.
+/// Says which mistake the words have, in the words of `clap`, and returns status 2.
 fn tell_mistake<R: Eprint>(rt: &R, error: &Error) -> ExitCode
     ensures { exit_status result ≡ 2 }
 {

@@ -31,7 +31,8 @@ pub enum WindowFault {
 /// A greater number is read as this one, which is no time: 2^64.
 const NUMBER_LIMIT: u128 = 18_446_744_073_709_551_616;
 
-/// The command line with the two options of a window.
+/// The command line with the two options of a window, `--from` and `--to`. It fails only if memory
+/// runs out.
 pub fn windowed<'a>(alloc: Global, command: Command<'a>) -> Result<Command<'a>, AllocError>
     ensures { IfOk result (λ c. app_of c ≡ with_window (app_of command.entry)) }
 {
@@ -83,7 +84,7 @@ pub fn window_named(from: Option<&str>, to: Option<&str>) -> Result<Option<Windo
     }))
 }
 
-/// The first microsecond of a window.
+/// The first microsecond of a window: 0 if none is given. `None` if the text is no time.
 fn first_of(from: Option<&str>) -> Option<u64>
     ensures { result ≡ first_of (given from.entry) }
 {
@@ -91,7 +92,8 @@ fn first_of(from: Option<&str>) -> Option<u64>
     time_named(text)
 }
 
-/// The first microsecond after a window.
+/// The first microsecond after a window: the greatest number if none is given. `None` if the text
+/// is no time.
 fn end_of(to: Option<&str>) -> Option<u64>
     ensures { result ≡ end_of (given to.entry) }
 {
@@ -99,7 +101,7 @@ fn end_of(to: Option<&str>) -> Option<u64>
     time_named(text)
 }
 
-/// The time in microseconds that a text is; `None` if it is none.
+/// The time in microseconds that a text is; `None` if it is empty, no number, or 2^64 and more.
 fn time_named(text: &[u8]) -> Option<u64>
     ensures { result ≡ time_named text.now }
 {
@@ -116,7 +118,8 @@ fn time_named(text: &[u8]) -> Option<u64>
     }
 }
 
-/// The number that digits spell, or 2^64 if it is above; none, if a byte is no digit.
+/// The number that digits spell, or 2^64 if it is above, so that no step overflows; `None` if a
+/// byte is no digit.
 fn spelt(digits: &[u8]) -> Option<u128>
     ensures { result ≡ spelt 0 digits.now }
 {

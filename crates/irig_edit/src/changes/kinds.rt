@@ -1,5 +1,5 @@
-//! How each kind of single change turns, of the track and of the marks alone: the change is made,
-//! and what leads back is left instead.
+//! How single changes turn, in the track and in the marks alone: the change is made, and what leads
+//! back is left instead of it.
 //!
 //! Times are in microseconds. A `Span` says which pulses a turn touched: from pulse `at` on, from
 //! 0, `old` pulses became `new`.
@@ -22,7 +22,8 @@ use irig_saved::{Letters, Marks};
 use irig_track::{Span, Track};
 
 /// Turns a toggle: inverts the level from time `a` to time `b`. Returns the pulses that it touched.
-/// The same toggle leads back.
+/// The same toggle leads back, so nothing has to be left. The caller has tested that it can be
+/// made, and made room for one pulse more.
 pub(crate) fn turn_toggle(track: &mut Track, a: u64, b: u64) -> Span
     requires can { CanToggle track.old.micros a b track.old.pulses }
     requires spare { 0 < track.old.spare }
@@ -43,9 +44,10 @@ pub(crate) fn turn_toggle(track: &mut Track, a: u64, b: u64) -> Span
     span
 }
 
-/// Turns a shift of the pulses `i` to `j`, from 0, by `by`, below 0 if they come earlier. With them
-/// move the marks of the letters that are true in `letters`. The distance becomes its opposite,
-/// which leads back. Returns the pulses that it touched.
+/// Turns a shift of the pulses `i` to `j`, both included and from 0, by `by`, below 0 if they come
+/// earlier. The marks of the letters that are true in `letters` move with them. `by` becomes its
+/// opposite, which leads back. Returns the pulses that it touched. The caller has tested that the
+/// shift can be made: so `by` is no longer than the track, and its opposite does not overflow.
 pub(crate) fn turn_shift(
     track: &mut Track,
     marks: &mut Marks,
@@ -74,8 +76,8 @@ pub(crate) fn turn_shift(
     span
 }
 
-/// Turns the setting of a mark, whose letter is a number from 0, for a: mark and time change
-/// places, so `time` is what leads back. `None` is a mark that is not set.
+/// Turns the setting of a mark: the mark and `time` are swapped, so `time` is then what leads back.
+/// `None` is a mark that is not set. `letter` is a number from 0: 0 is a.
 pub(crate) fn turn_mark(marks: &mut Marks, letter: usize, time: &mut Option<u64>)
     requires { letter < 26 }
     ensures marks { marks.new ≡ slice_set marks.old letter time.old }
@@ -86,8 +88,8 @@ pub(crate) fn turn_mark(marks: &mut Marks, letter: usize, time: &mut Option<u64>
     *time = before;
 }
 
-/// The format of a kind and an expression that it permits, as the contract needs; so there is no
-/// error.
+/// The format of a kind and an expression. The caller has tested that the kind permits it, so there
+/// is no error.
 pub(crate) fn permitted(kind: Kind, expression: u8) -> Format
     requires { IsTrue (is_permitted kind expression) }
     ensures { (result.kind ≡ kind) × (result.expression ≡ expression) }

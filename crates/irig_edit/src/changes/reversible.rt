@@ -1,4 +1,5 @@
-//! Changes of the present state, turned in place.
+//! Changes of the present state, turned in place. A `Turn` is a change with places for the pulses
+//! that go. A state is lawful if track and marks keep their limits and the index has the frames.
 //!
 //! A journal asks these calls of a state (`Reversible`). To turn a change is to make it and to
 //! leave the change that leads back in it.
@@ -67,7 +68,7 @@ impl Reversible for Present {
         let _track = self.track();
     }
 
-    // Whether the change can be made to the state as it is.
+    // Whether the change can be made to the state as it is. The state stays.
     fn applies(&self, turn: &Turn) -> bool {
         self.allows(&turn.single)
     }
@@ -83,7 +84,7 @@ impl Reversible for Present {
         self.make_turn(turn);
     }
 
-    // How many pulses the change holds.
+    // How many pulses the change holds: those that a splice inserts.
     fn weight(turn: &Turn) -> u64 {
         turn.held() as u64
     }

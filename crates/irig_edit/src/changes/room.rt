@@ -2,7 +2,7 @@
 //!
 //! The limits of a track: its pulses do not touch and lie within its length, and they are at most
 //! 2^22. A change counts pulses from 1, a track from 0. A record is what the index keeps of a
-//! frame.
+//! frame. To turn a change is to make it and to leave the change that leads back in it.
 //!
 //! What is marked "Read for .." does nothing: it only lets the proof use what a type promises.
 
@@ -32,7 +32,8 @@ impl Present {
         self.track.can_toggle(a, b)
     }
 
-    /// Whether the pulses `i` to `j`, from 0, can be moved by `by` microseconds within the limits.
+    /// Whether the pulses `i` to `j`, both included and from 0, can be moved by `by` microseconds
+    /// within the limits.
     pub(crate) fn can_shift(&self, i: usize, j: usize, by: i64) -> bool
         ensures can { IsTrue result ↔ CanShift self.now.state.micros i j by self.now.state.pulses }
         ensures state { IsState self.now.state }
@@ -51,9 +52,9 @@ impl Present {
         self.track.can_splice(at, count, put.as_gap())
     }
 
-    /// Whether the pulses `i` to `j`, from 0, can be moved by `by` microseconds within the limits,
-    /// and with them the marks of the letters that are true in `letters`: each has to be set and to
-    /// stay within the length.
+    /// Whether the pulses `i` to `j`, both included and from 0, can be moved by `by` microseconds
+    /// within the limits, and the marks of the letters that are true in `letters` with them: each
+    /// has to be set and to stay within the length.
     fn can_move(&self, i: usize, j: usize, by: i64, letters: &Letters) -> bool
         ensures { IsTrue result ↔ CanShift self.now.state.micros i j by self.now.state.pulses
             × AllMayMove self.now.state.micros by letters.now self.now.state.marks
@@ -64,8 +65,9 @@ impl Present {
         self.can_shift(i, j, by) && all_may_move(&self.marks, letters, by, self.track.length())
     }
 
-    /// Whether a single change, whose pulses count from 1, can be made within the limits. A change
-    /// from pulse 0 on, which is none, cannot.
+    /// Whether a single change, whose pulses count from 1, can be made within the limits. One that
+    /// names a pulse 0 cannot: a saved journal can have it, and 0 less 1 would wrap. Whether all
+    /// other pulses are there is tested by `can_splice` and `can_move`.
     pub(crate) fn allows(&self, single: &Single) -> bool
         ensures { IsTrue result ↔ FitsSingle self.now.state single.now }
     {
@@ -86,8 +88,9 @@ impl Present {
 
 /// Room for turns.
 impl Present {
-    /// Makes room for a turn of a single change, which stays what it is, and for its turn back. It
-    /// fails only if memory runs out.
+    /// Makes room for a turn of a single change and for its turn back: for records of frames, for
+    /// pulses that come, and for pulses that go. The change stays what it is, and must be one that
+    /// can be made. It fails only if memory runs out; what was reserved until then stays.
     pub(crate) fn room_for(&mut self, turn: &mut Turn) -> Result<(), AllocError>
         requires fits { FitsSingle self.old.state (single_of turn.old) }
         ensures known { IsState self.old.state }
@@ -105,11 +108,12 @@ impl Present {
         self.index.reserve(records)
     }
 
-    /// How many records a turn of a single change may bring, at most, in addition to those there
-    /// are. A frame begins by a pulse and the one before it. So a change can also bring frames that
-    /// begin at the pulses on its two edges: 2. All numbers here are upper bounds, which do not
-    /// have to be reached: that for a toggle is of what the pulses that rise between its times can
-    /// become.
+    /// How many records a turn of a single change adds, at most, to those there are. A frame begins
+    /// with a marker, a position identifier after another one. So a change can bring frames that
+    /// begin in its new pulses, and two more, by its first new pulse with the one before it and by
+    /// the pulse after it. All numbers here are upper bounds, which do not have to be reached.
+    /// `markers_among` counts the markers of new pulses as if they were a track of their own. A
+    /// shift keeps the distances among its pulses, so it brings only those two.
     fn records_for(&self, single: &Single) -> usize
         requires fits { FitsSingle self.now.state single.now }
         ensures records { result ≡ records_for self.now.state single.now }
@@ -119,11 +123,15 @@ impl Present {
         match single {
             Single::Splice { put, .. } => markers_among(put.as_gap(), self.format) + 2,
             Single::Toggle { a, b } => {
+                // A toggle touches at most one pulse more than those that rise after `a` up to `b`,
+                // and leaves one more than it touches: with the 2, that is 4. The track gets one
+                // pulse more at most: with the 2, that is 3 more than it has.
                 let between = self.find(*b).saturating_sub(self.find(*a));
                 (between + 4).min(pulses + 3)
             }
             Single::Shift { .. } => 2,
             Single::SetFormat { kind, expression } => {
+                // All frames are read again, so their new count is what matters.
                 let format = permitted(*kind, *expression);
                 Index::count(&mut self.track.lens(), format).saturating_sub(self.index.len())
             }
@@ -131,9 +139,9 @@ impl Present {
         }
     }
 
-    /// Makes places in the track for the pulses that a single change inserts. A toggle brings one
-    /// pulse more than it takes, at most, and on the way another one. It fails only if memory runs
-    /// out.
+    /// Makes places in the track for the pulses that a single change inserts, beyond those that go.
+    /// A toggle brings one pulse more than it takes, at most, and needs one more place while it is
+    /// made. It fails only if memory runs out.
     fn reserve_put(&mut self, single: &Single) -> Result<(), AllocError>
         ensures state { self.new.state ≡ self.old.state }
         ensures index { self.new.index ≡ self.old.index }

@@ -1,4 +1,5 @@
-//! A single change of a state, with room for its turn.
+//! A single change of a state, with room for its turn. Only a splice removes and inserts pulses as
+//! a list.
 //!
 //! To turn a change is to make it and to leave the change that leads back in it.
 
@@ -16,7 +17,7 @@ use std::alloc::AllocError;
 pub struct Turn {
     /// The change.
     pub(crate) single: Single,
-    /// Places for the pulses that go.
+    /// Places for the pulses that go; it is empty between turns.
     pub(crate) taken: Gap<Pulse>,
     ghost empty: { taken.items ≡ [] },
     ghost tight: { 2 * taken.capacity ≤ 3 * goes single + 2 },
@@ -36,8 +37,8 @@ impl Turn {
         }
     }
 
-    /// Makes places for the pulses that go: a splice removes `count`. It fails only if memory runs
-    /// out.
+    /// Makes places for the pulses that go: a splice removes `count`; other changes need none. It
+    /// fails only if memory runs out.
     pub(crate) fn reserve_taken(&mut self) -> Result<(), AllocError>
         ensures same { self.new.single ≡ self.old.single }
         ensures takes { OnOk result (goes self.new.single ≤ self.new.taken.capacity) }

@@ -1,9 +1,10 @@
 //! Single changes turned in place, with the frames repaired at their places.
 //!
-//! To turn a change is to make it and to leave the change that leads back in it. The index holds
-//! the frames of the track; a span says which pulses a turn touched, and `repair` reads the frames
-//! again that these may have changed. Times are in microseconds. A change counts pulses from 1, a
-//! track from 0.
+//! To turn a change is to make it and to leave the change that leads back in it. Before each call
+//! the change was found possible, and room was made for it (`room`), so nothing fails here. The
+//! index holds the frames of the track; a span says which pulses a turn touched, and `repair` reads
+//! the frames again that these may have changed. Times are in microseconds. A change counts pulses
+//! from 1, a track from 0.
 //!
 //! What is marked "Read for .." does nothing: it only lets the proof use what a type promises.
 
@@ -31,7 +32,7 @@ use irig_track::Pulse;
 
 /// The turns that move pulses or frames.
 impl Present {
-    /// Turns a single change, which then has room for its turn back. This takes no memory.
+    /// Turns a single change, which has room for its turn back afterwards. This takes no memory.
     pub(crate) fn make_turn(&mut self, turn: &mut Turn)
         requires fits { FitsSingle self.old.state (single_of turn.old) }
         requires room { HasRoomFor (places_in self.old) self.old.state turn.old }
@@ -48,7 +49,8 @@ impl Present {
         self.turn_single(&mut turn.single, &mut turn.taken);
     }
 
-    /// Turns a single change by its kind. The pulses that go by a splice have places in `taken`.
+    /// Turns a single change by its kind. `taken` has places for the pulses that a splice removes.
+    /// A change that was found possible names no pulse 0, so the less 1 does not wrap.
     fn turn_single(&mut self, single: &mut Single, taken: &mut Gap<Pulse>)
         requires fits { FitsSingle self.old.state single.old }
         requires empty { taken.old.items ≡ [] }
@@ -103,8 +105,8 @@ impl Present {
         self.index.repair(&mut self.track.lens(), self.format, span);
     }
 
-    /// Turns a toggle from time `a` to time `b`, which leads back itself. On the way there can be
-    /// one pulse more than before and after, so there has to be room for one.
+    /// Turns a toggle from time `a` to time `b`; the same toggle leads back. While it is made there
+    /// can be one pulse more than before and after, so there has to be room for one.
     fn toggle(&mut self, a: u64, b: u64)
         requires can { CanToggle self.old.state.micros a b self.old.state.pulses }
         requires before { HoldsState (places_in self.old) 1 self.old.state }
@@ -120,8 +122,9 @@ impl Present {
         self.index.repair(&mut self.track.lens(), self.format, span);
     }
 
-    /// Turns a shift: `single` is one, so no other kind comes. Its distance becomes its opposite,
-    /// which leads back.
+    /// Turns a shift. The caller has seen that `single` is one, so no other kind comes. Its
+    /// distance becomes its opposite, which leads back. It is written after the shift, which still
+    /// reads the marks in `single`.
     fn turn_shift(&mut self, single: &mut Single)
         requires shift { IsShift single.old }
         requires fits { FitsSingle self.old.state single.old }
@@ -144,8 +147,8 @@ impl Present {
         }
     }
 
-    /// Moves the pulses `i` to `j`, from 0, by `by` microseconds, with the marks of the letters
-    /// that are true in `letters`. Returns the distance of the way back.
+    /// Moves the pulses `i` to `j`, both included and from 0, by `by` microseconds, with the marks
+    /// of the letters that are true in `letters`. Returns the distance of the way back, `-by`.
     fn shift(&mut self, i: usize, j: usize, by: i64, letters: &Letters) -> i64
         requires can { CanShift self.old.state.micros i j by self.old.state.pulses }
         requires marks { AllMayMove self.old.state.micros by letters.now self.old.state.marks }

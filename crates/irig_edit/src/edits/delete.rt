@@ -1,7 +1,9 @@
 //! Removes pulses.
 //!
 //! Pulses count from 1, and times are in microseconds. `plan` judges the edit and changes nothing.
-//! Its refusals: E2 is `NoPulse`. If memory runs out, E11, nothing changes either.
+//! Its refusals: E2 is `NoPulse`. If memory runs out, E11, nothing changes either. If `plan`
+//! refuses nothing, `splice` replaces `count` pulses from `first` on by the list `put`, as a step
+//! that leaves the cursor at `cursor`; these are its arguments, in this order.
 
 ghost use Rattle.std.specs.Prelude.{◌≡◌, ◌+◌, ◌-◌, ◌≤◌, [], Some, MatchResult, OnOk};
 ghost use Rattle.irig_edit.specs.Edits.Becoming.{Plans, judgement_of};
@@ -13,8 +15,9 @@ use crate::session::session::Session;
 use crate::state::present::Present;
 use irig_saved::Pulses;
 
-/// Where the cursor goes if the pulses `i` to `j` are removed: to the pulse that then has number
-/// `i`, or else to the last one; it is 0 if none is left. `NoPulse` unless the pulses are there.
+/// Where the cursor goes if the pulses `i` to `j`, both included, are removed: to the pulse that
+/// then has number `i`, or else to the last one; it is 0 if none is left. `NoPulse` unless the
+/// pulses are there and `i` is not above `j`.
 fn plan(present: &Present, i: usize, j: usize) -> Result<usize, Refusal>
     ensures plan { MatchResult result
         (λ cursor. Plans (Delete i j) present.now.state i (j + 1 - i) [] cursor)
@@ -30,8 +33,8 @@ fn plan(present: &Present, i: usize, j: usize) -> Result<usize, Refusal>
 }
 
 impl Session {
-    /// Removes the pulses `i` to `j`, from 1. The cursor goes to the pulse after them, or else to
-    /// the last one.
+    /// Removes the pulses `i` to `j`, both included and from 1. The cursor goes to the pulse after
+    /// them, or if there is none to the last one, or to 0 if none is left.
     ///
     /// E2 unless the pulses are there and `i` is not above `j`.
     pub fn delete(&mut self, i: usize, j: usize) -> Result<(), Refusal>

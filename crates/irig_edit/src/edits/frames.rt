@@ -17,7 +17,8 @@ use irig_saved::Pulses;
 use irig_track::Pulse;
 use std::alloc::{AllocError, Global};
 
-/// How long this many frames of a format, 10,000 at most, are together, in microseconds.
+/// How long this many frames of a format, 10,000 at most (the limit of `regen`), are together, in
+/// microseconds: 100 intervals each.
 pub(crate) fn span(format: Format, frames: u64) -> u64
     requires { frames ≤ 10000 }
     ensures value { result ≡ 100 * frames * interval_of format.kind }
@@ -27,8 +28,9 @@ pub(crate) fn span(format: Format, frames: u64) -> u64
 }
 
 /// The pulses of `frames` frames, one after the other, from `start` on. The first frame carries the
-/// moment, each other one a frame period more; all carry the control functions, of which the first
-/// element is the lowest bit. It fails only if memory runs out.
+/// moment, each later one a frame period more than the one before it; all carry the control
+/// functions `control`, whose lowest bit is the first control element. `fields` gives the fields of
+/// frame `k`, and `encode` its 100 elements. It fails only if memory runs out.
 pub(crate) fn pulses_of(
     alloc: Global,
     format: Format,
@@ -52,8 +54,8 @@ pub(crate) fn pulses_of(
     Ok(Pulses::of(pulses))
 }
 
-/// Adds the pulses of frame `k`, from 0, after those of `pulses`, by its elements. Frame 0 begins
-/// at `start`, in microseconds. The buffer has room for them.
+/// Adds the pulses of frame `k`, from 0, after those of `pulses`, by its elements: `nominal` is the
+/// width of one. Frame 0 begins at `start`, in microseconds. The buffer has room for them.
 fn put_frame(pulses: &mut Gap<Pulse>, format: Format, start: u64, k: u64, elements: &[Element; 100])
     requires last { pulses.old.place ≡ length pulses.old.items }
     requires room { length pulses.old.items + 100 ≤ pulses.old.capacity }

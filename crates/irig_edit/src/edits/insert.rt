@@ -2,7 +2,9 @@
 //!
 //! Pulses count from 1, and times are in microseconds. `plan` judges the edit and changes nothing.
 //! Its refusals: E1 is `OutOfRange`, E3 `Touching`, E5 `TooMany`. If memory runs out, E11, nothing
-//! changes either.
+//! changes either. If `plan` refuses nothing, `splice` replaces `count` pulses from `first` on by
+//! the list `put`, as a step that leaves the cursor at `cursor`; these are its arguments, in this
+//! order.
 
 ghost use Rattle.std.specs.Prelude.{◌≡◌, [], ◌∷◌, Some, MatchResult};
 ghost use Rattle.irig_track.specs.Edges.{pulse};
@@ -17,7 +19,9 @@ use crate::state::present::Present;
 use irig_track::Pulse;
 
 /// The number that a pulse from time `a` to time `b` gets, if it can be inserted: one more than how
-/// many pulses rise at or before `b`.
+/// many pulses rise at or before `b`. No other pulse may have a part from `a` to `b`, the ends
+/// included, so all these are before it. `room` is how many more pulses the limit of 2^22 permits.
+/// The checks come in the order of the refusals' numbers.
 fn plan(present: &Present, a: u64, b: u64) -> Result<usize, Refusal>
     ensures { MatchResult result
         (λ i. Plans (Insert a b) present.now.state i 0 (pulse a b ∷ []) i)
@@ -37,7 +41,7 @@ fn plan(present: &Present, a: u64, b: u64) -> Result<usize, Refusal>
 }
 
 impl Session {
-    /// Inserts a pulse from `a` to `b`, in microseconds. The cursor goes to it.
+    /// Inserts a pulse that rises at `a` and falls at `b`, in microseconds. The cursor goes to it.
     ///
     /// E1 unless `a < b` and `b` is within the length; E3 if an edge lies from `a` to `b` or the
     /// level at `a` is high; E5 if there are 2^22 pulses.

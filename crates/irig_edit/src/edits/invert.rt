@@ -2,6 +2,8 @@
 //!
 //! Pulses count from 1, and times are in microseconds. `plan` judges the edit and changes nothing.
 //! Its refusals: E1 is `OutOfRange`, E5 `TooMany`. If memory runs out, E11, nothing changes either.
+//! If `plan` refuses nothing, `change` makes a single change, as a step that leaves the cursor at
+//! its second argument.
 
 ghost use Rattle.std.specs.Prelude.{◌≡◌, None, Some, IfErr, OnOk};
 ghost use Rattle.irig_track.specs.Toggles.{CanToggle};
@@ -15,7 +17,8 @@ use crate::state::present::Present;
 use irig_saved::Single;
 
 /// Whether the level can be inverted from time `a` to time `b`: they are in order and within the
-/// length, and there are not too many pulses afterwards.
+/// length, and there are not too many pulses afterwards. With such times, `can_toggle` is false
+/// only for that last reason.
 fn plan(present: &Present, a: u64, b: u64) -> Result<(), Refusal>
     ensures refused { IfErr result (λ e. judgement_of (Invert a b) present.now.state ≡ Some e) }
     ensures allowed { OnOk result (judgement_of (Invert a b) present.now.state ≡ None) }

@@ -1,7 +1,9 @@
 //! Joins pulses into one.
 //!
 //! Pulses count from 1, and times are in microseconds. `plan` judges the edit and changes nothing.
-//! Its refusals: E2 is `NoPulse`. If memory runs out, E11, nothing changes either.
+//! Its refusals: E2 is `NoPulse`. If memory runs out, E11, nothing changes either. If `plan`
+//! refuses nothing, `splice` replaces `count` pulses from `first` on by the list `put`, as a step
+//! that leaves the cursor at `cursor`; these are its arguments, in this order.
 
 ghost use Rattle.std.specs.Prelude.{◌≡◌, ◌+◌, ◌-◌, ◌<◌, [], ◌∷◌, Some, MatchResult, OnOk};
 ghost use Rattle.irig_edit.specs.Edits.Becoming.{Plans, judgement_of};
@@ -14,7 +16,8 @@ use crate::session::session::Session;
 use crate::state::present::Present;
 use irig_track::Pulse;
 
-/// The pulse that pulses `i` to `j` are joined into, if they are there and `i` is before `j`.
+/// The pulse that the pulses `i` to `j`, both included, are joined into: from the rise of the first
+/// to the fall of the last. `NoPulse` unless they are there and `i` is below `j`.
 fn plan(present: &Present, i: usize, j: usize) -> Result<Pulse, Refusal>
     ensures plan { MatchResult result
         (λ p. Plans (Join i j) present.now.state i (j + 1 - i) (p ∷ []) i)
@@ -33,8 +36,8 @@ fn plan(present: &Present, i: usize, j: usize) -> Result<Pulse, Refusal>
 }
 
 impl Session {
-    /// Makes one pulse of the pulses `i` to `j`, from 1, from the rise of the first to the fall of
-    /// the last. The cursor goes to it.
+    /// Makes one pulse of the pulses `i` to `j`, both included and from 1, from the rise of the
+    /// first to the fall of the last. The cursor goes to it.
     ///
     /// E2 unless the pulses are there and `i` is before `j`.
     pub fn join(&mut self, i: usize, j: usize) -> Result<(), Refusal>

@@ -1,8 +1,10 @@
-//! Fills a stretch of time with frames.
+//! Fills a stretch of time with frames that are generated.
 //!
 //! Pulses count from 1, and times are in microseconds. `plan` judges the edit and changes nothing.
 //! Its refusals: E1 is `OutOfRange`, E3 `Touching`, E5 `TooMany`, E7 `BadTime`, E8 `BadControl`. If
-//! memory runs out, E11, nothing changes either.
+//! memory runs out, E11, nothing changes either. If `plan` refuses nothing, `splice` replaces
+//! `count` pulses from `first` on by the list `put`, as a step that leaves the cursor at `cursor`;
+//! these are its arguments, in this order.
 //!
 //! What is marked "Read for .." does nothing: it only lets the proof use what a type promises.
 
@@ -31,8 +33,8 @@ struct Stretch {
     count: usize,
 }
 
-/// The time at which this many frames end that begin at `start`. `None` unless there are 1 to
-/// 10,000 of them and they end within the length.
+/// The time at which frames from `start` on end, if there are `frames` of them. `None` unless they
+/// are 1 to 10,000, this project's own limit, and end within the length.
 fn end_of(present: &Present, start: u64, frames: u64) -> Option<u64>
     ensures { result ≡ (if are_frames start frames present.now.state
         then Some (frames_end present.now.state.format start frames) else None) }
@@ -48,8 +50,8 @@ fn end_of(present: &Present, start: u64, frames: u64) -> Option<u64>
     Some(start + span)
 }
 
-/// How many pulses rise before a time, in microseconds: at or before the microsecond before it, if
-/// there is one.
+/// How many pulses rise before a time, in microseconds. `find` counts those that rise at or before
+/// a time, so it is asked for the microsecond before; before 0 there is none.
 fn rising_before(present: &Present, time: u64) -> usize
     ensures count { result ≡ length (rising_before time present.now.state.pulses) }
     ensures within { result ≤ length present.now.state.pulses }
@@ -60,8 +62,9 @@ fn rising_before(present: &Present, time: u64) -> usize
     if time == 0 { 0 } else { present.find(time - 1) }
 }
 
-/// Whether a pulse rises before `time` and falls at it or after it. `risen` is how many pulses rise
-/// before `time`: the last of these is the only one that can fall so late.
+/// Whether a pulse rises before `time` and falls at `time` or later, so that a pulse that rises at
+/// `time` would touch it. `risen` is how many pulses rise before `time`: only the last of these can
+/// fall so late.
 fn is_met(present: &Present, risen: usize, time: u64) -> bool
     requires count { risen ≡ length (rising_before time present.now.state.pulses) }
     requires within { risen ≤ length present.now.state.pulses }
@@ -73,7 +76,11 @@ fn is_met(present: &Present, risen: usize, time: u64) -> bool
 }
 
 /// The pulses that `frames` frames from `start` on replace: those that rise from the start up to
-/// the end of the frames. The checks come in the order of the refusals' numbers.
+/// the end of the frames, which is not included. The checks come in the order of the refusals'
+/// numbers. A pulse at the end needs no check: the last new pulse falls before it. `room` is how
+/// many more pulses the limit of 2^22 permits; those that go make room, too. No frame begins at a
+/// moment for which `starts` is false. `control_count` is how many bits the format has for
+/// `control`: no higher bit may be set.
 fn plan(
     present: &Present,
     start: u64,
@@ -118,13 +125,14 @@ fn plan(
 
 impl Session {
     /// Fills the time from a start on, in microseconds, with frames of nominal pulses: the pulses
-    /// that rise in it go. The first frame carries the moment, each other one a frame period more,
-    /// and all have the control functions, the first control element as the lowest bit. The cursor
-    /// goes to the last new pulse.
+    /// that rise in it go. The first frame carries the moment, each later one a frame period more,
+    /// and all have the control functions `control`, whose lowest bit is the first control element.
+    /// The cursor goes to the last new pulse.
     ///
     /// E1 unless there are 1 to 10,000 frames, which end within the length; E3 if a pulse rises
-    /// before the start and falls at it or after it; E5 if there would be more than 2^22 pulses;
-    /// E7 if no frame begins at the moment; E8 if the format has too few control elements.
+    /// before the start and falls at it or after it; E5 if there would be more than 2^22 pulses; E7
+    /// if no frame of the format begins at the moment; E8 if `control` has more bits than the
+    /// format has control elements.
     pub fn regen(
         &mut self,
         start: u64,
@@ -139,6 +147,7 @@ impl Session {
         let stretch = plan(&self.present, start, frames, moment, control)?;
         let format = self.present.format();
         let put = pulses_of(self.alloc, format, start, frames, moment, control)?;
+        // The pulses before the stretch, and 100 of each frame: the last new pulse.
         let cursor = stretch.first - 1 + 100 * frames as usize;
         self.splice(stretch.first, stretch.count, put, cursor)
     }

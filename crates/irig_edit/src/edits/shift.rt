@@ -2,7 +2,8 @@
 //!
 //! Pulses count from 1, and times are in microseconds. `plan` judges the edit and changes nothing.
 //! Its refusals: E1 is `OutOfRange`, E2 `NoPulse`, E3 `Touching`. If memory runs out, E11, nothing
-//! changes either.
+//! changes either. If `plan` refuses nothing, `change` makes a single change, as a step that leaves
+//! the cursor at its second argument.
 
 ghost use Rattle.std.specs.Prelude.{◌≡◌, ◌-◌, ◌≤◌, None, Some, IfOk, IfErr, OnOk, length};
 ghost use Rattle.irig_track.specs.Shifts.{CanShift};
@@ -18,8 +19,9 @@ use crate::session::session::Session;
 use crate::state::present::Present;
 use irig_saved::Single;
 
-/// Whether the pulses `i` to `j`, moved by `by`, leave the track: the first rises before 0, or the
-/// last falls after the length. It compares sums, as times and lengths cannot go below 0.
+/// Whether the pulses `i` to `j`, moved by `by`, leave the track: the first would rise before 0, or
+/// the last fall after the length. Each side of a comparison is a time or a sum, since a difference
+/// could go below 0. No sum overflows: times are at most 2^40, and a distance at most 2^63.
 fn leaves(present: &Present, i: usize, j: usize, by: i64) -> bool
     requires { (1 ≤ i) × (i ≤ j) × (j ≤ length present.now.state.pulses) }
     ensures { result ≡ leaves i j by present.now.state }
@@ -35,8 +37,9 @@ fn leaves(present: &Present, i: usize, j: usize, by: i64) -> bool
     }
 }
 
-/// Whether the pulses `i` to `j` can be moved by `by`; if not, why. What else could forbid it is
-/// tested before, so if `can_shift`, which counts pulses from 0, says no, they touch others.
+/// Whether the pulses `i` to `j` can be moved by `by`; if not, why. `NoPulse` is tested first, as
+/// `leaves` reads the pulses. `can_shift`, which counts pulses from 0, tests all limits at once;
+/// the other reasons are tested before it, so if it says no, the pulses would touch others.
 fn judge(present: &Present, i: usize, j: usize, by: i64) -> Result<(), Refusal>
     ensures refused { IfErr result (λ e. judgement_of (Shift i j by) present.now.state ≡ Some e) }
     ensures allowed { OnOk result (judgement_of (Shift i j by) present.now.state ≡ None) }
@@ -57,8 +60,8 @@ fn judge(present: &Present, i: usize, j: usize, by: i64) -> Result<(), Refusal>
     }
 }
 
-/// The change that moves the pulses `i` to `j` by `by`, and with them the marks from the rise of
-/// the first to the fall of the last, if they can be moved.
+/// The change that moves the pulses `i` to `j` by `by`, and the marks from the rise of the first to
+/// the fall of the last, both included, with them; or why they cannot be moved.
 fn plan(present: &Present, i: usize, j: usize, by: i64) -> Result<Single, Refusal>
     ensures refused { IfErr result (λ e. judgement_of (Shift i j by) present.now.state ≡ Some e) }
     ensures allowed { OnOk result (judgement_of (Shift i j by) present.now.state ≡ None) }
@@ -78,11 +81,12 @@ fn plan(present: &Present, i: usize, j: usize, by: i64) -> Result<Single, Refusa
 }
 
 impl Session {
-    /// Moves the pulses `i` to `j`, from 1, by `by` microseconds, and with them each mark from the
-    /// rise of the first to the fall of the last. The cursor goes to pulse `j`.
+    /// Moves the pulses `i` to `j`, both included and from 1, by `by` microseconds, below 0 to
+    /// earlier times. Each mark from the rise of the first to the fall of the last moves with them.
+    /// The cursor goes to pulse `j`.
     ///
-    /// E1 if the moved pulses leave the track; E2 unless the pulses are there; E3 if they
-    /// meet the pulse before them or the one after.
+    /// E1 if the moved pulses leave the track; E2 unless the pulses are there; E3 if they meet the
+    /// pulse before them or the one after.
     pub fn shift(&mut self, i: usize, j: usize, by: i64) -> Result<(), Refusal>
         ensures step { Steps (Make (Shift i j by)) self.old result self.new }
         ensures looks { LooksAfter (Make (Shift i j by)) self.old result self.new }

@@ -2,7 +2,9 @@
 //!
 //! Pulses count from 1, and times are in microseconds. `plan` judges the edit and changes nothing.
 //! Its refusals: E1 is `OutOfRange`, E2 `NoPulse`, E4 `NotInside`, E5 `TooMany`. If memory runs
-//! out, E11, nothing changes either.
+//! out, E11, nothing changes either. If `plan` refuses nothing, `splice` replaces `count` pulses
+//! from `first` on by the list `put`, as a step that leaves the cursor at `cursor`; these are its
+//! arguments, in this order.
 
 ghost use Rattle.std.specs.Prelude.{◌≡◌, ◌+◌, [], ◌∷◌, Some, MatchResult};
 ghost use Rattle.irig_track.specs.Edges.{pulse};
@@ -17,7 +19,8 @@ use crate::state::present::Present;
 use irig_track::Pulse;
 
 /// Pulse `i` as it is, if it can be made low from time `a` to time `b`: both lie inside of it, not
-/// at its edges, and there is room for one pulse more.
+/// at its edges, and there is room for one pulse more: `room` is how many the limit of 2^22 still
+/// permits. The checks come in the order of the refusals' numbers.
 fn plan(present: &Present, i: usize, a: u64, b: u64) -> Result<Pulse, Refusal>
     ensures { MatchResult result
         (λ p. Plans (Split i a b) present.now.state i 1
@@ -46,7 +49,7 @@ impl Session {
     /// cursor goes to the second part.
     ///
     /// E1 unless `a < b` and `b` is within the length; E2 unless the pulse is there; E4 unless both
-    /// lie inside of it; E5 if there are 2^22 pulses.
+    /// times lie inside of it, not at its edges; E5 if there are 2^22 pulses.
     pub fn split(&mut self, i: usize, a: u64, b: u64) -> Result<(), Refusal>
         ensures step { Steps (Make (Split i a b)) self.old result self.new }
         ensures looks { LooksAfter (Make (Split i a b)) self.old result self.new }

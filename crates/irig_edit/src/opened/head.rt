@@ -1,4 +1,5 @@
-//! What a saved journal says above its steps: format, cursor and marks.
+//! What a saved journal says before its steps: format, cursor and marks. A journal is the history
+//! of a session, saved in a dump.
 //!
 //! The text of a journal: line 1 names it, line 2 is the format, line 3 the cursor, and from line 4
 //! on each mark that is set has a line. Then comes the line that counts the steps back. Marks are
@@ -22,10 +23,10 @@ use irig_saved::{Marks, Saved};
 use irig_vcd::VcdFault;
 use std::alloc::Global;
 
-/// The state of a recording with format, cursor and marks of a journal, with no steps yet, and the
-/// number, from 1, of the line after its marks. `BadJournal` has the number of the line at fault,
-/// from 1. Format, cursor and marks are judged before it takes memory, so that only `OutOfMemory`
-/// is left then.
+/// The state of a recording with format, cursor and marks of a journal, as a `Walk` with no steps
+/// yet (a state with its cursor and its steps); and the number, from 1, of the line after its
+/// marks. `BadJournal` has the number of the line at fault, from 1. Format, cursor and marks are
+/// judged before memory is taken; after that the only error is `OutOfMemory`.
 pub(crate) fn start(
     alloc: Global,
     recording: Recording,
@@ -54,9 +55,10 @@ pub(crate) fn start(
     }
 }
 
-/// The format of a journal, and the number of the line after its marks, from 1. The format has to
-/// be permitted, the cursor within the pulses and no mark beyond the length. Else the error is the
-/// number of the first line at fault, from 1.
+/// Judges the lines of a journal before its steps. Returns its format, and the number of the line
+/// after its marks, from 1. The format has to be permitted, the cursor at most the number of pulses
+/// and no mark beyond the length. Else the error is the number of the first line at fault, from 1:
+/// 2 is that of the format, 3 that of the cursor.
 fn head_of(recording: &Recording, saved: &Saved) -> Result<(Format, usize), usize>
     ensures { MatchResult result
         (λ head. (head_fault (state_of recording.now saved.now) saved.now ≡ None)
@@ -85,7 +87,8 @@ fn pulse_count(recording: &Recording) -> usize
 }
 
 impl Present {
-    /// Replaces all marks by these, each a time within the length or none.
+    /// Replaces all marks by these; each is `None` or a time within the length, which the caller
+    /// has tested.
     fn put_marks(&mut self, marks: &Marks)
         requires { mark_beyond self.old.state.micros 4 marks.now ≡ None }
         ensures { self.new.state
@@ -95,8 +98,9 @@ impl Present {
     }
 }
 
-/// The number of the line after those of the marks, if the first of them is line 4. If a mark is
-/// beyond a length in microseconds, the number of the first such line is the error.
+/// The number, from 1, of the line after those of the marks; the first of them is line 4, and a
+/// mark that is not set has no line. If a mark is beyond the length `micros`, in microseconds, the
+/// error is the number of the first such line.
 fn line_behind(marks: &Marks, micros: u64) -> Result<usize, usize>
     ensures { MatchResult result
         (λ line. (mark_beyond micros 4 marks.now ≡ None)

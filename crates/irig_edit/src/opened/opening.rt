@@ -1,7 +1,9 @@
 //! A session is opened from a dump, with the journal that it carries.
 //!
-//! A journal (`Saved`) has a format, a cursor, marks, and the steps back and forward. V13 is
-//! `VcdFault::BadJournal`, with the number of the journal's line at fault, from 1.
+//! A journal is the history of a session, saved as text (`Saved` once it is read): a format, a
+//! cursor, marks, and the steps back and forward. V13 is `VcdFault::BadJournal`, with the number of
+//! the journal's line at fault, from 1. `wire` is the name of the dump's wire to read; if none is
+//! given, the dump has to have one wire of one bit.
 //!
 //! Where `match` hands an error on, `?` would do the same; the proof of it takes longer.
 
@@ -32,8 +34,8 @@ impl Session {
     /// journal. The bytes are dropped before the session takes its memory.
     ///
     /// An error is a fault of the dump, or V13 with the number of the line at fault of the journal,
-    /// from 1. Memory runs out only for an edge of the wire before the first fault, or as in
-    /// `open_parts`.
+    /// from 1. `OutOfMemory` comes only if the wire has an edge before the first fault of the dump,
+    /// or as `open_parts` says.
     pub fn open_dump(
         alloc: Global,
         bytes: Vec<u8>,
@@ -60,9 +62,9 @@ impl Session {
     /// dump: `open_dump` without its bytes. Without a journal it opens in `format`. The text is
     /// dropped before the session takes its memory.
     ///
-    /// V13 with the number of the line at fault of the journal, from 1. Memory runs out only for
-    /// the lines of its steps, or after all its lines, its format, cursor and marks are found
-    /// right.
+    /// V13 with the number of the line at fault of the journal, from 1. `OutOfMemory` comes only
+    /// while the lines of its steps are read, or after all its lines, its format, cursor and marks
+    /// are found right.
     pub fn open_parts(
         alloc: Global,
         recording: Recording,
@@ -115,8 +117,9 @@ fn parts_of(
     }
 }
 
-/// The journal that this text is. V13 if it is none; its steps are not tried. A `Fault` of its form
-/// is the number of a line, or that memory ran out.
+/// Reads the text of a journal. V13 with the number of the line at fault if the text has not the
+/// form of one; its steps are not tried. A `Fault` of `parse` is that number, or that memory ran
+/// out.
 fn journal_of(alloc: Global, text: &[u8]) -> Result<Saved, VcdFault>
     requires short { length text.now ≤ 2 ^ 28 }
     ensures saved { IfOk result (IsTextOf text.now) }
@@ -131,7 +134,8 @@ fn journal_of(alloc: Global, text: &[u8]) -> Result<Saved, VcdFault>
     }
 }
 
-/// The journal of a text, if there is one. V13 if the text is none; its steps are not tried.
+/// Reads the text of a journal, if there is one; `None` if there is no text. V13 if it has not the
+/// form of one; its steps are not tried.
 fn saved_of(alloc: Global, text: Option<Vec<u8>>) -> Result<Option<Saved>, VcdFault>
     requires short { IfSome text (λ text. length text.items ≤ 2 ^ 28) }
     ensures saved { IfOk result (IsJournalOf (bytes_of text)) }
@@ -148,8 +152,9 @@ fn saved_of(alloc: Global, text: Option<Vec<u8>>) -> Result<Option<Saved>, VcdFa
     }
 }
 
-/// The session of a recording with the journal, if there is one: its format counts then. Else it is
-/// a session in `format`, with no steps.
+/// The session of a recording with the journal, if there is one: then the journal's format counts,
+/// not `format`. Else it is a session in `format`, with no steps; this fails only if memory runs
+/// out.
 fn session_with(
     alloc: Global,
     recording: Recording,
@@ -170,8 +175,10 @@ fn session_with(
     }
 }
 
-/// The session of a recording with a journal. V13 if its head does not go with the recording or one
-/// of its steps cannot be made.
+/// The session of a recording with a journal. V13 if its format, cursor or marks do not fit the
+/// recording, or one of its steps cannot be made. `start` judges the lines before the steps, and
+/// gives the state as a `Walk`, whose `open` takes the steps; `line` is the first line that `start`
+/// has not judged.
 fn session_of(alloc: Global, recording: Recording, saved: Saved) -> Result<Session, VcdFault>
     requires short { length (saved_lines saved) ≤ 2 ^ 28 }
     ensures opened { IfOk result (IsAccepted (state_of recording saved) saved) }

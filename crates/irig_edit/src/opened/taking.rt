@@ -2,8 +2,9 @@
 //!
 //! A step is a change and the cursor that it leads to. The steps of a journal are tried on the
 //! state that was read: steps back lead to former states, steps forward to states that were undone.
-//! To take a step is to make its change as an edit. After all are taken they are undone again, so
-//! that they lie ahead, to be redone. V13 is `VcdFault::BadJournal`.
+//! To take a step is to make its change as an edit, if it is possible. After all are taken they are
+//! undone again, so that they lie ahead, to be redone. V13 is `VcdFault::BadJournal`. A `Walk` is a
+//! state with its cursor and its steps.
 //!
 //! What is marked "Read for .." does nothing: it only lets the proof use what a type promises.
 //!
@@ -33,10 +34,12 @@ use irig_saved::{Change, Saved, SavedStep, Single, Steps};
 use irig_vcd::VcdFault;
 use std::alloc::{AllocError, Global};
 
-/// Why steps were not all taken. Lines count from the first that is taken.
+/// Why steps were not all taken. Their lines in the journal are counted in the order in which steps
+/// are taken.
 #[derive(Drop)]
 pub(crate) enum NotTaken {
-    /// One cannot be taken: `before` lines of steps are before it, and `behind` up to its end.
+    /// A step cannot be taken: the steps taken before it have `before` lines, and with its own
+    /// lines they are `behind`.
     At { before: usize, behind: usize },
     /// Memory ran out.
     Memory,
@@ -44,8 +47,8 @@ pub(crate) enum NotTaken {
 
 impl Walk {
     /// Takes steps, the last of the list first, and undoes them again: the state is as before, and
-    /// they are ahead. No step may be ahead before. If one cannot be taken, or memory runs out,
-    /// nothing is said of what it leaves.
+    /// they are ahead. Before the call there must be no step ahead. After an error the walk is of
+    /// no more use: nothing is said of its state.
     fn follow(&mut self, alloc: Global, steps: Steps) -> Result<(), NotTaken>
         requires ahead { self.old.future ≡ [] }
         requires lines { length (steps_lines (reverse steps)) < 2 ^ 63 }
@@ -62,9 +65,9 @@ impl Walk {
         Ok(())
     }
 
-    /// Takes the steps of a journal, and makes the session. `line` is the number, from 1, of the
-    /// line after the journal's marks, which counts the steps back. V13 has the line of the step
-    /// that cannot be taken.
+    /// Takes the steps of a journal, first those back, and makes the session. `line` is the number,
+    /// from 1, of the line after the journal's marks, which counts the steps back. V13 has the line
+    /// of the step that cannot be taken.
     pub(crate) fn open(
         mut self,
         alloc: Global,
@@ -82,6 +85,8 @@ impl Walk {
             → CanBegin self.state (steps_of (reverse saved.past ++ saved.future)) }
     {
         let Saved { past, future, .. } = saved;
+        // Now `line` is the line that counts the steps forward: it is after those of the steps
+        // back.
         let line = line + past.lines() + 1;
         match self.follow_both(alloc, past, future, line) {
             Ok(()) => Ok(self.into_session(alloc)),
@@ -119,6 +124,7 @@ impl Walk {
             Err(NotTaken::Memory) => return Err(VcdFault::OutOfMemory),
         }
         self.turn_round();
+        // The next redo is the first of the list, and the last is taken first.
         future.reverse();
         match self.follow(alloc, future) {
             Ok(()) => Ok(()),
@@ -127,8 +133,8 @@ impl Walk {
         }
     }
 
-    /// Takes steps, the last of the list first. An error says how many lines of steps were before
-    /// the one that cannot be taken.
+    /// Takes steps, the last of the list first. An error counts the lines of the steps taken before
+    /// the one that cannot be taken, without its own (`before`) and with them (`behind`).
     fn take_all(&mut self, alloc: Global, mut steps: Steps) -> Result<(), NotTaken>
         requires ahead { self.old.future ≡ [] }
         requires lines { length (steps_lines (reverse steps)) < 2 ^ 63 }
@@ -149,7 +155,7 @@ impl Walk {
         Ok(())
     }
 
-    /// Undoes this many steps, which are then ahead.
+    /// Undoes `count` steps, which are ahead then, to be redone. The caller has taken that many.
     fn go_back(&mut self, count: usize)
         ensures { (h : History State Change) → (ds : List (Step Change))
             → IsState h.state → CanTakeAll h.state ds → self.old ≡ gone_along h ds
@@ -161,9 +167,10 @@ impl Walk {
         }
     }
 
-    /// Takes a step, and returns whether it can be taken. If not, nothing is said of what it
-    /// leaves. It fails only if memory runs out, which is taken only after its first change is
-    /// found right.
+    /// Takes a step, and returns whether it can be taken: its changes are possible, and its cursor
+    /// is at most the number of pulses afterwards. If not, nothing is said of the state that is
+    /// left. It fails only if memory runs out, and asks for memory only after its first change is
+    /// found possible.
     fn take(&mut self, alloc: Global, step: SavedStep) -> Result<bool, AllocError>
         requires ahead { self.old.future ≡ [] }
         ensures { MatchResult result
@@ -183,8 +190,9 @@ impl Walk {
         Ok(true)
     }
 
-    /// Makes the change of a step, and returns whether it can be made; the cursor stays where it
-    /// is. If it cannot, nothing is said of what is left. It fails only if memory runs out.
+    /// Makes the change of a step, alone or a group, and returns whether it can be made; the cursor
+    /// stays where it is. If it cannot, nothing is said of the state that is left. It fails only if
+    /// memory runs out.
     fn make(&mut self, alloc: Global, change: Change) -> Result<bool, AllocError>
         requires ahead { self.old.future ≡ [] }
         ensures { MatchResult result
@@ -199,7 +207,7 @@ impl Walk {
         }
     }
 
-    /// Makes a single change if it can be made, and returns whether it can.
+    /// Makes a single change if it can be made, as one step; returns whether it can be made.
     fn make_one(&mut self, alloc: Global, single: Single) -> Result<bool, AllocError>
         ensures { MatchResult result
             (λ made. MatchBool made
@@ -215,7 +223,7 @@ impl Walk {
     }
 
     /// Makes single changes in their order, and makes one step of them, a group. Returns whether
-    /// all can be made. The list is turned round, as a change is taken from its end.
+    /// all can be made. The list is turned round, since a change is taken from its end.
     fn make_all(&mut self, alloc: Global, mut singles: Vec<Single>) -> Result<bool, AllocError>
         requires ahead { self.old.future ≡ [] }
         ensures { MatchResult result

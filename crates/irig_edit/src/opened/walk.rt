@@ -1,4 +1,5 @@
-//! A state on its way along steps.
+//! A state on its way along the steps of a saved journal, from which a session is opened. A step is
+//! what one undo reverses.
 //!
 //! What is marked "Read for .." does nothing: it only lets the proof use what a type promises.
 
@@ -64,8 +65,10 @@ impl Walk {
         self.present.track().len()
     }
 
-    /// Makes a single change, which has to be possible, as a new step back. The cursor stays. It
-    /// fails only if memory runs out.
+    /// Makes a single change, which has to be possible, as a new step that can be undone. The
+    /// cursor stays: the caller moves it with `go` if the step says so. It fails only if memory
+    /// runs out: `record` has no other error. A `Turn` is a change with places for the pulses that
+    /// go.
     pub(crate) fn change(&mut self, alloc: Global, single: Single) -> Result<(), AllocError>
         requires { FitsSingle self.old.state single }
         ensures { OnOk result (self.new ≡ changed self.old (One single)) }
@@ -78,8 +81,9 @@ impl Walk {
         }
     }
 
-    /// Makes one group of the newest `count` steps back. If it is undone, the cursor is what it is
-    /// now. It takes memory only if `count` is 0.
+    /// Makes one group of the newest `count` steps that can be undone. No step of a group moved the
+    /// cursor, so it is still that of the state before the group, and an undo leads to it. It takes
+    /// memory only if `count` is 0, and fails only if that runs out.
     pub(crate) fn gather(&mut self, count: usize) -> Result<(), AllocError>
         requires { count ≤ length self.old.past }
         ensures { OnOk result (self.new ≡ walk self.old.state self.old.cursor
@@ -92,14 +96,15 @@ impl Walk {
         }
     }
 
-    /// Moves the cursor to a pulse, from 1, or to 0.
+    /// Moves the cursor to a pulse, from 1, or to 0, before the first. The caller has seen that the
+    /// pulse is there.
     pub(crate) fn go(&mut self, cursor: usize)
         ensures { self.new ≡ walk self.old.state cursor self.old.past self.old.future }
     {
         self.cursor = cursor;
     }
 
-    /// Undoes the nearest step, if there is one. This takes no memory.
+    /// Undoes the newest step, if there is one. This takes no memory.
     pub(crate) fn undo(&mut self)
         ensures { self.old.past ≢ [] → stepped_back turned self.old ≡ Some self.new }
     {
@@ -107,7 +112,8 @@ impl Walk {
         let _undone = self.journal.undo(&mut self.present, &mut self.cursor);
     }
 
-    /// Swaps past and future.
+    /// Swaps past and future: a step that could be redone can now be undone, and the one that would
+    /// be redone next is undone first.
     pub(crate) fn turn_round(&mut self)
         ensures { self.new ≡ turned_round self.old }
     {

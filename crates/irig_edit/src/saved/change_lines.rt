@@ -1,7 +1,8 @@
 //! The lines of single changes, in parts.
 //!
 //! A line is one of the text of a saved journal; a change has one, and a splice one more for each
-//! pulse that it inserts. A `Turn` has a change in `single`.
+//! pulse that it inserts. A `Turn` has a change in `single`. The changes of a step are kept in the
+//! opposite order: an undo or a redo makes the last one first, so its lines come first.
 
 ghost use Rattle.std.specs.Prelude.{◌≡◌, ◌≤◌, ◌<◌, ◌++◌, [], IfOk, OnOk, false, reverse, true};
 ghost use Rattle.std.specs.Prelude.{vec_len};
@@ -12,8 +13,8 @@ use irig_saved::SingleLines;
 use std::alloc::AllocError;
 use std::marker::Model;
 
-/// The lines of single changes, the last first: those of the one that has begun, and of all that
-/// are left.
+/// The lines of single changes that are still to be given, the last change first: those of the one
+/// that has begun (`single`), and of all in `left`.
 #[derive(Drop)]
 pub(crate) struct ChangeLines<'s> {
     single: SingleLines<'s>,
@@ -40,9 +41,10 @@ impl<'s> ChangeLines<'s> {
         }
     }
 
-    /// Adds lines to a block until it has `enough` bytes or none is left. Returns whether no line
-    /// is left and the block has fewer; so `false` means that the block is full. It fails only if
-    /// memory runs out.
+    /// Adds lines to a block until it has `enough` bytes or none is left. The next call goes on
+    /// from there. Returns `true` if no line is left and the block has fewer bytes than `enough`;
+    /// `false` if the block has `enough`, whether a line is left or not. It fails only if memory
+    /// runs out.
     pub(crate) fn fill(&mut self, block: &mut Vec<u8>, enough: usize) -> Result<bool, AllocError>
         ensures bytes { OnOk result (block.new.items ++ self.new ≡ block.old.items ++ self.old) }
         ensures end { IfOk result (λ ended. ended ≡ true → self.new ≡ []) }

@@ -1,4 +1,5 @@
-//! How far a saved session's text has come.
+//! How far a saved session's text has come: the dump, and in a comment after it the journal, which
+//! has the steps.
 
 ghost use Rattle.std.specs.Prelude.{◌≡◌, ◌↔◌, IsTrue};
 ghost use Rattle.irig_edit.specs.Saved.Stages.{next_stage};
@@ -7,7 +8,7 @@ ghost use Rattle.irig_edit.specs.declared.saved.stage.Stage.TheVariants.{Over};
 /// What comes next of a saved session's text.
 #[derive(Clone, Copy)]
 pub(crate) enum Stage {
-    /// The dump, and after it the present.
+    /// The dump, and after it the lines of the journal before its steps.
     Dump,
     /// The steps back.
     Back,
@@ -18,14 +19,14 @@ pub(crate) enum Stage {
 }
 
 impl Stage {
-    /// Whether nothing comes any more.
+    /// Whether the text has ended.
     pub(crate) fn is_over(self) -> bool
         ensures { IsTrue result ↔ self ≡ Over }
     {
         matches!(self, Stage::Over)
     }
 
-    /// The stage that comes after this one.
+    /// The stage that comes after this one; after the end it stays.
     pub(crate) fn next(self) -> Stage
         ensures { result ≡ next_stage self }
     {

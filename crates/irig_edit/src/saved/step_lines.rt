@@ -19,7 +19,8 @@ use irig_saved::put_step;
 use std::alloc::AllocError;
 use std::marker::Model;
 
-/// The lines of steps: those of the step that has begun, and of all that are left.
+/// The lines of steps that are still to be given: those of the changes of the step that has begun
+/// (`changes`), and of all steps in `left`.
 #[derive(Drop)]
 pub(crate) struct StepLines<'s> {
     changes: ChangeLines<'s>,
@@ -36,7 +37,7 @@ impl<'s> Model for StepLines<'s> {
 }
 
 impl<'s> StepLines<'s> {
-    /// The lines of all steps, one after another.
+    /// The lines of all steps, one after another. No step has begun, so no change has lines yet.
     pub(crate) fn new(steps: StepsLeft<'s, Turn>) -> StepLines<'s>
         ensures { result ≡ steps_text (deltas_of steps.entry) }
     {
@@ -46,9 +47,10 @@ impl<'s> StepLines<'s> {
         }
     }
 
-    /// Adds lines to a block until it has `enough` bytes or none is left. Returns whether no line
-    /// is left and the block has fewer; so `false` means that the block is full. It fails only if
-    /// memory runs out.
+    /// Adds lines to a block until it has `enough` bytes or none is left. The next call goes on
+    /// from there. Returns `true` if no line is left and the block has fewer bytes than `enough`;
+    /// `false` if the block has `enough`, whether a line is left or not. It fails only if memory
+    /// runs out.
     pub(crate) fn fill(&mut self, block: &mut Vec<u8>, enough: usize) -> Result<bool, AllocError>
         ensures bytes { OnOk result (block.new.items ++ self.new ≡ block.old.items ++ self.old) }
         ensures end { IfOk result (λ ended. ended ≡ true → self.new ≡ []) }
@@ -70,8 +72,9 @@ impl<'s> StepLines<'s> {
 }
 
 /// Writes the first lines of the next step to the block, and puts the lines of its changes into
-/// `changes`, which was empty. Returns whether no step was left; then nothing is written. There is
-/// a next step if their number is not 0. It fails only if memory runs out.
+/// `changes`, which had none left. Returns `true` if no step was left; then nothing is written. If
+/// the number of steps is not 0 there is a next one, so `unwrap` finds it. It fails only if memory
+/// runs out.
 fn begin_next<'s>(
     changes: &mut ChangeLines<'s>,
     left: &mut StepsLeft<'s, Turn>,
@@ -91,9 +94,9 @@ fn begin_next<'s>(
     Ok(false)
 }
 
-/// Writes the first line of a step, which has its cursor, and of a group the second, which counts
-/// its changes. Returns the lines of the changes, which are still to be written. It fails only if
-/// memory runs out.
+/// Writes the first line of a step, which has its cursor, and if it is a group the second, which
+/// counts its changes. Returns the lines of the changes, which are still to be written. It fails
+/// only if memory runs out.
 fn begin_step<'s>(text: &mut Vec<u8>, kept: Step<'s, Turn>) -> Result<ChangeLines<'s>, AllocError>
     requires alone { kept.is_group ≡ false → length kept.changes.now ≡ 1 }
     ensures { IfOk result (λ left. text.new.items ++ left ≡ text.old.items ++ text_of (step_lines

@@ -1,5 +1,7 @@
 //! The text of a saved session, in parts: the dump, the lines of the journal before its steps, the
-//! steps back, the steps forward, and the end. A stage is how far it has come.
+//! steps back, the steps forward, and the end. A stage is how far it has come. A journal is the
+//! history of a session. `past_steps` gives the steps back with the oldest first, `future_steps`
+//! those forward with the next redo first: in this order they are saved.
 //!
 //! Where `match` hands an error on, `?` would do the same; the proof of it takes longer.
 
@@ -67,10 +69,10 @@ impl<'s> SavedText<'s> {
 impl Text for SavedText<'_> {
     ghost rest = { λ t. t };
 
-    // Adds text to the block until it has `enough` bytes or the text ends. Returns whether it has
-    // ended. It fails only if memory runs out.
+    // Adds text to the block until it has `enough` bytes or the text ends. Returns whether the text
+    // has ended; the next call goes on from there. It fails only if memory runs out.
     fn fill(&mut self, block: &mut Vec<u8>, enough: usize) -> Result<bool, AllocError> {
-        // Each turn ends a stage, unless the block is full.
+        // Each pass ends a stage, unless the block is full.
         while !self.stage.is_over() {
             let filled = fill_stage(
                 self.stage,
@@ -99,8 +101,9 @@ impl Text for SavedText<'_> {
     }
 }
 
-/// Adds the dump or the steps of a stage to a block until it has `enough` bytes. Returns whether
-/// none of it is left and the block has fewer. It fails only if memory runs out.
+/// Adds the dump or the steps of a stage to a block until it has `enough` bytes. Returns `true` if
+/// none of the stage is left and the block has fewer bytes than `enough`; `false` if the block has
+/// `enough`, whether any of the stage is left or not. It fails only if memory runs out.
 fn fill_stage(
     stage: Stage,
     dump: &mut TrackText<'_>,
@@ -117,6 +120,7 @@ fn fill_stage(
     ensures full { IfOk result (λ ended. ended ≡ false → enough ≤ vec_len block.new) }
 {
     match stage {
+        // `dump.fill` says only whether the dump has ended, also in a full block.
         Stage::Dump => Ok(dump.fill(block, enough)? && block.len() < enough),
         Stage::Back => back.fill(block, enough),
         Stage::On => on.fill(block, enough),
@@ -124,9 +128,9 @@ fn fill_stage(
     }
 }
 
-/// Writes what comes between a stage and the next, and goes on to that: after the dump the head of
-/// the journal, after the steps back the line that counts the steps forward, and in the end `$end`.
-/// It fails only if memory runs out.
+/// Writes what comes between a stage and the next, and makes that the stage: after the dump the
+/// lines of the journal before its steps, after the steps back the line that counts the steps
+/// forward, and after these `$end`. It fails only if memory runs out.
 fn end_stage(
     stage: &mut Stage,
     text: &mut Vec<u8>,
@@ -148,8 +152,8 @@ fn end_stage(
     }
 }
 
-/// Writes the beginning of the comment that holds the journal, up to the line that counts the steps
-/// back. It fails only if memory runs out.
+/// Writes the beginning of the comment that holds the journal: its format, cursor and marks, up to
+/// the line that counts the steps back. It fails only if memory runs out.
 fn put_opening(
     text: &mut Vec<u8>,
     present: &Present,

@@ -1,4 +1,6 @@
-//! What a session shows of its present state. A step is what one undo reverses.
+//! What a session shows of its present state. A step is what one undo reverses. A look is one read
+//! of a pulse to keep the frames true. The index has the frames; in it frames and pulses count from
+//! 0, here from 1.
 
 ghost use Rattle.std.specs.Prelude.{◌≡◌, ◌≤◌, ◌+◌, ◌-◌, length, Some, IfSome, IfOk, slice_get};
 ghost use Rattle.irig_recording.specs.FileText.{file_text};
@@ -30,7 +32,7 @@ impl Session {
         self.present.track().len()
     }
 
-    /// The pulse with a number, from 1. Its times are in microseconds.
+    /// The pulse with a number, from 1. Its times are in microseconds. There has to be one.
     pub fn pulse(&self, number: usize) -> Pulse
         requires { (1 ≤ number) × (number ≤ length self.now.state.pulses) }
         ensures { slice_get self.now.state.pulses (number - 1) ≡ Some result }
@@ -52,8 +54,8 @@ impl Session {
         self.present.format()
     }
 
-    /// The time of a mark in microseconds, if it is set. The letter is a byte of a text, `a` to
-    /// `z`.
+    /// The time of a mark in microseconds; `None` if it is not set. The letter is a byte of a text,
+    /// `a` to `z`.
     pub fn mark_time(&self, letter: u8) -> Option<u64>
         requires { (97 ≤ letter) × (letter ≤ 122) }
         ensures { slice_get self.now.state.marks (letter - 97) ≡ Some result }
@@ -82,8 +84,9 @@ impl Session {
         self.journal.steps_forward()
     }
 
-    /// How many pulses the steps back hold, and how many the steps forward hold. An edit in the
-    /// past holds those that it removed, one in the future those that it inserts.
+    /// How many pulses the steps back hold in memory, and how many the steps forward hold. An edit
+    /// in the past holds those that it removed, since an undo puts them back; one in the future
+    /// holds those that it inserts. The journal calls these counts weights.
     pub fn held(&self) -> (u128, u128)
         ensures past { result.0 ≡ weight_of weight_of_change self.now.past }
         ensures future { result.1 ≡ weight_of weight_of_change self.now.future }
@@ -106,7 +109,7 @@ impl Session {
         self.present.index().len()
     }
 
-    /// The frame with a number, from 1.
+    /// The frame with a number, from 1, in the order of time. There has to be one.
     pub fn frame(&self, number: usize) -> Frame
         requires { (1 ≤ number) × (number ≤ length (frames_of self.now.state)) }
         ensures { IfSome (slice_get (frames_of self.now.state) (number - 1))
@@ -119,7 +122,8 @@ impl Session {
         }
     }
 
-    /// The text of the track's dump. It fails only if memory runs out.
+    /// The text of the track's dump. `whole` collects its parts; it asks for `text_room` bytes at
+    /// first, and for more if they do not suffice. It fails only if memory runs out.
     pub fn text(&self) -> Result<Vec<u8>, AllocError>
         ensures { IfOk result (λ text.
             text.items ≡ file_text (recording_of self.now.state)) }

@@ -1,9 +1,10 @@
 //! Groups: several edits that are one step.
 //!
 //! A refused call changes nothing. A step is what one undo reverses. E12 is `GroupOpen`, and E13 is
-//! `NoGroup`.
+//! `NoGroup`. The journal keeps the steps, and whether a group is open. Each of the three calls has
+//! one refusal in the journal, so `Err(_)` is that one.
 //!
-//! A look is one read of a pulse to keep the frames; `last_looks` is how many the last change,
+//! A look is one read of a pulse to keep the frames true; `last_looks` is how many the last change,
 //! undo, redo or abort took.
 
 ghost use Rattle.irig_edit.specs.Session.Calls.Call.{Begin, End, Abort};
@@ -13,7 +14,8 @@ use crate::session::refusal::Refusal;
 use crate::session::session::Session;
 
 impl Session {
-    /// Opens a group: what is edited up to its end becomes one step. This takes no memory.
+    /// Opens a group: what is edited up to its end becomes one step. The journal notes the cursor,
+    /// which an abort gives back. This takes no memory.
     ///
     /// E12 if a group is open.
     pub fn begin(&mut self) -> Result<(), Refusal>
@@ -26,8 +28,8 @@ impl Session {
         }
     }
 
-    /// Closes the open group: its steps become one. What was undone can still be redone. This takes
-    /// no memory.
+    /// Closes the open group: its steps become one; without a step none is made. The present stays,
+    /// and so does what can be redone. This takes no memory.
     ///
     /// E13 if no group is open.
     pub fn end(&mut self) -> Result<(), Refusal>

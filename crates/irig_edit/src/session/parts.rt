@@ -11,8 +11,10 @@ use irig_saved::{Letter, Letters, Marks, Pulses, Single};
 use irig_track::{Pulse, Track};
 use std::alloc::Global;
 
-/// Takes a session apart: it keeps one state, a cursor, a journal of changes and a number, and no
-/// former state. It does nothing but compile.
+/// Takes a session apart: it keeps an allocator, one state, a cursor, a journal of changes and a
+/// count of looks, and no former state. The function does nothing but compile. Each pattern names
+/// all fields, so with a new field it no longer compiles. One step is enough, as only types matter:
+/// `next` gives the oldest.
 pub fn take_apart(session: &Session) {
     let Session {
         alloc,
@@ -45,7 +47,7 @@ fn state_parts(present: &Present) {
     let _index: &Index = index;
 }
 
-/// A step keeps its single changes, whether they are a group, and a cursor.
+/// A step keeps its single changes, whether they are a group, and a cursor. One change is enough.
 fn step_parts(step: &Step<'_, Turn>) {
     let Step {
         changes,
@@ -66,7 +68,8 @@ fn turn_parts(turn: &Turn) {
     single_parts(single);
 }
 
-/// A single change is of one of these kinds: numbers, and for a splice the pulses that come.
+/// A single change is of one of these kinds. It keeps numbers, a kind of format or letters, and a
+/// splice the pulses that it inserts: no track.
 fn single_parts(single: &Single) {
     match single {
         Single::Splice { at, count, put } => {

@@ -37,7 +37,7 @@ pub enum Refusal {
     NoGroup,
     /// E14: the step was made before the open group was begun.
     GroupFloor,
-    /// E11: a growth was refused.
+    /// E11: memory ran out.
     OutOfMemory,
 }
 

@@ -1,8 +1,9 @@
 //! A track under edit.
 //!
-//! A step is what one undo reverses. E and a number names a `Refusal`, which has the numbers. A
-//! look is one read of a pulse to keep the frames; `last_looks` is how many the last change, undo,
-//! redo or abort took.
+//! A step is what one undo reverses; the journal keeps the steps. E and a number names a `Refusal`,
+//! which has the numbers. A look is one read of a pulse to keep the frames true; `last_looks` is
+//! how many the last change, undo, redo or abort took. `looks` counts all looks so far, and
+//! `looks_since(before)` those since that count was `before`.
 
 ghost use Rattle.std.specs.Prelude.{◌≡◌, ◌≤◌, ◌<◌, ◌-◌, length, IfOk, OnOk, OnErr, IsErrOf, None};
 ghost use Rattle.std.specs.Prelude.{Ok};
@@ -76,7 +77,7 @@ impl Session {
         })
     }
 
-    /// Sets the format, as a step; the cursor stays. Only memory can run out, E11.
+    /// Sets the format, as a step; the cursor stays. The only refusal is E11: memory runs out.
     pub fn format(&mut self, format: Format) -> Result<(), Refusal>
         ensures step { Steps (Make (SetFormat format)) self.old result self.new }
         ensures looks { LooksAfter (Make (SetFormat format)) self.old result self.new }
@@ -89,7 +90,7 @@ impl Session {
     /// Sets the mark of a letter to a time in microseconds, or clears it if that is `None`, as a
     /// step; the cursor stays. The letter is a byte of a text, `a` to `z`.
     ///
-    /// E1, `OutOfRange`, if the time is beyond the length.
+    /// E1, `OutOfRange`, if the time is beyond the length; E11 if memory runs out.
     pub fn mark(&mut self, letter: u8, time: Option<u64>) -> Result<(), Refusal>
         requires { (97 ≤ letter) × (letter ≤ 122) }
         ensures step { Steps (Make (SetMark (letter - 97) time)) self.old result self.new }
@@ -103,7 +104,8 @@ impl Session {
         self.change(Single::SetMark { letter, time }, cursor)
     }
 
-    /// Undoes the newest step. This takes no memory.
+    /// Undoes the newest step: track, format, marks and cursor are those before it. This takes no
+    /// memory.
     ///
     /// E9, `NothingToUndo`, if there is none; E14, `GroupFloor`, if it was made before the open
     /// group was begun.
@@ -118,13 +120,15 @@ impl Session {
                 Ok(())
             }
             Err(JournalFault::NothingToUndo) => Err(Refusal::NothingToUndo),
+            // The journal has only one other refusal of an undo.
             Err(_) => Err(Refusal::GroupFloor),
         }
     }
 
-    /// Redoes the step that was undone last. This takes no memory.
+    /// Redoes the step that was undone last: track, format, marks and cursor are those at the undo.
+    /// This takes no memory.
     ///
-    /// E10, `NothingToRedo`, if there is none.
+    /// E10, `NothingToRedo`, if there is none: the journal has no other refusal of a redo.
     pub fn redo(&mut self) -> Result<(), Refusal>
         ensures step { Steps Redo self.old result self.new }
         ensures looks { LooksAfter Redo self.old result self.new }
@@ -154,7 +158,8 @@ impl Session {
     }
 
     /// Replaces `count` pulses from `first` on, from 1, by the pulses of `put`, as a step that
-    /// leaves the cursor at `cursor`, a pulse from 1, or 0. Only memory can run out, E11.
+    /// leaves the cursor at `cursor`, a pulse from 1, or 0. The edit that calls this has tested all
+    /// else, so the only refusal is E11: memory runs out.
     pub(crate) fn splice(
         &mut self,
         first: usize,
@@ -175,8 +180,11 @@ impl Session {
         self.change(Single::Splice { at, count, put }, cursor)
     }
 
-    /// Makes a change, as a step that leaves the cursor at a pulse, from 1, or 0. The memory that
-    /// its undo and its redo take is asked for here, so E11 can come, and nothing has changed then.
+    /// Makes a change, which the caller has found possible, as a step that leaves the cursor at
+    /// `cursor`, a pulse from 1, or 0. The memory that its undo and its redo take is asked for
+    /// here. If it runs out, which is the only error of `record`, the answer is E11 and nothing has
+    /// changed. A `Turn` is the change with places for the pulses that go; `place` is the cursor
+    /// that an undo gives back.
     pub(crate) fn change(&mut self, single: Single, cursor: usize) -> Result<(), Refusal>
         requires fits { Fits self.old.state (One single) }
         requires cursor { cursor ≤ length (turned self.old.state (One single)).0.pulses }

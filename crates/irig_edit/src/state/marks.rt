@@ -1,7 +1,7 @@
 //! Marks, and times that are moved.
 //!
 //! A mark is a time in microseconds, or `None` if it is not set. Letters count from 0; `Letters`
-//! has for each whether its mark is meant.
+//! has for each whether its mark is one of those that move.
 
 ghost use Rattle.std.specs.Prelude.{◌≡◌, ◌≤◌, ◌^◌, ◌↔◌, IsTrue, map};
 ghost use Rattle.std.specs.List.{AllByRecursion};
@@ -11,7 +11,9 @@ ghost use Rattle.irig_edit.specs.State.State.{IsMark};
 
 use irig_saved::{Letters, Marks};
 
-/// A time moved by `by`, both in microseconds: 0 if it would come before 0.
+/// A time moved by `by`, both in microseconds, below 0 to earlier times. It is 0 if it would come
+/// before 0; the edits test before that none does. A time is at most 2^40 and a distance at most
+/// 2^63, so the sum does not overflow.
 pub(crate) fn moved_time(time: u64, by: i64) -> u64
     requires { time ≤ 2 ^ 40 }
     ensures { result ≡ moved_time by time }
@@ -23,7 +25,8 @@ pub(crate) fn moved_time(time: u64, by: i64) -> u64
     }
 }
 
-/// A mark moved by `by`, in microseconds, if `named` says so and it is set; else as it is.
+/// A mark moved by `by`, in microseconds, if it is set and `named`, which says that it is to move;
+/// else as it is.
 fn moved_if(mark: Option<u64>, named: bool, by: i64) -> Option<u64>
     requires { IsMark (2 ^ 40) mark }
     ensures { result ≡ moved_if by named mark }
@@ -45,7 +48,7 @@ pub(crate) fn move_marks(marks: &mut Marks, letters: &Letters, by: i64)
     }
 }
 
-/// Whether a mark is from `low` to `high`, in microseconds.
+/// Whether a mark is set and from `low` to `high`, both included, in microseconds.
 fn stands(mark: Option<u64>, low: u64, high: u64) -> bool
     ensures { result ≡ stands low high mark }
 {
@@ -55,7 +58,8 @@ fn stands(mark: Option<u64>, low: u64, high: u64) -> bool
     }
 }
 
-/// For each letter whether its mark is set and from `low` to `high`, in microseconds.
+/// For each letter whether its mark is set and from `low` to `high`, both included, in
+/// microseconds.
 pub(crate) fn letters_from(marks: &Marks, low: u64, high: u64) -> Letters
     ensures { result ≡ map (stands low high) marks.now }
 {
@@ -66,8 +70,8 @@ pub(crate) fn letters_from(marks: &Marks, low: u64, high: u64) -> Letters
     letters
 }
 
-/// Whether a mark is set and, moved by `by`, stays from 0 to the length `micros`, all in
-/// microseconds.
+/// Whether a mark is set and, moved by `by`, is still from 0 to the length `micros`, all in
+/// microseconds. A mark is never beyond the length, so no difference goes below 0.
 fn may_move(mark: Option<u64>, by: i64, micros: u64) -> bool
     requires within { IsMark micros mark }
     requires short { micros ≤ 2 ^ 40 }
@@ -86,8 +90,8 @@ fn may_move(mark: Option<u64>, by: i64, micros: u64) -> bool
     }
 }
 
-/// Whether each mark whose letter is true in `letters` may be moved by `by`: it is set, and stays
-/// from 0 to the length `micros`, all in microseconds.
+/// Whether each mark whose letter is true in `letters` may be moved by `by`: it is set, and then
+/// still from 0 to the length `micros`, all in microseconds.
 pub(crate) fn all_may_move(marks: &Marks, letters: &Letters, by: i64, micros: u64) -> bool
     requires within { AllByRecursion (IsMark micros) marks.now }
     requires short { micros ≤ 2 ^ 40 }

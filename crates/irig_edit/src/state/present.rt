@@ -1,7 +1,8 @@
 //! The present state, with its frames.
 //!
-//! Pulses count from 1 here, and times are in microseconds. The index holds the frames; a look is
-//! one read of a pulse to keep it.
+//! Pulses count from 1 here, and times are in microseconds; the track counts pulses from 0. The
+//! index holds the frames; a look is one read of a pulse to keep the index true. A lens (`lens`)
+//! shows the pulses of the track, and counts the looks.
 
 ghost use Rattle.std.specs.Prelude.{◌≡◌, ◌<◌, ◌≤◌, ◌+◌, ◌-◌, ◌*◌, ◌^◌, length, map, ◌↔◌, IsTrue};
 ghost use Rattle.std.specs.Prelude.{IfOk, Some, slice_get};
@@ -43,7 +44,7 @@ impl Model for Present {
 }
 
 impl Present {
-    /// A recording in a format, with no mark set. It fails only if memory runs out.
+    /// The state of a recording in a format, with no mark set. It fails only if memory runs out.
     pub(crate) fn open(
         alloc: Global,
         recording: Recording,
@@ -62,8 +63,9 @@ impl Present {
         })
     }
 
-    /// How many bytes to ask for at first for the text of the track's dump, with some for a
-    /// journal: a pulse takes at most 36.
+    /// How many bytes to ask for at first for the text of the track's dump. A pulse has two edges,
+    /// each of at most 18 bytes. 4,096 more, this project's own choice, are for the header, the
+    /// length and some lines of a journal. If the text is longer, it takes more.
     pub(crate) fn text_room(&self) -> usize
         ensures { result ≡ 36 * length self.now.state.pulses + 4096 }
     {
@@ -91,7 +93,7 @@ impl Present {
         Index::find(&mut self.track.lens(), time)
     }
 
-    /// A pulse, from 1.
+    /// The pulse with a number, from 1.
     pub(crate) fn pulse(&self, number: usize) -> Pulse
         requires first { 1 ≤ number }
         requires last { number ≤ length self.now.state.pulses }
@@ -104,8 +106,9 @@ impl Present {
         track.pulse(number - 1)
     }
 
-    /// Whether a pulse rises at or before `b` and falls at or after `a`, in microseconds. The last
-    /// that rises by `b` is the only one to look at, as the others fall earlier.
+    /// Whether a pulse rises at or before `b` and falls at or after `a`, in microseconds, so that
+    /// one from `a` to `b` would touch it. Only the last pulse that rises by `b` is looked at, as
+    /// the others fall earlier.
     pub(crate) fn is_touched(&self, a: u64, b: u64) -> bool
         requires { a < b }
         ensures { result ≡ is_touched a b self.now.state }
@@ -133,7 +136,7 @@ impl Present {
         mark
     }
 
-    /// The letters whose marks are from `low` to `high`, in microseconds.
+    /// The letters whose marks are from `low` to `high`, both included, in microseconds.
     pub(crate) fn letters_from(&self, low: u64, high: u64) -> Letters
         ensures { result ≡ map (stands low high) self.now.state.marks }
     {
@@ -167,7 +170,8 @@ impl Present {
 
     /// How many more looks it has counted than `before`.
     ///
-    /// That is how many it had counted at some time before.
+    /// "It" is the index of frames. `before` is what `looks` returned some time before; the count
+    /// never falls, so nothing is cut off at 0.
     pub(crate) fn looks_since(&self, before: u64) -> u64
         ensures { result ≡ self.now.index.looks - before }
     {

@@ -1,8 +1,13 @@
-//! Frames with the fields that they carry, and what is noted of them.
+//! Frames with the fields that they carry, and what is noted of them. Elements count from 0. The
+//! standard gives each digit of a field four elements at most, of weights 1, 2, 4 and 8, the lowest
+//! first: seconds from 1 on, tens of seconds from 6, minutes 10 and 15, hours 20 and 25, days 30,
+//! 35 and 40. The seconds of the day (sbs) are one binary number: bits 0 to 8 are elements 80 to
+//! 88, and bits 9 to 16 are 90 to 97.
 
 use irig_codes::{Element, Fields, Format, Kind, Name, Note, decode, encode, fits};
 
-/// The frame with these ones and its position identifiers.
+/// The frame with these elements as ones, and its position identifiers: 0, 9, 19 and so on to 99. A
+/// number from 100 on is no element: it fills a row.
 fn frame_with(ones: &[usize]) -> [Element; 100] {
     let mut frame = [Element::Zero; 100];
     for element in 0..100 {
@@ -15,7 +20,7 @@ fn frame_with(ones: &[usize]) -> [Element; 100] {
     frame
 }
 
-/// The fields of day 0 at midnight, with no other part.
+/// The fields of day 0 at midnight, with no other part. Rows change some of them.
 const NOTHING: Fields = Fields {
     hundredths: None,
     seconds: 0,
@@ -27,7 +32,7 @@ const NOTHING: Fields = Fields {
     control: None,
 };
 
-/// A format, the fields of a frame, and its ones.
+/// A format, the fields of a frame, and its ones. Nothing is wrong with it, so its note is `Fine`.
 type Carried = (Kind, u8, Fields, &'static [usize]);
 
 /// Whether the fields give the frame, and the frame gives the fields.
@@ -45,6 +50,7 @@ fn is_carried((kind, expression, fields, ones): &Carried) -> bool {
     }
 }
 
+/// Frames of B and A, their ones by the weights of the standard. Year: tens from 55, units from 50.
 static FIELDS: [Carried; 2] = [
     (
         Kind::B,
@@ -60,6 +66,8 @@ static FIELDS: [Carried; 2] = [
             ..NOTHING
         },
         &[
+            // 56 s: 2, 3, 6, 8; 34 min: 12, 15, 16; 12 h: 21, 25; day 61: 30, 36, 37; year 24: 52,
+            // 56. 45,296 s is bits 4 to 7, 12, 13 and 15: 84 to 87, 93, 94, 96.
             2, 3, 6, 8, 12, 15, 16, 21, 25, 30, 36, 37, 52, 56, 84, 85, 86, 87, 93, 94, 96,
         ],
     ),
@@ -77,6 +85,8 @@ static FIELDS: [Carried; 2] = [
             ..NOTHING
         },
         &[
+            // 42 s: 2, 8; 18 min: 13, 15; 21 h: 20, 26; day 173: 30 to 40; 8 tenths: 48. 76,722 s
+            // is bits 1, 4, 5, 7, 8, 9, 11, 13 and 16: 81 to 97.
             2, 8, 13, 15, 20, 26, 30, 31, 35, 36, 37, 40, 48, 81, 84, 85, 87, 88, 90, 92, 94, 97,
         ],
     ),
@@ -89,6 +99,8 @@ fn frames_carry_their_fields_both_ways(rt: HostRuntime) {
     }
 }
 
+/// Frames of E and G with control functions: one binary number, its lowest bit first, from 50 on in
+/// this E and from 70 on in this G. The times are those of the A above, but for parts of a second.
 static CONTROLS: [Carried; 2] = [
     (
         Kind::E,
@@ -101,6 +113,7 @@ static CONTROLS: [Carried; 2] = [
             control: Some(5),
             ..NOTHING
         },
+        // 40 s: 8, as E has only tens of seconds; control 5: 50, 52.
         &[8, 13, 15, 20, 26, 30, 31, 35, 36, 37, 40, 50, 52],
     ),
     (
@@ -117,6 +130,7 @@ static CONTROLS: [Carried; 2] = [
             ..NOTHING
         },
         &[
+            // 87 hundredths: 48 (8 tenths), 50, 51, 52; year 4: 62; control 1: 70.
             2, 8, 13, 15, 20, 26, 30, 31, 35, 36, 37, 40, 48, 50, 51, 52, 62, 70,
         ],
     ),
@@ -129,13 +143,18 @@ fn frames_carry_their_control_functions_both_ways(rt: HostRuntime) {
     }
 }
 
-/// An expression of B, the ones of a frame, its fields, and what is noted of it.
+/// An expression of B (2 carries the time alone, 3 also the seconds of the day), the ones of a
+/// frame, the fields that are read of it, and what is noted.
 type Noted = (u8, &'static [usize], Fields, Note);
 
+/// Frames with one thing wrong: a day 0, units of the seconds above 9, a one at an element that
+/// carries nothing, and seconds of the day that are not those of the time.
 static NOTED: [Noted; 4] = [
+    // No ones: day 0, which no year has.
     (2, &[100, 100, 100], NOTHING, Note::Field(Name::Days)),
     (
         2,
+        // Day 1. Seconds 2 and 8 make 10 in one digit.
         &[30, 2, 4],
         Fields {
             days: 1,
@@ -146,12 +165,14 @@ static NOTED: [Noted; 4] = [
     ),
     (
         2,
+        // Element 5, between units and tens of the seconds, carries nothing.
         &[30, 5, 100],
         Fields { days: 1, ..NOTHING },
         Note::Stray(5),
     ),
     (
         3,
+        // Second 1 of the day at midnight, which is second 0.
         &[30, 80],
         Fields {
             days: 1,

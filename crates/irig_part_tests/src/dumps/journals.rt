@@ -1,4 +1,5 @@
-//! Dumps that carry a journal in a comment.
+//! Dumps that carry a journal in a comment: one after the declarations whose first word is
+//! `irig-journal-1`. The journal is its text from that word up to `$end`, white space included.
 
 ghost use Rattle.std.specs.Prelude.{◌≤◌, ◌^◌, length};
 
@@ -7,8 +8,8 @@ use super::{HEADER, Row, check_rows, is_right, put_texts};
 use irig_vcd::{VcdFault, read_parts};
 use std::alloc::Global;
 
-/// Whether a dump gives the journal that is wanted, or if none is, the fault of a second one. It is
-/// short.
+/// Whether a dump gives the journal that is wanted. If `want` is `None`, whether it gives the fault
+/// of a second journal, at line 1. It is short.
 fn gives(alloc: Global, dump: &[u8], want: Option<&[u8]>) -> bool
     requires { length dump.now ≤ 2 ^ 28 }
 {
@@ -30,14 +31,17 @@ fn is_right_journal(alloc: Global, changes: &str, want: Option<&[u8]>) -> bool {
 static JOURNALS: [(&str, &[u8]); 4] = [
     ("#5 $comment irig-journal-1 $end", b"irig-journal-1 "),
     (
+        // Line ends are kept.
         "#5\n$comment\nirig-journal-1\nformat G 2\n$end\n",
         b"irig-journal-1\nformat G 2\n",
     ),
     (
+        // It comes before the first time.
         "$comment irig-journal-1\t$end #5 1! #6",
         b"irig-journal-1\t",
     ),
     (
+        // Two comments before it are no journal. A `$comment` within it is text.
         "$comment $end $comment x $end $comment  irig-journal-1 a $comment b $end",
         b"irig-journal-1 a $comment b ",
     ),
@@ -50,21 +54,24 @@ fn one_journal_is_given(rt: HostRuntime) {
     }
 }
 
-/// Changes with comments that are no journal.
+/// Changes with comments that are no journal, or with a fault that comes before that of a journal.
 static OTHERS: [Row; 7] = [
     ("#5", Edges(5, &[])),
+    // The first word has to be just that one.
     ("#5 $comment irig-journal-10 $end", Edges(5, &[])),
     ("#5 $comment irig-journal- $end", Edges(5, &[])),
     ("#5 $comment a irig-journal-1 $end", Edges(5, &[])),
+    // `$comment` is the code of two values here.
     ("#5 b0 $comment r1 $comment #7", Edges(7, &[])),
     ("#5 $comment irig-journal-1", Fault(VcdFault::Unclosed)),
     (
+        // The time that falls back, at 63 + 61, comes before the fault of the second journal.
         "$comment irig-journal-1 $end $comment irig-journal-1 $end #5 #4",
         Fault(VcdFault::Backward(124)),
     ),
 ];
 
-/// A comment before the declarations.
+/// A comment before the declarations is no journal.
 const BEFORE: &[u8] =
     b"$comment irig-journal-1 $end $timescale 1 us $end $var wire 1 ! c $end $enddefinitions $end \
     #5";

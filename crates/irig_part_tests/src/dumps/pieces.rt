@@ -1,4 +1,5 @@
-//! Recordings, tokens and faults by themselves.
+//! Recordings, tokens and faults by themselves. Lengths and edges are in microseconds. A token is a
+//! run of bytes that are no white space.
 
 use crate::edges::have_edges;
 use irig_recording::Recording;
@@ -8,6 +9,8 @@ use std::alloc::Global;
 /// A length and edges, and whether they make a recording.
 type Row = (u64, &'static [u64], bool);
 
+/// Edges that are a recording, and others: past the length, touching (a rise at the last fall), a
+/// rise alone, a length above 2^40 microseconds.
 static EDGES: [Row; 6] = [
     (9, &[1, 2, 3, 9], true),
     (8, &[1, 2, 3, 9], false),
@@ -17,14 +20,15 @@ static EDGES: [Row; 6] = [
     (1099511627777, &[], false),
 ];
 
-/// Whether a recording gives a length and edges.
+/// Whether a recording gives a length and edges, by `pulses` and by `into_pulses`.
 fn gives(recording: Recording, length: u64, edges: &[u64]) -> bool {
     recording.length() == length
         && have_edges(recording.pulses(), edges)
         && have_edges(&recording.into_pulses(), edges)
 }
 
-/// Whether edges make a recording that gives them, or none, as their row says.
+/// Whether edges make a recording that gives them, or none, as their row says. False without
+/// memory.
 fn is_answered(alloc: Global, (length, edges, accepted): &Row) -> bool {
     match Recording::new(alloc, *length, edges) {
         Ok(Some(recording)) => *accepted && gives(recording, *length, edges),
@@ -40,7 +44,7 @@ fn edges_that_make_no_recording_give_none(rt: HostRuntime) {
     }
 }
 
-/// The tokens of the text below, with their places.
+/// The tokens of the text in the test below, with their places in bytes from 0.
 static TOKENS: [(Kind, &[u8], usize); 7] = [
     (Kind::Dollar, b"$var", 1),
     (Kind::Hash, b"#5", 6),
@@ -51,7 +55,7 @@ static TOKENS: [(Kind, &[u8], usize); 7] = [
     (Kind::Other, b"U", 24),
 ];
 
-/// Whether the next token is of a kind, and at a place.
+/// Whether the next token is of a kind, has these bytes, and is at a place in bytes from 0.
 fn is_next(tokens: &mut Tokens<'_>, (kind, slice, offset): &(Kind, &[u8], usize)) -> bool {
     match tokens.next() {
         Some(token) => token.kind == *kind && token.slice == *slice && token.offset == *offset,
@@ -66,6 +70,7 @@ fn is_end(tokens: &mut Tokens<'_>) -> bool {
 
 #[test]
 fn tokens_with_their_places(rt: HostRuntime) {
+    // A space, a tab, a line end of two bytes and a vertical tab are all white space.
     let mut tokens = Tokens::new(b" $var\t#5\r\n1! b01 r1 sH \x0bU");
     for row in TOKENS.iter() {
         assert!(rt; is_next(&mut tokens, row));
@@ -73,7 +78,7 @@ fn tokens_with_their_places(rt: HostRuntime) {
     assert!(rt; is_end(&mut tokens));
 }
 
-/// Faults, and their texts.
+/// Faults, and their texts: an offset in bytes is shown, the line of a journal is not.
 static FAULTS: [(VcdFault, &str); 14] = [
     (VcdFault::Unclosed, "V1 Unclosed"),
     (VcdFault::NoTimescale, "V2 NoTimescale"),

@@ -1,4 +1,5 @@
-//! What is written, and that it is read back.
+//! What is written, and that it is read back. Lengths and edges are in microseconds. An error is
+//! that memory ran out, or that a length and edges are no recording: no test uses such.
 
 use super::Wanted::Edges;
 use super::is_right;
@@ -15,6 +16,7 @@ fn lines_of(alloc: Global, length: u64, edges: &[u64]) -> Result<Vec<u8>, AllocE
     }
 }
 
+/// The text of a recording of length 0 without a pulse.
 const EMPTY: &[u8] = b"$timescale 1 us $end
 $scope module irig $end
 $var wire 1 ! code $end
@@ -26,19 +28,22 @@ $dumpvars
 $end
 ";
 
-/// A length and edges, and their text from a byte on.
+/// A length and edges, and their text from a byte on: byte 104 is after the declarations, byte 125
+/// after the values at time 0 too.
 static TEXTS: [(u64, &[u64], usize, &[u8]); 3] = [
     (0, &[], 0, EMPTY),
     (
+        // A rise at 0 is a value at time 0. The last fall is at the length, which has no own line.
         70,
         &[0, 5, 9, 70],
         104,
         b"#0\n$dumpvars\n1!\n$end\n#5\n0!\n#9\n1!\n#70\n0!\n",
     ),
+    // The length has a line without a value.
     (1000, &[100, 120], 125, b"#100\n1!\n#120\n0!\n#1000\n"),
 ];
 
-/// Whether the text of a length and edges, from a byte on, is this one.
+/// Whether the text of a length and edges, in microseconds, from a byte on, is this one.
 fn is_text(alloc: Global, length: u64, edges: &[u64], from: usize, text: &[u8]) -> bool {
     match lines_of(alloc, length, edges) {
         Ok(lines) => lines.as_slice().get(from..) == Some(text),
@@ -72,7 +77,8 @@ fn full_dump(alloc: Global) -> Result<Vec<u8>, AllocError> {
     lines_of(alloc, 1 << 23, edges.as_slice())
 }
 
-/// Whether that many pulses are read, or the fault.
+/// Whether that many pulses are read of a dump, or it has that fault. False for more than 2^28
+/// bytes: `read` takes no more.
 fn has_count(alloc: Global, dump: &[u8], want: Result<usize, VcdFault>) -> bool {
     if dump.len() > 1 << 28 {
         return false;
@@ -83,7 +89,7 @@ fn has_count(alloc: Global, dump: &[u8], want: Result<usize, VcdFault>) -> bool 
     }
 }
 
-/// The line after those of a full dump, of one more pulse.
+/// Lines after those of a full dump, of one more pulse. It rises at the last time of that dump.
 const MORE: &[u8] = b"1!\n#8388609\n0!\n";
 
 /// Whether a full dump is read, and is not with one pulse more.

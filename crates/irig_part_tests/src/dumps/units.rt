@@ -1,19 +1,22 @@
 //! Pulses in units of less than a microsecond, and of more: they are read in one step or token by
-//! token, and say the same.
+//! token, and say the same. Times are rounded down to whole microseconds. Two edges in the same
+//! microsecond cancel out.
 
 use super::Wanted::{self, Edges, Fault};
 use super::are_right;
 use irig_vcd::VcdFault;
 use std::alloc::Global;
 
-/// A comment that says nothing. Pulses with that many bytes after them are read in one step.
+/// A comment that says nothing. Pulses with that many bytes after them are read in one step; with
+/// fewer than 64 bytes after their begin they are read token by token.
 const COMMENT: &str =
     "$comment ................................................................ $end\n";
 
 /// A pulse from 1 to 2 microseconds in nanoseconds. Those after it are read in one step.
 const FIRST: &str = "#1000\n1!\n#2000\n0!\n";
 
-/// Changes in nanoseconds after that pulse, and what the dump is to be read as.
+/// Changes in nanoseconds after that pulse, and what the dump is to be read as. Each line of a time
+/// with its value has 9 bytes: a fault at `OFFSET` + 18 is at the third time.
 static NANOSECONDS: [(&str, Wanted); 12] = [
     (
         "#3999\n1!\n#5000\n0!\n#6000\n1!\n#7999\n0!\n#9999\n",
@@ -29,8 +32,9 @@ static NANOSECONDS: [(&str, Wanted); 12] = [
         "#3000\n1!\n#4100\n0!\n#4900\n1!\n#6000\n0!\n",
         Edges(6, &[1, 2, 3, 6]),
     ),
+    // a rise in the microsecond of the first pulse's fall: one pulse
     ("#2001\n1!\n#3000\n0!\n", Edges(3, &[1, 3])),
-    // the same number of nanoseconds
+    // a fall and a rise at the same number of nanoseconds
     (
         "#4500\n1!\n#5500\n0!\n#5500\n1!\n#6000\n0!\n",
         Edges(6, &[1, 2, 4, 6]),
@@ -74,21 +78,25 @@ const OFFSET: usize = 63 + 18;
 /// A unit, the changes of a dump, and what it is to be read as.
 static UNITS: [(&str, &str, Wanted); 10] = [
     (
+        // 0 to 999 is no pulse; the fall at 2000 and the rise at 2999 cancel out
         "1 ns",
         "#0\n1!\n#999\n0!\n#1000\n1!\n#2000\n0!\n#2999\n1!\n#3000\n0!\n",
         Edges(3, &[1, 3]),
     ),
     (
+        // the fall at 299 and the rise at 301 do not cancel out; 580 to 599 is no pulse
         "10 ns",
         "#100\n1!\n#299\n0!\n#301\n1!\n#400\n0!\n#580\n1!\n#599\n0!\n#99999\n",
         Edges(999, &[1, 2, 3, 4]),
     ),
     (
+        // the last microsecond that is permitted, 2^40, and its last unit
         "10 ns",
         "#100\n1!\n#200\n0!\n#109951162777599\n1!\n#109951162777699\n0!\n",
         Edges(1099511627776, &[1, 2, 1099511627775, 1099511627776]),
     ),
     (
+        // one unit more: 64 bytes of declarations and 36 of changes are before its time
         "10 ns",
         "#100\n1!\n#200\n0!\n#109951162777599\n1!\n#109951162777700\n0!\n",
         Fault(VcdFault::TimeTooLarge(100)),
@@ -109,11 +117,13 @@ static UNITS: [(&str, &str, Wanted); 10] = [
         Edges(4, &[1, 2, 3, 4]),
     ),
     (
+        // a rise one unit after the fall: the two cancel out
         "1 fs",
         "#1000000000\n1!\n#2000000000\n0!\n#2000000001\n1!\n#3000000000\n0!\n",
         Edges(3, &[1, 3]),
     ),
     (
+        // units of more than a microsecond
         "10 us",
         "#1\n1!\n#2\n0!\n#3\n1!\n#4\n0!\n#5\n1!\n#6\n0!\n",
         Edges(60, &[10, 20, 30, 40, 50, 60]),
@@ -129,6 +139,8 @@ static UNITS: [(&str, &str, Wanted); 10] = [
 const WIRE: &str = " $end\n$var wire 1 ! c $end\n$enddefinitions $end\n";
 
 /// Whether the dump of a wire in a unit is read as is wanted, alone and with the comment after it.
+/// `first` and `second` are its changes, one after the other. With the comment pulses are read in
+/// one step, without it the last ones token by token.
 fn are_right_in(alloc: Global, unit: &str, first: &str, second: &str, want: &Wanted) -> bool {
     let short = ["$timescale ", unit, WIRE, first, second];
     let longer = ["$timescale ", unit, WIRE, first, second, COMMENT];

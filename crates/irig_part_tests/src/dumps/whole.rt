@@ -1,9 +1,12 @@
-//! Dumps, by hand from the format and from what simulators write.
+//! Dumps, by hand from the format and from what simulators write. Lengths and edges are in
+//! microseconds, rounded down; edges in the same microsecond cancel out. Offsets are in bytes from
+//! 0.
 
 use super::Wanted::{self, Edges, Fault};
 use super::{Row, check_rows, is_right};
 use irig_vcd::VcdFault;
 
+/// A dump of two pulses, whose last time line sets the length.
 const TWO_PULSES: &str = "$timescale 1 us $end
 $var wire 1 ! code $end
 $enddefinitions $end
@@ -14,6 +17,8 @@ $enddefinitions $end
 #1000
 ";
 
+/// A dump as a simulator writes it: in picoseconds, with another variable of eight bits, whose
+/// values are skipped. `x` is low.
 const SIMULATED: &str = "$date today $end $version a simulator $end
 $timescale
  1ps
@@ -42,6 +47,7 @@ static WHOLE: [(&str, Option<&[u8]>, Wanted); 17] = [
     (SIMULATED, None, Edges(5, &[2, 4])),
     (SIMULATED, Some(b"irig"), Edges(5, &[2, 4])),
     (SIMULATED, Some(b"!"), Edges(5, &[2, 4])),
+    // The names above are a reference and a code; this one is of the eight bits.
     (SIMULATED, Some(b"n"), Fault(VcdFault::NotOneBit)),
     ("", None, Fault(VcdFault::NoEndDefinitions)),
     (
@@ -54,6 +60,7 @@ static WHOLE: [(&str, Option<&[u8]>, Wanted); 17] = [
         None,
         Fault(VcdFault::NoTimescale),
     ),
+    // Only 1, 10 and 100 of a unit are permitted.
     ("$timescale 5 us $end", None, Fault(VcdFault::BadTimescale)),
     (
         "$timescale 10000000ps $end",
@@ -61,13 +68,16 @@ static WHOLE: [(&str, Option<&[u8]>, Wanted); 17] = [
         Fault(VcdFault::BadTimescale),
     ),
     ("$var wire one ! c $end", None, Fault(VcdFault::BadVar)),
+    // Not a section.
     ("META samplerate: 1", None, Fault(VcdFault::BadToken(0))),
     (
+        // Without a time the length is 0.
         "$timescale 1 us $end $var wire 1 ! code $end $enddefinitions $end",
         None,
         Edges(0, &[]),
     ),
     (
+        // The fall at 2000 ns and the rise at 2500 ns cancel out.
         "$timescale 1 ns $end $var wire 1 ! c $end $enddefinitions $end #1999 1! #2000 0! #2500 1! \
         #9000 0!",
         None,
@@ -79,11 +89,13 @@ static WHOLE: [(&str, Option<&[u8]>, Wanted); 17] = [
         Edges(300000000, &[200000000, 300000000]),
     ),
     (
+        // The last time that is permitted: within microsecond 2^40.
         "$timescale 1fs $end $var wire 1 ! c $end $enddefinitions $end #1099511627776999999999",
         None,
         Edges(1099511627776, &[]),
     ),
     (
+        // One unit more. Its token is after 62 bytes.
         "$timescale 1fs $end $var wire 1 ! c $end $enddefinitions $end #1099511627777000000000",
         None,
         Fault(VcdFault::TimeTooLarge(62)),
@@ -97,10 +109,12 @@ fn whole_dumps(rt: HostRuntime) {
     }
 }
 
-/// Changes of each form, and what the dump is to be read as.
+/// Changes of each form, and what the dump is to be read as. They begin at byte 63.
 static CHANGES: [Row; 13] = [
+    // A value without a code.
     ("1", Fault(VcdFault::BadToken(63))),
     ("#5 1! #4 0!", Fault(VcdFault::Backward(69))),
+    // 2^40 is the largest time.
     ("#1099511627777", Fault(VcdFault::TimeTooLarge(63))),
     ("#1099511627776", Edges(1099511627776, &[])),
     (
@@ -109,14 +123,20 @@ static CHANGES: [Row; 13] = [
     ),
     ("#5x 1!", Fault(VcdFault::BadToken(63))),
     ("#0000000000000000000000005 1! #7", Edges(7, &[5, 7])),
+    // The first value is at time 0; at 3 a fall and a rise cancel out; `X` is low.
     ("1! #3 0! 1! #5 X! #9", Edges(9, &[0, 5])),
+    // A vector without a bit, at 63 + 14.
     ("#1 b0101 ! #2 b ! #3", Fault(VcdFault::BadToken(77))),
+    // The last bit of a vector counts; a real and a text give no level.
     ("#1 b0101 ! #2 bx10 ! r1.5 ! sH ! #3", Edges(3, &[1, 2])),
     (
+        // A time within a comment is none. Rise and fall at 1 cancel out; a pulse ends at the
+        // length.
         "#1 1! $comment #0 $end $dumpoff x! $end #4 $dumpon 1! $end #6",
         Edges(6, &[4, 6]),
     ),
     ("#1 1! #2 $comment", Fault(VcdFault::Unclosed)),
+    // No value begins with `U`. The token is at 63 + 9.
     ("#1 1! #2 U!", Fault(VcdFault::BadToken(72))),
 ];
 
@@ -130,7 +150,8 @@ const THREE_WIRES: &[u8] =
     b"$timescale 1 us $end $var wire 1 ! c $end $var wire 1 \" d $end $var wire 1 # ! $end \
     $enddefinitions $end #1 1! #2 1\" #3 1# #4";
 
-/// The wire that is asked for, and what that dump is to be read as.
+/// The wire that is asked for, and what that dump is to be read as: a reference counts before a
+/// code, so `!` is the third wire. Each wire rises once, and its pulse ends at the length.
 static WIRES: [(Option<&[u8]>, Wanted); 6] = [
     (None, Fault(VcdFault::ManyWires)),
     (Some(b"q"), Fault(VcdFault::NoSuchWire)),
@@ -147,11 +168,16 @@ fn wires_by_reference_and_by_code(rt: HostRuntime) {
     }
 }
 
-/// How many bytes of the dump of two pulses are left, and what they are to be read as.
+/// How many bytes of the dump of two pulses are left, and what they are to be read as. Its lines
+/// end after 21, 45, 66, 74, 82, 90, 98 and 104 bytes.
 static TORN: [(usize, Wanted); 6] = [
+    // Within the first section.
     (15, Fault(VcdFault::Unclosed)),
+    // After the second section.
     (45, Fault(VcdFault::NoEndDefinitions)),
+    // After the rise at 200, which is the length then, so that it makes no pulse.
     (90, Edges(200, &[100, 120])),
+    // The last time line is `#`, then `#28`, then `#280`.
     (91, Fault(VcdFault::BadToken(90))),
     (93, Fault(VcdFault::Backward(90))),
     (94, Edges(280, &[100, 120, 200, 280])),

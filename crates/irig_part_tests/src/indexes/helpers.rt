@@ -1,4 +1,7 @@
-//! Tracks of format G, expression 2, their edits, and indexes that are kept next to them.
+//! Tracks of format G, expression 2, their edits, and indexes that are kept next to them. An index
+//! has a record of each frame: its marker and what it says. A marker is a position identifier right
+//! after another one. Times are in microseconds, pulses count from 0. A look is one reading of a
+//! pulse. Memory that runs out is an error, or false.
 
 ghost use Rattle.std.specs.Prelude.{◌≡◌, ◌<◌, ◌≤◌, IfOk, OnOk, MatchOption, IsTrue};
 ghost use Rattle.irig_index.specs.Frames.{frames};
@@ -30,8 +33,9 @@ pub(crate) fn format_g(rt: &impl Abort) -> Format {
         .expect(rt, "G permits expression 2")
 }
 
-/// The width, in microseconds, of an element of a frame of day 1, 00:00:00.00 or .01. The units of
-/// the day are elements 30 to 33, those of the hundredths 50 to 53.
+/// The width, in microseconds, of an element of a frame of day 1, 00:00:00.00 or .01: 80 for a
+/// position identifier, 50 for a 1, 20 for a 0. The units of the day are elements 30 to 33, those
+/// of the hundredths 50 to 53.
 fn width(hundredths: u64, element: u64) -> u64
     ensures { result < 100 }
 {
@@ -44,7 +48,8 @@ fn width(hundredths: u64, element: u64) -> u64
     }
 }
 
-/// A track of this many pulses, 100 microseconds apart: of sound frames, or all identifiers.
+/// A track of this many pulses, 100 microseconds apart, which is the interval of G: of sound
+/// frames, or all position identifiers.
 fn pulses(alloc: Global, count: u64, are_sound: bool) -> Result<Track, AllocError>
     requires { count ≤ 1000000 }
 {
@@ -64,12 +69,12 @@ pub(crate) fn sound(alloc: Global, count: u64) -> Result<Track, AllocError>
     pulses(alloc, count, true)
 }
 
-/// Eight position identifiers in step: all but the first are markers.
+/// Eight position identifiers in step: all but the first are markers, as each has one before it.
 pub(crate) fn positions(alloc: Global) -> Result<Track, AllocError> {
     pulses(alloc, 8, false)
 }
 
-/// Removes `count` pulses from `at` on, if they are there.
+/// Removes `count` pulses from `at` on, from 0, if they are there, and returns where; else `None`.
 fn cut(
     alloc: Global,
     track: &mut Track,
@@ -89,7 +94,8 @@ fn cut(
     Ok(Some(track.splice(at, count, &mut put, &mut taken)))
 }
 
-/// Makes an edit, if it can be made, and returns where.
+/// Makes an edit, if it can be made, and returns where; else `None`. An inversion can make one
+/// pulse more, so there is room for one.
 fn make(alloc: Global, track: &mut Track, edit: Edit) -> Result<Option<Span>, AllocError>
     ensures micros { OnOk result (track.new.micros ≡ track.old.micros) }
     ensures span { IfOk result (λ made. MatchOption made (track.new.pulses ≡ track.old.pulses)
@@ -106,7 +112,7 @@ fn make(alloc: Global, track: &mut Track, edit: Edit) -> Result<Option<Span>, Al
     }
 }
 
-/// The edit that reverses an inversion or a move.
+/// The edit that reverses an inversion, which is itself, or a move. A removal is not reversed.
 pub(crate) fn back(edit: Edit) -> Edit {
     match edit {
         Edit::Move(pulse, by) => Edit::Move(pulse, 0i64.wrapping_sub(by)),
@@ -114,8 +120,9 @@ pub(crate) fn back(edit: Edit) -> Edit {
     }
 }
 
-/// Makes an edit, if it can be made, and repairs the index, which then has places for the frames
-/// afterwards and for no more. False if memory runs out, or too many looks were made.
+/// Makes an edit, if it can be made, and repairs the index, which gets places for the frames
+/// afterwards first. False if memory runs out, or too many looks were made. True also if the edit
+/// cannot be made: nothing changes then.
 pub(crate) fn repairs(
     alloc: Global,
     track: &mut Track,
@@ -126,7 +133,7 @@ pub(crate) fn repairs(
     requires { index.old.records ≡ frames format track.old.pulses }
     ensures { IsTrue result → index.new.records ≡ frames format track.new.pulses }
 {
-    // Read for its bound alone.
+    // The count is not used: the contract of the call bounds the pulses.
     let _before = track.len();
     let Ok(made) = make(alloc, track, edit) else {
         return false;
@@ -134,7 +141,7 @@ pub(crate) fn repairs(
     let Some(span) = made else {
         return true;
     };
-    // Read for its bound alone.
+    // The count is not used: the contract of the call bounds the pulses.
     let _after = track.len();
     let before = index.looks();
     let count = Index::count(&mut track.lens(), format);
@@ -146,13 +153,15 @@ pub(crate) fn repairs(
     took_few(&lens, index, before, span.new)
 }
 
-/// Whether a repair took few looks for the pulses that came, and the index counted each look.
+/// Whether a repair took few looks for the pulses that came, three at most for each of these and of
+/// 200 around them: a frame that an edit touches is within a hundred pulses before and after it.
+/// Also, the index counted each look. `before` is its count before the repair.
 fn took_few(lens: &Lens<'_>, index: &Index, before: u64, came: usize) -> bool {
     let most = (came as u64).saturating_add(200).saturating_mul(3);
     lens.looks() <= most && index.looks().wrapping_sub(before) == lens.looks()
 }
 
-/// Makes the index that of the track, by reading the whole of it.
+/// Makes the index that of the track, by reading the whole of it. False if memory runs out.
 pub(crate) fn rebuilds(index: &mut Index, track: &Track, format: Format) -> bool {
     let mut lens = track.lens();
     let count = Index::count(&mut lens, format);

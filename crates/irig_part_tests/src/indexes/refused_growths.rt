@@ -7,7 +7,8 @@ use irig_index::Index;
 use irig_track::Track;
 use std::alloc::Global;
 
-/// The index of a track; a refused growth is asked for again.
+/// The index of a track, in format G, expression 2; a refused growth is asked for again, which
+/// succeeds, as one growth is refused in a run. `None` if memory really runs out.
 fn built(alloc: Global, track: &Track) -> Option<Index> {
     let format = Format::new(Kind::G, 2).ok()?;
     match Index::build(alloc, &mut track.lens(), format) {
@@ -26,7 +27,7 @@ fn has_pulses(track: &Track) -> bool {
     track.len() == 8
 }
 
-/// Whether each pulse but the first of eight is a marker.
+/// Whether each pulse but the first of eight is a marker: a position identifier after another one.
 fn has_markers(index: &Index) -> bool {
     for k in 0..index.len() {
         if index.record(k).marker != k + 1 {
@@ -36,7 +37,8 @@ fn has_markers(index: &Index) -> bool {
     index.len() == 7
 }
 
-/// Whether both make room; an error leaves the index's room, and the next call makes it.
+/// Whether both make room for 100 more pulses or records; an error leaves the index's room, and the
+/// next call makes it.
 fn both_reserve(track: &mut Track, index: &mut Index) -> bool {
     let room = index.room();
     (track.reserve(100).is_ok() || track.reserve(100).is_ok())

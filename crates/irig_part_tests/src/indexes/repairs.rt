@@ -1,4 +1,7 @@
-//! Repairs against indexes that are built from nothing.
+//! Repairs against indexes that are built from nothing. An edit agrees if an index that is repaired
+//! after it is the same as one that is built from nothing. An edit that cannot be made changes
+//! nothing, and agrees. Format G has an interval of 100 microseconds. Pulses of the short track are
+//! 80 microseconds wide, and all are position identifiers. If memory runs out, the answer is false.
 
 ghost use Rattle.std.specs.Prelude.{◌≡◌, IsTrue};
 ghost use Rattle.irig_index.specs.Frames.{frames};
@@ -18,7 +21,7 @@ fn agrees(alloc: Global, track: &mut Track, index: &mut Index, format: Format, e
     repairs(alloc, track, index, format, edit) && is_built_so(alloc, track, index, format)
 }
 
-/// Whether an index built from nothing is the same.
+/// Whether an index of the track that is built from nothing is the same; false if memory runs out.
 fn is_built_so(alloc: Global, track: &Track, index: &Index, format: Format) -> bool {
     match Index::build(alloc, &mut track.lens(), format) {
         Ok(built) => same(index, &built),
@@ -26,7 +29,7 @@ fn is_built_so(alloc: Global, track: &Track, index: &Index, format: Format) -> b
     }
 }
 
-/// Whether each edit in turn agrees.
+/// Whether each edit in turn agrees, made on what the edits before it left.
 fn each_agrees(
     alloc: Global,
     track: &mut Track,
@@ -52,7 +55,7 @@ fn all_agree(alloc: Global, track: &mut Track, format: Format, edits: &[Edit]) -
     }
 }
 
-/// Whether edits of a short track agree.
+/// Whether edits of a short track, of eight pulses, agree.
 fn short_agrees(alloc: Global, format: Format, edits: &[Edit]) -> bool {
     match positions(alloc) {
         Ok(mut track) => all_agree(alloc, &mut track, format, edits),
@@ -73,6 +76,9 @@ fn both_ways(alloc: Global, format: Format, edit: Edit) -> bool {
     short_agrees(alloc, format, &[edit, back(edit)])
 }
 
+// Inversions between all multiples of 20 microseconds of the short track, which has 800: from 0 to
+// 780, to 20 to 800. Those whose end is not after their begin cannot be made. All edges of the
+// track are at such multiples.
 #[test]
 fn an_inversion_at_each_place_of_a_short_track(rt: HostRuntime) {
     let format = format_g(&rt);
@@ -82,7 +88,8 @@ fn an_inversion_at_each_place_of_a_short_track(rt: HostRuntime) {
     }
 }
 
-/// The distances of the moves, in microseconds.
+/// The distances of the moves, in microseconds. Between two pulses are 20, so 19 is the most, and
+/// -20 and -90 cannot be made. A pulse is in step if it is at most 10 away from its place.
 static MOVES: [i64; 7] = [-90, -20, -10, -1, 1, 10, 19];
 
 #[test]
@@ -95,6 +102,7 @@ fn a_move_at_each_place_of_a_short_track(rt: HostRuntime) {
     }
 }
 
+// From each of the eight pulses on, 1 to 8 are cut; more than there are cannot be.
 #[test]
 fn a_cut_at_each_place_of_a_short_track(rt: HostRuntime) {
     let format = format_g(&rt);
@@ -104,6 +112,8 @@ fn a_cut_at_each_place_of_a_short_track(rt: HostRuntime) {
     }
 }
 
+// A pulse takes up to 80 microseconds of its 100, so the level is low there; the second edit undoes
+// the first.
 #[test]
 fn a_pulse_more_at_each_place_of_four_frames(rt: HostRuntime) {
     let format = format_g(&rt);
@@ -116,14 +126,14 @@ fn a_pulse_more_at_each_place_of_four_frames(rt: HostRuntime) {
 /// A pulse more near the beginning of four frames.
 const NEAR: Edit = Edit::Invert(84, 88);
 
-/// A pulse more near their end.
+/// A pulse more near their end: after the last one, which rises at 39,900.
 const FAR: Edit = Edit::Invert(39_984, 39_988);
 
 /// Edits of four frames that are made in turn.
 static TURNS: [&[Edit]; 6] = [
     // At both ends, and far apart in turn.
     &[NEAR, FAR, NEAR, FAR],
-    // The first pulse and the last go.
+    // The first pulse and the last go; 399 are left then.
     &[Edit::Cut(0, 1), Edit::Cut(398, 1)],
     // A whole frame goes, and pulses of three.
     &[Edit::Cut(100, 100)],

@@ -1,4 +1,7 @@
-//! Tracks with the frames that they have, worked out by hand.
+//! Tracks with the frames that they have, worked out by hand. Pulse k, from 0, rises at 100 k
+//! microseconds. Position identifiers are 80 wide, ones 50, zeros 20. A frame begins at a marker: a
+//! position identifier (Pr) right after another one (P0). `Broken` has the first element that is
+//! not as it should be, from 0, and why. Memory that runs out is false.
 
 ghost use Rattle.std.specs.Prelude.{◌≡◌, IsTrue};
 ghost use Rattle.irig_index.specs.Frames.{frames};
@@ -26,7 +29,8 @@ const SECOND: Verdict = Verdict::Read(
     Note::Fine,
 );
 
-/// The second frame: its marker is pulse 100, from 0.
+/// The second frame: its marker is pulse 100, after pulse 99. The first frame has no P0 before it,
+/// so it has no record.
 static SOUND: [Record; 1] = [Record {
     marker: 100,
     verdict: SECOND,
@@ -51,7 +55,8 @@ fn both_hold(
         && holds(other, records)
 }
 
-/// Whether the two frames of a sound track are read, with as few looks as they take.
+/// Whether the two frames of a sound track are read, with as few looks as they take, and the index
+/// has a place for its one record.
 fn is_read(index: &Index, lens: &Lens<'_>) -> bool {
     // The pass moves on by two places if the pulse after the first is no position identifier:
     // those are 1, 3, 5, 7 and 10, 12 .. 98 in the first frame, 49 looks. At 9 and 100 it meets
@@ -84,11 +89,12 @@ type Row = (Edit, &'static [Record]);
 
 /// Edits, each made on the sound track.
 static ROWS: [Row; 8] = [
-    // P0 becomes a One, so that no marker is left.
+    // P0, 9,900 to 9,980, becomes a One, so that no marker is left.
     (Edit::Invert(9_950, 9_980), &[]),
     // P0 out of step with Pr: 120 microseconds apart.
     (Edit::Move(99, -20), &[]),
     (
+        // The last element, from 19,900 to 19,980, becomes a Zero.
         Edit::Invert(19_920, 19_980),
         &[Record {
             marker: 100,
@@ -96,13 +102,15 @@ static ROWS: [Row; 8] = [
         }],
     ),
     (
+        // The last pulse goes: the track ends before element 99.
         Edit::Invert(19_900, 19_980),
         &[Record {
             marker: 100,
             verdict: Verdict::Broken(99, Cause::Ended),
         }],
     ),
-    // Three position identifiers in a row are two markers.
+    // Element 1 becomes a position identifier. Three of them in a row are two markers. For the
+    // frame of the second one the next identifier is at 8 instead of 9.
     (
         Edit::Invert(10_120, 10_180),
         &[
@@ -116,7 +124,7 @@ static ROWS: [Row; 8] = [
             },
         ],
     ),
-    // A pulse more before the second frame, and one less: its record has a new number.
+    // A pulse more before the second frame, and one less (pulse 81): its marker has a new number.
     (
         Edit::Invert(8_130, 8_150),
         &[Record {
@@ -132,6 +140,7 @@ static ROWS: [Row; 8] = [
         }],
     ),
     (
+        // Element 40 of the second frame rises 120 microseconds after the one before it.
         Edit::Move(140, 20),
         &[Record {
             marker: 100,
@@ -183,7 +192,7 @@ fn frames_are_read_or_broken_where_they_are(rt: HostRuntime) {
     assert!(rt; are_read(rt.alloc(), &mut track, format_g(&rt)));
 }
 
-/// A time in microseconds, and how many pulses of two frames rise at or before it.
+/// A time in microseconds, and how many of the 200 pulses of two frames rise at or before it.
 static RISES: [(u64, usize); 6] = [
     (0, 1),
     (99, 1),
@@ -211,6 +220,6 @@ fn a_time_is_found_among_the_rises(rt: HostRuntime) {
 #[test]
 fn a_time_is_found_among_a_million_rises(rt: HostRuntime) {
     let track = sound(rt.alloc(), 1_000_000).expect(&rt, "memory");
-    // 1,000,000 has twenty binary digits.
+    // 1,000,000 has twenty binary digits. Pulse 500,000, from 0, rises at 50,000,000.
     assert!(rt; is_found(&track, 50_000_000, 500_001, 20));
 }

@@ -1,4 +1,8 @@
-//! The rows: edits and steps, groups, and groups that are given up.
+//! The rows: edits and steps, groups, and groups that are given up. A row is a call and its reply;
+//! then what is left: the bytes, the cursor, how many steps back and forward, how many turns so
+//! far, and how many bytes the steps back and forward hold. A step back of a pop holds the byte for
+//! its push, one of a push none. Each step turns once, a group once for each of its changes. An
+//! undo gives the cursor back that was there before the edit.
 
 use super::{Call, Reply, Row, check};
 use crate::stack::Stack;
@@ -10,10 +14,13 @@ const NO_STEP_BACK: Reply = Reply::Refused(JournalFault::NothingToUndo);
 
 const NO_STEP_ON: Reply = Reply::Refused(JournalFault::NothingToRedo);
 
+/// A `begin` in an open group.
 const OPEN: Reply = Reply::Refused(JournalFault::GroupOpen);
 
+/// An `end` or an `abort` without a `begin`.
 const NONE_OPEN: Reply = Reply::Refused(JournalFault::NoGroup);
 
+/// The undo would go back past the `begin` of the open group.
 const AT_FLOOR: Reply = Reply::Refused(JournalFault::GroupFloor);
 
 /// Edits, undos and redos.
@@ -45,6 +52,8 @@ static STATES: [Row; 23] = [
     (Call::Redo, NO_STEP_ON, b"ac", 3, 2, 0, 14, (0, 0)),
 ];
 
+// The four calls at the end are laws of a journal, and do nothing as they run. That they can be
+// called for a stack shows that they hold of it.
 #[test]
 fn a_journal_is_the_machine_of_whole_states(rt: HostRuntime) {
     check(&rt, rt.alloc(), &STATES);

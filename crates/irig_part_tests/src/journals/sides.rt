@@ -1,5 +1,6 @@
 //! The steps that a journal shows, those of a gathered group, and what becomes of them when it is
-//! turned round.
+//! turned round: its steps back become its steps forward. `past_steps` shows the steps back, the
+//! oldest first; `future_steps` those forward, the next one first.
 
 ghost use Rattle.std.specs.Prelude.{◌≡◌, None, vec_capacity};
 ghost use Rattle.irig_journal.specs.Journal.{AreReady};
@@ -41,7 +42,8 @@ fn push_two(journal: &mut Journal<Stack>, stack: &mut Stack)
     push(journal, stack, b'b', 8);
 }
 
-/// Makes one group of the newest `count` steps, if there are that many.
+/// Makes one group of the newest `count` steps, if there are that many. The cursor is the one to
+/// which an undo of the group leads. False if there are fewer, or memory runs out.
 fn gather(journal: &mut Journal<Stack>, stack: &Stack, count: usize, cursor: usize) -> bool
     requires no_group { journal.old.floor ≡ None }
     requires ready { AreReady CanEdit edited (λ d. d) (HasPlaceFor (vec_capacity stack.now.items))
@@ -59,7 +61,8 @@ fn next_two(mut steps: StepsLeft<'_, Single>) -> Option<(usize, usize)> {
     Some((first.cursor, second.cursor))
 }
 
-/// Whether a step is a group of these changes, the nearest last, that leads to this cursor.
+/// Whether a step is a group of these changes, that leads to this cursor. The change that an undo
+/// or a redo makes first is the last.
 fn is_group_of(step: Option<Step<'_, Single>>, changes: &[Single], cursor: usize) -> bool {
     match step {
         None => false,
@@ -67,7 +70,8 @@ fn is_group_of(step: Option<Step<'_, Single>>, changes: &[Single], cursor: usize
     }
 }
 
-/// Whether two steps back, at 7 and then at 8, become steps forward at 8 and then at 7.
+/// Whether two steps back, at 7 and the newer at 8, become steps forward: the newer is the next
+/// one, so 8 comes first.
 fn turns_round(journal: &mut Journal<Stack>) -> bool
     requires { journal.old.floor ≡ None }
 {
@@ -79,7 +83,7 @@ fn turns_round(journal: &mut Journal<Stack>) -> bool
 /// The changes that lead back from two pushes.
 static POPS: [Single; 2] = [Single::Pop, Single::Pop];
 
-/// The changes that lead forward again, the nearest last.
+/// The changes that lead forward again: `a` is pushed first, so it is the last.
 static PUSHES: [Single; 2] = [Single::Push(b'b'), Single::Push(b'a')];
 
 /// Whether the one step back is a group of two pushes that was gathered at cursor 5.
@@ -87,7 +91,8 @@ fn is_gathered(journal: &Journal<Stack>) -> bool {
     journal.steps_back() == 1 && is_group_of(journal.past_steps().next(), &POPS, 5)
 }
 
-/// Whether an undo leads to cursor 5 and an empty stack, and leaves the group at cursor 9 forward.
+/// Whether an undo leads to cursor 5 and an empty stack, and leaves the group as the next step
+/// forward, with the cursor 9 that was there before the undo.
 fn is_undone(journal: &mut Journal<Stack>, stack: &mut Stack, cursor: &mut usize) -> bool
     requires ready { AreReady CanEdit edited (λ d. d) (HasPlaceFor (vec_capacity stack.old.items))
         stack.old.items.items journal.old }
@@ -110,7 +115,8 @@ fn is_redone(journal: &mut Journal<Stack>, stack: &mut Stack, cursor: &mut usize
         && stack.items.as_slice() == b"ab".as_slice()
 }
 
-/// Gathers two pushes at cursor 5 to a group, and undoes and redoes it from cursor 9 on.
+/// Whether two pushes become a group with cursor 5, and an undo from cursor 9 on and a redo are
+/// right.
 fn goes_both_ways(journal: &mut Journal<Stack>, stack: &mut Stack) -> bool
     requires no_group { journal.old.floor ≡ None }
     requires ready { AreReady CanEdit edited (λ d. d) (HasPlaceFor (vec_capacity stack.old.items))

@@ -1,4 +1,6 @@
-//! Tracks and gaps for the tests, and edits that are tried before they are made.
+//! Tracks and gaps for the tests, and edits that are tried before they are made. A span is the
+//! place of an edit: its first pulse, from 0, how many went and how many came. What answers with
+//! true or false is false if memory runs out; else that is the error.
 
 ghost use Rattle.std.specs.Prelude.{◌≡◌, ◌+◌, ◌≤◌, length, []};
 ghost use Rattle.irig_track.specs.Splices.{CanSplice};
@@ -19,7 +21,7 @@ pub(crate) fn pulses_of(alloc: Global, track: &Track) -> Result<Gap<Pulse>, Allo
     Ok(pulses)
 }
 
-/// Whether a track has these edges, taken from its recording, and the recording's text.
+/// Whether the recording of a track has these edges and the track's length, and both have one text.
 pub(crate) fn has_edges(alloc: Global, track: &Track, edges: &[u64]) -> bool {
     match track.recording(alloc) {
         Ok(recording) => is_recording_of(alloc, track, &recording, edges),
@@ -50,7 +52,9 @@ fn is_text_of(alloc: Global, recording: &Recording, text: &[u8]) -> bool {
     }
 }
 
-/// Whether a splice takes place at this span, or cannot be made if there is none.
+/// Whether a splice takes place at this span (`want`), or cannot be made if there is none. `count`
+/// pulses from `at` on, from 0, go and those of `put` come. `can_splice` needs room for those that
+/// come, and `splice` room in `taken` for those that go.
 pub(crate) fn splices(
     alloc: Global,
     track: &mut Track,
@@ -69,7 +73,8 @@ pub(crate) fn splices(
     taken.reserve(count).is_ok() && exchanges(track, at, count, put, &mut taken, want)
 }
 
-/// Whether a splice takes place at this span, takes all that is put, and gives what goes.
+/// Whether a splice takes place at this span, takes all of `put`, and leaves `count` pulses in
+/// `taken`, which is empty before.
 fn exchanges(
     track: &mut Track,
     at: usize,
@@ -87,7 +92,8 @@ fn exchanges(
     put.len() == 0 && taken.len() == count && want == Some(span)
 }
 
-/// Makes a shift if it can be made.
+/// Makes a shift of the pulses `i` to `j` with both, from 0, by `by` microseconds, and returns its
+/// span; `None` if it cannot be made.
 pub(crate) fn shift(track: &mut Track, i: usize, j: usize, by: i64) -> Option<Span> {
     if track.can_shift(i, j, by) {
         Some(track.shift(i, j, by))
@@ -96,7 +102,8 @@ pub(crate) fn shift(track: &mut Track, i: usize, j: usize, by: i64) -> Option<Sp
     }
 }
 
-/// Makes a toggle if it can be made.
+/// Inverts the level from time `a` to `b`, in microseconds, and returns the span; `None` if that
+/// cannot be done. It may make one pulse more, so there is room for one.
 pub(crate) fn toggle(track: &mut Track, a: u64, b: u64) -> Result<Option<Span>, AllocError> {
     track.reserve(1)?;
     if track.can_toggle(a, b) {

@@ -1,4 +1,4 @@
-//! The text of a track, part by part.
+//! The text of a track, part by part. A part is made by one call of `fill`.
 
 use crate::edges::track_of;
 use irig_text::Text;
@@ -8,7 +8,8 @@ use std::alloc::Global;
 /// The edges of a track of length 1,000, in microseconds.
 const EDGES: &[u64] = &[0, 120, 200, 280];
 
-/// The text of that track: its header, the lines of each pulse, and the line of the length.
+/// The text of that track: its header with the rise at 0 (125 bytes), the fall of the first pulse
+/// (8 bytes), the second pulse (16), and the line of the length (6).
 static LINES: [&[u8]; 4] = [
     b"$timescale 1 us $end\n$scope module irig $end\n$var wire 1 ! code $end\n\
     $upscope $end\n$enddefinitions $end\n#0\n$dumpvars\n1!\n$end\n",
@@ -17,7 +18,9 @@ static LINES: [&[u8]; 4] = [
     b"#1000\n",
 ];
 
-/// How many bytes are enough for a part, and how many of the lines above each part has.
+/// How many bytes are enough for a part: it ends after the line or the lines of a pulse with which
+/// it has that many. And how many of the rows above each part has. The line of the length is in the
+/// part of the last pulse. The bytes are those around 8, 125 and 133 = 125 + 8.
 static PARTS: [(usize, &[usize]); 8] = [
     (1, &[1, 1, 2]),
     (8, &[1, 1, 2]),
@@ -42,13 +45,13 @@ fn are_lines(bytes: &[u8], lines: &[&[u8]]) -> bool {
     from == bytes.len()
 }
 
-/// Takes a part of a text, and returns whether it is these lines.
+/// Takes a part of a text, and returns whether it is these lines. False if memory runs out.
 fn is_part(alloc: Global, text: &mut TrackText<'_>, enough: usize, lines: &[&[u8]]) -> bool {
     let mut block = Vec::new(alloc);
     text.fill(&mut block, enough).is_ok() && are_lines(block.as_slice(), lines)
 }
 
-/// Whether a text ends after these parts, each of that many lines.
+/// Whether a text ends after these parts, each of that many lines: the part after them is empty.
 fn has_parts(alloc: Global, text: &mut TrackText<'_>, enough: usize, parts: &[usize]) -> bool {
     let mut from = 0;
     for count in parts {

@@ -1,4 +1,4 @@
-//! The worked rows of a track of two pulses, and a track at its limit.
+//! The worked rows of a track of two pulses, and a track at its limit. An error is that of memory.
 
 use super::helpers::{has_edges, pulses_of, shift, splices, toggle};
 use crate::edges::{most_edges, track_of};
@@ -10,7 +10,9 @@ use std::process::Abort;
 /// Where an edit took place: its first pulse, how many pulses went, and how many came.
 type Place = (usize, usize, usize);
 
-/// A call with its answer: for an edit its place, or None if it cannot be made.
+/// A call with its answer; for an edit that is its place, or None if it cannot be made. `Splice`:
+/// from which pulse on how many go, and the rise and the fall of the one that comes. `Shift`: which
+/// pulses move, first and last, and how far. `Toggle`: from when to when the level is inverted.
 #[derive(Clone, Copy)]
 enum Call {
     Len(usize),
@@ -26,7 +28,7 @@ enum Call {
 /// A call on the track of two pulses, and the edges that the track then has.
 type Row = (Call, &'static [u64]);
 
-/// The Span of a place.
+/// The `Span` that the track gives for a place; `None` for none.
 fn span_of(place: Option<Place>) -> Option<Span> {
     match place {
         Some((at, old, new)) => Some(Span { at, old, new }),
@@ -52,7 +54,7 @@ fn has_pulse(track: &Track, index: usize, rise: u64, fall: u64) -> bool {
     index < track.len() && track.pulse(index) == Pulse { rise, fall }
 }
 
-/// Whether a splice of one pulse takes place there, or cannot be made if there is no place.
+/// Whether a splice of one pulse takes place at `place`, or cannot be made if there is none.
 fn splices_one(
     alloc: Global,
     track: &mut Track,
@@ -68,7 +70,7 @@ fn splices_one(
     }
 }
 
-/// Whether a toggle takes place there, or cannot be made if there is no place.
+/// Whether a toggle takes place at `place`, or cannot be made if there is none.
 fn toggles(track: &mut Track, a: u64, b: u64, place: Option<Place>) -> bool {
     match toggle(track, a, b) {
         Ok(answer) => answer == span_of(place),
@@ -110,6 +112,7 @@ fn check(rt: &impl Abort, alloc: Global, rows: &[Row]) {
 /// The edges of the track of two pulses, in microseconds.
 const START: &[u64] = &[100, 120, 200, 280];
 
+/// A track has at most 2^22 = 4,194,304 pulses; `Find` counts the rises at or before a time.
 static PULSES: [Row; 7] = [
     (Call::Len(2), START),
     (Call::Length(1000), START),
@@ -125,6 +128,7 @@ fn a_track_tells_its_pulses(rt: HostRuntime) {
     check(&rt, rt.alloc(), &PULSES);
 }
 
+/// Not made: the pulse touches another, has no width or ends too late; or none are there to go.
 static SPLICES: [Row; 8] = [
     (Call::Splice(1, 0, 130, 200, None), START),
     (
@@ -144,6 +148,7 @@ fn a_splice_says_where_it_took_place(rt: HostRuntime) {
     check(&rt, rt.alloc(), &SPLICES);
 }
 
+/// Not made: times that are not in order, or after the length.
 static TOGGLES: [Row; 7] = [
     (
         Call::Toggle(110, 250, Some((0, 2, 3))),
@@ -165,6 +170,7 @@ fn a_toggle_says_where_it_took_place(rt: HostRuntime) {
     check(&rt, rt.alloc(), &TOGGLES);
 }
 
+/// Not made: a pulse would touch another, leave 0 to 1,000, is not there, or `i` is above `j`.
 static SHIFTS: [Row; 10] = [
     (Call::Shift(0, 0, 80, None), START),
     (
@@ -196,7 +202,7 @@ fn full_track(alloc: Global) -> Result<Track, AllocError> {
 }
 
 /// Whether a pulse comes into a full track only instead of another, and an inversion is made only
-/// if it makes no further pulse.
+/// if it makes no further pulse. Pulse k, from 0, is from 2k to 2k + 1 microseconds.
 fn takes_no_further(track: &Track, put: &Gap<Pulse>) -> bool {
     track.room() == 0
         && !track.can_splice(4_194_304, 0, put)

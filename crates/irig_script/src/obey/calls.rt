@@ -1,6 +1,8 @@
-//! Commands as calls of the session: addresses and times are taken as it is before them. Pulses
-//! count from 1 here; the number 0 stands for one that is not there, and the session refuses it.
-//! Times are in microseconds. A refused edit changes nothing; the reply then has why, a `Refusal`.
+//! Commands as calls of the session. `number_at`, `ends` and `time` say which pulses and times are
+//! meant, as the session is before the call. Pulses count from 1 here; the number 0 is that of one
+//! that is not there, and the session refuses it. Times are in microseconds; that of a mark which
+//! is not set is above each length, and is refused, too. A refused edit changes nothing; the reply
+//! then has why, a `Refusal`.
 
 ghost use Rattle.std.specs.Prelude.{◌≡◌};
 ghost use Rattle.irig_lines.specs.declared.command.Command.{Command};
@@ -25,7 +27,7 @@ fn reply_to(outcome: Result<(), Refusal>) -> Reply
 }
 
 /// Moves the cursor to a pulse, and lists that pulse alone: the reply has how many come before it,
-/// and 1.
+/// and 1. Refused if the pulse is not there, which number 0 never is.
 pub fn show(session: &mut Session, address: Address) -> Reply
     ensures { Obeys (Command.Show address) session.old result session.new }
 {
@@ -49,7 +51,7 @@ pub fn list(session: &Session, range: Range) -> Reply
     }
 }
 
-/// Removes the pulses of a range.
+/// Removes the pulses of a range, its ends included.
 pub fn delete(session: &mut Session, range: Range) -> Reply
     ensures { Obeys (Command.Delete range) session.old result session.new }
 {
@@ -65,7 +67,8 @@ pub fn shift(session: &mut Session, range: Range, by: i64) -> Reply
     reply_to(session.shift(i, j, by))
 }
 
-/// Makes one pulse of those of a range; of one address, that pulse and the next are joined.
+/// Makes one pulse of those of a range; of one address, that pulse and the next are joined
+/// (`join_ends`).
 pub fn join(session: &mut Session, range: Range) -> Reply
     ensures { Obeys (Command.Join range) session.old result session.new }
 {
@@ -82,7 +85,7 @@ pub fn split(session: &mut Session, address: Address, from: Time, to: Time) -> R
     reply_to(session.split(i, a, b))
 }
 
-/// Gives a pulse the nominal width of an element.
+/// Gives a pulse the nominal width of an element: its rise stays.
 pub fn force(session: &mut Session, address: Address, element: Element) -> Reply
     ensures { Obeys (Command.Force address element) session.old result session.new }
 {
@@ -125,7 +128,7 @@ pub fn set_format(session: &mut Session, kind: Kind, expression: u8) -> Reply
     }
 }
 
-/// Sets the mark of a letter to a time.
+/// Sets the mark of a letter to a time; `byte` is the letter as the session takes it.
 pub fn mark(session: &mut Session, letter: Letter, at: Time) -> Reply
     ensures { Obeys (Command.Mark letter at) session.old result session.new }
 {
@@ -154,7 +157,7 @@ pub fn redo(session: &mut Session) -> Reply
     reply_to(session.redo())
 }
 
-/// Opens a group.
+/// Opens a group: what is done from here on becomes one step (`end`), or is undone (`abort`).
 pub fn begin(session: &mut Session) -> Reply
     ensures { Obeys Command.Begin session.old result session.new }
 {

@@ -34,9 +34,9 @@ pub enum DumpRunFault {
 }
 
 /// Opens a dump and obeys a script on its session, from the bytes that come in to those that go
-/// out. The wire is chosen by its name, if one is given, and frames are read in the format, unless
-/// the dump has a journal with another. The bytes of the dump are dropped before the script is
-/// read.
+/// out. The wire is chosen by its name; without one there has to be one of one bit. Frames are read
+/// in the format, unless the dump has a journal with another. The bytes of the dump are dropped
+/// before the script is read.
 pub fn run_on_dump<R: Read, W: Write, N: Witness, S: Shelf>(
     alloc: Global,
     source: Vec<u8>,
@@ -94,7 +94,8 @@ pub fn run_on_parts<R: Read, W: Write, N: Witness, S: Shelf>(
     }
 }
 
-/// Obeys a script on the session of a dump, as `engine::run` does.
+/// Obeys a script on the session of a dump, as `engine::run` does: to its end, or to its line
+/// `quit`.
 fn run_opened<R: Read, W: Write, N: Witness, S: Shelf>(
     mut session: Session,
     script: &mut R,

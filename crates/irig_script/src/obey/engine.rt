@@ -30,10 +30,10 @@ use irig_print::PrintFault;
 use irig_text::Shelf;
 use std::io::{Read, Write};
 
-/// The most bytes of one read of a script.
+/// The most bytes of one read of a script. A read may give fewer.
 const READ_LIMIT: usize = 4096;
 
-/// The most reads of a script.
+/// The most reads of a script, so that each run ends: an input could go on for ever.
 const READS_LIMIT: u64 = 4_294_967_296;
 
 /// Obeys a script to its end, or to its line `quit`, and returns whether a line was refused. Each
@@ -74,7 +74,8 @@ pub fn run<R: Read, W: Write, N: Witness, S: Shelf>(
 }
 
 /// Reads a part of a script and obeys it. Returns whether the script has ended: there was nothing
-/// left to read, or a line was `quit`.
+/// left to read, or a line was `quit`. At the end the last line may lack its newline, and is
+/// obeyed, too.
 fn obey_read<R: Read, W: Write, N: Witness, S: Shelf>(
     script: &mut R,
     buffer: &mut [u8; READ_LIMIT],
@@ -135,8 +136,8 @@ fn with_end<'a>(buffer: &'a [u8; READ_LIMIT], count: usize, line: &Line) -> &'a 
     b"\n"
 }
 
-/// Obeys the bytes that come after a line's front, and returns whether the script ends in them.
-/// Bytes after its end are passed over.
+/// Obeys the bytes that come after a line's front, which `line` has, and returns whether the script
+/// ends in them. Bytes after its end are passed over. A front that is left waits in `line`.
 fn obey_part<W: Write, N: Witness, S: Shelf>(
     line: &mut Line,
     bytes: &[u8],
@@ -199,7 +200,8 @@ fn obey_byte<W: Write, N: Witness, S: Shelf>(
     Ok(false)
 }
 
-/// Prints a reply after the witness saw the shelf, and notes a refusal in the status.
+/// Prints a reply after the witness saw the shelf, and notes a refusal in the status. So what a
+/// line wrote is there before its answer goes out.
 fn answer<W: Write, N: Witness, S: Shelf>(
     reply: Reply,
     session: &Session,

@@ -38,7 +38,8 @@ impl Line {
         self.long = false;
     }
 
-    /// Takes one more byte, which is no newline. Of a line that is too long only the front is kept.
+    /// Takes one more byte, which is no newline. Of a line that is too long only the first 1,000
+    /// bytes are kept, and `long` says so.
     pub fn push(&mut self, byte: u8)
         requires { byte ≢ 10 }
         ensures { (text : List ℕ) → Holds text self.old → Holds (text ++ byte ∷ []) self.new }

@@ -21,7 +21,7 @@ use irig_edit::Session;
 use irig_lines::{BadLine, Command, Purpose, parse_line};
 use irig_text::Shelf;
 
-/// Obeys a line; `None` if it ends the script.
+/// Obeys a line and returns its answer, refused or not; `None` if it ends the script.
 pub fn obey_line<S: Shelf>(line: &Line, session: &mut Session, shelf: &mut S) -> Option<Reply>
     ensures answers { Answers result (S.known shelf.old) (S.known shelf.new)
         session.old session.new line.now }
@@ -54,7 +54,7 @@ fn write_or_obey<S: Shelf>(command: Command, session: &mut Session, shelf: &mut 
     }
 }
 
-/// Obeys a command that neither writes a text nor ends the script.
+/// Obeys a command that neither writes a text nor ends the script, so `Text` and `End` do not come.
 pub fn obey(command: Command, session: &mut Session) -> Reply
     requires goes_on { command ≢ Command.Quit }
     requires writes_none { command ≢ Command.Write }
@@ -118,7 +118,7 @@ fn choose_format(command: Command, session: &mut Session) -> Reply
     }
 }
 
-/// Lists what is asked for.
+/// Answers a question: the reply says what is to be listed, and the cursor moves if it is a pulse.
 fn answer(command: Command, session: &mut Session) -> Reply
     requires { purpose_of command ≡ Purpose.Question }
     ensures answer { Obeys command session.old result session.new }

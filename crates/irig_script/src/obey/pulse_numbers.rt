@@ -36,8 +36,8 @@ fn base(session: &Session, base: &Base) -> Option<u64>
     }
 }
 
-/// The number `number + by + offset`; 0 if it would be less. It has more bits, so that the sum
-/// fits.
+/// The number `number + by + offset`, of pulses; 0 if it would be less. The answer has more bits,
+/// so that the sum fits.
 fn counted(number: u64, by: u64, offset: i64) -> u128
     ensures { result ≡ number + by + ahead offset - back offset }
 {
@@ -50,7 +50,8 @@ fn counted(number: u64, by: u64, offset: i64) -> u128
     }
 }
 
-/// The pulse that is `by` pulses after the one of an address, from 1; 0 if there is none.
+/// The pulse that is `by` pulses after the one of an address, from 1; 0 if the address or the track
+/// has none there.
 fn pulse_at(session: &Session, by: u64, address: &Address) -> usize
     ensures { result ≡ pulse_at by address.now (present_in session.now) }
 {

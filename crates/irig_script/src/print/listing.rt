@@ -13,7 +13,7 @@ use irig_edit::Session;
 use irig_print::{Block, PrintFault, Row, put_frame};
 use std::io::Write;
 
-/// Prints a line for each frame of the track, in blocks.
+/// Prints a line for each frame of the track, in blocks: at the end what still waits goes out.
 #[inline(never)]
 pub fn print_frames<W: Write>(session: &Session, out: &mut W) -> Result<(), PrintFault>
     ensures { Prints (W.contents out.old) (W.contents out.new)
@@ -31,7 +31,8 @@ pub fn print_frames<W: Write>(session: &Session, out: &mut W) -> Result<(), Prin
 }
 
 /// Writes the line of the frame with a number, from 1, into the row: its number, that of the pulse
-/// with which it begins, from 1, the rise of this pulse in microseconds, and what it says.
+/// with which it begins, from 1, the rise of this pulse in microseconds, and what it says. `frame`
+/// gives its record, with that pulse from 1.
 fn put_record(row: &mut Row, session: &Session, number: usize)
     requires { (1 ≤ number) × (number ≤ length (frames_of session.now.state)) }
     ensures { (r : Record) → slice_get (frames_of session.now.state) (number - 1) ≡ Some r

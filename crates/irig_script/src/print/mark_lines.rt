@@ -12,7 +12,8 @@ use irig_print::{Block, PrintFault, Row};
 use irig_saved::Letter;
 use std::io::Write;
 
-/// Prints a line for each mark that is set, a to z.
+/// Prints a line for each mark that is set, a to z: places 0 to 25. One that is not set has an
+/// empty row. At the end what still waits in the block goes out.
 #[inline(never)]
 pub fn print_marks<W: Write>(session: &Session, out: &mut W) -> Result<(), PrintFault>
     ensures { Prints (W.contents out.old) (W.contents out.new)

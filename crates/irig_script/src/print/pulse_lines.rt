@@ -11,13 +11,15 @@ use irig_edit::Session;
 use irig_print::{LINE_ROOM, PrintFault, put_all, write_pulse};
 use std::io::Write;
 
-/// A listing of this many lines at most goes out by a small block: a block is cleared first.
+/// A listing of this many lines at most goes out by a small block, 1,008 bytes: a block is cleared
+/// first, so a short listing has a short one.
 const FEW: usize = 14;
 
 /// The bytes of a block of a longer listing: 227 lines have room in it.
 const BLOCK: usize = 16384;
 
-/// Prints a line for each of `count` pulses after the first `before`.
+/// Prints a line for each of `count` pulses after the first `before`. By one write, if the block
+/// that is chosen has room for all of them.
 pub fn print_pulses<W: Write>(
     session: &Session,
     before: usize,
@@ -79,7 +81,8 @@ fn print_in_blocks<W: Write>(
 
 /// Writes the lines of `count` pulses up to the one of number `last`, from 1, so that they end
 /// where the bytes do, and gives the place, from 0, where they start. They are written from the
-/// last to the first: so no digit has to be counted or moved before it is written.
+/// last to the first: so no digit has to be counted or moved before it is written. There is room,
+/// at most 72 bytes a line.
 fn write_pulses(bytes: &mut [u8], session: &Session, last: usize, count: usize) -> usize
     requires room { 72 * count ≤ length bytes.old }
     requires there { (count ≤ last) × (last ≤ length session.now.state.pulses) }

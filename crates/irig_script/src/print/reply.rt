@@ -67,7 +67,8 @@ pub fn print<W: Write>(reply: Reply, session: &Session, out: &mut W) -> Result<(
     }
 }
 
-/// The line that says why a line of the script is refused. The reply is a refusal.
+/// The line that says why a line of the script is refused. The reply is a refusal, so the last case
+/// is `WriteFailed`.
 fn refused_line(reply: Reply) -> &'static [u8]
     requires { is_refusal reply ≡ true }
     ensures { (m : Machine) → result.now ≡ reply_text m reply }

@@ -37,7 +37,7 @@ impl<W: Write, N: Witness> Screen<W, N> {
         Screen { out, witness }
     }
 
-    /// Shows the shelf, where texts are written, to the witness, with the output.
+    /// Shows the shelf, where texts are written, to the witness, with the output as it is now.
     pub fn show<S: Shelf>(&mut self, shelf: &S)
         ensures out { self.new.out ≡ self.old.out }
         ensures seen { GrowsBy self.old.seen self.new.seen

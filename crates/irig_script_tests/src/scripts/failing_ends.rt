@@ -11,7 +11,7 @@ use std::alloc::Global;
 use std::io::{self, ErrorKind, Read, Write};
 use std::process::Abort;
 
-/// Gives a text a few bytes at a time, and fails at its end.
+/// Gives a text at most `step` bytes at a time, and fails at its end with an error of the kind.
 #[derive(Drop)]
 struct Broken<'a> {
     text: &'a [u8],
@@ -20,6 +20,7 @@ struct Broken<'a> {
 }
 
 impl<'a> Read for Broken<'a> {
+    // The next bytes of the text, or the error if none is left.
     fn read(&mut self, buf: &mut [u8]) -> io::Result<usize> {
         if self.text.is_empty() {
             return Err(io::Error::from(self.kind));
@@ -32,7 +33,7 @@ impl<'a> Read for Broken<'a> {
     }
 }
 
-/// Takes this many bytes, and then fails or takes none.
+/// Takes `room` bytes, and then fails if `fails`, or else takes none.
 #[derive(Drop)]
 struct Full {
     taken: Vec<u8>,
@@ -41,6 +42,7 @@ struct Full {
 }
 
 impl Write for Full {
+    // Takes the bytes for which there is room. A write that was interrupted is a failed one, too.
     fn write(&mut self, buf: &[u8]) -> io::Result<usize> {
         let count = self.room.min(buf.len());
         if count == 0 && self.fails {
@@ -51,13 +53,14 @@ impl Write for Full {
         Ok(count)
     }
 
+    // Nothing is held back.
     fn flush(&mut self) -> io::Result<()> {
         Ok(())
     }
 }
 
 /// Whether only the whole lines of a script are obeyed and answered if its reads fail after this
-/// many bytes.
+/// many bytes. A read gives three bytes, so that it ends within a line.
 fn is_read(
     alloc: Global,
     session: &mut Session,
@@ -82,7 +85,7 @@ fn is_read(
         && stands(stop, session, &shelf)
 }
 
-/// Whether it is so on a session of its own.
+/// Whether `is_read` is true on a session of its own; false if memory runs out.
 fn is_read_once(alloc: Global, worked: Worked<'_>, bytes: usize, kind: ErrorKind) -> bool {
     match two_pulses(alloc) {
         Some(mut session) => is_read(alloc, &mut session, worked, bytes, kind),
@@ -103,7 +106,7 @@ fn a_failed_read_ends_the_run(rt: HostRuntime) {
     check_reads(&rt, rt.alloc(), DELETED, ErrorKind::Interrupted);
 }
 
-/// Whether an output that takes this many bytes gets them, and the line whose answer was not
+/// Whether an output that has room for this many bytes gets them, and the line whose answer was not
 /// printed whole is the last one obeyed.
 fn is_printed(
     alloc: Global,
@@ -125,7 +128,7 @@ fn is_printed(
         && stands(stop, session, &shelf)
 }
 
-/// Whether it is so on a session of its own.
+/// Whether `is_printed` is true on a session of its own; false if memory runs out.
 fn is_printed_once(alloc: Global, worked: Worked<'_>, room: usize, fails: bool) -> bool {
     match two_pulses(alloc) {
         Some(mut session) => is_printed(alloc, &mut session, worked, room, fails),
@@ -170,7 +173,7 @@ const REFUSED_STOP: Stop = Stop {
     texts: 1,
 };
 
-/// Whether only the line whose write fails is refused.
+/// Whether only the line whose write fails is refused. `fails` is the number of that write, from 1.
 fn is_put(alloc: Global, session: &mut Session, fails: u64, printed: &[u8]) -> bool {
     let mut script = INVERTED.script;
     let mut out = Vec::new(alloc);
@@ -181,7 +184,7 @@ fn is_put(alloc: Global, session: &mut Session, fails: u64, printed: &[u8]) -> b
         && stands(REFUSED_STOP, session, &shelf)
 }
 
-/// Whether it is so on a session of its own.
+/// Whether `is_put` is true on a session of its own; false if memory runs out.
 fn is_put_once(alloc: Global, fails: u64, printed: &[u8]) -> bool {
     match two_pulses(alloc) {
         Some(mut session) => is_put(alloc, &mut session, fails, printed),

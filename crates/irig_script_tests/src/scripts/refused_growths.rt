@@ -16,7 +16,7 @@ fn inserts(session: &mut Session) -> bool {
     }
 }
 
-/// Whether that is undone, whichever growth is refused.
+/// Whether the first insert is undone, whichever growth is refused: an undo takes no memory.
 fn undoes(session: &mut Session) -> bool {
     session.undo() == Ok(()) && session.len() == 2 && session.steps_forward() == 1
 }
@@ -30,7 +30,7 @@ fn inserts_another(session: &mut Session) -> bool {
     }
 }
 
-/// Whether that is redone, whichever growth is refused.
+/// Whether the undone step is redone, whichever growth is refused: a redo takes no memory.
 fn redoes(session: &mut Session) -> bool {
     session.redo() == Ok(()) && session.len() == 3 && session.steps_forward() == 0
 }
@@ -58,7 +58,7 @@ static PRINTED: [&[u8]; 6] = [
     b"147\n? S3 WriteFailed\n",
 ];
 
-/// How a script ends on the dump; nothing if the dump itself found no room.
+/// How a script ends on the dump of two pulses; `None` if the bytes of the dump found no room.
 fn ran(alloc: Global, out: &mut Vec<u8>) -> Option<Result<Status, DumpRunFault>> {
     let format = Format::new(Kind::G, 2).ok()?;
     let dump = Vec::from_slice(alloc, TWO_PULSES).ok()?;
@@ -76,7 +76,7 @@ fn ran(alloc: Global, out: &mut Vec<u8>) -> Option<Result<Status, DumpRunFault>>
     ))
 }
 
-/// Whether only the line that runs out of memory is refused.
+/// Whether only the line that runs out of memory is refused, or the dump is not opened.
 fn is_expected(outcome: Option<Result<Status, DumpRunFault>>, out: &[u8]) -> bool {
     match outcome {
         None => true,
@@ -85,7 +85,7 @@ fn is_expected(outcome: Option<Result<Status, DumpRunFault>>, out: &[u8]) -> boo
     }
 }
 
-/// Whether it is one of those texts.
+/// Whether what is printed is one of those texts.
 fn is_printed(out: &[u8]) -> bool {
     for text in PRINTED.iter() {
         if *text == out {

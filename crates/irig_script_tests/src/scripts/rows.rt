@@ -8,7 +8,7 @@ use irig_script::{MemoryShelf, NoWitness, Screen, Status, run_on_dump};
 use std::alloc::{AllocError, Global};
 use std::process::Abort;
 
-/// Whether a script prints and ends as its row says.
+/// Whether a script prints and ends as its row says, run on the dump of two pulses.
 fn is_right(alloc: Global, row: &Row<'_>, shelf: &mut MemoryShelf) -> bool {
     let Ok(format) = Format::new(Kind::G, 2) else {
         return false;
@@ -23,6 +23,7 @@ fn is_right(alloc: Global, row: &Row<'_>, shelf: &mut MemoryShelf) -> bool {
     outcome == Ok(row.status) && out.as_slice() == row.printed
 }
 
+/// The script of a row prints and ends as the row says, with a shelf whose writes do not fail.
 fn check(rt: &impl Abort, alloc: Global, row: &Row<'_>) {
     let mut shelf = MemoryShelf::new(alloc, None);
     assert!(rt; is_right(alloc, row, &mut shelf));
@@ -39,7 +40,7 @@ fn a_last_line_is_obeyed(rt: HostRuntime) {
     check(&rt, rt.alloc(), &row);
 }
 
-/// A line of 1,000 bytes, and one of 1,001.
+/// A line of 1,000 bytes, and one of 1,001: each is a word or a comment, filled up.
 fn long_lines(alloc: Global) -> Result<Vec<u8>, AllocError> {
     let mut script = Vec::from_slice(alloc, b"write")?;
     script.resize(1000, b' ')?;

@@ -14,18 +14,20 @@ struct Slow {
 }
 
 impl Write for Slow {
+    // Takes the first byte, or none if there is none.
     fn write(&mut self, buf: &[u8]) -> io::Result<usize> {
         let count = buf.len().min(1);
         self.taken.extend_from_slice(&buf[..count])?;
         Ok(count)
     }
 
+    // Nothing is held back.
     fn flush(&mut self) -> io::Result<()> {
         Ok(())
     }
 }
 
-/// Whether such an output gets all answers.
+/// Whether an output that takes one byte of each write gets all answers.
 fn is_printed(alloc: Global, session: &mut Session) -> bool {
     let mut script = INVERTED.script;
     let taken = Vec::new(alloc);
@@ -36,7 +38,7 @@ fn is_printed(alloc: Global, session: &mut Session) -> bool {
         && out.taken.as_slice() == INVERTED.printed
 }
 
-/// Whether it does on a session of its own.
+/// Whether `is_printed` is true on a session of its own; false if memory runs out.
 fn is_printed_once(alloc: Global) -> bool {
     match two_pulses(alloc) {
         Some(mut session) => is_printed(alloc, &mut session),

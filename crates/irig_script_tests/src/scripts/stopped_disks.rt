@@ -35,14 +35,15 @@ fn run_on_files(
     )
 }
 
-/// How many bytes a crash leaves at the name, if it leaves the file there as it is seen.
+/// How many bytes a crash after these calls leaves at the name `t`, if it leaves the file there as
+/// it is seen; `None` if the file is not there, or not kept. The newest call is the first.
 pub fn left(alloc: Global, calls: &[Call]) -> Option<usize> {
     let file = file_at(calls, b"t")?;
     let held = bytes_of(alloc, calls, file).ok()?;
     is_kept(calls, file).then_some(held.len())
 }
 
-/// Whether the names were kept by one of the calls.
+/// Whether the names were kept by one of the calls: a flush of the folder.
 fn is_named(calls: &[Call]) -> bool {
     for call in calls {
         if matches!(call, Call::SyncNames(_)) {
@@ -52,7 +53,8 @@ fn is_named(calls: &[Call]) -> bool {
     false
 }
 
-/// Whether after these calls one of the texts is there, whole, or none if no name was kept.
+/// Whether after these calls one of the two texts is at the name, whole, or nothing if no name was
+/// kept.
 fn is_whole(alloc: Global, calls: &[Call]) -> bool {
     match left(alloc, calls) {
         Some(bytes) => TEXTS.contains(&bytes),
@@ -60,7 +62,8 @@ fn is_whole(alloc: Global, calls: &[Call]) -> bool {
     }
 }
 
-/// Whether it is so after each of the calls, of which the newest is the first.
+/// Whether `is_whole` is true after each of the calls: the newest is the first in the list, and the
+/// newest `left_out` calls are left out in turn.
 fn is_whole_at_each_stop(alloc: Global, calls: &[Call]) -> bool {
     for left_out in 0..=calls.len() {
         match calls.get(left_out..) {
@@ -71,8 +74,8 @@ fn is_whole_at_each_stop(alloc: Global, calls: &[Call]) -> bool {
     true
 }
 
-/// Whether the run with one call that fails, told by its number from 0, prints this, and leaves a
-/// whole text at each stop.
+/// Whether the run with one call that fails, number `fails` from 0, prints this, and leaves a whole
+/// text at each stop.
 fn is_run(alloc: Global, session: &mut Session, fails: u64, printed: &[u8]) -> bool {
     let Ok(mut room) = Room::new(alloc) else {
         return false;
@@ -86,7 +89,7 @@ fn is_run(alloc: Global, session: &mut Session, fails: u64, printed: &[u8]) -> b
         && is_whole_at_each_stop(alloc, files.system().calls())
 }
 
-/// Whether it is so on a session of its own.
+/// Whether `is_run` is true on a session of its own; false if memory runs out.
 fn is_run_once(alloc: Global, fails: u64, printed: &[u8]) -> bool {
     match two_pulses(alloc) {
         Some(mut session) => is_run(alloc, &mut session, fails, printed),
@@ -94,7 +97,8 @@ fn is_run_once(alloc: Global, fails: u64, printed: &[u8]) -> bool {
     }
 }
 
-/// What is printed if this call fails.
+/// What is printed if this call fails: one of the two writes is refused, or none if no such call is
+/// made.
 fn printed_without(fails: u64) -> &'static [u8] {
     match fails {
         0..FIRST => REFUSED[0].1,

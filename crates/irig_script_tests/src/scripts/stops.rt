@@ -22,6 +22,7 @@ pub struct Worked<'a> {
     pub stops: &'a [Stop],
 }
 
+/// A script of two writes: an edit, its text, and the text after the edit was undone.
 pub static INVERTED: Worked<'static> = Worked {
     script: b"invert 110 250\n,list\nwrite\nundo\n,list\nwrite\n",
     printed: b"1 100 110 zero\n2 120 200 position\n3 250 280 zero\n179\n1 100 120 zero\n\
@@ -79,6 +80,7 @@ pub static INVERTED: Worked<'static> = Worked {
     ],
 };
 
+/// A script that ends amid a line.
 pub static DELETED: Worked<'static> = Worked {
     script: b",list\n1 delete\n1 spl",
     printed: b"1 100 120 zero\n2 200 280 position\n",
@@ -112,7 +114,7 @@ pub fn front(text: &[u8], bytes: usize) -> &[u8] {
     text.split_at(bytes.min(text.len())).0
 }
 
-/// The last stop whose lines are within this many bytes of the script.
+/// The last stop whose lines are within this many bytes of the script. `None` if there is no stop.
 pub fn last_read(stops: &[Stop], bytes: usize) -> Option<Stop> {
     let mut last = None;
     for stop in stops {
@@ -123,7 +125,8 @@ pub fn last_read(stops: &[Stop], bytes: usize) -> Option<Stop> {
     last
 }
 
-/// The first stop whose lines print more than this many bytes.
+/// The first stop whose lines print more than this many bytes: the last line that was obeyed.
+/// `None` if all print fewer.
 pub fn first_printing(stops: &[Stop], bytes: usize) -> Option<Stop> {
     for stop in stops {
         if stop.printed > bytes {
@@ -133,7 +136,7 @@ pub fn first_printing(stops: &[Stop], bytes: usize) -> Option<Stop> {
     None
 }
 
-/// Whether session and shelf are those of a stop.
+/// Whether session and shelf are those of a stop: pulses, steps back, and texts written.
 pub fn stands(stop: Stop, session: &Session, shelf: &MemoryShelf) -> bool {
     session.len() == stop.pulses
         && session.steps_back() == stop.past

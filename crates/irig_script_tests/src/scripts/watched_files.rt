@@ -21,7 +21,8 @@ fn opening(alloc: Global) -> Option<(Vec<u8>, Format)>
     Some((dump, format))
 }
 
-/// Whether the script prints what it is to print, and leaves the text of its last write.
+/// Whether the script prints what it is to print, and leaves the text of its last write, 163 bytes.
+/// False if memory runs out.
 fn is_right(alloc: Global, room: &mut Room) -> bool {
     let Some((dump, format)) = opening(alloc) else {
         return false;
@@ -44,7 +45,7 @@ fn is_right(alloc: Global, room: &mut Room) -> bool {
         && left(alloc, files.system().calls()) == Some(163)
 }
 
-/// Whether it leaves that text if the run makes its screen and its files.
+/// Whether the script leaves that text if the run makes its screen and its files itself.
 fn is_right_anew(alloc: Global, room: &mut Room) -> bool {
     let Some((dump, format)) = opening(alloc) else {
         return false;

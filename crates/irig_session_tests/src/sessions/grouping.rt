@@ -1,12 +1,14 @@
-//! Groups, call by call: what refuses a call, and the steps and the pulses held afterwards.
+//! Groups, call by call: what refuses a call, and the steps and the pulses held afterwards. A step
+//! is what one undo reverses. An edit in the past holds the pulses that it removed, one in the
+//! future those that it inserts.
 
 use super::helpers::{Call, obey, two_pulses};
 use irig_edit::{Refusal, Session, groups_give_back};
 use std::alloc::Global;
 use std::process::Abort;
 
-/// A call; what refuses it; how many pulses and steps back and forward there are afterwards; and
-/// how many pulses these steps hold.
+/// A call; what refuses it, `None` if nothing does; how many pulses, steps back and steps forward
+/// there are afterwards; and how many pulses the steps back and the steps forward hold.
 type Row = (Call, Option<Refusal>, [usize; 3], (u128, u128));
 
 /// Whether a call is answered as its row says, and leaves what it says.
@@ -34,6 +36,7 @@ static ONE_STEP: [Row; 6] = [
     (Call::Redo, None, [2, 1, 0], (1, 0)),
 ];
 
+// A group of two edits is undone and redone as one step. What holds of every group is a law.
 #[test]
 fn a_group_is_one_step(rt: HostRuntime) {
     check(&rt, rt.alloc(), &ONE_STEP);
@@ -53,6 +56,7 @@ static REFUSED: [Row; 9] = [
     (Call::Abort, None, [2, 0, 0], (0, 0)),
 ];
 
+// No end or abort without a group, no second group, no undo without a step.
 #[test]
 fn calls_of_groups_are_refused_in_their_order(rt: HostRuntime) {
     check(&rt, rt.alloc(), &REFUSED);
@@ -68,6 +72,7 @@ static ABORTED: [Row; 6] = [
     (Call::Undo, None, [2, 0, 1], (0, 0)),
 ];
 
+// An abort undoes the group alone, and the step before it can still be undone.
 #[test]
 fn an_abort_goes_back_to_the_begin(rt: HostRuntime) {
     check(&rt, rt.alloc(), &ABORTED);
@@ -82,6 +87,7 @@ static EMPTY: [Row; 5] = [
     (Call::Redo, None, [1, 1, 0], (1, 0)),
 ];
 
+// A group without an edit makes no step, and leaves the step that can be redone.
 #[test]
 fn an_empty_group_leaves_what_can_be_made_again(rt: HostRuntime) {
     check(&rt, rt.alloc(), &EMPTY);

@@ -1,4 +1,6 @@
-//! How many pulses the steps of a session hold, call by call.
+//! How many pulses the steps of a session hold, call by call. An edit in the past holds the pulses
+//! that it removed, one in the future those that it inserts; a toggle, a shift and a mark hold
+//! none.
 
 use super::helpers::{Call, obey, open};
 use irig_codes::Element;
@@ -9,12 +11,13 @@ use std::process::Abort;
 /// A call, and how many pulses past and future hold after it.
 type Row = (Call, (u128, u128));
 
-/// Whether a call is accepted, and past and future then hold what its row says.
+/// Whether a call is accepted, and past and future hold what its row says after it.
 fn leaves(session: &mut Session, (call, held): &Row) -> bool {
     obey(session, *call).is_none() && session.held() == *held
 }
 
-/// Makes calls on the track of these edges, and compares what past and future hold after each.
+/// Makes the calls of the rows, one after another, on a track of this length and these edges, in
+/// microseconds, and compares what past and future hold after each.
 fn check(rt: &impl Abort, alloc: Global, length: u64, edges: &[u64], rows: &[Row]) {
     let mut session = open(alloc, length, edges).expect(rt, "a session");
     for row in rows {
@@ -39,6 +42,7 @@ static EDITS: [Row; 13] = [
     (Call::Undo, (0, 1)),
 ];
 
+// Each edit on two pulses, and what is held after its undo.
 #[test]
 fn a_step_holds_what_its_edit_took_or_put(rt: HostRuntime) {
     check(&rt, rt.alloc(), 1_000, &[100, 120, 200, 280], &EDITS);
@@ -54,6 +58,7 @@ static FRAMES: [Row; 6] = [
     (Call::Regen(0, 1), (100, 0)),
 ];
 
+// Frames that are generated: 100 pulses each, held once they are undone or replaced.
 #[test]
 fn frames_that_are_taken_back_are_held(rt: HostRuntime) {
     check(&rt, rt.alloc(), 20_000, &[], &FRAMES);

@@ -1,4 +1,6 @@
-//! Tracks, and calls as values.
+//! Tracks, and calls of a session as values, for tests. Times, lengths and edges are in
+//! microseconds; pulses count from 1. A session is `None` if they are not those of a track, or
+//! memory runs out.
 
 use irig_codes::{Element, Format, Kind};
 use irig_edit::{Refusal, Session};
@@ -6,7 +8,7 @@ use irig_moment::Moment;
 use irig_recording::Recording;
 use std::alloc::Global;
 
-/// A call of the table. Frames are generated from the begin of 2024 on, without control bits.
+/// A call of a row. Frames are generated from the begin of 2024 on, without control bits.
 #[derive(Clone, Copy)]
 pub enum Call {
     Insert(u64, u64),
@@ -39,7 +41,8 @@ pub fn two_pulses(alloc: Global) -> Option<Session> {
     open(alloc, 1_000, &[100, 120, 200, 280])
 }
 
-/// Generates frames from the begin of 2024 on.
+/// Generates `frames` frames from `start`, in microseconds, on. The first carries the begin of
+/// 2024.
 fn regen(session: &mut Session, start: u64, frames: u64) -> Result<(), Refusal> {
     match Moment::parse(b"2024-001T00:00:00") {
         Some(moment) => session.regen(start, frames, moment, 0),
@@ -47,7 +50,7 @@ fn regen(session: &mut Session, start: u64, frames: u64) -> Result<(), Refusal> 
     }
 }
 
-/// Sets the format of a kind and an expression.
+/// Sets the format of a kind and an expression; `BadExpression` if the kind does not permit it.
 fn set_format(session: &mut Session, kind: Kind, expression: u8) -> Result<(), Refusal> {
     match Format::new(kind, expression) {
         Ok(format) => session.format(format),
@@ -55,7 +58,7 @@ fn set_format(session: &mut Session, kind: Kind, expression: u8) -> Result<(), R
     }
 }
 
-/// Makes a call. What refuses it, if anything does.
+/// Makes a call, and returns what refuses it; `None` if it is accepted.
 pub fn obey(session: &mut Session, call: Call) -> Option<Refusal> {
     let answer = match call {
         Call::Insert(a, b) => session.insert(a, b),
@@ -67,6 +70,7 @@ pub fn obey(session: &mut Session, call: Call) -> Option<Refusal> {
         Call::Force(i, element) => session.force(i, element),
         Call::Regen(start, frames) => regen(session, start, frames),
         Call::Format(kind, expression) => set_format(session, kind, expression),
+        // The remainder keeps the letter from `a` to `z`, as the contract needs.
         Call::Mark(letter, time) => session.mark(b'a' + letter % 26, time),
         Call::Undo => session.undo(),
         Call::Redo => session.redo(),
@@ -78,7 +82,7 @@ pub fn obey(session: &mut Session, call: Call) -> Option<Refusal> {
     answer.err()
 }
 
-/// Whether a session is saved as this dump.
+/// Whether the text of the saved session is just this dump.
 pub fn is_saved(session: &Session, dump: &[u8]) -> bool {
     match session.saved() {
         Ok(text) => text.as_slice() == dump,

@@ -1,4 +1,6 @@
-//! How many looks at pulses calls take, and the frames that they leave, call by call.
+//! How many looks at pulses calls take, and the frames that they leave, call by call. A look is one
+//! read of a pulse to keep the frames true; a frame begins with its marker, a pulse. The bound of
+//! an edit is that of `Index::repair` (irig_index): `3 * (new + 200)` looks, if `new` pulses come.
 
 use super::helpers::{Call, obey, open};
 use irig_codes::{Element, Kind};
@@ -6,11 +8,12 @@ use irig_edit::{Session, generated_frames_read_back};
 use std::alloc::Global;
 use std::process::Abort;
 
-/// A call; how many frames it leaves, the markers of the first and the last, from 1; and how many
-/// looks it takes at most.
+/// A call; how many frames there are after it, and the numbers, from 1, of the markers of the first
+/// and the last; and how many looks the last change took at most.
 type Row = (Call, [usize; 3], u64);
 
-/// How many frames there are, and the markers of the first and the last.
+/// How many frames there are, and the numbers, from 1, of the markers of the first and the last;
+/// all 0 if there is none.
 fn frames(session: &Session) -> [usize; 3] {
     let count = session.frames();
     if count == 0 {
@@ -20,13 +23,15 @@ fn frames(session: &Session) -> [usize; 3] {
     }
 }
 
-/// Whether a call leaves the frames of its row, and takes no more looks.
+/// Whether a call is accepted, leaves the frames of its row, and takes no more looks than the row
+/// says.
 fn leaves(session: &mut Session, (call, left, most): &Row) -> bool {
     let accepted = obey(session, *call).is_none();
     accepted && session.last_looks() <= *most && frames(session) == *left
 }
 
-/// Makes calls on a track of this length without a pulse, and compares frames and looks.
+/// Makes the calls of the rows, one after another, on a track of this length, in microseconds,
+/// without a pulse, and compares frames and looks.
 fn check(rt: &impl Abort, alloc: Global, length: u64, rows: &[Row]) {
     let mut session = open(alloc, length, &[]).expect(rt, "a session");
     for row in rows {
@@ -34,7 +39,8 @@ fn check(rt: &impl Abort, alloc: Global, length: u64, rows: &[Row]) {
     }
 }
 
-/// Edits of a million pulses.
+/// Edits of a million pulses. The first generated frame is none: no pulse is before its marker. The
+/// bound of the first is for all new pulses; no later one depends on the number of pulses.
 static MILLION: [Row; 5] = [
     (Call::Regen(0, 10_000), [9_999, 101, 999_901], 3_000_600),
     (
@@ -47,12 +53,14 @@ static MILLION: [Row; 5] = [
     (Call::Mark(0, Some(5)), [9_999, 100, 999_900], 0),
 ];
 
+// An edit of a million pulses looks at some hundred of them.
 #[test]
 fn an_edit_of_a_million_pulses_looks_in_its_window(rt: HostRuntime) {
     check(&rt, rt.alloc(), 100_000_000, &MILLION);
 }
 
-/// An edit of each kind.
+/// An edit of each kind. `Go` is no change, so the looks of the undo before it stay. A new format
+/// reads all frames again, for which 100 looks a pulse are more than enough.
 static EACH_KIND: [Row; 8] = [
     (Call::Regen(0, 10), [9, 101, 901], 3_600),
     (Call::Shift(3, 4, 1), [9, 101, 901], 606),
@@ -64,6 +72,7 @@ static EACH_KIND: [Row; 8] = [
     (Call::Undo, [9, 101, 901], 100_000),
 ];
 
+// The law is that generated frames are read as they were made.
 #[test]
 fn each_kind_of_edit_looks_in_its_window(rt: HostRuntime) {
     check(&rt, rt.alloc(), 100_000, &EACH_KIND);

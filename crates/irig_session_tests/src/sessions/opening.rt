@@ -1,4 +1,5 @@
-//! Dumps with a journal, opened, and the wrong line if one is not.
+//! Dumps with a journal, the history of a session: each is opened, or the number of its wrong line
+//! is found. Lines count from 1, which is `irig-journal-1`, so the lines of a row begin with 2.
 
 use super::helpers::is_saved;
 use irig_codes::{Format, Kind};
@@ -7,7 +8,8 @@ use irig_vcd::VcdFault;
 use std::alloc::{AllocError, Global};
 use std::process::Abort;
 
-/// The lines of a journal, after its name, and the wrong line, if there is one.
+/// The lines of a journal, after its name, and the number of the wrong line; `None` if none is
+/// wrong.
 type Row = (&'static [u8], Option<usize>);
 
 /// A pulse from 200 to 280 in a track of 1,000 microseconds, and the begin of its journal.
@@ -16,7 +18,7 @@ const BEGIN: &[u8] =
     $enddefinitions $end\n#0\n$dumpvars\n0!\n$end\n#200\n1!\n#280\n0!\n#1000\n$comment\n\
     irig-journal-1\n";
 
-/// The dump with a journal of these lines, after its name.
+/// The dump with a journal of these lines, after its name. It fails only if memory runs out.
 fn dump(alloc: Global, lines: &[u8]) -> Result<Vec<u8>, AllocError> {
     let mut text = Vec::new(alloc);
     text.extend_from_slice(BEGIN)?;
@@ -25,16 +27,18 @@ fn dump(alloc: Global, lines: &[u8]) -> Result<Vec<u8>, AllocError> {
     Ok(text)
 }
 
-/// The session that a dump with a journal of these lines opens.
+/// Opens the session of a dump with a journal of these lines, or returns the fault.
 fn opened(alloc: Global, lines: &[u8]) -> Result<Session, VcdFault> {
     let text = dump(alloc, lines)?;
+    // Another format than that of the rows: the journal's counts. The bound on the text is for the
+    // contract of `open_dump`, which asks for at most 2^28 bytes.
     match Format::new(Kind::B, 0) {
         Ok(format) if text.len() <= 1_000 => Session::open_dump(alloc, text, None, format),
         _ => Err(VcdFault::OutOfMemory),
     }
 }
 
-/// Whether a session is saved as a dump with a journal of these lines.
+/// Whether a session is saved as the dump of `BEGIN` with a journal of these lines.
 fn is_saved_with(alloc: Global, session: &Session, lines: &[u8]) -> bool {
     match dump(alloc, lines) {
         Ok(same) => is_saved(session, same.as_slice()),
@@ -42,8 +46,8 @@ fn is_saved_with(alloc: Global, session: &Session, lines: &[u8]) -> bool {
     }
 }
 
-/// Whether this line is the wrong one of a journal of these lines. If there is none, the journal is
-/// opened, and saved as it was.
+/// Whether this line is found as the wrong one of a journal of these lines. If `line` is `None`,
+/// whether the journal is opened, and saved again as the same lines.
 fn has_fault(alloc: Global, lines: &[u8], line: Option<usize>) -> bool {
     match opened(alloc, lines) {
         Ok(session) => line.is_none() && is_saved_with(alloc, &session, lines),
@@ -52,7 +56,7 @@ fn has_fault(alloc: Global, lines: &[u8], line: Option<usize>) -> bool {
     }
 }
 
-/// Opens the journal of each row, and compares the wrong line.
+/// Opens the journal of each row, and compares the wrong line with that of the row.
 fn check(rt: &impl Abort, alloc: Global, rows: &[Row]) {
     for (lines, line) in rows {
         assert!(rt; has_fault(alloc, lines, *line));
@@ -115,6 +119,8 @@ static ROWS: [Row; 12] = [
     ),
 ];
 
+// A journal of the right form whose steps can be made is opened; else the first wrong line is
+// found, in the order that `docs/FORMATS.md` has under "The line at fault".
 #[test]
 fn a_journal_opens_or_its_line_at_fault_is_told(rt: HostRuntime) {
     check(&rt, rt.alloc(), &ROWS);

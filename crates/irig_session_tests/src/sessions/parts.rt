@@ -1,4 +1,4 @@
-//! A saved session that is given in parts, against its text.
+//! A saved session that is given in parts, block by block, against its text.
 
 use super::helpers::{Call, is_saved, obey, two_pulses};
 use irig_edit::Session;
@@ -17,7 +17,8 @@ static CALLS: [Call; 7] = [
     Call::Mark(25, Some(110)),
 ];
 
-/// What they leave, after the undo, as it is saved.
+/// The text of the session that these calls leave, after an undo, as it is saved by
+/// `docs/FORMATS.md`.
 static TEXT: &[u8] = b"$timescale 1 us $end
 $scope module irig $end
 $var wire 1 ! code $end
@@ -58,7 +59,8 @@ setmark z 110
 $end
 ";
 
-/// All blocks of a session's text, put together. Each but the last has at least `enough` bytes.
+/// All blocks of a session's text, put together. Each block but the last has at least `enough`
+/// bytes. The text has less than 1,000 bytes, so 1,000 blocks suffice; more are an error.
 fn joined(alloc: Global, session: &Session, enough: usize) -> Result<Vec<u8>, AllocError> {
     let mut all = Vec::new(alloc);
     let mut block = new_block(alloc)?;
@@ -74,7 +76,7 @@ fn joined(alloc: Global, session: &Session, enough: usize) -> Result<Vec<u8>, Al
     Err(AllocError)
 }
 
-/// Whether the blocks of a session's text are the text.
+/// Whether the blocks of a session's text, put together, are the text that is expected.
 fn is_joined(alloc: Global, session: &Session, enough: usize) -> bool {
     match joined(alloc, session, enough) {
         Ok(all) => all.as_slice() == TEXT,
@@ -82,7 +84,8 @@ fn is_joined(alloc: Global, session: &Session, enough: usize) -> bool {
     }
 }
 
-/// Makes the calls, and puts the blocks of each size together.
+/// Makes the calls on two pulses, and an undo, and for each size puts the blocks of the saved
+/// session together.
 fn check(rt: &impl Abort, alloc: Global, sizes: &[usize]) {
     let mut session = two_pulses(alloc).expect(rt, "a session");
     for call in &CALLS {
@@ -95,6 +98,7 @@ fn check(rt: &impl Abort, alloc: Global, sizes: &[usize]) {
     }
 }
 
+// Also with blocks of a single line, and with one block for all.
 #[test]
 fn the_parts_of_a_saved_session_are_its_text(rt: HostRuntime) {
     check(&rt, rt.alloc(), &[1, 7, 100, 65_536]);

@@ -1,28 +1,31 @@
-//! Sessions saved, against the lines that their calls ask for.
+//! Sessions saved after calls, against the journal's lines that follow from these calls by
+//! `docs/FORMATS.md`. A journal is the history of a session.
 
 use super::helpers::{Call, is_saved, obey, two_pulses};
 use irig_edit::Session;
 use std::alloc::{AllocError, Global};
 use std::process::Abort;
 
-/// Calls on two pulses, and the lines of the journal that is saved, after its name.
+/// Calls on two pulses, and the lines of the journal that is saved after them, without the first,
+/// which names it.
 type Row = (&'static [Call], &'static [u8]);
 
-/// Appends the comment with a journal of these lines.
+/// Appends the comment with a journal of these lines. It fails only if memory runs out.
 fn put_journal(text: &mut Vec<u8>, lines: &[u8]) -> Result<(), AllocError> {
     text.extend_from_slice(b"$comment\nirig-journal-1\n")?;
     text.extend_from_slice(lines)?;
     text.extend_from_slice(b"$end\n")
 }
 
-/// The dump of a session with a journal of these lines.
+/// The dump of a session's track with a journal of these lines. It fails only if memory runs out.
 fn dump_with(session: &Session, lines: &[u8]) -> Result<Vec<u8>, AllocError> {
     let mut text = session.text()?;
     put_journal(&mut text, lines)?;
     Ok(text)
 }
 
-/// Whether a session is saved after calls as its dump with a journal of these lines.
+/// Whether a session is saved, after the calls of a row, as the dump of its track with a journal of
+/// the row's lines.
 fn is_saved_after(session: &mut Session, (calls, lines): &Row) -> bool {
     for call in *calls {
         obey(session, *call);
@@ -33,7 +36,7 @@ fn is_saved_after(session: &mut Session, (calls, lines): &Row) -> bool {
     }
 }
 
-/// Makes the calls of each row, and compares the lines that are saved.
+/// Makes the calls of each row on a session of its own, and compares the lines that are saved.
 fn check(rt: &impl Abort, alloc: Global, rows: &[Row]) {
     for row in rows {
         let mut session = two_pulses(alloc).expect(rt, "a session");
@@ -68,6 +71,8 @@ static STEPS: [Row; 4] = [
     ),
 ];
 
+// A step of the past is saved as the change that undoes it, one of the future as that which redoes
+// it.
 #[test]
 fn each_step_is_saved_as_the_change_that_leads_there(rt: HostRuntime) {
     check(&rt, rt.alloc(), &STEPS);
@@ -110,6 +115,8 @@ static GROUPS: [Row; 3] = [
     ),
 ];
 
+// The changes of a group are saved in the order in which they are made, also of one that is undone.
+// The steps of an open group are saved one by one.
 #[test]
 fn a_group_is_saved_in_the_order_of_its_turn(rt: HostRuntime) {
     check(&rt, rt.alloc(), &GROUPS);
