@@ -16,8 +16,8 @@ use std::alloc::AllocError;
 use std::marker::Model;
 
 /// The patch between two recordings, as lines of the editor's language, with comments on the frames
-/// that differ. A comment comes before the first stretch that ends at or after the place of its
-/// frame. The last line has the numbers of frames.
+/// that differ. A comment comes before the line of the first stretch that ends at or after the
+/// place of its frame, or after all of these if none does. The last line has the numbers of frames.
 #[derive(Drop)]
 pub struct CommentedPatch<'a> {
     // Whether the note with the two lengths was written.

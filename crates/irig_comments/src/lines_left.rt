@@ -59,7 +59,8 @@ impl<'a> LinesLeft<'a> {
     }
 
     /// Writes the next line, if one is left: a comment on frames, the line of a stretch, or at the
-    /// end the last line. Returns whether none is left after it.
+    /// end the last line. Returns whether none is left after it: after a comment or a stretch the
+    /// last line is still to come.
     pub fn put_next(&mut self, block: &mut Vec<u8>) -> Result<bool, AllocError>
         ensures bytes { OnOk result (block.new.items ++ self.new ≡ block.old.items ++ self.old) }
         ensures end { IfOk result (λ ended. ended ≡ true → self.new ≡ []) }

@@ -70,7 +70,7 @@ fn are_same(one: &Verdict, other: &Verdict) -> bool
     }
 }
 
-/// Whether two causes are the same.
+/// Whether two causes are the same. A frame is broken by one of just these three.
 fn is_same_cause(one: Cause, other: Cause) -> bool
     ensures { result ≡ (cause_number one == cause_number other) }
 {

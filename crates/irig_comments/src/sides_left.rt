@@ -45,7 +45,8 @@ impl<'a> SidesLeft<'a> {
     }
 
     /// The frames at the next place: those of both recordings if they begin at one microsecond,
-    /// else the earlier one. Both lists are in the order of their rises. `None` if none is left.
+    /// else the earlier one. Both lists are in the order of their rises. `None` if none is left. A
+    /// case that goes on to the end gives both as they are: one is `None`, or both begin there.
     pub fn next(&mut self) -> Option<Sides>
         ensures { MatchOption result ((self.old ≡ []) × (self.new ≡ []))
             (λ s. self.old ≡ s ∷ self.new) }

@@ -7,7 +7,7 @@ use irig_words::UsageFault;
 /// How the program ends, before it is reported.
 #[derive(Drop)]
 pub enum Ending<'a> {
-    /// The command line asks for no comparison.
+    /// The words of the command line ask for help, or are not valid.
     Usage(UsageFault<OptionFault>),
     /// The track at this path was not read.
     Unread(&'a str, TrackFault),

@@ -24,7 +24,7 @@ pub fn print<W: Write, T: Text>(
         (AppendsFront (W.contents out.old) (W.contents out.new) (T.rest text.old)) }
 {
     let mut empty = true;
-    // each part but the last makes the rest of the text shorter
+    // The loop ends: each part but the last makes the rest of the text shorter.
     'parts: loop {
         match print_next(out, text, block, &mut empty) {
             Ok(false) => {}

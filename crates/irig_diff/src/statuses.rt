@@ -1,5 +1,7 @@
 //! The statuses of the program as a process, and what it says of faults. 0 is that the tracks are
-//! the same, 1 that they differ, and 2 any fault.
+//! the same, 1 that they differ, and 2 any fault. `tell` and `tell_of` print a fault on the
+//! standard error, the latter with a path, and return the status that they get. `explain` prints
+//! the help with status 0, or with 2 what is wrong with the words.
 
 ghost use Rattle.std.specs.Process.{exit_status};
 ghost use Rattle.irig_diff.specs.Statuses.{Reports};

@@ -63,6 +63,8 @@ impl<'a> Differences<'a> {
         ensures { MatchOption result ((self.old ≡ []) × (self.new ≡ []))
             (λ stretch. self.old ≡ stretch ∷ self.new) }
     {
+        // Both recordings end low, so edges that only one has come in pairs: after the first of two
+        // there is a second one.
         let rise = next_edge(&mut self.before, &mut self.after)?;
         let fall = next_edge(&mut self.before, &mut self.after)?;
         Some(Pulse { rise, fall })
@@ -70,7 +72,7 @@ impl<'a> Differences<'a> {
 }
 
 /// Takes the first edge, in microseconds, that only one of two rising lists has; `None` if neither
-/// has one. An edge that both have is passed over: it changes nothing in whether they differ.
+/// has one. An edge that both have is passed in both: it changes nothing in whether they differ.
 /// Pulses that both begin with are passed first, since that is quicker.
 fn next_edge(before: &mut EdgesLeft<'_>, after: &mut EdgesLeft<'_>) -> Option<u64>
     requires before { RisesFrom 0 before.old }

@@ -32,7 +32,7 @@ impl<'a> Model for EdgesLeft<'a> {
 }
 
 impl<'a> EdgesLeft<'a> {
-    /// All edges of pulses.
+    /// All edges of pulses: none is past yet.
     pub fn new(pulses: &'a Gap<Pulse>) -> EdgesLeft<'a>
         requires { pulses.now.place ≡ length pulses.now.items }
         ensures { result ≡ edges_of pulses.now.items }
@@ -57,8 +57,8 @@ impl<'a> EdgesLeft<'a> {
         Some(if self.is_high { next.fall } else { next.rise })
     }
 
-    /// Goes past the next edge, which has to be there: after a rise the pulse's fall comes, and
-    /// after that the next pulse.
+    /// Goes past the next edge, which has to be there: after a rise the fall of the same pulse
+    /// comes next, and after that the rise of the next pulse.
     #[inline(always)]
     pub fn pass(&mut self)
         requires { 0 < length self.old }

@@ -117,7 +117,8 @@ pub fn put_number(block: &mut Vec<u8>, number: u64) -> Result<(), AllocError>
 }
 
 /// Writes a space and a number in decimal so that they end where the 21 bytes do. Returns the
-/// index, from 0, of the space: `write_digits` returns that of the first digit.
+/// index, from 0, of the space: `write_digits` returns that of the first digit, which is 1 or more,
+/// since there are at most 20.
 fn put_digits(digits: &mut [u8], number: u64) -> usize
     requires { length digits.old ≡ 21 }
     ensures within { result ≤ length digits.new }

@@ -1,6 +1,7 @@
 //! The command line, read by `clap`. Its matches are what `clap` found in its words. Only memory
 //! can run out for a `Command` or an `Arg`. A `UsageFault` is `Words` if `clap` does not accept the
-//! words, or they ask for help, and `Value` if an option has a value that it cannot have.
+//! words, or they ask for help, and `Value` if an option has a value that it cannot have. In a text
+//! of the help, what is after the last colon is the value without the option.
 
 ghost use Rattle.std.specs.Prelude.{◌≡◌, IfErr, IfOk, None, codes, false, map, string_bytes};
 ghost use Rattle.clap.specs.Words.{HasMatchesOf, app_of, found_of, rule_of};

@@ -96,7 +96,8 @@ fn add_frames_of<D: Disk>(
 }
 
 /// Adds to `shown` the frames of a recording that say something of the track, by what was read of
-/// its dump. If memory runs out, that is a fault of its file.
+/// its dump. If memory runs out after it was opened, that is a fault of its file: `add_frames` has
+/// no other fault but those of the dump.
 fn add_read(
     alloc: Global,
     read: Result<Parts, VcdFault>,

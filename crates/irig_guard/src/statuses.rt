@@ -1,6 +1,8 @@
 //! The statuses of the program as a process, and what it says of faults. 0 is that all repairs were
 //! kept, 1 that some were not, 2 a mistake in the command line, 3 a dump that cannot be used, and 4
-//! that something could not be written, or other troubles of the run.
+//! that something could not be written, or other troubles of the run. `tell` and `tell_of` print a
+//! fault on the standard error, the latter with a path, and return the status that they get.
+//! `explain` prints the help with status 0, or with 2 what is wrong with the words.
 
 ghost use Rattle.std.specs.Prelude.{◌≡◌};
 ghost use Rattle.std.specs.Process.{exit_status};
@@ -41,7 +43,7 @@ fn tell_unread<R: Eprint>(rt: &R, name: &str, fault: DumpFileFault) -> ExitCode
 }
 
 /// Says that the path to write leads to another recording, at the path `name`, which is not written
-/// over. The status is 2.
+/// over. The status is 2, also if that cannot be printed.
 fn tell_over<R: Eprint>(rt: &R, name: &str) -> ExitCode
     ensures { exit_status result ≡ 2 }
 {
@@ -98,7 +100,7 @@ fn tell_kept<R: Eprint>(rt: &R, name: &str, kept: Kept) -> ExitCode
 }
 
 /// Says how many frames have control functions that are not in the recording, if some have: that
-/// changes no status, since nothing says that they are wrong.
+/// changes no status, since nothing says that they are wrong. Nor does it if it cannot be printed.
 fn tell_filled<R: Eprint>(rt: &R, name: &str, filled: usize) {
     let frames = if filled == 1 { "frame" } else { "frames" };
     if filled > 0 {

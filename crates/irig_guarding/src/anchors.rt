@@ -3,7 +3,7 @@
 //! a pulse, or a marker, as it is seen from an element: how many elements away it is (`steps`), and
 //! when it rises, in microseconds. Markers and elements count from 0. `near` is the frames of the
 //! recording next to a frame, two on each side, and `place` the pulse of the recording that is
-//! looked at first: no answer depends on it.
+//! looked at first: no answer depends on it. On a line all elements take equally long, nearly.
 
 ghost use Rattle.std.specs.Prelude.{◌≡◌, ◌↔◌, ◌-◌, ◌≤◌, ◌<◌, ◌^◌, IfSome, IsTrue, Some};
 ghost use Rattle.irig_safety.specs.Anchors.{anchors_among, held_after, held_before, is_anchored};

@@ -36,7 +36,8 @@ fn command_in(line: &[u8]) -> Option<Command>
     }
 }
 
-/// Whether a repair may consist of the command: it edits pulses or marks.
+/// Whether a repair may consist of the command: it edits pulses, or sets or clears a mark, which is
+/// a letter for a time.
 pub fn is_repair(command: &Command) -> bool
     ensures { IsTrue result ↔ IsRepair command.now }
 {
@@ -102,7 +103,7 @@ fn is_closing(command: &Command) -> bool
     matches!(command, Command::End | Command::Abort)
 }
 
-/// Whether a line is a comment, or blank.
+/// Whether a line is a comment, or blank: it asks for nothing.
 pub fn is_comment(line: &Line) -> bool
     ensures { IsTrue result ↔ Asks command.Nothing line.now.bytes.items }
 {

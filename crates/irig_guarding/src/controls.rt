@@ -3,7 +3,8 @@
 //! recordings have it. `old` is the frames of the recording that read well (the former ones), and
 //! `near` those of them next to a frame. Markers, elements and functions count from 0. A former
 //! frame is passed if the frames that were looked at have one that begins when it does. The faults:
-//! `Lost` if none does, `Unrecorded` of a frame with a function that is not borne out.
+//! `Lost` if none does, `Unrecorded` of a frame with a function that is not borne out. `near_in`
+//! gives the two frames of a list before a place, and the two from another place on.
 
 ghost use Rattle.std.specs.Prelude.{◌≡◌, ◌↔◌, ◌⊎◌, ◌+◌, ◌<◌, ◌≤◌, ◌∷◌, List, IsTrue, None, Option};
 ghost use Rattle.std.specs.Prelude.{Some};
@@ -25,7 +26,7 @@ use irig_safety::{
 
 /// Whether each frame that reads well did so before, at the old places, or its control functions
 /// are borne out. If not, the first fault. Both lists are in rising order, so they are passed
-/// together.
+/// together. Former frames after the last frame are not looked for: `check_safe` did that before.
 pub fn check_controls(
     session: &Session,
     opened: &Original,
@@ -55,7 +56,8 @@ pub fn check_controls(
 
 /// How many of the former frames are passed after one more frame, if `passed` are before it; or why
 /// it is at fault. It is between former frames if the next of these begins later or there is none,
-/// so `passed` stays. If it begins when the next one does, and is another one, it has the frames on
+/// so `passed` stays. `Lost` if the next one begins earlier. If it begins when the next one does
+/// and is the same, its functions are not looked at. If it is another one, it has the frames on
 /// both sides of that one as its nearest.
 fn pass(
     session: &Session,
@@ -120,7 +122,7 @@ fn judge(
     }
 }
 
-/// Whether the control functions of a frame are borne out.
+/// Whether all control functions of a frame are borne out.
 fn is_borne(session: &Session, opened: &Original, near: &Witnesses, frame: &Seen) -> bool
     ensures { IsTrue result ↔ IsBorne opened.now session.now.state near.now frame.now }
 {

@@ -32,10 +32,10 @@ use std::alloc::{AllocError, Global};
 
 /// Runs a proposed script on a session, in which no group is open, repair by repair: an edit, or
 /// the lines from a `begin` to the next `end` or `abort`. A repair that is accepted and safe is
-/// kept and printed, as comments are; any other line is printed as a comment, after the reason.
-/// `terms` are by what repairs are judged besides the recording.
-/// Returns what is printed, whether all was kept, and how many frames have a control function then
-/// that is not in the recording.
+/// kept and printed, as comments are; any other line is printed as a comment, after the reason. If
+/// no frame of the recording reads well, a comment says so first. `terms` are by what repairs are
+/// judged besides the recording. Returns what is printed, whether all was kept, and how many frames
+/// have a control function then that is not in the recording. `Err` means that memory ran out.
 pub fn guard(
     alloc: Global,
     session: &mut Session,

@@ -65,7 +65,8 @@ pub fn learn(session: &Session, opened: &Original, frames: &[Seen], known: &mut 
 }
 
 /// The place, from 0, of the first former frame, from the place `from` on, that does not begin
-/// before `rise`, in microseconds; the end, if all do.
+/// before `rise`, in microseconds; the end, if all do. It has no contract: a wrong place would only
+/// mean that less is known.
 fn place_from(old: &[Shown], from: usize, rise: u64) -> usize {
     for place in from..old.len() {
         if rise <= old[place].rise {

@@ -14,8 +14,9 @@ pub fn safe_states_are_kept_or_borne_out()
 {}
 
 /// Does nothing: its contract is a theorem. Whoever runs the script that a guarded run printed, on
-/// the session as it was opened, has every line accepted, and gets what the guarded run left. The
-/// call in it does nothing, too: its own theorem is used.
+/// the session as it was opened, has every line accepted, and gets what the guarded run left,
+/// unless memory runs out or a write fails. The call in it does nothing, too: the proof uses its
+/// theorem on what calls of the editor leave.
 pub fn printed_scripts_are_obeyed()
     ensures { PrintedIsObeyed }
 {

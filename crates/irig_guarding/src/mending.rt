@@ -246,7 +246,8 @@ fn take_line(
 }
 
 /// Obeys a repair, which is an edit or a group, and keeps what it did if it is safe. If not, all is
-/// as it was but for what can be redone.
+/// as it was but for what can be redone. `NoRepair` also for a group that `abort` gives up, or that
+/// no line closes.
 pub fn take(
     alloc: Global,
     session: &mut Session,

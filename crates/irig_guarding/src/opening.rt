@@ -49,7 +49,8 @@ fn pulses_of(alloc: Global, session: &Session) -> Result<Vec<Pulse>, AllocError>
     for index in 0..session.len() {
         let pulse = session.pulse(index + 1);
         if pulse.rise < last {
-            // Never: the pulses of a session rise, but no clause of it says so.
+            // Never, as the next case: no pulse of a session rises or falls before the one before
+            // it, but no clause says so.
             return Err(AllocError);
         }
         if pulse.fall < end {

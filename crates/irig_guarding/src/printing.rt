@@ -41,7 +41,7 @@ pub fn put_head(out: &mut Vec<u8>, opened: &[Shown]) -> Result<(), AllocError>
     }
 }
 
-/// Prints lines as they are.
+/// Prints lines as they are, each with a newline after it.
 pub fn put_lines(out: &mut Vec<u8>, lines: &[Line]) -> Result<(), AllocError>
     ensures text { OnOk result (out.new.items ≡ out.old.items ++ unlines (texts lines.now)) }
     ensures plain { AllByRecursion IsPlain (texts lines.now) }

@@ -4,7 +4,8 @@
 //! anchor if it rises where the recording has one. A former frame is passed if the frames that were
 //! looked at have one that begins when it does. The faults: `Lost` if none does; `Moved` if one
 //! does, and its pulses do not rise as they did; `Misplaced` if a frame that was not fine has a
-//! pulse that nothing holds, or if none was fine and one has too few anchors.
+//! pulse that nothing holds, or if none was fine and one has too few anchors. `near_in` gives the
+//! two frames of a list before a place, and the two from another place on.
 
 ghost use Rattle.std.specs.Prelude.{◌≡◌, ◌↔◌, ◌+◌, ◌<◌, ◌≤◌, ◌∷◌, List, IsTrue, None, Option, Some};
 ghost use Rattle.std.specs.Prelude.{IfErr, IfOk, OnErr, OnOk, drop, get_or, length, slice_get};
@@ -26,7 +27,8 @@ use irig_safety::{Fault, Original, Shown, Witnesses, frame_at, near_in, rise_or}
 
 /// Whether the pulses of each frame that reads well are where they may be, by the frames at the old
 /// places. If not, the first that is at fault. Those of known frames are not looked at. Both lists
-/// are in rising order, so they are passed together.
+/// are in rising order, so they are passed together. Former frames after the last frame are not
+/// looked for: `check_safe` did that before.
 pub fn check_stand(
     session: &Session,
     opened: &Original,
@@ -69,7 +71,9 @@ fn is_unmoved(old: &[Shown], known: &[Option<usize>], place: usize, frame: &Seen
 }
 
 /// How many of the former frames are passed after one more frame, if `passed` are before it; or why
-/// it is at fault. It is between former frames if the next of these begins later or there is none.
+/// it is at fault. It is between former frames if the next of these begins later or there is none
+/// (`come`). `Lost` if the next one begins earlier. If it begins when the next one does, its pulses
+/// have to rise as those of that one, else it is `Moved`.
 fn pass(
     session: &Session,
     opened: &Original,
@@ -173,7 +177,7 @@ fn stands_as(
 }
 
 /// Whether each pulse of the frame of a marker rises as long after the marker as in the former
-/// frame of the marker `former`.
+/// frame of the marker `former`. Frames that read well have all 100 pulses.
 pub fn keeps_rises(session: &Session, opened: &Original, former: usize, marker: usize) -> bool
     ensures { IsTrue result ↔ KeepsRises opened.now.pulses former session.now.state.pulses marker }
 {

@@ -21,7 +21,8 @@ pub fn fine_frames(alloc: Global, session: &Session) -> Result<Vec<Shown>, Alloc
     Ok(shown)
 }
 
-/// Adds what the frame of a number, from 1, shows to `shown`, if it reads well.
+/// Adds what the frame of a number, from 1, shows to `shown`, if it reads well. The pulses of a
+/// session, and so the markers of its frames, count from 1, too.
 fn put_frame(shown: &mut Vec<Shown>, session: &Session, number: usize) -> Result<(), AllocError>
     requires { (1 ≤ number) × (number ≤ length (frames_of session.now.state)) }
     ensures { (r : Record) → slice_get (frames_of session.now.state) (number - 1) ≡ Some r

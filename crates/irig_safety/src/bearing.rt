@@ -234,10 +234,10 @@ pub fn agrees(format: Format, one: &Shown, other: &Shown) -> bool
     !is_far(format, one, other) && is_shown(format, one, other)
 }
 
-/// Whether `from` and `frame` stray by half an interval more than `one` and `other` at most. These
-/// are the frames on both sides of a stretch, and the former are the ends of a part of it, which
-/// strays no more than all of it. True if the distance of `one` and `other` does not fit their
-/// times: then it says nothing.
+/// Whether `from` and `frame` stray by half an interval more than `one` and `other` at most. `one`
+/// and `other` are the frames on both sides of a stretch, `from` and `frame` the ends of a part of
+/// it: a part strays no more than the whole. True if the distance of `one` and `other` does not fit
+/// their times: then it says nothing.
 pub fn is_within(format: Format, one: &Shown, other: &Shown, from: &Shown, frame: &Shown) -> bool
     ensures { result ≡ is_within format one.now other.now from.now frame.now }
 {

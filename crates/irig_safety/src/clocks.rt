@@ -6,7 +6,7 @@
 //! periods the time of the second frame is after that of the first, and `stray` by how many
 //! microseconds their distance differs from that many nominal periods.
 //! The bounds are this project's own. Half an interval is as far as a pulse is nearest to its own
-//! place, and 8 in 100 as far as a recorder's clock may be off.
+//! place, and 8 in 100 as far as a recorder's clock may be off: as far as `irig_demodulate` allows.
 
 ghost use Rattle.std.specs.Prelude.{◌≡◌, ◌<◌, ◌^◌, Some};
 ghost use Rattle.irig_safety.specs.Clocks.{is_by_clock, is_by_next, is_in_time, shows_any_clock};

@@ -110,7 +110,7 @@ fn is_turning(format: Format, sides: &Sides) -> bool
 /// What `bend` divides by. The clock changes by `difference` / `seen_over` from the middle of the
 /// two before to the middle of the two after, and `all` is twice the frame periods between these.
 /// 100 is in it twice, since `since` and `until` of the bend are in elements, 100 to a frame
-/// period.
+/// period. So half of the change in one frame period is `difference` / (`seen_over` * `all`).
 fn turned_over(format: Format, sides: &Sides) -> u128
     requires before { periods format sides.now.before2 sides.now.before ≤ 500 }
     requires across { periods format sides.now.before sides.now.after ≤ 500 }

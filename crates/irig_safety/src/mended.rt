@@ -1,8 +1,9 @@
 //! Whether a frame that read well, and is another one now, is mended by that. `former` is the frame
-//! as it was, `frame` as it is now, `near` the former frames next to it, and `others` frames of
-//! other recordings of the same code. Two frames contradict each other if they are near, and their
-//! times are not as many frame periods apart as their rises (`allows` is false). Frames bear out
-//! another one if they have its time there (`is_borne`).
+//! as it was, `frame` as it is now, `near` the former frames next to it, two on each side (`before`
+//! and `after` are the nearer ones), and `others` frames of other recordings of the same code. Two
+//! frames contradict each other if they are near, and their times are not as many frame periods
+//! apart as their rises (`allows` is false). Frames bear out another one if they have its time
+//! there (`is_borne`).
 
 ghost use Rattle.std.specs.Prelude.{◌≡◌, ◌↔◌, ◌<◌, ◌⊎◌, IsTrue, ℕ, not, ◌&&◌};
 ghost use Rattle.irig_codes.specs.Format.{control_count_of};

@@ -12,7 +12,7 @@ use std::alloc::{AllocError, Global};
 
 /// The former frames (`old`) where they are now: each where the first of the present frames (`new`)
 /// is that has its time, after the one at which a former frame was last found, since frames keep
-/// their order. One without such a frame is where it was.
+/// their order. One without such a frame is where it was: `frame_at` gives `None` for it.
 pub fn moved_in(alloc: Global, old: &[Shown], new: &[Shown]) -> Result<Vec<Shown>, AllocError>
     ensures { IfOk result (λ moved. moved.items ≡ moved_in old.now new.now) }
 {

@@ -151,8 +151,8 @@ impl Original {
         has_alike(format, false, self.pulses.as_slice(), pulse)
     }
 
-    /// Whether a pulse with some class was recorded within half an interval of a pulse: half an
-    /// interval is the place of an element.
+    /// Whether a pulse with some class was recorded within half an interval of a pulse: up to there
+    /// it is nearest to the place of the same element.
     pub fn has_any(&self, format: Format, pulse: Pulse) -> bool
         ensures { IsTrue result ↔ IsNear format true self.now.pulses pulse }
     {
@@ -192,7 +192,7 @@ pub fn rise_or(pulse: Option<Pulse>) -> u64
 
 /// The former frames next to a place: the two before it, and the two from `next` on. `next` is the
 /// place itself for a frame that is between former ones, and the place after it for one that is at
-/// a former one's place.
+/// a former one's place. `frame_behind` is the frame before a place, and `None` before the first.
 pub fn near_in(frames: &[Shown], place: usize, next: usize) -> Witnesses
     requires { (place ≤ length frames.now) × (next ≤ length frames.now) }
     ensures { result ≡ near_in frames.now place next }
@@ -228,8 +228,8 @@ fn has_alike(format: Format, any: bool, recorded: &[Pulse], pulse: Pulse) -> boo
 }
 
 /// How near a pulse has to be, in microseconds: a tenth of an interval, which is how far two in
-/// step may be off, or if any class will do half of one, which is the place of an element. Both are
-/// this project's own.
+/// step may be off, or if any class will do half of one, up to which a pulse is nearest to the
+/// place of its own element. Both are this project's own.
 fn reach_of(format: Format, any: bool) -> u64
     ensures { result ≡ reach_of format any }
 {

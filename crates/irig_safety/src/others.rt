@@ -76,7 +76,8 @@ fn is_of_time(one: &Fields, other: &Fields) -> bool
 }
 
 /// The frames of a recording that say something of another one: those with which a frame next to
-/// them agrees. So one that damage made alone is left out.
+/// them agrees. So one that damage made alone is left out. `frame_behind` is the frame before a
+/// place, `frame_at` the one at it; `None` if there is none.
 pub fn backed(alloc: Global, format: Format, frames: &[Shown]) -> Result<Vec<Shown>, AllocError>
     ensures { IfOk result (λ kept. kept.items ≡ backed format frames.now) }
 {

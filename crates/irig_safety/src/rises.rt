@@ -40,7 +40,8 @@ fn first_rise(pulses: &[Pulse], time: u64, place: usize) -> usize
     pulses.partition_point(|pulse| pulse.rise < time)
 }
 
-/// Whether one of some pulses falls at a time. `place` is looked at first.
+/// Whether one of some pulses falls at a time. `place` is looked at first: the answer does not
+/// depend on it.
 pub fn has_fall(pulses: &[Pulse], time: u64, place: usize) -> bool
     requires { IsNonDecreasingBy (λ (p : SomePulse). p.fall) pulses.now }
     ensures { result ≡ is_fall pulses.now time }

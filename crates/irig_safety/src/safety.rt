@@ -86,7 +86,8 @@ fn check_from(format: Format, others: &[Shown], old: &[Shown], new: &[Shown]) ->
 
 /// How many of the former frames are passed after one more new frame, if `kept` are passed before
 /// it; or why the new one is not safe. If the next former one begins later, or none is left, the
-/// new one is between former ones or after them. A next former one that begins earlier is `Lost`.
+/// new one is between former ones or after them (`come`). A next former one that begins earlier is
+/// `Lost`. One that begins when the new one does is passed if it stays, and else `Changed`.
 fn passed(
     format: Format,
     others: &[Shown],
@@ -215,8 +216,9 @@ pub fn check_unspoiled(last: &[Shown], new: &[Shown]) -> Result<(), Fault>
     }
 }
 
-/// How many frames of `last` are found again after one more new frame, if `found` are before it; or
-/// `Lost` with the next one, if the new frame begins after it.
+/// How many frames of `last` are found again after one more new frame, if `found` are before it:
+/// one more if the next one begins when the new frame does, else as many. `Lost` with the next one,
+/// if the new frame begins after it.
 fn found_after(last: &[Shown], found: usize, frame: &Shown) -> Result<usize, Fault>
     requires { found ≤ length last.now }
     ensures within { IfOk result (λ place. place ≤ length last.now) }

@@ -1,6 +1,6 @@
 //! Lines that are aligned with a track. The recorder's time of a line is the number in one of its
 //! columns. A frame is believed if another one near it supports its time: moments have their times
-//! from believed frames alone.
+//! from believed frames alone. A `Lens` shows the pulses of a track, and a `FrameLens` its frames.
 
 ghost use Rattle.std.specs.Prelude.{◌≡◌, ◌≤◌, ◌<◌, ◌^◌, ℕ, List, Option, IfOk, IfSome};
 ghost use Rattle.std.specs.Io.KnownBytes.{Consumes};
@@ -26,7 +26,8 @@ use std::io::{Read, Write};
 /// Reads lines to their end and prints each with its time before it: the time of year that a
 /// recording has at the line's recorder's time. Returns whether the column of each line has a
 /// number, lines of the header not counted, and which frames are believed. What was printed before
-/// an error stays.
+/// an error stays. The column is `settings.column`, or if `settings.named` is there, the one with
+/// that name in the header.
 pub fn align<R: Read, W: Write>(
     alloc: Global,
     recording: Recording,
@@ -49,8 +50,8 @@ pub fn align<R: Read, W: Write>(
     align_named(alloc, recording, lines, out, format, settings, name)
 }
 
-/// As `align`, if the number of the column, from 0, is known: `settings.column`. Nothing was read
-/// of the lines before.
+/// As `align`, if the number of the column, from 0, is known: `settings.column`. No byte of the
+/// lines was read before that, so `align_track` gets none.
 fn align_numbered<R: Read, W: Write>(
     alloc: Global,
     recording: Recording,

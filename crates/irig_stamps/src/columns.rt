@@ -1,7 +1,8 @@
 //! The columns of a line. They are parted by a byte (`comma`), or if there is none by white space.
 //! Columns count from 0. `cut` parts a text in what is before the first byte of some kind, and what
 //! is from that byte on: white space (`Blank`), other bytes (`Text`) or the byte that parts columns
-//! (`Comma`).
+//! (`Comma`). If no such byte is left, all is before it and nothing after: so a column that a line
+//! does not have has no byte.
 
 ghost use Rattle.std.specs.Prelude.{◌≡◌, Some, None};
 ghost use Rattle.irig_stamps.specs.Columns.{column_of, passed, word_at, part_at, rest_of};
@@ -18,8 +19,9 @@ pub fn column(comma: Option<u8>, k: usize, line: &[u8]) -> &[u8]
     }
 }
 
-/// Column `k` of a line, from 0, if white space parts them. White space before the first column is
-/// not one. The `k` columns before it are passed first.
+/// Column `k` of a line, from 0, if white space parts them. White space at the start of the line
+/// makes no column. The `k` columns before it are passed first, each with the white space before
+/// it.
 fn word(k: usize, line: &[u8]) -> &[u8]
     ensures { result.now ≡ word_at k line.now }
 {
@@ -47,8 +49,8 @@ fn part(comma: u8, k: usize, line: &[u8]) -> &[u8]
     part
 }
 
-/// What is after the first column of a line, and after the byte that parts it from the next one.
-/// White space that parts them is still there.
+/// What is left of a line after its first column. A byte that parts it from the next one is passed,
+/// too. White space that parts them is not: the next column is looked for after it (`Text`).
 pub fn passed(comma: Option<u8>, line: &[u8]) -> &[u8]
     ensures { result.now ≡ passed comma line.now }
 {

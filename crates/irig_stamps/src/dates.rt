@@ -19,6 +19,7 @@ pub fn year_in(settings: &Settings<'_>, time: &Time) -> Option<u32>
     ensures range { IfSome result (λ y. y ≤ 9999) }
 {
     match time.year {
+        // The year of a frame is 0 to 99, so the rest changes nothing: the bound is for the proof.
         Some(year) => Some(100 * settings.century + year % 100),
         None => counted_on(settings, time.days),
     }
@@ -56,7 +57,8 @@ pub fn date_in(year: Option<u32>, days: u32) -> Option<(u32, u32)>
 }
 
 /// The month and the day in it, both from 1, of a day (from 1) of a year that is known. `None` if
-/// the year has no such day.
+/// the year has no such day: 0, or more than its days. The months are passed from the first on, and
+/// `left` is the day as it counts in the month that is looked at.
 fn date_from(year: u32, days: u32) -> Option<(u32, u32)>
     requires { year ≤ 9999 }
     ensures { result ≡ date_from year days }

@@ -2,7 +2,7 @@
 //! lines, and the name is looked for in its last one. Columns are parted by `settings.comma`, or if
 //! it is `None` by white space. The faults: `NoHeader` if that line is not there, `LongHeader` if
 //! it does not end in the first 1 MiB, `NoColumn` and `TwoColumns` if none or two columns have the
-//! name.
+//! name; and for the reads, `ReadFailed`, `TooManyReads` and `OutOfMemory`.
 
 ghost use Rattle.std.specs.Prelude.{◌≡◌, ◌≤◌, ◌<◌, ◌+◌, ℕ, List, length, Option, Ok, Err, IfErr, IfOk, Bool};
 ghost use Rattle.std.specs.Prelude.{if◌then◌else◌, ◌==◌};
@@ -171,8 +171,8 @@ fn find_in(settings: &Settings<'_>, name: &[u8], bytes: &[u8]) -> Result<usize, 
 }
 
 /// The column of a line with a name, from 0, of the first 65,536; `NoColumn` if none has it,
-/// `TwoColumns` if two do. Each turn of the loop looks at the first column of what is left, and
-/// passes it.
+/// `TwoColumns` if two do, so all of them are looked at. Each turn of the loop looks at the first
+/// column of what is left, and passes it.
 fn place_of(comma: Option<u8>, name: &[u8], line: &[u8]) -> Result<usize, RunFault>
     ensures { IsPlace (has_name comma name.now line.now) 65536 result }
 {

@@ -17,7 +17,7 @@ pub struct Lines {
 }
 
 impl Lines {
-    /// Nothing is read yet: before the first line.
+    /// Nothing is read yet: before the first line. No line has ended, so `all` is true.
     pub fn new(alloc: Global) -> Lines
         ensures line { result.line.items ≡ [] }
         ensures count { result.count ≡ 0 }

@@ -79,6 +79,7 @@ fn below(size: Option<u128>) -> Option<Picos>
 }
 
 /// The whole number that a text is, if it has only digits and at least one; 2^120 if it is greater.
+/// White space is not passed here: a text with it is no whole number.
 pub fn whole(text: &[u8]) -> Option<u128>
     ensures { result ≡ option_map (λ v. min v (2 ^ 120)) (whole_in text.now) }
 {
@@ -120,7 +121,7 @@ fn with_fraction(up: bool, places: usize, whole: &[u8], rest: &[u8]) -> Option<u
 }
 
 /// The size of a number with these digits before its point and after it. `rest` is what is after
-/// both: an exponent, white space or nothing.
+/// both: an exponent, white space or nothing. With anything else it is no number.
 fn with_exponent(
     up: bool,
     places: usize,
@@ -138,7 +139,8 @@ fn with_exponent(
     }
 }
 
-/// The size of a number with these digits. `rest` is what is after the e of its exponent.
+/// The size of a number with these digits. `rest` is what is after the e of its exponent: maybe a
+/// sign, and digits. Without a sign the point moves to the right, as with a plus.
 fn after_e(up: bool, places: usize, whole: &[u8], fraction: &[u8], rest: &[u8]) -> Option<u128>
     ensures { result ≡ option_map (λ v. min v (2 ^ 120))
         (after_e up places whole.now fraction.now rest.now) }

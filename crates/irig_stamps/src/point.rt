@@ -19,7 +19,7 @@ pub fn to_the_right(up: bool, places: usize, power: u128, whole: &[u8], fraction
         → result ≡ min (rounded up (places + e) 0 whole.now fraction.now) (2 ^ 120) }
 {
     // Moved this far, a number with a digit that is not 0 is 10^37 or more, which is greater than
-    // the most: further the point is not moved.
+    // 2^120. So the point is moved no further, and a great power takes no more time.
     let enough = fraction.len() as u128 + 37;
     point_after(
         up,

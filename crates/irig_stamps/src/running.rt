@@ -48,6 +48,7 @@ pub fn run<R: Read, W: Write>(
     match put_part(
         out, &mut state, &mut text, pulses, known, format, settings, before,
     ) {
+        // The answer is `false`: more lines can follow.
         Ok(_) => run_on(
             lines, out, &mut state, &mut text, pulses, known, format, settings,
         ),
@@ -56,7 +57,8 @@ pub fn run<R: Read, W: Write>(
 }
 
 /// Reads the rest of the lines, and prints what comes out for it. Returns whether the column of
-/// each line, also of those before, has a number, but for the header.
+/// each line, also of those before, has a number, but for the header. `TooManyReads` if the lines
+/// have not ended after 2^32 reads.
 fn run_on<R: Read, W: Write>(
     lines: &mut R,
     out: &mut W,

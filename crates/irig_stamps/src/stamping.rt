@@ -34,6 +34,7 @@ const END: u64 = 4_611_686_018_427_387_904;
 /// The moment of a recorder's time after the start of the track, as two numbers in picoseconds: it
 /// is the first less the second. The offset is the recorder's time at the start, so it is taken
 /// off. The time and the offset can be below zero (`negative`, `early`); the two numbers are not.
+/// No sum reaches the end of its type: a time has at most 2^120, and an offset 2^119.
 fn span(settings: &Settings<'_>, picos: Picos) -> (u128, u128)
     requires { settings.now.offset ≤ 2 ^ 119 }
     ensures added { result.0 ≡ min (added settings.now picos) (2 ^ 128 - 1) }
@@ -108,21 +109,27 @@ fn why_of(
     why_at(pulses, whys, format, since as u64)
 }
 
-/// The word of a reason, as it is printed.
+/// The word of a reason why a moment has no time, as it is printed. Frames are those of the track.
 fn why_word<'a>(why: Why) -> &'a [u8]
     ensures { result.now ≡ why_text why }
 {
     match why {
+        // The moment is before the first frame that has a time, or after the last one.
         Why::Before => b"before",
         Why::After => b"after",
+        // Pulses are missing there, or not in step.
         Why::Hole => b"hole",
+        // The time jumps between two believed frames, though all pulses are in step.
         Why::Step => b"step",
+        // A frame there has a time and is not believed.
         Why::Unbelieved => b"unbelieved",
+        // The times of the frames around are not as far apart as their pulses.
         Why::Set => b"set",
     }
 }
 
-/// The word for no time: a hyphen, or if `--why` asked for it the word why there is none.
+/// The word for no time: a hyphen, or if `--why` asked for it (then `known.whys` is there) the word
+/// why there is none.
 fn none_word<'a>(
     pulses: &mut Lens<'_>,
     known: &Known,
@@ -200,7 +207,7 @@ fn put_line(text: &mut Vec<u8>, comma: Option<u8>, line: &[u8]) -> Result<(), Al
 }
 
 /// What is in the column of times in a line of the header that `count` lines are before: the
-/// column's name in the last line, else a hyphen.
+/// column's name in the last line of the header, else a hyphen.
 fn header_word<'a>(settings: &Settings<'a>, count: u64) -> &'a [u8]
     requires { count < settings.now.header }
     ensures { header_word settings.now count ≡ Some result.now }

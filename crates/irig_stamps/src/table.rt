@@ -25,9 +25,9 @@ use irig_track::{Lens, Track};
 use std::alloc::{AllocError, Global};
 use std::io::Write;
 
-/// Prints the table of a recording: a row for each frame that has a time. Returns which of
-/// them are believed.
-/// The table is made before it is printed, so nothing is printed if memory runs out.
+/// Prints the table of a recording: a row for each frame that has a time. Returns whether one of
+/// them is believed, and how many are not. The table is made before it is printed, so nothing is
+/// printed if memory runs out (`OutOfMemory`). `PrintFailed` if the output fails.
 pub fn list<W: Write>(
     alloc: Global,
     recording: Recording,
@@ -70,6 +70,7 @@ fn list_track<W: Write>(
     };
     let day = first_day(&mut records, &held, format);
     let doubted = doubted(&mut records, &held, format);
+    // 0 if no frame is believed. No day is before it, so each row has the year of the settings.
     let settings = Settings {
         first_day: day.unwrap_or(0),
         ..*settings

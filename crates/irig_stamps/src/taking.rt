@@ -17,8 +17,8 @@ use std::alloc::AllocError;
 /// The most bytes of a line, its newline not counted: 1 MiB.
 const LINE_LIMIT: usize = 1_048_576;
 
-/// Takes a byte: a newline ends the line so far, and what comes out for it is added to the text.
-/// Another byte is added to the line.
+/// Takes a byte: a newline ends the line so far, and what comes out for it is added to the text,
+/// which can only run out of memory. Another byte is added to the line.
 fn take_byte(
     lines: &mut Lines,
     text: &mut Vec<u8>,

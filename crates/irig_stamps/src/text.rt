@@ -64,7 +64,7 @@ fn put_ordinal(text: &mut Vec<u8>, year: Option<u32>, time: &Time) -> Result<(),
     text.extend_from_slice(&clock(time))
 }
 
-/// Adds a year and a hyphen, if it is known.
+/// Adds a year of four digits and a hyphen; nothing if the year is not known. It is at most 9999.
 fn put_year(text: &mut Vec<u8>, year: Option<u32>) -> Result<(), AllocError>
     ensures { OnOk result (text.new.items ≡ text.old.items ++ year_text year) }
 {
@@ -96,7 +96,7 @@ fn put_calendar(text: &mut Vec<u8>, year: Option<u32>, time: &Time) -> Result<()
     }
 }
 
-/// Adds the seconds since midnight, with six decimals.
+/// Adds the seconds since midnight, with six decimals: the microseconds.
 fn put_seconds(text: &mut Vec<u8>, time: &Time) -> Result<(), AllocError>
     ensures { OnOk result (text.new.items ≡ text.old.items ++ seconds_text time.now) }
 {

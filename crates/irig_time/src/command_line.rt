@@ -2,7 +2,8 @@
 //! can run out for a `Command` or an `Arg`. The options come in this order: `taking`, `reading`,
 //! `placing`, `writing`, `marking`, and each adds some to those before, and `command` adds the
 //! track. A `UsageFault` is `Words` if `clap` does not accept the words, or they ask for help, and
-//! `Value` if an option has a value that it cannot have.
+//! `Value` if an option has a value that it cannot have. In a text of the help, what is after the
+//! last colon is the value without the option.
 
 ghost use Rattle.std.specs.Prelude.{◌≡◌, IfErr, IfOk, map, string_bytes};
 ghost use Rattle.clap.specs.Words.{HasMatchesOf, app_of, found_of};
@@ -47,7 +48,8 @@ fn asked<'a>(alloc: Global, words: &'a [String]) -> Result<Asked<'a>, Error>
     }
 }
 
-/// The values of the matches, each as it was written. `Err` means that memory ran out.
+/// The values of the matches, each as it was written; `None` for an option that is not given. An
+/// option without a value has `true` if it is given. `Err` means that memory ran out.
 fn values_of<'a>(matches: &ArgMatches<'a>) -> Result<Asked<'a>, Error>
     ensures values { IfOk result (AreValues (found_of matches.now)) }
     ensures memory { IfErr result WantsMemory }

@@ -8,11 +8,11 @@ use irig_words::UsageFault;
 /// How the program ends, before it is reported.
 #[derive(Drop)]
 pub enum Ending<'a> {
-    /// The command line asks for nothing.
+    /// The words of the command line ask for help, or are not valid.
     Usage(UsageFault<OptionFault>),
     /// The track at this path was not read.
     Unread(&'a str, TrackFault),
-    /// All lines were printed. True if the column of each has a number.
+    /// All lines were printed. True if the column of each has a number, but for the header.
     Aligned(bool),
     /// The table was printed.
     Listed,

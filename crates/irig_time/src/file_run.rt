@@ -33,7 +33,8 @@ pub fn align_words<'a, D: Disk, R: Read, W: Write>(
     }
 }
 
-/// Aligns lines with the track that is chosen, or prints its table.
+/// Aligns lines with the track that is chosen, or prints its table. `Unread` if the track could not
+/// be read, also because memory ran out.
 fn run_file<'a, D: Disk, R: Read, W: Write>(
     alloc: Global,
     chosen: &Chosen<'a>,

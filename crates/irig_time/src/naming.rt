@@ -57,7 +57,7 @@ fn has_comma(comma: Option<u8>, text: &[u8]) -> bool
     }
 }
 
-/// Whether a text has a byte.
+/// Whether this byte is in a text.
 fn has(byte: u8, text: &[u8]) -> bool
     ensures { result ≡ has byte text.now }
 {

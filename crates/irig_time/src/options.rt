@@ -81,7 +81,8 @@ fn tells_of_lines(asked: &Asked<'_>) -> bool
         || asks_why(asked)
 }
 
-/// How lines are read and stamped. The first day is found in the track later, so it is 0 here.
+/// How lines are read and stamped; or the first fault of an option. The first day is found in the
+/// track later, so it is 0 here.
 fn settings_of<'a>(asked: &Asked<'a>) -> Result<Settings<'a>, OptionFault>
     ensures settings { IfOk result (HasSettings asked.now) }
     ensures sound { IfOk result IsSound }

@@ -99,7 +99,8 @@ fn column_of<'a>(asked: &Asked<'a>) -> Result<Column<'a>, OptionFault>
     })
 }
 
-/// Whether a text is the name of a column: it has a byte, and is no whole number.
+/// Whether a text is the name of a column: it has a byte, and is no whole number. The attribute
+/// names what the proof uses.
 #[tactic(auto, using(crate::proofs::Headed::some_capped))]
 fn is_column_name(text: &[u8]) -> bool
     ensures { result ≡ is_column_name text.now }
@@ -130,7 +131,8 @@ pub fn header_of(asked: &Asked<'_>, named: Option<&[u8]>) -> Result<u64, OptionF
     Ok(header as u64)
 }
 
-/// What parts columns; `None` if it is not given, which is white space.
+/// The byte that parts columns; `None` if it is not given, which is white space. `Comma` if the
+/// text is no byte that can part them.
 fn comma_of(asked: &Asked<'_>) -> Result<Option<u8>, OptionFault>
     ensures comma { IfOk result (IsComma asked.now) }
     ensures fault { IfErr result (λ fault. HasFault asked.now Comma) }

@@ -1,7 +1,9 @@
 //! The statuses of the program as a process, and what it says of faults. 0 is that each line had a
 //! number or the table was printed, 1 that a line had none, that frames are not believed or that
 //! none has a time, 2 a mistake in the command line, 3 a track that was not read, and 4 that the
-//! run was broken off.
+//! run was broken off. `tell` and `tell_of` print a fault on the standard error, the latter with a
+//! path, and return the status that they get. `explain` prints the help with status 0, or with 2
+//! what is wrong with the words.
 
 ghost use Rattle.std.specs.Prelude.{◌≡◌};
 ghost use Rattle.std.specs.Process.{exit_status};
@@ -35,7 +37,7 @@ pub fn report<R: Eprint, H: Write>(rt: &R, ending: &Ending<'_>, help: &mut H) ->
 }
 
 /// Says how many frames of the track at this path have a time and are not believed. The status is
-/// 1.
+/// 1, also if that cannot be printed.
 fn tell_doubted<R: Eprint>(rt: &R, path: &str, count: usize) -> ExitCode
     ensures { exit_status result ≡ 1 }
 {

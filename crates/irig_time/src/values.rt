@@ -13,7 +13,8 @@ use irig_stamps::{Form, Picos, number, whole};
 /// of at most 2^120 fits 128 bits.
 const LATEST: u128 = 664_613_997_892_457_936_451_903_530_140_172_288;
 
-/// The whole number that a text is, if it is one from `first` to `last`, both included.
+/// The whole number that a text is, if it is one from `first` to `last`, both included. `whole`
+/// gives 2^120 for each greater number, so `last` has to be less.
 pub fn whole_between(first: u128, last: u128, text: &[u8]) -> Option<u128>
     requires { last < 2 ^ 120 }
     ensures value { result ≡ whole_between first last text.now }
@@ -95,15 +96,15 @@ pub fn comma_named(text: &[u8]) -> Option<u8>
     }
 }
 
-/// Whether a byte is one of ASCII that can part columns: none of a number, a time, a word or a
-/// name, and no end of a line.
+/// Whether a byte is one of ASCII, which ends with 127, that can part columns: none of a number, a
+/// time, a word or a name, and no end of a line.
 fn is_parting(byte: u8) -> bool
     ensures { result ≡ is_parting byte }
 {
     byte <= 127 && !is_of_text(byte) && byte != b'\n' && byte != b'\r'
 }
 
-/// Whether a number, a time, a word or a name can have a byte.
+/// Whether this byte can be in a number, a time, a word or a name, so that it cannot part columns.
 fn is_of_text(byte: u8) -> bool
     ensures { result ≡ is_of_text byte }
 {
