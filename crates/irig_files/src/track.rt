@@ -1,7 +1,7 @@
 //! Reads the track of a wire from the dump at a path. A read of the disk has two faults: the outer
 //! one is of the file, the inner one of the dump in it. `Parts` are the recording of the wire and
-//! the text of the journal that the dump carries, if it has one. A window is a part of the time of a
-//! dump.
+//! the text of the journal that the dump carries, if it has one. A window is a part of a dump's
+//! time.
 
 ghost use Rattle.std.specs.Prelude.{◌≡◌, IfErr, IfOk};
 ghost use Rattle.irig_vcd.specs.Answer.{name_of};
