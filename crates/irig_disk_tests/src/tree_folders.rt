@@ -30,9 +30,9 @@ static PATHS: [(&str, &str); 7] = [
 /// The places of regular files, which hold the text `old`.
 pub static OLD: [&str; 4] = ["/t", "/u", "a/t", "b/t"];
 
-/// The places of links, and their texts: paths. One without a `/` in front counts from the folder of
-/// the link. The first four lead to a file that is there, `dangling` to none, `loop` and `pool` to
-/// each other, and the last two to the pipe and to the output.
+/// The places of links, and their texts: paths. One without a `/` in front counts from the folder
+/// of the link. The first four lead to a file that is there, `dangling` to none, `loop` and `pool`
+/// to each other, and the last two to the pipe and to the output.
 pub static LINKS: [(&str, &str); 9] = [
     ("/relative", "a/t"),
     ("a/upward", "../b/t"),
