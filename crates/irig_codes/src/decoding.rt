@@ -32,8 +32,8 @@ pub fn decode(format: Format, frame: &[Element; 100]) -> (Fields, Note)
     decode_ones(format, Ones::of(frame))
 }
 
-/// As `decode`, of a frame of which only is known which elements are One. That suffices: a position
-/// identifier and a Zero carry nothing.
+/// As `decode`, for a caller that knows only which elements of the frame are One. That suffices: a
+/// position identifier and a Zero carry nothing.
 pub fn decode_ones(format: Format, ones: Ones) -> (Fields, Note)
     ensures { (frame : List Element) → length frame ≡ 100 → ones_of frame ≡ ones
         → result ≡ decoded format frame }
@@ -110,7 +110,8 @@ fn first_wrong(digits: &[u64; 15], fields: &Fields) -> Option<Name>
 }
 
 /// Whether the straight binary seconds are there and are not the second of the day that hours,
-/// minutes and seconds make. Without them nothing can disagree.
+/// minutes and seconds make. False if the format has none. The sum fits 64 bits, also with fields
+/// that are out of range.
 fn disagrees(fields: &Fields) -> bool
     ensures { result ≡ sbs_disagrees fields.now }
 {

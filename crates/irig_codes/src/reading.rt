@@ -133,7 +133,9 @@ pub fn read_digits(format: Format, ones: Ones) -> [u64; 15]
         hundredths_units(kind, ones),
         hundredths_tens(kind, ones),
         seconds_units(kind, ones),
+        // The tens of the seconds; E has them, too.
         ones.bits(6, 3),
+        // Minutes, hours and the day are at the same elements in all kinds.
         ones.bits(10, 4),
         ones.bits(15, 3),
         ones.bits(20, 4),

@@ -18,7 +18,8 @@ fn masks(kind: Kind) -> &'static [u128; 8]
     }
 }
 
-/// The elements that carry a bit in a format: element k, from 0, is bit k.
+/// The elements that carry a bit in a format: element k, from 0, is bit k. A format has an
+/// expression from 0 to 7, so a mask is there.
 pub fn used(format: Format) -> u128
     ensures { result ≡ used_of (slots_at format) }
 {

@@ -50,8 +50,8 @@ fn is_kind(word: &[u8], kind: Kind) -> bool
 }
 
 /// The word of a pulse's element, or `bad` if its width means none (`None`). It is given as eight
-/// bytes that end with the word, and the place in them, from 0, at which it begins. So a line is
-/// written with one copy of a known length.
+/// bytes that end with the word, and the place in them, from 0, at which it begins. So the caller
+/// that writes a line backwards copies always eight bytes, which is fast.
 pub fn class_word(class: Option<Element>) -> ([u8; 8], usize)
     ensures word { drop result.1 result.0 ≡ class_word class }
     ensures short { result.1 ≤ 8 }

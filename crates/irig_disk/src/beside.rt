@@ -51,8 +51,8 @@ pub(crate) fn make_beside<F: Folder>(
     Err(PutFault::NamesTaken)
 }
 
-/// Makes a new file under the name of the stem and this number, if that is free and is not the
-/// target's. `None` if it is not: the next number is to be tried.
+/// Makes a new file under the name of the stem and this number. `None` if that name is taken, is
+/// the target's, or is no single name (it has a `/`): the next number is to be tried.
 fn make_at<F: Folder>(
     folder: &mut F,
     dir: &F::Dir,

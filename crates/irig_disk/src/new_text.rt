@@ -44,8 +44,8 @@ pub struct NewText<'n, F: Folder> {
 
 impl<'n, F: Folder> NewText<'n, F> {
     /// Makes the new file, under the first name that is free: the stem and a number from 0. The
-    /// name is written to `name`. If the file is to take a mode, it is its owner's alone until
-    /// then, since that mode may keep others out.
+    /// name is written to `name`. If the file is to take a mode, it is hidden until then, since
+    /// that mode may keep others out. The errors are those of `make_beside`: no file is made then.
     pub fn begin(
         folder: &mut F,
         dir: &'n F::Dir,
@@ -109,7 +109,7 @@ impl<'n, F: Folder> NewText<'n, F> {
     }
 
     /// Gives the text its mode and its name, and keeps both over a crash. If it fails before the
-    /// text has the name, the new file is removed.
+    /// text has the name, the new file is removed; after that the error is `NotKept`.
     pub fn finish(self, folder: &mut F) -> Result<Kept, PutFault<F::Fault>>
         requires { IsName self.target.now }
         ensures ok { IsTrue F.is_told → WhileWriting F.disk folder.old (F.place self.entry.dir.now self.entry.beside.now)

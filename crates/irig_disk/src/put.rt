@@ -129,7 +129,7 @@ fn append_all<F: Folder, T: Text>(
     ensures err { IsTrue F.is_told → OnErr result (Spoils F.disk folder.old folder.new
         (F.place new.old.dir.now new.old.beside.now) (F.number new.old.file)) }
 {
-    // each block but the last makes the rest of the text shorter, so this ends
+    // Each block but the last makes the rest of the text shorter, so this ends.
     'parts: loop {
         match append_next(folder, new, text, block) {
             Ok(false) => {}

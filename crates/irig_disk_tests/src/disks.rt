@@ -133,8 +133,10 @@ fn holds_without(alloc: Global, calls: &[Call], left_out: usize, bytes: &[u8]) -
 /// How many of the last calls are left out, and whether the new text is there then. The calls are:
 /// make, append three times, sync the file, rename, sync the folder.
 static STOPS: [(usize, bool); 8] = [
+    // After all seven, and after the rename: the new text.
     (0, true),
     (1, true),
+    // Before the rename, back to before the first call: the old text.
     (2, false),
     (3, false),
     (4, false),
@@ -145,26 +147,33 @@ static STOPS: [(usize, bool); 8] = [
 
 /// A write that fails: from which call on calls fail, up to which one, which is not included, both
 /// from 0; for which part the text finds no memory; the answer; whether the new text is there then,
-/// and whether the new file remains next to it. The calls are numbered as in `STOPS`; after a fault
-/// the removal of the new file is the next call. No write makes a call 7, so 7 to 8 lets none fail.
+/// and whether the new file remains next to it. The calls are numbered in the order that `STOPS`
+/// has: 0 is make, 1 to 3 append, 4 the sync of the file, 5 rename, 6 the sync of the folder. After
+/// a fault the removal of the new file is the next call. No call has number 7, so 7 to 8 lets none
+/// fail.
 type Fault = (u64, u64, Option<u64>, &'static str, bool, bool);
 
-/// Each write that fails, and what it leaves. In the last row no call fails.
+/// Writes with what fails, and what each leaves.
 static FAULTS: [Fault; 15] = [
+    // One call fails, and the removal of the new file succeeds; if make fails, there is none.
     (0, 1, None, "Failed", false, false),
     (1, 2, None, "Failed", false, false),
     (2, 3, None, "Failed", false, false),
     (3, 4, None, "Failed", false, false),
     (4, 5, None, "Failed", false, false),
     (5, 6, None, "Failed", false, false),
+    // The new text has its name already.
     (6, 7, None, "NotKept", true, false),
+    // A call fails, and so does the next one, the removal.
     (1, 3, None, "LeftBehind", false, true),
     (2, 4, None, "LeftBehind", false, true),
     (3, 5, None, "LeftBehind", false, true),
     (4, 6, None, "LeftBehind", false, true),
     (5, 7, None, "LeftBehind", false, true),
+    // Part 1 finds no memory after make and one append, so call 2 is the removal.
     (7, 8, Some(1), "Memory", false, false),
     (2, 3, Some(1), "Remains", false, true),
+    // Nothing fails.
     (7, 8, None, "Kept", true, false),
 ];
 

@@ -1,7 +1,8 @@
 //! Folders in memory with links and other files, for tests of irig_files, and writes in them.
 //!
 //! A place is what a name leads to: the front of its folder, and the name after it. A folder has
-//! many paths and one front.
+//! many paths and one front. There are three folders, with the fronts `/`, `a/` and `b/`; a path
+//! without a folder is in `/`.
 
 use irig_files::{Disk, Files, Room, Written};
 use irig_folders::{MemoryFault, Tree, TreeDir};
@@ -29,7 +30,9 @@ static PATHS: [(&str, &str); 7] = [
 /// The places of regular files, which hold the text `old`.
 pub static OLD: [&str; 4] = ["/t", "/u", "a/t", "b/t"];
 
-/// The places of links, and their texts.
+/// The places of links, and their texts: paths. One without a `/` in front counts from the folder
+/// of the link. The first four lead to a file that is there, `dangling` to none, `loop` and `pool`
+/// to each other, and the last two to the pipe and to the output.
 pub static LINKS: [(&str, &str); 9] = [
     ("/relative", "a/t"),
     ("a/upward", "../b/t"),
@@ -63,10 +66,12 @@ pub fn row_of(path: &'static str, place: &'static str, is_there: bool) -> Row {
 pub static WRITES: [(&str, &str, bool); 8] = [
     ("t", "/t", true),
     ("a/t", "a/t", true),
+    // Through links: the place is that of the file that `LINKS` leads to.
     ("relative", "a/t", true),
     ("a/upward", "b/t", true),
     ("absolute", "b/t", true),
     ("chain", "a/t", true),
+    // A link to no file, and no file: one is made there.
     ("dangling", "b/none", false),
     ("a/none", "a/none", false),
 ];
@@ -90,7 +95,7 @@ pub fn folders(alloc: Global) -> Result<Tree, MemoryFault> {
     Ok(tree)
 }
 
-/// Writes the text `new`, three bytes, to a path.
+/// Writes the text `new`, three bytes, to a path. It fails if the write does, or memory runs out.
 pub fn write(alloc: Global, files: &mut Files<Tree>, path: &str) -> Result<Written, ShelfFault> {
     let Ok(mut room) = Room::new(alloc) else {
         return Err(ShelfFault);

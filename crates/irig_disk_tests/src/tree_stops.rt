@@ -46,7 +46,8 @@ fn leaves_whole(alloc: Global, calls: &[Call], row: Row) -> bool {
     false
 }
 
-/// Whether the newest of the calls is a sync that keeps the name of a place.
+/// Whether the newest of the calls is a sync that keeps the name of a place: one of its folder. A
+/// place begins with the front of its folder, and with no other: these are `/`, `a/` and `b/`.
 fn keeps_name(calls: &[Call], place: &str) -> bool {
     match calls.first() {
         Some(Call::SyncNames(front)) => place.as_bytes().starts_with(front),
@@ -54,8 +55,8 @@ fn keeps_name(calls: &[Call], place: &str) -> bool {
     }
 }
 
-/// Whether all names of files and links but that of the row lead where they led before the newest
-/// `last` calls.
+/// Whether the names of `OLD` and `LINKS`, the pipe and the output lead where they led before the
+/// newest `last` calls. That of the row is left out, as the write changes it.
 fn others_stay(calls: &[Call], last: usize, row: Row) -> bool {
     let Some(before) = calls.get(last..) else {
         return false;
@@ -73,8 +74,8 @@ fn others_stay(calls: &[Call], last: usize, row: Row) -> bool {
     is_same(calls, before, "/pipe") && is_same(calls, before, "/answers")
 }
 
-/// Whether a place leads to the same file after calls (`calls`) as before the newest of them
-/// (`before`).
+/// Whether a place leads to a file after calls (`calls`), and to the same one as before the newest
+/// of them (`before`).
 fn is_same(calls: &[Call], before: &[Call], place: &str) -> bool {
     let file = file_at(calls, place.as_bytes());
     file.is_some() && file == file_at(before, place.as_bytes())
@@ -105,8 +106,8 @@ fn holds(alloc: Global, calls: &[Call], place: &str, text: &[u8]) -> bool {
     }
 }
 
-/// How many calls the write of a row makes: make, append, take the mode of the file that is there
-/// (if one is), sync the file, rename, sync the folder.
+/// How many calls the write of a row makes: make, append (the text has three bytes, so one block),
+/// take the mode of the file that is there (if one is), sync the file, rename, sync the folder.
 fn calls_of(row: Row) -> u64 {
     if row.is_there { 6 } else { 5 }
 }

@@ -29,16 +29,19 @@ fn is_refused_once(alloc: Global, path: &str, blind: Option<Plain>) -> bool {
 
 /// Paths to which nothing is written, with the call that fails, if one does.
 static REFUSED: [(&str, Option<Plain>); 11] = [
+    // Links in a circle; a file that must not be written; no such folder; a folder, no name in one.
     ("loop", None),
     ("locked", None),
     ("nowhere/t", None),
     ("a/..", None),
+    // Without the fault `chain` is written: `tree_stops` tests it.
     ("chain", Some(Plain::Describe)),
     ("chain", Some(Plain::Output)),
     ("chain", Some(Plain::ReadLink)),
     ("chain", Some(Plain::OpenFolder)),
     ("chain", Some(Plain::OpenSeen)),
     ("chain", Some(Plain::Seen)),
+    // A pipe is opened itself, and no new file is made.
     ("pipe", Some(Plain::OpenOther)),
 ];
 
@@ -107,7 +110,7 @@ fn links_are_followed(alloc: Global, count: u32, is_done: bool) -> bool {
     }
 }
 
-// Forty links are followed, and no more.
+// Forty links are followed, and no more: the limit in `docs/FORMATS.md`, "How a file is written".
 #[test]
 fn forty_links_are_followed(rt: HostRuntime) {
     assert!(rt; links_are_followed(rt.alloc(), 40, true));

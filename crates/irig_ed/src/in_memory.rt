@@ -52,16 +52,22 @@ static DUMP: &[u8] = b"$timescale 1 us $end $var wire 1 ! code $end $enddefiniti
     #100 1!\n#120 0!\n#200 1!\n#280 0!\n#1000\n";
 
 /// A run that writes twice: the track, the path of the writes, the exit status, what is printed,
-/// and how many calls change the folders. A regular file is made under a new name and renamed.
+/// and how many calls change the folders. A dump of two pulses, as it is written, has 163 bytes. A
+/// write to a new regular file is five calls: make, append, sync the file, rename, sync the folder.
+/// If the file is there, the new one also takes its mode, which is a sixth.
 type Row = (&'static str, &'static str, u8, &'static [u8], usize);
 
 /// What is no regular file, and the standard output, are written in place, also through a link.
+/// Paths are from the folder with the dump `t`.
 static ROWS: [Row; 7] = [
+    // A new file first, and then a file that is there: 5 and 6 calls.
     ("t", "w", 0, b"163\n163\n", 11),
     ("t", "t", 0, b"163\n163\n", 12),
+    // In place: no file is made or renamed.
     ("t", "out", 0, b"163\n163\n", 0),
     ("t", "link", 0, b"163\n163\n", 0),
     ("t", "pipe", 0, b"163\n163\n", 0),
+    // No such folder; and a track that cannot be read.
     ("t", "no/w", 1, b"? S3 WriteFailed\n? S3 WriteFailed\n", 0),
     ("none", "w", 3, b"", 0),
 ];

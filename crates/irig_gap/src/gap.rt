@@ -212,8 +212,8 @@ impl<T: Copy> Drop for Gap<T> {
     }
 }
 
-/// The place in the block of the item at `index`, both from 0: the items right of the place begin
-/// at `after`.
+/// The place in the block of the item at `index`, both from 0. `gap` items are left of the place,
+/// and the others begin at `after` in the block.
 fn slot_of(index: usize, gap: usize, after: usize) -> usize
     requires { gap ≤ index → after + (index - gap) < 2 ^ 64 }
     ensures left { index < gap → result ≡ index }

@@ -69,8 +69,8 @@ impl<T: Copy> Gap<T> {
         }
     }
 
-    /// Makes the capacity `wanted`, in another block, and gives the old block back. So it is if
-    /// items are right of the place: they have to go to the end of the new block.
+    /// Makes the capacity `wanted`, in another block, and gives the old block back. `grow` calls
+    /// this if items are right of the place: they have to go to the end of the new block.
     fn relocate(&mut self, wanted: usize) -> Result<(), AllocError>
         requires { self.old.capacity < wanted }
         ensures ok { OnOk result (self.new ≡ gap_view self.old.items self.old.place wanted) }

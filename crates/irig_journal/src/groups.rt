@@ -85,8 +85,9 @@ impl<R: Reversible> Journal<R> {
 
     /// Makes one group of the newest `count` steps of the past, which leads to `cursor`.
     /// `irig_edit` calls it as it opens a saved session: it makes the changes of a saved group one
-    /// by one first. It takes memory only if `count` is 0, for a group without changes. The only
-    /// error is `OutOfMemory`; no step changes then. No group may be open.
+    /// by one first. It takes memory only if `count` is 0: then no step is replaced, and a group
+    /// without changes is added. The only error is `OutOfMemory`; no step changes then. The past
+    /// must have `count` steps, and no group may be open.
     pub fn gather(&mut self, state: &R, count: usize, cursor: usize) -> Result<(), JournalFault>
         requires within { count ≤ length (past_of R.delta self.old) }
         requires no_group { self.old.floor ≡ None }
@@ -156,9 +157,9 @@ impl<R: Reversible> Journal<R> {
     }
 }
 
-/// Makes one step of those after the first `at` of the past's list, if they are more than one.
-/// Undone, it leads to where the oldest of these leads: to the state before the group. So it gets
-/// that cursor. It takes no memory.
+/// Makes one step of those after the first `at` of the past's list, if they are more than one. An
+/// undo of the new step leads to the state before the group, as the oldest of these does. That is
+/// the entry at index `at`, from 0; so the new step gets its cursor. It takes no memory.
 fn end_beyond(entries: &mut Vec<Entry>, at: usize)
     requires within { at ≤ vec_len entries.old }
     requires few { counts_of entries.old.items < 2 ^ 64 }

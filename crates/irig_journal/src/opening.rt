@@ -10,8 +10,8 @@ pub struct Opening {
     pub cursor: usize,
 }
 
-/// Whether none of the `long` steps of the past may be undone, since all of them were made before
-/// the open group was begun. It is false if no group is open.
+/// Whether none of the steps of the past, `long` of them, may be undone, since all of them were
+/// made before the open group was begun. It is false if no group is open.
 pub(crate) fn is_at_floor(floor: Option<Opening>, long: usize) -> bool
     ensures { IsTrue result ↔ AtFloor floor long }
 {

@@ -23,7 +23,7 @@ impl<R: Reversible> Journal<R> {
         }
     }
 
-    /// The steps that can be redone, the next first. This takes no memory.
+    /// The steps that can be redone: first the one that is redone next. This takes no memory.
     pub fn future_steps(&self) -> StepsLeft<'_, R::Change>
         ensures { result ≡ self.now.future }
     {

@@ -57,7 +57,8 @@ impl<'j, C> StepsLeft<'j, C> {
     }
 }
 
-/// The first entry if `first`, else the last one, and all others. `None` if there is none.
+/// The first entry if `first`, else the last one; and then all other entries. `None` if there is
+/// no entry.
 fn entry_at_end(entries: &[Entry], first: bool) -> Option<(&Entry, &[Entry])>
     ensures { MatchOption result (entries.now ≡ [])
         (λ p. entries.now ≡ with_end first (p.0.now ∷ []) p.1.now) }
@@ -100,7 +101,7 @@ fn step_with<'j, C>(entry: Entry, changes: &'j [C]) -> Step<'j, C>
 pub(crate) fn weight_of_all<R: Reversible>(mut steps: StepsLeft<'_, R::Change>) -> u128
     ensures { result ≡ sum_by (λ h. R.weighs (R.delta h.parts)) steps.entry }
 {
-    // Read for its bound alone.
+    // Read for its bound alone: less than 2^64.
     let _len = steps.len();
     let mut sum = 0;
     while let Some(step) = steps.next() {

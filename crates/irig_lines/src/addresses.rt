@@ -17,7 +17,7 @@ use crate::range::Range;
 use crate::time::Time;
 use irig_saved::Letter;
 
-/// The letter of a mark, alone in a word.
+/// The letter of a mark, a to z, alone in a word.
 pub fn letter(word: &[u8]) -> Result<Letter, BadLine>
     ensures { Finds (λ l. (word.now ≡ letter_word l) × (l < 26)) result }
 {
@@ -35,7 +35,8 @@ pub fn time(word: &[u8]) -> Result<Time, BadLine>
 }
 
 /// What an address counts from: the text before its offset. It is `.` or no text, the cursor; `$`,
-/// the last pulse; an apostrophe and the letter of a mark; or the number of a pulse.
+/// the last pulse; an apostrophe and the letter of a mark; or the number of a pulse. Whether the
+/// pulse is there is not tested here.
 fn base(text: &[u8]) -> Result<Base, BadLine>
     ensures { Finds (IsBase text.now) result }
 {
@@ -109,7 +110,7 @@ pub fn range(text: &[u8]) -> Result<Range, BadLine>
 }
 
 /// The addresses before a comma and after it; a comma alone is between the first pulse and the
-/// last.
+/// last. If just one of them is missing, that is a `BadLine`.
 fn pair(first: &[u8], second: &[u8]) -> Result<(Address, Address), BadLine>
     ensures { Finds (λ p. IsPair first.now second.now p.0 p.1) result }
 {

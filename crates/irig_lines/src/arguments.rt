@@ -23,7 +23,8 @@ pub fn times(arguments: &[u8]) -> Result<(Time, Time), BadLine>
     Ok((time(a)?, time(b)?))
 }
 
-/// The moment that a word is: a day and a time of day, as a script writes them.
+/// The moment that a word is: a day and a time of day, as `2024-001T00:00:00`, in one of the forms
+/// that `Moment::parse` (irig_moment) takes.
 pub fn moment(word: &[u8]) -> Result<Moment, BadLine>
     ensures { Finds (λ m. moment_of word.now ≡ Some m) result }
 {
@@ -46,21 +47,21 @@ pub fn controls(text: &[u8]) -> Result<u64, BadLine>
     control(word)
 }
 
-/// The element that a word names.
+/// The element that a word names: `zero`, `one` or `position`.
 pub fn element(word: &[u8]) -> Result<Element, BadLine>
     ensures { Finds (λ e. word.now ≡ element_word e) result }
 {
     element_named(word).ok_or(BadLine)
 }
 
-/// The kind of time code that a word names.
+/// The kind of time code that a word names: `A`, `B`, `E` or `G`.
 pub fn kind(word: &[u8]) -> Result<Kind, BadLine>
     ensures { Finds (λ k. word.now ≡ kind_word k) result }
 {
     kind_named(word).ok_or(BadLine)
 }
 
-/// The number of an expression: one digit 0 to 7.
+/// The number of an expression: one digit 0 to 7. Whether the kind permits it is not tested here.
 pub fn expression(word: &[u8]) -> Result<u8, BadLine>
     ensures { Finds (IsExpression word.now) result }
 {

@@ -44,7 +44,7 @@ pub fn cut(text: &[u8], until: Until) -> (&[u8], &[u8])
     (&text[..at], &text[at..])
 }
 
-/// Whether a byte is white space in a line.
+/// Whether a byte is white space in a line. A newline is not: it ends the line, and is not in it.
 pub fn is_space(byte: u8) -> bool
     ensures { result ≡ is_space byte }
 {

@@ -37,7 +37,7 @@ pub enum Keyword {
     Unknown,
 }
 
-/// The words of the language, each with what it means; nothing is the word that is missing.
+/// The words of the language, each with what it means. An empty text is the word that is missing.
 static WORDS: [(&[u8], Keyword); 24] = [
     (b"", Keyword::Missing),
     (b"list", Keyword::List),

@@ -1,7 +1,8 @@
 //! What a word asks for with a range and arguments. `front` is the text before the word, which is a
-//! range, an address or nothing, and `arguments` is the text after it. `BadLine`, the only error of
-//! a line, says that one of them is not valid for the word. Times are in microseconds, and pulses
-//! count from 1.
+//! range, an address or nothing, and `arguments` is the text after it. A word that takes a range
+//! or an address means the cursor's pulse if `front` is empty; the cursor is the pulse at which a
+//! script is. `BadLine`, the only error of a line, says that `front` or `arguments` is not valid
+//! for the word. Times are in microseconds, and pulses count from 1.
 //!
 //! Where `let Ok(..) else` returns `BadLine`, `?` would do the same; the proof of it takes longer.
 
@@ -28,7 +29,8 @@ pub fn no_range(front: &[u8]) -> Result<(), BadLine>
     }
 }
 
-/// What the address `front` asks for if no word is after it: to show its pulse.
+/// What the address `front` asks for if no word is after it: to show its pulse. An empty `front` is
+/// a `BadLine` here; a line of nothing does not come.
 pub fn show(front: &[u8]) -> Result<Command, BadLine>
     ensures { Finds (Asks Keyword.Missing front.now []) result }
 {

@@ -49,8 +49,9 @@ fn in_text(text: &[u8]) -> Result<Command, BadLine>
     asked(range, keyword_of(word), arguments)
 }
 
-/// Cuts a text into a range and what is after it: before the first white space or small letter. A
-/// letter just after an apostrophe does not count, since it is the name of a mark.
+/// Cuts a text into a range and what is after it: before the first white space or small letter,
+/// with which the word begins. A letter just after an apostrophe does not count, since it is the
+/// name of a mark. If the range is missing, the first part is empty.
 fn split_range(text: &[u8]) -> (&[u8], &[u8])
     ensures whole { text.now ≡ result.0.now ++ result.1.now }
     ensures cut { (range : List ℕ) → (rest : List ℕ) → (r : Range) → text.now ≡ range ++ rest

@@ -45,7 +45,8 @@ pub fn one_word(text: &[u8]) -> Result<&[u8], BadLine>
     Ok(word)
 }
 
-/// The words, if there are just two: the first, and then `one_word` of what is after it.
+/// The words, if there are just two: the first, and then `one_word` of what is after it. Fewer or
+/// more are an error.
 pub fn two_words(text: &[u8]) -> Result<(&[u8], &[u8]), BadLine>
     ensures ok { IfOk result (λ w. words_of text.now ≡ w.0.now ∷ w.1.now ∷ []) }
     ensures err { OnErr result ((x : List ℕ) → (y : List ℕ) → words_of text.now ≡ x ∷ y ∷ [] → ⊥) }

@@ -77,7 +77,8 @@ impl Moment {
 
     /// The fields of frame `k`, from 0 to 9,999, if frame 0 begins at the moment: those of the
     /// moment plus `k` frame periods, which may be on a later day. A frame of the format must begin
-    /// at the moment (`starts`).
+    /// at the moment (`starts`). A period has at most 1,000 hundredths, so the sum is below 2^32,
+    /// and at most two days are added.
     ///
     /// The year is modulo 100; the lowest bit of `control` is the first control element.
     pub fn fields(&self, format: Format, k: u64, control: u64) -> Fields

@@ -19,7 +19,8 @@ pub fn write_text(bytes: &mut [u8], end: usize, text: &[u8]) -> usize
 }
 
 /// Writes a number in decimal and a space so that they end at `end`, and gives where they start. A
-/// number has at most 20 digits, so 21 bytes before `end` have to be there.
+/// number has at most 20 digits, so 21 bytes before `end` have to be there. `write_digits` gives
+/// where the digits start that end before the space.
 #[inline(always)]
 pub fn write_number(bytes: &mut [u8], end: usize, number: u64) -> usize
     requires { (21 ≤ end) × (end ≤ length bytes.old) }

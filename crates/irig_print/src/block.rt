@@ -50,7 +50,8 @@ impl Block {
     }
 
     /// Takes a text of at most 256 bytes, and writes what is held back first if there is no room.
-    /// An error says that this write failed: then the text is not taken.
+    /// After that the block is empty, so there is room. An error says that this write failed: then
+    /// the text is not taken.
     pub fn put<W: Write>(&mut self, out: &mut W, text: &[u8]) -> Result<(), PrintFault>
         requires { length text.now ≤ 256 }
         ensures ok { OnOk result (Sends

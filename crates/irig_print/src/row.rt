@@ -72,8 +72,8 @@ impl Row {
         self.len = len + text.len();
     }
 
-    /// Writes a number in decimal. `write_digits` puts the digits at the end of the array, and
-    /// gives where they start.
+    /// Writes a number in decimal. `write_digits` writes the digits so that they end before the
+    /// given place, here the end of the array, and returns where they start.
     pub fn put_number(&mut self, number: u64)
         requires room { length self.old ≤ 236 }
         ensures text { self.new ≡ self.old ++ decimal number }

@@ -123,7 +123,7 @@ impl Edges {
     }
 }
 
-/// Adds a pulse after the others. If memory runs out, nothing changes.
+/// Adds a pulse after the others. It fails only if memory runs out, and nothing changes then.
 #[inline(always)]
 fn put(pulses: &mut Gap<Pulse>, pulse: Pulse) -> Result<(), AllocError>
     requires few { length pulses.old.items ≤ 2 ^ 22 }

@@ -133,7 +133,8 @@ fn is_recording(length: u64, edges: &[u64]) -> bool
 }
 
 /// Whether each edge is above the one before it, and none above the length. `low` is the least time
-/// that the next edge may have. It cannot overflow, as the caller has tested the length.
+/// that the next edge may have. It is at most the length and 1, which fits: the caller has tested
+/// that the length is at most 2^40.
 fn is_rising(length: u64, edges: &[u64]) -> bool
     requires { length ≤ 2 ^ 40 }
     ensures { IsTrue result ↔ (RisesFrom 0 edges.now × UpTo length edges.now) }

@@ -127,7 +127,8 @@ impl TextWriter {
 
 /// The canonical dump of a recording, as `docs/FORMATS.md` says: nine lines, two for each edge
 /// above 0, and one for the length if no edge is there. At first it asks for as much as the longest
-/// text takes: two edges of 18 bytes a pulse, and 140 for the header and the length. `read` of
+/// text takes. A time is at most 2^40, so it has at most 13 digits, and its line 15 bytes. An edge
+/// then has 18 bytes, and a pulse 36; the header has 125 and the length 15, together 140. `read` of
 /// `irig_vcd` gives the recording back.
 pub fn text(alloc: Global, recording: &Recording) -> Result<Vec<u8>, AllocError>
     ensures written { IfOk result (λ text. text.items ≡ file_text recording.now) }
@@ -209,7 +210,8 @@ fn put_lines(text: &mut Vec<u8>, line: &mut [u8], edge: u64, high: bool) -> Resu
 }
 
 /// Writes `#` and the digits of a time, in microseconds, into a buffer, so that they end before
-/// byte 21, from 0. Returns the byte, from 0, at which the `#` is.
+/// byte 21, from 0. Returns the byte, from 0, at which the `#` is; `write_digits` returns that of
+/// the first digit.
 pub(crate) fn put_digits(line: &mut [u8], time: u64) -> usize
     requires room { 21 ≤ length line.old }
     ensures within { result ≤ length line.new }

@@ -88,7 +88,7 @@ impl Shelf for MemoryShelf {
     }
 }
 
-/// Adds a text, unless memory runs out, and returns whether it did.
+/// Adds a text and returns `true`, or `false` if memory runs out: the texts stay then.
 fn keep(texts: &mut Vec<Vec<u8>>, text: Vec<u8>) -> bool
     ensures kept { IsTrue result → map (λ t. t.items) texts.new.items
         ≡ map (λ t. t.items) texts.old.items ++ text.items ∷ [] }

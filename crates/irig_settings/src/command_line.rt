@@ -37,7 +37,8 @@ pub fn settings<'a>(
 }
 
 /// What the matches of a command line that `clap` accepts ask for. The letter is then one of a
-/// format, so only the expression can be wrong.
+/// format, so only the expression can be wrong: one that the format does not permit. Without
+/// `--out` texts are written to the track's path.
 fn chosen_of<'a>(matches: &ArgMatches<'a>) -> Result<Settings<'a>, UsageFault<OptionFault>>
     ensures { Chooses (found_of matches.now) result }
 {
@@ -58,7 +59,7 @@ fn chosen_of<'a>(matches: &ArgMatches<'a>) -> Result<Settings<'a>, UsageFault<Op
 }
 
 /// The matches of a command line that is accepted. An error is a mistake in its words, the help
-/// that they ask for, or that memory ran out.
+/// that they ask for, or that memory ran out, which `?` makes an error of `clap`.
 fn parse_words<'a>(alloc: Global, words: &'a [String]) -> Result<ArgMatches<'a>, Error>
     ensures parsed { IfOk result (IsParsed (map string_bytes words.entry.now)) }
     ensures refused { IfErr result (MayRefuse (map string_bytes words.entry.now)) }

@@ -6,7 +6,7 @@ ghost use Rattle.irig_text.specs.declared.block.TheConstants.{ENOUGH};
 
 use std::alloc::{AllocError, Global};
 
-/// How many bytes of a text go on at a time, at least, but for the last: 64 KiB.
+/// How many bytes of a text are written at a time, at least, but for the last time: 64 KiB.
 pub const ENOUGH: usize = 65_536;
 
 /// How many bytes more a block has room for: no part that is added last, which may go past

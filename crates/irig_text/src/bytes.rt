@@ -24,7 +24,7 @@ impl Text for Bytes<'_> {
     ghost rest = { λ b. b.left.now };
 
     // Adds bytes to the block until it has `enough`, or none is left. Returns whether none is left.
-    // It fails only if memory runs out.
+    // It fails only if memory runs out; a block that has `enough` already gets none.
     fn fill(&mut self, block: &mut Vec<u8>, enough: usize) -> Result<bool, AllocError> {
         let count = enough.saturating_sub(block.len()).min(self.left.len());
         let (part, left) = self.left.split_at(count);

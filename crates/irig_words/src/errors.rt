@@ -29,6 +29,7 @@ pub fn matches_of<'a>(command: Command<'a>, words: &'a [String]) -> Result<ArgMa
 pub fn not_text(command: Result<Command<'_>, AllocError>) -> Error
     ensures { IsMistake result }
 {
+    // `into` makes an error of `clap` of the one that memory ran out.
     match said_of_bytes(command) {
         Ok(error) => error,
         Err(error) => error.into(),

@@ -17,8 +17,8 @@ pub enum FormatFault {
     Expression,
 }
 
-/// The format with a letter and an expression: B and 2, where they are not given. An error says
-/// which of them is wrong. Some formats do not permit all expressions 0 to 7.
+/// The format with a letter and an expression; one that is not given is B or 2. An error says which
+/// of them is wrong, the letter first. E and G do not permit all expressions 0 to 7.
 pub fn format_named(letter: Option<&str>, number: Option<&str>) -> Result<Format, FormatFault>
     ensures format { IfOk result (IsFormat (given letter.entry) (given number.entry)) }
     ensures fault { IfErr result (HasFormatFault (given letter.entry) (given number.entry)) }

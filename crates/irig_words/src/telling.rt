@@ -93,7 +93,8 @@ impl<'a> Program<'a> {
     }
 
     /// Prints the help on `help`, the program's output, if the words ask for it; else says which
-    /// mistake they have. `use_stderr` says that it is a mistake.
+    /// mistake they have, and returns 2. For `clap` both are an error; `use_stderr` is true of a
+    /// mistake.
     fn answer<R: Eprint, H: Write>(&self, rt: &R, error: &Error, help: &mut H) -> ExitCode
         ensures mistake { IsMistake error.now → EndsWith 2 (H.contents help.old)
             (H.contents help.new) (exit_status result) }

@@ -28,7 +28,7 @@ pub enum WindowFault {
     Early,
 }
 
-/// A greater number is read as this one, which is no time: 2^64.
+/// 2^64, the least number that is no time, as a time has 64 bits. A greater one is read as this.
 const NUMBER_LIMIT: u128 = 18_446_744_073_709_551_616;
 
 /// The command line with the two options of a window, `--from` and `--to`. It fails only if memory
@@ -60,8 +60,9 @@ fn to_arg<'a>(alloc: Global) -> Arg<'a>
     )
 }
 
-/// The window between two times in microseconds, if one of them is given. Without `from` it begins
-/// at 0, and without `to` it ends at the greatest time.
+/// The window between two times in microseconds, if one of them is given; `Ok(None)` if none is.
+/// Without `from` it begins at 0, and without `to` it ends at the greatest time. An error says
+/// which text is no time, `from` first, or that the window ends before it begins.
 pub fn window_named(from: Option<&str>, to: Option<&str>) -> Result<Option<Window>, WindowFault>
     ensures window { IfOk result (IsWindow (given from.entry) (given to.entry)) }
     ensures fault { IfErr result (HasWindowFault (given from.entry) (given to.entry)) }
@@ -119,7 +120,7 @@ fn time_named(text: &[u8]) -> Option<u64>
 }
 
 /// The number that digits spell, or 2^64 if it is above, so that no step overflows; `None` if a
-/// byte is no digit.
+/// byte is no digit. No digits are 0; the caller has tested that some are there.
 fn spelt(digits: &[u8]) -> Option<u128>
     ensures { result ≡ spelt 0 digits.now }
 {

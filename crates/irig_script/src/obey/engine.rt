@@ -120,8 +120,8 @@ fn read_part<R: Read>(script: &mut R, buffer: &mut [u8; READ_LIMIT]) -> Result<u
     }
 }
 
-/// The bytes that a read of `count` bytes gave. If it gave none the script ends, and they are the
-/// newline that its last line lacks; none if no byte of that line has come.
+/// The bytes to obey after a read of `count` bytes: those that it gave. If it gave none the script
+/// ends: then a newline, which its last line lacks, or no byte if that line has none.
 fn with_end<'a>(buffer: &'a [u8; READ_LIMIT], count: usize, line: &Line) -> &'a [u8]
     requires { count ≤ length buffer.now }
     ensures { (text : List ℕ) → Holds text line.now
@@ -167,7 +167,8 @@ fn obey_part<W: Write, N: Witness, S: Shelf>(
 }
 
 /// Obeys a byte that comes after the front of a line: a newline ends the line, which is obeyed and
-/// answered. Returns whether the script ends with it, which only `quit` does.
+/// answered. Returns whether the script ends with this line, which only `quit` does: `obey_line`
+/// has no reply to it (`None`).
 fn obey_byte<W: Write, N: Witness, S: Shelf>(
     line: &mut Line,
     byte: u8,

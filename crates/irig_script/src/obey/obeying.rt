@@ -21,7 +21,8 @@ use irig_edit::Session;
 use irig_lines::{BadLine, Command, Purpose, parse_line};
 use irig_text::Shelf;
 
-/// Obeys a line and returns its answer, refused or not; `None` if it ends the script.
+/// Obeys a line and returns its answer, refused or not; `None` if it is `quit`, which ends the
+/// script. A refused line changes nothing.
 pub fn obey_line<S: Shelf>(line: &Line, session: &mut Session, shelf: &mut S) -> Option<Reply>
     ensures answers { Answers result (S.known shelf.old) (S.known shelf.new)
         session.old session.new line.now }
@@ -37,7 +38,8 @@ pub fn obey_line<S: Shelf>(line: &Line, session: &mut Session, shelf: &mut S) ->
     }
 }
 
-/// Obeys a command that does not end the script.
+/// Obeys a command that does not end the script: `write` and `save` need the shelf, all others do
+/// not.
 fn write_or_obey<S: Shelf>(command: Command, session: &mut Session, shelf: &mut S) -> Reply
     requires { command ≢ Command.Quit }
     ensures answer { Obeys command session.old result session.new }
@@ -55,6 +57,7 @@ fn write_or_obey<S: Shelf>(command: Command, session: &mut Session, shelf: &mut 
 }
 
 /// Obeys a command that neither writes a text nor ends the script, so `Text` and `End` do not come.
+/// A blank line or a comment, `Nothing`, changes nothing and prints nothing.
 pub fn obey(command: Command, session: &mut Session) -> Reply
     requires goes_on { command ≢ Command.Quit }
     requires writes_none { command ≢ Command.Write }

@@ -19,9 +19,9 @@ fn mark(session: &Session, letter: &Letter) -> Option<u64>
     session.mark_time(letter.byte())
 }
 
-/// The number, from 1, that an address counts from; `None` if that is a mark which is not set. A
-/// mark stands for the last pulse that rises at or before it, 0 if none does. The cursor can be 0,
-/// too.
+/// The number that an address counts from; `None` if that is a mark which is not set. A mark means
+/// the last pulse that rises at or before it, 0 if none does. The cursor and the last pulse can be
+/// 0, too. Whether a pulse of this number is there is not tested here.
 fn base(session: &Session, base: &Base) -> Option<u64>
     ensures { result ≡ base_of base.now (present_in session.now) }
 {
@@ -36,8 +36,8 @@ fn base(session: &Session, base: &Base) -> Option<u64>
     }
 }
 
-/// The number `number + by + offset`, of pulses; 0 if it would be less. The answer has more bits,
-/// so that the sum fits.
+/// The number `number + by + offset`, of pulses; 0 if that is below 0. The answer has 128 bits, so
+/// that the sum of these 64-bit numbers fits.
 fn counted(number: u64, by: u64, offset: i64) -> u128
     ensures { result ≡ number + by + ahead offset - back offset }
 {

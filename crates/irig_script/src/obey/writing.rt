@@ -36,7 +36,8 @@ pub fn write_saved<S: Shelf>(session: &Session, shelf: &mut S) -> Reply
     write(&mut session.saved_parts(), shelf)
 }
 
-/// Writes a text to the shelf. The reply has how many bytes it was, or says that the write failed.
+/// Writes a text to the shelf. The reply has how many bytes the text has, or says that the write
+/// failed.
 fn write<T: Text, S: Shelf>(text: &mut T, shelf: &mut S) -> Reply
     ensures answer { Writes (T.rest text.old) result }
     ensures put { Puts (S.known shelf.old) (S.known shelf.new)

@@ -46,7 +46,8 @@ fn put_track(row: &mut Row, session: &Session)
     put_count(row, b" ", format.expression() as u64);
 }
 
-/// Writes a word and a number. There is room for 20 digits after the word.
+/// Writes a word and a number. The row has room for the word and 20 digits more, the most that a
+/// number has.
 fn put_count(row: &mut Row, word: &[u8], count: u64)
     requires room { length row.old + length word.now ≤ 236 }
     ensures text { row.new ≡ row.old ++ word.now ++ decimal count }

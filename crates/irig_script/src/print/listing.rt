@@ -13,7 +13,8 @@ use irig_edit::Session;
 use irig_print::{Block, PrintFault, Row, put_frame};
 use std::io::Write;
 
-/// Prints a line for each frame of the track, in blocks: at the end what still waits goes out.
+/// Prints a line for each frame of the track, in blocks: at the end what still waits goes out. It
+/// is a call of its own, so that no other line pays for the block on the stack.
 #[inline(never)]
 pub fn print_frames<W: Write>(session: &Session, out: &mut W) -> Result<(), PrintFault>
     ensures { Prints (W.contents out.old) (W.contents out.new)

@@ -13,7 +13,8 @@ use irig_saved::Letter;
 use std::io::Write;
 
 /// Prints a line for each mark that is set, a to z: places 0 to 25. One that is not set has an
-/// empty row. At the end what still waits in the block goes out.
+/// empty row. At the end what still waits in the block goes out. It is a call of its own, so that
+/// no other line pays for the block on the stack.
 #[inline(never)]
 pub fn print_marks<W: Write>(session: &Session, out: &mut W) -> Result<(), PrintFault>
     ensures { Prints (W.contents out.old) (W.contents out.new)

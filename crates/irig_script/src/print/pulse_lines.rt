@@ -11,15 +11,15 @@ use irig_edit::Session;
 use irig_print::{LINE_ROOM, PrintFault, put_all, write_pulse};
 use std::io::Write;
 
-/// A listing of this many lines at most goes out by a small block, 1,008 bytes: a block is cleared
-/// first, so a short listing has a short one.
+/// A listing of this many lines at most goes out by a small block, 1,008 bytes, which is just below
+/// 1 KiB: a block is cleared first, so a short listing has a short one.
 const FEW: usize = 14;
 
 /// The bytes of a block of a longer listing: 227 lines have room in it.
 const BLOCK: usize = 16384;
 
-/// Prints a line for each of `count` pulses after the first `before`. By one write, if the block
-/// that is chosen has room for all of them.
+/// Prints a line for each of `count` pulses after the first `before`, by the shortest block that
+/// has room for all of them: then they go out by one write. Without such a block, by the longest.
 pub fn print_pulses<W: Write>(
     session: &Session,
     before: usize,

@@ -63,6 +63,7 @@ pub fn print<W: Write>(reply: Reply, session: &Session, out: &mut W) -> Result<(
         Reply::Frames => print_frames(session, out),
         Reply::Marks => print_marks(session, out),
         Reply::Info => print_info(session, out),
+        // All other replies are refusals.
         _ => put_all(out, refused_line(reply)),
     }
 }
@@ -103,7 +104,8 @@ fn refusal_line(why: Refusal) -> &'static [u8]
     }
 }
 
-/// Prints a number and a newline: the digits end before place 23, from 0, where the newline is.
+/// Prints a number and a newline: the digits end before place 23, from 0, where the newline is. A
+/// number has at most 20 digits. `write_digits` gives the place of the first one.
 fn put_number<W: Write>(out: &mut W, number: u64) -> Result<(), PrintFault>
     ensures { Prints (W.contents out.old) (W.contents out.new) (decimal number ++ 10 ∷ []) result }
 {

@@ -60,7 +60,8 @@ impl Write for Full {
 }
 
 /// Whether only the whole lines of a script are obeyed and answered if its reads fail after this
-/// many bytes. A read gives three bytes, so that it ends within a line.
+/// many bytes. A read gives three bytes, so that it ends within a line. `worked.stops` has what
+/// each line leaves.
 fn is_read(
     alloc: Global,
     session: &mut Session,
@@ -100,6 +101,7 @@ fn check_reads(rt: &impl Abort, alloc: Global, worked: Worked<'_>, kind: ErrorKi
     }
 }
 
+// An interrupted read is not tried again: it ends the run as each other error does.
 #[test]
 fn a_failed_read_ends_the_run(rt: HostRuntime) {
     check_reads(&rt, rt.alloc(), INVERTED, ErrorKind::Other);
@@ -143,6 +145,7 @@ fn check_writes(rt: &impl Abort, alloc: Global, worked: Worked<'_>, fails: bool)
     }
 }
 
+// A write that fails (`true`), or takes no byte (`false`), ends the run.
 #[test]
 fn a_failed_write_ends_the_run(rt: HostRuntime) {
     check_writes(&rt, rt.alloc(), INVERTED, true);
@@ -150,7 +153,8 @@ fn a_failed_write_ends_the_run(rt: HostRuntime) {
     check_writes(&rt, rt.alloc(), DELETED, true);
 }
 
-/// What the script of two writes prints, by the write that fails, from 1.
+/// What the script of two writes (`INVERTED`) prints, by the write that fails, from 1: `S3` instead
+/// of the count of its bytes.
 pub static REFUSED: [(u64, &[u8]); 2] = [
     (
         1,
@@ -164,7 +168,8 @@ pub static REFUSED: [(u64, &[u8]); 2] = [
     ),
 ];
 
-/// What that script leaves.
+/// What that script leaves: the text of the write that does not fail. `stands` tests neither `read`
+/// nor `printed`.
 const REFUSED_STOP: Stop = Stop {
     read: 44,
     printed: 91,
@@ -192,6 +197,7 @@ fn is_put_once(alloc: Global, fails: u64, printed: &[u8]) -> bool {
     }
 }
 
+// The lines after a refused one are obeyed.
 #[test]
 fn a_failed_put_refuses_its_line(rt: HostRuntime) {
     for (fails, printed) in REFUSED.iter() {

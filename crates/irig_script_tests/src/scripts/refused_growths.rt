@@ -1,4 +1,6 @@
-//! What a refused growth leaves: `tests/no_memory` runs it with each growth refused in turn.
+//! What a refused growth leaves: `tests/no_memory` runs it with each growth refused in turn. A
+//! growth is a request for memory. At most one is refused in a run, so a call that was refused
+//! succeeds when it is made again.
 
 use crate::scripts::helpers::{TWO_PULSES, two_pulses};
 use irig_codes::{Format, Kind};
@@ -21,7 +23,8 @@ fn undoes(session: &mut Session) -> bool {
     session.undo() == Ok(()) && session.len() == 2 && session.steps_forward() == 1
 }
 
-/// Whether another pulse is inserted and undone; an error leaves what can be redone.
+/// Whether another pulse is inserted and undone; an error leaves what can be redone. Either way one
+/// step can be redone then, and two pulses are there.
 fn inserts_another(session: &mut Session) -> bool {
     if session.insert(500, 510) == Err(Refusal::OutOfMemory) {
         session.len() == 2 && session.steps_forward() == 1
@@ -48,12 +51,19 @@ fn a_refused_call_leaves_the_session(rt: HostRuntime) {
     }
 }
 
-/// What the script below prints, by the growth that is refused.
+/// What the script below prints, by the growth that is refused. Its lines are `invert`, which
+/// removes a pulse, `write`, `undo` and `write`; the first write has 147 bytes, or 163 if the pulse
+/// is there, as at the second.
 static PRINTED: [&[u8]; 6] = [
+    // None of the script.
     b"147\n163\n",
+    // The invert, so there is nothing to undo.
     b"? E11 OutOfMemory\n163\n? E9 NothingToUndo\n163\n",
+    // The first write, if it needed memory of the session: it needs none, so this does not come.
     b"? E11 OutOfMemory\n163\n",
+    // The first write, on the shelf.
     b"? S3 WriteFailed\n163\n",
+    // The second write, in the same two ways.
     b"147\n? E11 OutOfMemory\n",
     b"147\n? S3 WriteFailed\n",
 ];
@@ -76,7 +86,8 @@ fn ran(alloc: Global, out: &mut Vec<u8>) -> Option<Result<Status, DumpRunFault>>
     ))
 }
 
-/// Whether only the line that runs out of memory is refused, or the dump is not opened.
+/// Whether only the line that runs out of memory is refused, or the dump is not opened and nothing
+/// is printed. `None`: the bytes of the dump found no room, so no script ran.
 fn is_expected(outcome: Option<Result<Status, DumpRunFault>>, out: &[u8]) -> bool {
     match outcome {
         None => true,
@@ -85,7 +96,7 @@ fn is_expected(outcome: Option<Result<Status, DumpRunFault>>, out: &[u8]) -> boo
     }
 }
 
-/// Whether what is printed is one of those texts.
+/// Whether what is printed is one of the texts of `PRINTED`.
 fn is_printed(out: &[u8]) -> bool {
     for text in PRINTED.iter() {
         if *text == out {
@@ -98,6 +109,7 @@ fn is_printed(out: &[u8]) -> bool {
 // In a script only the line that runs out of memory is refused, and the next ones are obeyed.
 #[test]
 fn a_refused_line_leaves_the_rest(rt: HostRuntime) {
+    // All that is printed has room in 200 bytes, so the output itself takes no memory later.
     let Ok(mut out) = Vec::with_capacity(rt.alloc(), 200) else {
         return;
     };

@@ -8,7 +8,8 @@ use irig_script::{MemoryShelf, NoWitness, Screen, Status, run_on_dump};
 use std::alloc::{AllocError, Global};
 use std::process::Abort;
 
-/// Whether a script prints and ends as its row says, run on the dump of two pulses.
+/// Whether a script prints and ends as its row says, run on the dump of two pulses. A `write`
+/// prints the bytes of the dump, 163 with two pulses and 147 with one. False if memory runs out.
 fn is_right(alloc: Global, row: &Row<'_>, shelf: &mut MemoryShelf) -> bool {
     let Ok(format) = Format::new(Kind::G, 2) else {
         return false;
@@ -40,7 +41,8 @@ fn a_last_line_is_obeyed(rt: HostRuntime) {
     check(&rt, rt.alloc(), &row);
 }
 
-/// A line of 1,000 bytes, and one of 1,001: each is a word or a comment, filled up.
+/// A line of 1,000 bytes, `write` and spaces, and one of 1,001 bytes, all `#`. The first has its
+/// newline at place 1,000, so the second begins at 1,001 and ends before 2,002.
 fn long_lines(alloc: Global) -> Result<Vec<u8>, AllocError> {
     let mut script = Vec::from_slice(alloc, b"write")?;
     script.resize(1000, b' ')?;

@@ -15,7 +15,8 @@ const FIRST: u64 = 5;
 /// How many calls both writes make: the second one gives the new file the mode of the old one.
 const BOTH: u64 = 11;
 
-/// How many bytes the texts of the two writes have.
+/// How many bytes the texts of the two writes have: 179 with three pulses, 163 with two. So the
+/// length shows which text it is.
 const TEXTS: [usize; 2] = [179, 163];
 
 /// Runs the script of two writes to the name `t`.
@@ -43,7 +44,7 @@ pub fn left(alloc: Global, calls: &[Call]) -> Option<usize> {
     is_kept(calls, file).then_some(held.len())
 }
 
-/// Whether the names were kept by one of the calls: a flush of the folder.
+/// Whether the names were kept by one of the calls: a sync of the folder.
 fn is_named(calls: &[Call]) -> bool {
     for call in calls {
         if matches!(call, Call::SyncNames(_)) {
@@ -97,8 +98,9 @@ fn is_run_once(alloc: Global, fails: u64, printed: &[u8]) -> bool {
     }
 }
 
-/// What is printed if this call fails: one of the two writes is refused, or none if no such call is
-/// made.
+/// What is printed if the call of this number, from 0, fails: the write that makes it is refused.
+/// No call has the number `BOTH`, so none is refused then. Only one call fails, so the removal of
+/// the new file succeeds.
 fn printed_without(fails: u64) -> &'static [u8] {
     match fails {
         0..FIRST => REFUSED[0].1,

@@ -12,7 +12,7 @@ use irig_files::Room;
 use irig_script::{Screen, Status};
 use std::alloc::Global;
 
-/// The dump, and the format in which it is read.
+/// The dump, and the format in which it is read. `None` if memory runs out.
 fn opening(alloc: Global) -> Option<(Vec<u8>, Format)>
     ensures { IfSome result (λ opened. length opened.0.items ≤ 2 ^ 28) }
 {
@@ -21,8 +21,8 @@ fn opening(alloc: Global) -> Option<(Vec<u8>, Format)>
     Some((dump, format))
 }
 
-/// Whether the script prints what it is to print, and leaves the text of its last write, 163 bytes.
-/// False if memory runs out.
+/// Whether the script prints what it is to print, and leaves the text of its last write, 163 bytes:
+/// that of two pulses. False if memory runs out.
 fn is_right(alloc: Global, room: &mut Room) -> bool {
     let Some((dump, format)) = opening(alloc) else {
         return false;

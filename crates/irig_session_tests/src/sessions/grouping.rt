@@ -31,7 +31,9 @@ static ONE_STEP: [Row; 6] = [
     (Call::Begin, None, [2, 0, 0], (0, 0)),
     (Call::Delete(1, 1), None, [1, 1, 0], (1, 0)),
     (Call::Insert(300, 350), None, [2, 2, 0], (1, 0)),
+    // The two steps of the group become one.
     (Call::End, None, [2, 1, 0], (1, 0)),
+    // The future step inserts pulse 300 to 350 again; the delete in it inserts none.
     (Call::Undo, None, [2, 0, 1], (0, 1)),
     (Call::Redo, None, [2, 1, 0], (1, 0)),
 ];
@@ -48,11 +50,13 @@ static REFUSED: [Row; 9] = [
     (Call::End, Some(Refusal::NoGroup), [2, 0, 0], (0, 0)),
     (Call::Abort, Some(Refusal::NoGroup), [2, 0, 0], (0, 0)),
     (Call::Begin, None, [2, 0, 0], (0, 0)),
+    // No step is there at all; with one from before the group it is `GroupFloor`, as in `ABORTED`.
     (Call::Undo, Some(Refusal::NothingToUndo), [2, 0, 0], (0, 0)),
     (Call::Begin, Some(Refusal::GroupOpen), [2, 0, 0], (0, 0)),
     (Call::Delete(1, 1), None, [1, 1, 0], (1, 0)),
     (Call::Undo, None, [2, 0, 1], (0, 0)),
     (Call::Undo, Some(Refusal::NothingToUndo), [2, 0, 1], (0, 0)),
+    // An abort leaves nothing to redo.
     (Call::Abort, None, [2, 0, 0], (0, 0)),
 ];
 
@@ -66,6 +70,7 @@ fn calls_of_groups_are_refused_in_their_order(rt: HostRuntime) {
 static ABORTED: [Row; 6] = [
     (Call::Delete(1, 1), None, [1, 1, 0], (1, 0)),
     (Call::Begin, None, [1, 1, 0], (1, 0)),
+    // The step was made before the group was opened.
     (Call::Undo, Some(Refusal::GroupFloor), [1, 1, 0], (1, 0)),
     (Call::Delete(1, 1), None, [0, 2, 0], (2, 0)),
     (Call::Abort, None, [1, 1, 0], (1, 0)),

@@ -29,10 +29,12 @@ fn check(rt: &impl Abort, alloc: Global, length: u64, edges: &[u64], rows: &[Row
 static EDITS: [Row; 13] = [
     (Call::Delete(1, 1), (1, 0)),
     (Call::Undo, (0, 0)),
+    // A split replaces one pulse by two, a join here two by one.
     (Call::Split(2, 220, 230), (1, 0)),
     (Call::Undo, (0, 2)),
     (Call::Join(1, 2), (2, 0)),
     (Call::Undo, (0, 1)),
+    // A new edit drops the future, and what it holds.
     (Call::Shift(1, 1, 20), (0, 0)),
     (Call::Invert(130, 150), (0, 0)),
     (Call::Undo, (0, 0)),
@@ -50,11 +52,13 @@ fn a_step_holds_what_its_edit_took_or_put(rt: HostRuntime) {
 
 /// Frames on a track without a pulse.
 static FRAMES: [Row; 6] = [
+    // Two frames of 100 pulses, where none was.
     (Call::Regen(0, 2), (0, 0)),
     (Call::Undo, (0, 200)),
     (Call::Redo, (0, 0)),
     (Call::Force(100, Element::One), (1, 0)),
     (Call::Undo, (0, 1)),
+    // The pulses of the first frame are replaced.
     (Call::Regen(0, 1), (100, 0)),
 ];
 

@@ -29,7 +29,8 @@ pub enum Call {
     Abort,
 }
 
-/// A session in format G 2 on a track with these edges, if they are those of a track.
+/// A session in format G 2 on a track of this length with these edges. Its cursor is at the last
+/// pulse, as in each new session.
 pub fn open(alloc: Global, length: u64, edges: &[u64]) -> Option<Session> {
     let format = Format::new(Kind::G, 2).ok()?;
     let recording = Recording::new(alloc, length, edges).ok()??;
@@ -42,7 +43,7 @@ pub fn two_pulses(alloc: Global) -> Option<Session> {
 }
 
 /// Generates `frames` frames from `start`, in microseconds, on. The first carries the begin of
-/// 2024.
+/// 2024. That moment is always read, so `BadTime` here does not come.
 fn regen(session: &mut Session, start: u64, frames: u64) -> Result<(), Refusal> {
     match Moment::parse(b"2024-001T00:00:00") {
         Some(moment) => session.regen(start, frames, moment, 0),

@@ -42,13 +42,17 @@ fn check(rt: &impl Abort, alloc: Global, length: u64, rows: &[Row]) {
 /// Edits of a million pulses. The first generated frame is none: no pulse is before its marker. The
 /// bound of the first is for all new pulses; no later one depends on the number of pulses.
 static MILLION: [Row; 5] = [
+    // 3 * (1,000,000 + 200) looks.
     (Call::Regen(0, 10_000), [9_999, 101, 999_901], 3_000_600),
+    // Pulse 500,000 ends a frame. Without its position identifier the next pulse is no marker. One
+    // new pulse comes: 3 * (1 + 200) looks.
     (
         Call::Force(500_000, Element::One),
         [9_998, 101, 999_901],
         603,
     ),
     (Call::Undo, [9_999, 101, 999_901], 603),
+    // No pulse comes, and each pulse after the first has a number lower by one.
     (Call::Delete(1, 1), [9_999, 100, 999_900], 600),
     (Call::Mark(0, Some(5)), [9_999, 100, 999_900], 0),
 ];
@@ -62,8 +66,12 @@ fn an_edit_of_a_million_pulses_looks_in_its_window(rt: HostRuntime) {
 /// An edit of each kind. `Go` is no change, so the looks of the undo before it stay. A new format
 /// reads all frames again, for which 100 looks a pulse are more than enough.
 static EACH_KIND: [Row; 8] = [
+    // 1,000 pulses come.
     (Call::Regen(0, 10), [9, 101, 901], 3_600),
+    // Two pulses come: they move by one microsecond, which changes no frame.
     (Call::Shift(3, 4, 1), [9, 101, 901], 606),
+    // The marker at 30,000 is cut in two, so one frame goes, and later pulses have a number higher
+    // by one. The bound is that of three new pulses.
     (Call::Invert(30_050, 30_060), [8, 101, 902], 609),
     (Call::Undo, [9, 101, 901], 606),
     (Call::Go(7), [9, 101, 901], 606),

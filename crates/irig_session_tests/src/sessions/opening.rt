@@ -63,8 +63,10 @@ fn check(rt: &impl Abort, alloc: Global, rows: &[Row]) {
     }
 }
 
-/// Lines of journals, each with its wrong line.
+/// Lines of journals, each with its wrong line: 2 is `format`, 3 `cursor`, and without marks 4 is
+/// `past`. A step is at fault at its line `at`. The track has one pulse.
 static ROWS: [Row; 12] = [
+    // Each step can be made.
     (
         b"format G 2\ncursor 1\npast 1\nat 2\nsplice 1 0 1\n100 120\nfuture 1\nat 1\n\
         setmark a 110\n",
@@ -75,44 +77,55 @@ static ROWS: [Row; 12] = [
         setmark a 110\n",
         Some(3),
     ),
+    // The pulse to be inserted would touch the one from 200 on: line 5 is `at 2`.
     (
         b"format G 2\ncursor 1\npast 1\nat 2\nsplice 1 0 1\n100 220\nfuture 1\nat 1\n\
         setmark a 110\n",
         Some(5),
     ),
+    // Line 9, `at 9`: there are not so many pulses.
     (
         b"format G 2\ncursor 1\npast 1\nat 2\nsplice 1 0 1\n100 120\nfuture 1\nat 9\n\
         setmark a 110\n",
         Some(9),
     ),
+    // Line 10: a number with a leading zero.
     (
         b"format G 2\ncursor 1\npast 1\nat 2\nsplice 1 0 1\n100 120\nfuture 1\nat 1\n\
         setmark a 0110\n",
         Some(10),
     ),
+    // A second step of the future is missing, so line 11, `$end`, is wrong.
     (
         b"format G 2\ncursor 1\npast 1\nat 2\nsplice 1 0 1\n100 120\nfuture 2\nat 1\n\
         setmark a 110\n",
         Some(11),
     ),
+    // E does not permit expression 4; the cursor is wrong too, but later.
     (b"format E 4\ncursor 9\npast 0\nfuture 0\n", Some(2)),
+    // A mark may be at the length, 1,000, but not after it.
     (
         b"format G 2\ncursor 1\nmark a 1000\nmark b 1001\npast 0\nfuture 0\n",
         Some(5),
     ),
+    // A group may have no change, or one.
     (
         b"format G 2\ncursor 1\npast 1\nat 0\ngroup 0\nfuture 1\nat 0\ngroup 1\nsplice 1 1 0\n",
         None,
     ),
+    // The second change of the group removes a pulse that is no longer there: line 6 is its `at`.
     (
         b"format G 2\ncursor 1\npast 0\nfuture 1\nat 0\ngroup 2\nsplice 1 1 0\nsplice 1 1 0\n",
         Some(6),
     ),
+    // The newest step of the past is last in the lines, and is tried first: it removes the pulse,
+    // and then the older step inserts one.
     (
         b"format G 2\ncursor 1\npast 2\nat 0\nsplice 1 0 1\n100 120\nat 0\nsplice 1 1 0\n\
         future 0\n",
         None,
     ),
+    // The newest step, from line 7 on, removes the only pulse, so its cursor can be 0 alone.
     (
         b"format G 2\ncursor 1\npast 2\nat 0\nsplice 1 1 0\nat 2\nsplice 1 1 0\nfuture 0\n",
         Some(7),

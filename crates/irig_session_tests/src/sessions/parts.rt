@@ -98,7 +98,7 @@ fn check(rt: &impl Abort, alloc: Global, sizes: &[usize]) {
     }
 }
 
-// Also with blocks of a single line, and with one block for all.
+// Also with blocks of a single line (1 and 7 bytes at least), and with one block for all.
 #[test]
 fn the_parts_of_a_saved_session_are_its_text(rt: HostRuntime) {
     check(&rt, rt.alloc(), &[1, 7, 100, 65_536]);

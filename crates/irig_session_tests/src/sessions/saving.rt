@@ -6,8 +6,9 @@ use irig_edit::Session;
 use std::alloc::{AllocError, Global};
 use std::process::Abort;
 
-/// Calls on two pulses, and the lines of the journal that is saved after them, without the first,
-/// which names it.
+/// Calls on two pulses, with the cursor at the second, and the lines of the journal that is saved
+/// after them, without the first, which names it. A line `at` is the cursor before the edit for a
+/// step of the past, and the one after it for a step of the future.
 type Row = (&'static [Call], &'static [u8]);
 
 /// Appends the comment with a journal of these lines. It fails only if memory runs out.
@@ -51,10 +52,12 @@ static STEPS: [Row; 4] = [
         b"format G 2\ncursor 1\npast 1\nat 2\nsplice 1 0 1\n100 120\nfuture 1\nat 1\n\
         setmark a 110\n",
     ),
+    // The insert is undone by a splice that removes pulse 3, the invert by itself.
     (
         &[Call::Insert(300, 350), Call::Go(1), Call::Invert(110, 210)],
         b"format G 2\ncursor 3\npast 2\nat 2\nsplice 3 1 0\nat 1\ntoggle 110 210\nfuture 0\n",
     ),
+    // The shift takes the mark z, at 110 in pulse 1, along.
     (
         &[
             Call::Mark(25, Some(110)),
@@ -64,6 +67,7 @@ static STEPS: [Row; 4] = [
         b"format G 2\ncursor 2\nmark z 110\npast 1\nat 2\nsetmark z -\nfuture 1\nat 1\n\
         shift 1 1 -20 z\n",
     ),
+    // To undo the split and to redo the join is the same change: pulses 2 and 3 become 200 to 280.
     (
         &[Call::Split(2, 220, 240), Call::Join(2, 3), Call::Undo],
         b"format G 2\ncursor 3\npast 1\nat 2\nsplice 2 2 1\n200 280\nfuture 1\nat 2\nsplice 2 2 1\n\
@@ -80,6 +84,7 @@ fn each_step_is_saved_as_the_change_that_leads_there(rt: HostRuntime) {
 
 /// Groups, made and undone, and one that is open.
 static GROUPS: [Row; 3] = [
+    // To be undone: the newest change first.
     (
         &[
             Call::Begin,
@@ -99,9 +104,11 @@ static GROUPS: [Row; 3] = [
             Call::End,
             Call::Undo,
         ],
+        // To be redone: the oldest change first.
         b"format G 2\ncursor 2\npast 0\nfuture 1\nat 2\ngroup 2\nsplice 1 1 0\nsplice 2 0 1\n\
         300 350\n",
     ),
+    // The group is open, so its insert is a step of its own.
     (
         &[
             Call::Delete(1, 1),
