@@ -114,8 +114,8 @@ impl KeptPulse {
         self.base <= time && time - self.base < 10000
     }
 
-    /// Makes the kept digits those of a time, in microseconds, if they are so already or are one
-    /// too low. Returns whether the time has the kept digits then.
+    /// Makes the kept digits those of a time, in microseconds, if they are so already, or are one
+    /// too low and do not end with 9. Returns whether the time has the kept digits then.
     #[inline(always)]
     fn catch_up_to(&mut self, time: u64) -> bool
         requires holds { HoldsPulse self.old }

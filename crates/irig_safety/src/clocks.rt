@@ -188,9 +188,9 @@ fn is_amid_of(
         )
 }
 
-/// Whether `before` and `after` show the recording's own clock, and by it `frame` begins when it
-/// should after `before`, and `after` after `frame`. They show it if the two frames before show the
-/// same, or the two after do, or if theirs is between the clocks of both pairs.
+/// Whether `before` and `after` show the recording's own clock, and `frame` is in time by it:
+/// counted from `before`, and `after` counted from `frame`. They show it if the two frames before
+/// show the same, or the two after do, or if theirs is between the clocks of both pairs.
 pub fn is_by_own_clock(
     format: Format,
     before2: Option<Shown>,

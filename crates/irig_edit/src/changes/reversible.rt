@@ -68,7 +68,8 @@ impl Reversible for Present {
         let _track = self.track();
     }
 
-    // Whether the change can be made to the state as it is. The state stays.
+    // Whether the change of the turn, which is one single change (a group is several turns), can be
+    // made to the state as it is. The state stays.
     fn applies(&self, turn: &Turn) -> bool {
         self.allows(&turn.single)
     }
