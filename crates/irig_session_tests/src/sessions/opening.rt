@@ -83,7 +83,7 @@ static ROWS: [Row; 12] = [
         setmark a 110\n",
         Some(5),
     ),
-    // Line 9, `at 9`: there are not so many pulses.
+    // Line 9, `at 9`: the track has fewer pulses.
     (
         b"format G 2\ncursor 1\npast 1\nat 2\nsplice 1 0 1\n100 120\nfuture 1\nat 9\n\
         setmark a 110\n",
