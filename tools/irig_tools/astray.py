@@ -8,7 +8,7 @@ from .concern import ends_of_pulses
 from .faults import Remark, pulses_text
 from .phases import PATTERN
 from .track import Track
-from .units import ELEMENTS, FrameNumber, PlaceNumber, frame_of, plus, through
+from .units import ELEMENTS, FrameNumber, PlaceNumber, frame_of, through
 
 LEFT_ASTRAY = "either they are damaged, or elements are missing or there twice next to them; they are left"
 
