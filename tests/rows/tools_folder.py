@@ -262,6 +262,10 @@ def several_expressions():
         status, _, said = run("irig_mend", ["--apply-to", "mended", "in"])
         yield same("of two", (status, said), (0, "irig_mend: format B: expression 2 in 3 recordings, expression 7 in 2 recordings; "
                                                  "if all are of one source, give --format B --expression 2 and look at: a2.vcd, d.vcd\n"))
+        os.remove("in/c.vcd")
+        said = run("irig_mend", ["--apply-to", "equal", "in"])[2]
+        yield same("of two equally", said, "irig_mend: format B: expression 2 in 2 recordings, expression 7 in 2 recordings; if all are of "
+                                           "one source, look at their years and control functions, and give --format B --expression N\n")
         yield same("of one", run("irig_mend", ["--apply-to", "one", "--format", "B", "--expression", "2", "in"])[2], "")
 
     return in_folder(lambda: list(holds()))

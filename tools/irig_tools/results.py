@@ -107,18 +107,25 @@ def sums(results: Sequence[Result]) -> str:
 
 def several_expressions(results: Sequence[Result]) -> List[str]:
     """A line for each format of which recordings were read with several expressions. Control functions that never change can be read
-    as a year, so of recordings of one source some can have a year that was never sent."""
+    as a year, so of recordings of one source some can have a year that was never sent. If more than half have one expression, it names
+    those that have another."""
     lines = []
     for kind in sorted({each.format for each in results if each.is_read}):
         numbers = {each.recording: each.expression for each in results if each.is_read and each.format == kind}
         found = Counter(numbers.values()).most_common()
         if len(found) > 1:
-            most = found[0][0]
-            few = sorted(name for name, number in numbers.items() if number != most)
-            lines.append("format %s: %s; if all are of one source, give --format %s --expression %s and look at: %s%s" % (
-                kind, ", ".join("expression %s in %s" % (number, counted(count, "recording")) for number, count in found), kind, most,
-                ", ".join(few[:NAMED_AT_MOST]), ", .." if len(few) > NAMED_AT_MOST else ""))
+            lines.append("format %s: %s; if all are of one source, %s" % (
+                kind, ", ".join("expression %s in %s" % (number, counted(count, "recording")) for number, count in found),
+                _advice(kind, numbers, *found[0])))
     return lines
+
+
+def _advice(kind: str, numbers: Dict[str, object], most: object, count: int) -> str:
+    if 2 * count <= len(numbers):
+        return "look at their years and control functions, and give --format %s --expression N" % kind
+    few = sorted(name for name, number in numbers.items() if number != most)
+    return "give --format %s --expression %s and look at: %s%s" % (
+        kind, most, ", ".join(few[:NAMED_AT_MOST]), ", .." if len(few) > NAMED_AT_MOST else "")
 
 
 def report_of(results: Sequence[Result]) -> bytes:
