@@ -1,5 +1,5 @@
 #!/usr/bin/env python3
-"""A reference model: tests/model.py [--wire NAME] [--format X] [--expression N] [--out PATH] TRACK < SCRIPT
+"""A reference model: tests/model.py [--wire NAME] [--from T] [--to T] [--format X] [--expression N] [--out PATH] TRACK < SCRIPT
 
 It prints, writes and ends as irig_ed does if nothing outside of it fails, in the plainest way: every former state is
 kept whole, and all frames are read again from the whole track. It was written from the documents and not from the
@@ -7,6 +7,7 @@ program; tests/scripts compares the two.
 """
 import argparse
 import os
+import re
 import sys
 
 sys.dont_write_bytecode = True
@@ -14,6 +15,7 @@ sys.dont_write_bytecode = True
 from reference import dump, journal, language, listing, machine, timecode  # noqa: E402
 
 LONGEST_LINE = 1000  # bytes, the newline not counted
+LAST_TIME = 2**64 - 1  # of an option
 EDITS = {
     "insert": machine.insert, "delete": machine.delete, "split": machine.split, "join": machine.join,
     "shift": machine.shift, "invert": machine.invert, "force": machine.force, "regen": machine.regen,
@@ -111,6 +113,8 @@ class Run:
 def settings(words):
     parser = argparse.ArgumentParser(prog="irig_ed", allow_abbrev=False)
     parser.add_argument("--wire")
+    parser.add_argument("--from", dest="first")
+    parser.add_argument("--to", dest="end")
     parser.add_argument("--format", default="B", choices=list("ABEG"))
     parser.add_argument("--expression", default="2", choices=list("01234567"))
     parser.add_argument("--out")
@@ -118,23 +122,59 @@ def settings(words):
     return parser.parse_args(words)
 
 
+def window_of(chosen):
+    """From when to when a window of the track is opened, in microseconds; None if all of it is."""
+    if chosen.first is None and chosen.end is None:
+        return None
+    return int(chosen.first or 0), LAST_TIME if chosen.end is None else int(chosen.end)
+
+
+def refused(chosen):
+    """What is said of an option with a value that it cannot have; None if there is none."""
+    for name, word in (("--from", chosen.first), ("--to", chosen.end)):
+        if word is not None and (not re.fullmatch("[0-9]+", word) or int(word) > LAST_TIME):
+            return "%s: not a whole number of microseconds" % name
+    window = window_of(chosen)
+    if window and window[1] < window[0]:
+        return "--to: before --from"
+    if window and chosen.out is None:
+        return "--out: not given, and a part does not replace TRACK"
+    if int(chosen.expression) not in timecode.EXPRESSIONS[chosen.format]:
+        return "E6 BadExpression"
+    if window and os.path.exists(chosen.out) and os.path.exists(chosen.track) and os.path.samefile(chosen.track, chosen.out):
+        return "--out: is TRACK, which a part does not replace"
+    return None
+
+
+class SavedSession(Exception):
+    """A window is asked for of a saved session."""
+
+
 def opened(chosen, source):
-    """The machine that a dump describes; or a Fault."""
+    """The machine that a dump describes, or a window of it; or a Fault, or a SavedSession."""
     wire = None if chosen.wire is None else os.fsencode(chosen.wire)
-    return journal.opened(source, wire, chosen.format, int(chosen.expression))
+    window = window_of(chosen)
+    if not window:
+        return journal.opened(source, wire, chosen.format, int(chosen.expression))
+    length, edges, saved = dump.read_parts(source, wire)
+    if saved is not None:
+        raise SavedSession("a saved session opens as a whole")
+    length, edges = dump.window(length, edges, *window)
+    return machine.Machine(length, frozenset(edges), chosen.format, int(chosen.expression))
 
 
 def machine_of(chosen):
     """The machine that the track describes, or what is said of it instead."""
+    most = -1 if window_of(chosen) else dump.MOST_BYTES
     try:
         with open(chosen.track, "rb") as track:
-            source = track.read(dump.MOST_BYTES + 1)
-        if len(source) > dump.MOST_BYTES:
+            source = track.read(most + 1 if most >= 0 else -1)
+        if len(source) > most >= 0:
             return None, "too long"
         return opened(chosen, source), None
     except OSError:
         return None, "cannot be read"
-    except dump.Fault as fault:
+    except (dump.Fault, SavedSession) as fault:
         return None, str(fault)
 
 
@@ -151,8 +191,9 @@ def put_at(path):
 
 def main(words):
     chosen = settings(words)
-    if int(chosen.expression) not in timecode.EXPRESSIONS[chosen.format]:
-        print("irig_ed: E6 BadExpression", file=sys.stderr)
+    said = refused(chosen)
+    if said:
+        print("irig_ed: %s" % said, file=sys.stderr)
         return 2
     found, said = machine_of(chosen)
     if said:

@@ -5,7 +5,8 @@ use Rattle.irig_files.specs.declared.dump_file.DumpFileFault.{DumpFileFault}
 use Rattle.irig_files.specs.declared.dump_file.DumpFileFault.TheVariants.{CannotBeRead, TooLong}
 use Rattle.irig_files.specs.declared.dump_file.DumpFileFault.TheVariants.{OutOfMemory}
 use Rattle.irig_ed.specs.{Help.help_text, declared.ending.Ending.Ending}
-use Rattle.irig_ed.specs.declared.ending.Ending.TheVariants.{Usage, Unread, Ran}
+use Rattle.irig_ed.specs.declared.ending.Ending.TheVariants.{Usage, Unread, Over, Unknown, Saved}
+use Rattle.irig_ed.specs.declared.ending.Ending.TheVariants.{Ran}
 use Rattle.irig_script.specs.declared.obey.status.Status.{Status}
 use Rattle.irig_script.specs.declared.obey.status.Status.TheVariants.{AllAccepted, SomeRefused}
 use Rattle.irig_script.specs.declared.obey.dump_run.DumpRunFault.{DumpRunFault}
@@ -29,4 +30,7 @@ unread_text OutOfMemory = codes "V14 OutOfMemory"
 abbrev pub Reports : Ending → Option (List ℕ) → Option (List ℕ) → ℕ → Type 0
 Reports (Usage fault) old new status = Explains help_text 4 fault old new status
 Reports (Unread path fault) old new status = EndsWith 3 old new status
+Reports Over old new status = EndsWith 2 old new status
+Reports Unknown old new status = EndsWith 4 old new status
+Reports (Saved path) old new status = EndsWith 3 old new status
 Reports (Ran path result) old new status = EndsWith (status_number result) old new status

@@ -12,6 +12,12 @@ pub enum Ending<'a> {
     Usage(UsageFault<OptionFault>),
     /// The file at this path is no dump that can be read.
     Unread(&'a str, DumpFileFault),
+    /// What is written of a window would be written to the dump.
+    Over,
+    /// It cannot be found out whether it would.
+    Unknown,
+    /// A window is asked for of the dump at this path, which holds a saved session.
+    Saved(&'a str),
     /// The script ran on the dump at this path, and so the run ended; also if the dump is no
     /// recording, which is the fault `Dump` then.
     Ran(&'a str, Result<Status, DumpRunFault>),

@@ -1,19 +1,24 @@
 //! A script run on the file of a dump, as the words of a command line ask. The room is the memory
 //! that writes use: it is taken before the dump is read, so none runs out of it. A read has two
-//! faults: the outer one is of the file, the inner one, `VcdFault`, of the dump in it. An `Ending`
-//! is `Usage` if the words ask for no run, `Unread` if the file was not read, or else `Ran`.
+//! faults: the outer one is of the file, the inner one, `VcdFault`, of the dump in it. `Parts` are
+//! the recording of a wire and the text of the journal, if there is one.
 
-ghost use Rattle.std.specs.Prelude.{◌≡◌, ℕ, List, map, option_map, string_bytes};
-ghost use Rattle.irig_vcd.specs.{Answer.Gives, Answer.name_of, Parts.dump_parts};
-ghost use Rattle.irig_ed.specs.Ending.{RunsBy, EndsBy, Obeys, ends, files};
-ghost use Rattle.irig_files.specs.Reads.{HasFewBytes, parts_of};
-ghost use Rattle.irig_files.specs.{Puts.writes_on, Writes.LeavesTo};
+ghost use Rattle.std.specs.Prelude.{◌≡◌, ◌&&◌, ◌≤◌, ◌^◌, ℕ, List, IfErr, IfOk, IfSome, IsTrue, Ok};
+ghost use Rattle.std.specs.Prelude.{false, is_some, length, map, string_bytes, true};
+ghost use Rattle.irig_vcd.specs.{Answer.Gives, Answer.bytes_of, Window.parts_in};
+ghost use Rattle.irig_ed.specs.{Ending.EndsBy, Ending.Obeys, RunsBy.RunsBy};
+ghost use Rattle.irig_ed.specs.Given.{IsApart, ends, files};
+ghost use Rattle.irig_files.specs.Apart.{LeadToOneFile};
+ghost use Rattle.irig_files.specs.Reads.{HasBytes, most_bytes, parts_of};
+ghost use Rattle.irig_files.specs.{Puts.writes_on, Tracks.name_in};
 
 use crate::ending::Ending;
-use irig_files::{Disk, DumpFileFault, FileShelf, Parts, Room};
+use irig_files::{Disk, DumpFileFault, FileShelf, Parts, Room, read_in_window};
+use irig_recording::Recording;
 use irig_script::{DumpRunFault, Screen, Status, Witness, run_on_parts};
 use irig_settings::{Settings, settings};
-use irig_vcd::VcdFault;
+use irig_text::ShelfFault;
+use irig_vcd::{VcdFault, Window, read_back_parts};
 use std::alloc::Global;
 use std::io::{Read, Write};
 
@@ -27,9 +32,8 @@ pub fn obey_words<'a, D: Disk, R: Read, W: Write, N: Witness>(
     screen: &mut Screen<W, N>,
 ) -> Ending<'a>
     ensures { EndsBy (map string_bytes words.entry.now)
-        (files (D.held disk.old) (D.unread disk.old) (D.disk disk.old).paths
-        (LeavesTo D.is_told (D.is_barred disk.old) (D.is_barred disk.new)
-        (D.disk disk.old) (D.disk disk.new)))
+        (files (D.held disk.old) (D.unread disk.old) D.is_told
+        (D.is_barred disk.old) (D.is_barred disk.new) (D.disk disk.old) (D.disk disk.new))
         (ends screen.old (writes_on D.is_told (D.disk disk.old)) (R.remaining script.old))
         (ends screen.new (writes_on D.is_told (D.disk disk.new)) (R.remaining script.new)) result }
 {
@@ -39,8 +43,8 @@ pub fn obey_words<'a, D: Disk, R: Read, W: Write, N: Witness>(
     }
 }
 
-/// Runs a script on the dump of the settings. The memory of its writes is taken before the dump is
-/// read; if there is none, that is reported as a fault of the file, `Unread`.
+/// Runs a script on the dump of the settings. `Over` if what is written of a window would be
+/// written to the dump, and `Unknown` if that cannot be found out.
 fn run_on_track<'a, D: Disk, R: Read, W: Write, N: Witness>(
     alloc: Global,
     chosen: &Settings<'a>,
@@ -48,9 +52,47 @@ fn run_on_track<'a, D: Disk, R: Read, W: Write, N: Witness>(
     script: &mut R,
     screen: &mut Screen<W, N>,
 ) -> Ending<'a>
-    ensures { Obeys (files (D.held disk.old) (D.unread disk.old) (D.disk disk.old).paths
-        (LeavesTo D.is_told (D.is_barred disk.old) (D.is_barred disk.new)
-        (D.disk disk.old) (D.disk disk.new)))
+    ensures { Obeys (files (D.held disk.old) (D.unread disk.old) D.is_told
+        (D.is_barred disk.old) (D.is_barred disk.new) (D.disk disk.old) (D.disk disk.new))
+        (ends screen.old (writes_on D.is_told (D.disk disk.old)) (R.remaining script.old))
+        (ends screen.new (writes_on D.is_told (D.disk disk.new)) (R.remaining script.new))
+        chosen.now result }
+{
+    match is_over(chosen, disk) {
+        Ok(false) => run_apart(alloc, chosen, disk, script, screen),
+        Ok(true) => Ending::Over,
+        Err(_) => Ending::Unknown,
+    }
+}
+
+/// Whether there is a window, and the path to write leads to the dump. Without a window it may: the
+/// whole replaces the whole. `Err`: it cannot be found out.
+fn is_over<D: Disk>(chosen: &Settings<'_>, disk: &D) -> Result<bool, ShelfFault>
+    ensures apart { IsTrue D.is_told → IfOk result (λ over. over ≡ false
+        → IsApart chosen.now (D.disk disk.now)) }
+    ensures given { IfOk result (λ over. over ≡ true → is_some chosen.now.window ≡ true) }
+    ensures over { IsTrue D.is_told → IfOk result (λ over. over ≡ true
+        → LeadToOneFile (D.disk disk.now) chosen.now.track.now chosen.now.out.now) }
+    ensures unknown { IfErr result (λ fault. is_some chosen.now.window ≡ true) }
+{
+    match chosen.window {
+        Some(_) => disk.is_same(chosen.track, chosen.out),
+        None => Ok(false),
+    }
+}
+
+/// Runs a script on the dump of the settings. The memory of its writes is taken before the dump is
+/// read; if there is none, that is reported as a fault of the file, `Unread`.
+fn run_apart<'a, D: Disk, R: Read, W: Write, N: Witness>(
+    alloc: Global,
+    chosen: &Settings<'a>,
+    disk: &mut D,
+    script: &mut R,
+    screen: &mut Screen<W, N>,
+) -> Ending<'a>
+    requires { IsTrue D.is_told → IsApart chosen.now (D.disk disk.old) }
+    ensures { Obeys (files (D.held disk.old) (D.unread disk.old) D.is_told
+        (D.is_barred disk.old) (D.is_barred disk.new) (D.disk disk.old) (D.disk disk.new))
         (ends screen.old (writes_on D.is_told (D.disk disk.old)) (R.remaining script.old))
         (ends screen.new (writes_on D.is_told (D.disk disk.new)) (R.remaining script.new))
         chosen.now result }
@@ -62,7 +104,7 @@ fn run_on_track<'a, D: Disk, R: Read, W: Write, N: Witness>(
 }
 
 /// Runs a script on the dump of the settings. Each write uses the room. `Unread` if the file could
-/// not be read; else `Ran`, also with a dump that is no recording: its fault is in the result then.
+/// not be read; that the dump is no recording comes later, in `Ran`.
 fn run_with_room<'a, D: Disk, R: Read, W: Write, N: Witness>(
     alloc: Global,
     chosen: &Settings<'a>,
@@ -71,47 +113,88 @@ fn run_with_room<'a, D: Disk, R: Read, W: Write, N: Witness>(
     script: &mut R,
     screen: &mut Screen<W, N>,
 ) -> Ending<'a>
-    ensures { Obeys (files (D.held disk.old) (D.unread disk.old) (D.disk disk.old).paths
-        (LeavesTo D.is_told (D.is_barred disk.old) (D.is_barred disk.new)
-        (D.disk disk.old) (D.disk disk.new)))
+    requires { IsTrue D.is_told → IsApart chosen.now (D.disk disk.old) }
+    ensures { Obeys (files (D.held disk.old) (D.unread disk.old) D.is_told
+        (D.is_barred disk.old) (D.is_barred disk.new) (D.disk disk.old) (D.disk disk.new))
         (ends screen.old (writes_on D.is_told (D.disk disk.old)) (R.remaining script.old))
         (ends screen.new (writes_on D.is_told (D.disk disk.new)) (R.remaining script.new))
         chosen.now result }
 {
-    match disk.read(alloc, chosen.track, wire_of(chosen)) {
-        Ok(read) => {
-            let result = run_on_read(alloc, chosen, read, room, disk, script, screen);
-            Ending::Ran(chosen.track, result)
-        }
+    match read_in_window(alloc, disk, chosen.track, chosen.wire, chosen.window) {
+        Ok(read) => run_on_read(alloc, chosen, read, room, disk, script, screen),
         Err(fault) => Ending::Unread(chosen.track, fault),
     }
 }
 
-/// Runs a script on what was read of a dump, by the format and the path for writes of the settings.
-/// Each write uses the room. `Dump` if the dump is no recording.
-fn run_on_read<D: Disk, R: Read, W: Write, N: Witness>(
+/// Runs a script on what was read of a dump. Each write uses the room. `Saved` if a window of a
+/// saved session was read; else `Ran`, also with a dump that is no recording: its fault is in the
+/// result then.
+fn run_on_read<'a, D: Disk, R: Read, W: Write, N: Witness>(
     alloc: Global,
-    chosen: &Settings<'_>,
+    chosen: &Settings<'a>,
     read: Result<Parts, VcdFault>,
     room: &mut Room,
     disk: &mut D,
     script: &mut R,
     screen: &mut Screen<W, N>,
-) -> Result<Status, DumpRunFault>
-    requires { HasFewBytes read }
+) -> Ending<'a>
+    requires few { HasBytes (most_bytes chosen.now.window) read }
+    requires apart { IsTrue D.is_told → IsApart chosen.now (D.disk disk.old) }
     ensures { (source : List ℕ)
-        → Gives parts_of read (dump_parts (option_map (λ w. w.now) chosen.now.wire) source)
-        → RunsBy (files (D.held disk.old) (D.unread disk.old) (D.disk disk.old).paths
-        (LeavesTo D.is_told (D.is_barred disk.old) (D.is_barred disk.new)
-        (D.disk disk.old) (D.disk disk.new)))
+        → Gives parts_of read (parts_in chosen.now.window (name_in chosen.now.wire) source)
+        → IfSome (D.held disk.old chosen.now.track.now) (λ all. source ≡ all)
+        → Obeys (files (D.held disk.old) (D.unread disk.old) D.is_told
+        (D.is_barred disk.old) (D.is_barred disk.new) (D.disk disk.old) (D.disk disk.new))
+        (ends screen.old (writes_on D.is_told (D.disk disk.old)) (R.remaining script.old))
+        (ends screen.new (writes_on D.is_told (D.disk disk.new)) (R.remaining script.new))
+        chosen.now result }
+{
+    let (recording, journal) = match read {
+        Ok(parts) => parts,
+        Err(fault) => return Ending::Ran(chosen.track, Err(DumpRunFault::Dump(fault))),
+    };
+    if is_of_session(chosen.window, &journal) {
+        return Ending::Saved(chosen.track);
+    }
+    let result = run_on_recording(
+        alloc, chosen, recording, journal, room, disk, script, screen,
+    );
+    Ending::Ran(chosen.track, result)
+}
+
+/// Whether there is a window, and the dump has a journal.
+fn is_of_session(window: Option<Window>, journal: &Option<Vec<u8>>) -> bool
+    ensures { result ≡ (is_some window && is_some journal.now) }
+{
+    window.is_some() && journal.is_some()
+}
+
+/// Runs a script on a recording and the text of its journal, by the format and the path for writes
+/// of the settings. Each write uses the room. `Dump` if no session can be made of them.
+fn run_on_recording<D: Disk, R: Read, W: Write, N: Witness>(
+    alloc: Global,
+    chosen: &Settings<'_>,
+    recording: Recording,
+    journal: Option<Vec<u8>>,
+    room: &mut Room,
+    disk: &mut D,
+    script: &mut R,
+    screen: &mut Screen<W, N>,
+) -> Result<Status, DumpRunFault>
+    requires few { IfSome journal (λ text. length text.items ≤ 2 ^ 28) }
+    requires whole { (is_some chosen.now.window && is_some journal) ≡ false }
+    requires apart { IsTrue D.is_told → IsApart chosen.now (D.disk disk.old) }
+    ensures { (source : List ℕ)
+        → parts_in chosen.now.window (name_in chosen.now.wire) source
+        ≡ Ok (recording, bytes_of journal)
+        → RunsBy (files (D.held disk.old) (D.unread disk.old) D.is_told
+        (D.is_barred disk.old) (D.is_barred disk.new) (D.disk disk.old) (D.disk disk.new))
         chosen.now source
         (ends screen.old (writes_on D.is_told (D.disk disk.old)) (R.remaining script.old))
         (ends screen.new (writes_on D.is_told (D.disk disk.new)) (R.remaining script.new)) result }
 {
-    let (recording, journal) = match read {
-        Ok(parts) => parts,
-        Err(fault) => return Err(DumpRunFault::Dump(fault)),
-    };
+    // Called for its law alone: a dump that is written of a recording says the recording.
+    read_back_parts(&recording);
     let mut shelf = FileShelf::new(disk, chosen.out, room);
     run_on_parts(
         alloc,
@@ -122,14 +205,4 @@ fn run_on_read<D: Disk, R: Read, W: Write, N: Witness>(
         screen,
         &mut shelf,
     )
-}
-
-/// The bytes of the wire's name, if one is given; else the dump has to have one wire of one bit.
-fn wire_of<'a>(chosen: &Settings<'a>) -> Option<&'a [u8]>
-    ensures { name_of result ≡ option_map (λ w. w.now) chosen.now.wire }
-{
-    match chosen.wire {
-        Some(wire) => Some(wire.as_bytes()),
-        None => None,
-    }
 }

@@ -17,6 +17,8 @@ pub fn program<'a>() -> Program<'a>
             <TRACK>  the dump; commands come on standard input\n\n\
             Options:\n      \
             --wire <NAME>          the wire of the dump\n      \
+            --from <TIME>          in microseconds, is the new 0: 0\n      \
+            --to <TIME>            in microseconds, ends the part that is read\n      \
             --format <FORMAT>      B, if not given [possible values: A, B, E, G]\n      \
             --expression <NUMBER>  2, if not given [possible values: 0, 1, 2, 3, 4, 5, \
             6, 7]\n      \

@@ -4,10 +4,10 @@
 ghost use Rattle.std.specs.Prelude.{◌≡◌, Some, map, string_bytes, true, None};
 ghost use Rattle.std.specs.Process.{exit_status};
 ghost use Rattle.irig_files.specs.declared.dump_file.DumpFileFault.TheVariants.{CannotBeRead};
-ghost use Rattle.irig_files.specs.{Puts.writes_on, Taken.IsLocked, Writes.LeavesTo};
+ghost use Rattle.irig_files.specs.{Puts.writes_on, Taken.IsLocked};
 ghost use Rattle.irig_folders.specs.{Log.disk_of, Log.holds_in, Tree.IsWritable, Tree.tree_disk};
 ghost use Rattle.irig_folders.specs.TreeFiles.{held_at};
-ghost use Rattle.irig_ed.specs.{Ending.Serves, Ending.ends, Ending.files};
+ghost use Rattle.irig_ed.specs.{Ending.Serves, Given.ends, Given.files};
 
 use crate::start;
 use irig_files::Files;
@@ -29,13 +29,11 @@ fn start_in_memory<P: Eprint + AllocGlobal>(
     ensures { Serves (map string_bytes words.now)
         (files (held_at disk.old.system.layout disk.old.system.memory.calls.items)
         (λ path fault. fault ≡ CannotBeRead
-        → held_at disk.old.system.layout disk.old.system.memory.calls.items path ≡ None)
-        (tree_disk disk.old.system.layout (disk_of disk.old.system.memory.calls.items)).paths
-        (LeavesTo true
+        → held_at disk.old.system.layout disk.old.system.memory.calls.items path ≡ None) true
         (IsLocked (λ i. IsWritable (holds_in disk.old.system.memory.calls.items i).mode))
         (IsLocked (λ i. IsWritable (holds_in disk.new.system.memory.calls.items i).mode))
         (tree_disk disk.old.system.layout (disk_of disk.old.system.memory.calls.items))
-        (tree_disk disk.new.system.layout (disk_of disk.new.system.memory.calls.items))))
+        (tree_disk disk.new.system.layout (disk_of disk.new.system.memory.calls.items)))
         (ends screen.old (writes_on true
         (tree_disk disk.old.system.layout (disk_of disk.old.system.memory.calls.items)))
         (Some script.old.now))

@@ -10,8 +10,8 @@ mod statuses;
 
 ghost use Rattle.std.specs.Prelude.{◌≡◌, IfOk, OnErr, map, string_bytes};
 ghost use Rattle.std.specs.Process.{exit_status};
-ghost use Rattle.irig_ed.specs.{Ending.Serves, Ending.ends, Ending.files};
-ghost use Rattle.irig_files.specs.{Puts.writes_on, Taken.IsLocked, Writes.LeavesTo};
+ghost use Rattle.irig_ed.specs.{Ending.Serves, Given.ends, Given.files};
+ghost use Rattle.irig_files.specs.{Puts.writes_on, Taken.IsLocked};
 ghost use Rattle.irig_words.specs.Telling.{EndsWith};
 
 use file_run::obey_words;
@@ -60,11 +60,9 @@ fn serve<P: Eprint + AllocGlobal, C: FileSystem, R: Read, W: Write, N: Witness, 
     help: &mut H,
 ) -> ExitCode
     ensures served { IfOk words (λ given. Serves (map string_bytes given.items)
-        (files (C.held disk.old.system) (C.unread disk.old.system)
-        (C.disk disk.old.system).paths
-        (LeavesTo C.is_told (IsLocked (C.may_write disk.old.system))
-        (IsLocked (C.may_write disk.new.system))
-        (C.disk disk.old.system) (C.disk disk.new.system)))
+        (files (C.held disk.old.system) (C.unread disk.old.system) C.is_told
+        (IsLocked (C.may_write disk.old.system)) (IsLocked (C.may_write disk.new.system))
+        (C.disk disk.old.system) (C.disk disk.new.system))
         (ends screen.old (writes_on C.is_told (C.disk disk.old.system))
         (R.remaining script.old))
         (ends screen.new (writes_on C.is_told (C.disk disk.new.system))
@@ -94,11 +92,9 @@ fn start<P: Eprint + AllocGlobal, C: FileSystem, R: Read, W: Write, N: Witness, 
     // was written, as each witness of the screen saw. The output of help has the help that was
     // asked for, and nothing else: there is no other way to print.
     ensures { Serves (map string_bytes words.now)
-        (files (C.held disk.old.system) (C.unread disk.old.system)
-        (C.disk disk.old.system).paths
-        (LeavesTo C.is_told (IsLocked (C.may_write disk.old.system))
-        (IsLocked (C.may_write disk.new.system))
-        (C.disk disk.old.system) (C.disk disk.new.system)))
+        (files (C.held disk.old.system) (C.unread disk.old.system) C.is_told
+        (IsLocked (C.may_write disk.old.system)) (IsLocked (C.may_write disk.new.system))
+        (C.disk disk.old.system) (C.disk disk.new.system))
         (ends screen.old (writes_on C.is_told (C.disk disk.old.system))
         (R.remaining script.old))
         (ends screen.new (writes_on C.is_told (C.disk disk.new.system))

@@ -1,6 +1,6 @@
 //! The statuses of the program as a process, and what it says of faults. 0 is that no line was
 //! refused, 1 that some line was, 2 a mistake in the command line, 3 a dump that cannot be used,
-//! and 4 that the run was broken off.
+//! and 4 that the run was broken off, or that the system does not say where a path leads.
 
 ghost use Rattle.std.specs.Prelude.{◌≡◌};
 ghost use Rattle.std.specs.Process.{exit_status};
@@ -21,6 +21,9 @@ pub fn report<R: Eprint, H: Write>(rt: &R, ending: &Ending<'_>, help: &mut H) ->
     match ending {
         Ending::Usage(fault) => program().explain(rt, fault, help),
         Ending::Unread(path, fault) => program().tell_of(rt, 3, path, &unread_text(*fault)),
+        Ending::Over => program().tell(rt, 2, &"--out: is TRACK, which a part does not replace"),
+        Ending::Unknown => program().tell(rt, 4, &"--out: cannot find out whether it is TRACK"),
+        Ending::Saved(path) => program().tell_of(rt, 3, path, &"a saved session opens as a whole"),
         Ending::Ran(path, outcome) => tell_ended(rt, path, *outcome),
     }
 }

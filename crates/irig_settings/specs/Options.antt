@@ -1,4 +1,4 @@
--- The command line: four options and the track. This project's own.
+-- The command line: six options and the track. This project's own.
 use Rattle.std.specs.Prelude.{◌≡◌, List, [], ◌∷◌, map, codes, Some, None}
 use Rattle.clap.specs.Words.{App, Rule, Text, new_app, with_rule, HasMatchesOf}
 use Rattle.clap.specs.declared.builder.value_parser.ValueParser.{ValueParser}
@@ -6,6 +6,7 @@ use Rattle.clap.specs.declared.builder.value_parser.ValueParser.TheVariants.{Nam
 use Rattle.clap.specs.declared.parser.matches.ArgMatches.{ArgMatches}
 use Rattle.irig_codes.specs.Words.{kind_word, kinds}
 use Rattle.irig_words.specs.Arguments.{needed, option}
+use Rattle.irig_words.specs.Windows.{with_window}
 
 -- the parser takes just these texts
 abbrev pub TakesJust : List Text → ValueParser → Type 0
@@ -31,12 +32,13 @@ IsChoice name values rule =
 abbrev pub track : Rule
 track = needed (codes "TRACK")
 
--- how the track is read: the wire's name, the format and its expression
+-- which part of which wire is read
+abbrev pub taking : App
+taking = with_window (with_rule (new_app (codes "irig_ed")) (option (codes "wire") None))
+
+-- how the track is read: that, the format and its expression
 abbrev pub reading_with : Rule → Rule → App
-reading_with format expression =
-    with_rule
-    (with_rule (with_rule (new_app (codes "irig_ed")) (option (codes "wire") None)) format)
-    expression
+reading_with format expression = with_rule (with_rule taking format) expression
 
 -- the command: how the track is read, the path to write, and the track
 abbrev pub command_with : Rule → Rule → App
@@ -50,6 +52,10 @@ pub record HasChoices (with_choices : Rule → Rule → App) (app : App) : Type 
   pub is_letter : IsChoice (codes "format") letters format
   pub is_digit : IsChoice (codes "expression") digits expression
   pub shape : app ≡ with_choices format expression
+
+-- it says which part of which wire is read
+abbrev pub IsTaking : App → Type 0
+IsTaking app = app ≡ taking
 
 -- it says how the track is read
 abbrev pub IsReading : App → Type 0

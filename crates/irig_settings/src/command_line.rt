@@ -3,17 +3,17 @@
 //!
 //! Where `let Ok(..) else` returns an error, `?` would do the same; the proof of it takes longer.
 
-ghost use Rattle.std.specs.Prelude.{◌≡◌, IfErr, IfOk, None, false, codes, map, string_bytes};
-ghost use Rattle.clap.specs.Words.{Rule, app_of, found_of, new_app, rule_of, with_rule};
-ghost use Rattle.irig_settings.specs.Options.{IsCommand, IsReading, IsChoice, IsParsed, letters};
-ghost use Rattle.irig_settings.specs.Options.{track};
+ghost use Rattle.std.specs.Prelude.{◌≡◌, IfErr, IfOk, false, codes, map, string_bytes};
+ghost use Rattle.clap.specs.Words.{Rule, app_of, found_of, rule_of, with_rule};
+ghost use Rattle.irig_settings.specs.Options.{IsChoice, IsCommand, IsParsed, IsReading, IsTaking};
+ghost use Rattle.irig_settings.specs.Options.{letters, taking, track};
 ghost use Rattle.irig_settings.specs.Errors.{MayRefuse};
 ghost use Rattle.irig_settings.specs.Settings.{Chooses, Reads};
-ghost use Rattle.irig_words.specs.Arguments.{option};
 
 use crate::chosen::{OptionFault, Settings};
+use crate::part::window_of;
 use clap::{Arg, ArgMatches, Command, Error};
-use irig_words::{UsageFault, format_named, matches_of, needed_arg, option_arg};
+use irig_words::{UsageFault, format_named, matches_of, needed_arg, option_arg, windowed};
 use std::alloc::{AllocError, Global};
 
 /// The letters that `--format` takes.
@@ -37,11 +37,15 @@ pub fn settings<'a>(
 }
 
 /// What the matches of a command line that `clap` accepts ask for. The letter is then one of a
-/// format, so only the expression can be wrong: one that the format does not permit. Without
-/// `--out` texts are written to the track's path.
+/// format, so of the format only the expression can be wrong: one that the format does not permit.
+/// Without `--out` texts are written to the track's path, unless there is a window.
 fn chosen_of<'a>(matches: &ArgMatches<'a>) -> Result<Settings<'a>, UsageFault<OptionFault>>
     ensures { Chooses (found_of matches.now) result }
 {
+    let window = match window_of(matches) {
+        Ok(window) => window,
+        Err(fault) => return Err(UsageFault::Value(fault)),
+    };
     let format = match format_named(matches.get_str("format"), matches.get_str("expression")) {
         Ok(format) => format,
         Err(_) => return Err(UsageFault::Value(OptionFault::BadExpression)),
@@ -53,6 +57,7 @@ fn chosen_of<'a>(matches: &ArgMatches<'a>) -> Result<Settings<'a>, UsageFault<Op
     Ok(Settings {
         track,
         wire: matches.get_str("wire"),
+        window,
         out: matches.get_str("out").unwrap_or(track),
         format,
     })
@@ -99,23 +104,32 @@ fn reading<'a>(alloc: Global) -> Result<Command<'a>, AllocError>
     ))
 }
 
-/// The command with the first two options: the wire, and the letter of the format.
+/// The command with the options of `taking`, and the letter of the format.
 fn lettered<'a>(alloc: Global) -> Result<Command<'a>, AllocError>
     ensures { IfOk result (λ c. (format : Rule) × IsChoice (codes "format") letters format
-        × (app_of c ≡ with_rule
-        (with_rule (new_app (codes "irig_ed")) (option (codes "wire") None)) format)) }
+        × (app_of c ≡ with_rule taking format)) }
 {
-    let wire = option_arg(alloc, "wire", "NAME", "the wire of the dump");
-    let Ok(wired) = Command::new(alloc, "irig_ed").arg(wire) else {
+    let Ok(taking) = taking(alloc) else {
         return Err(AllocError);
     };
-    wired.arg(choice_arg(
+    taking.arg(choice_arg(
         alloc,
         "format",
         "FORMAT",
         "B, if not given",
         LETTERS.as_slice(),
     ))
+}
+
+/// The command with the options that say which part of which wire is read.
+fn taking<'a>(alloc: Global) -> Result<Command<'a>, AllocError>
+    ensures { IfOk result (λ c. IsTaking (app_of c)) }
+{
+    let wire = option_arg(alloc, "wire", "NAME", "the wire of the dump");
+    let Ok(wired) = Command::new(alloc, "irig_ed").arg(wire) else {
+        return Err(AllocError);
+    };
+    windowed(alloc, wired)
 }
 
 /// An option `--name` with one of these values: `clap` refuses any other. Its help calls the value

@@ -3,6 +3,7 @@
 
 mod chosen;
 mod command_line;
+mod part;
 
 pub use chosen::{OptionFault, Settings};
 pub use command_line::{command, settings};

@@ -1,6 +1,6 @@
 -- The window of a dump that the options of a command line name. This project's own.
-use Rattle.std.specs.Prelude.{◌≡◌, ◌&&◌, ◌<◌, ◌≤◌, ℕ, List, Option, Some, None, codes}
-use Rattle.std.specs.Prelude.{if◌then◌else◌, min, nat_le, unwrap_or}
+use Rattle.std.specs.Prelude.{◌≡◌, ◌&&◌, ◌||◌, ◌<◌, ◌≤◌, ℕ, Bool, true, List, Option, Some}
+use Rattle.std.specs.Prelude.{None, codes, if◌then◌else◌, is_some, min, nat_le, unwrap_or}
 use Rattle.std.specs.List.{list_all}
 use Rattle.clap.specs.Words.{App, with_rule}
 use Rattle.irig_vcd.specs.{Digits.is_digit, Digits.is_number, Digits.number_from}
@@ -33,11 +33,15 @@ first_of from = time_named (unwrap_or from (codes "0"))
 abbrev pub end_of : Option (List ℕ) → Option ℕ
 end_of to = time_named (unwrap_or to (codes "18446744073709551615"))
 
--- the window is from the one time to the other; there is none, if neither is given
+-- one of two times is given, or both are
+abbrev pub is_given : Option (List ℕ) → Option (List ℕ) → Bool
+is_given from to = is_some from || is_some to
+
+-- the window is from the one time to the other; there is one if one of them is given, and only then
 abbrev pub IsWindow : Option (List ℕ) → Option (List ℕ) → Option Window → Type 0
 IsWindow from to None = (from ≡ None) × (to ≡ None)
-IsWindow from to (Some w) =
-    (first_of from ≡ Some w.from) × ((end_of to ≡ Some w.to) × (w.from ≤ w.to))
+IsWindow from to (Some w) = (is_given from to ≡ true)
+    × ((first_of from ≡ Some w.from) × ((end_of to ≡ Some w.to) × (w.from ≤ w.to)))
 
 -- an end of the window is no time, or the window ends before it begins
 abbrev pub HasWindowFault : Option (List ℕ) → Option (List ℕ) → WindowFault → Type 0

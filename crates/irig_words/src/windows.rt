@@ -1,6 +1,6 @@
 //! The window of a dump that the options of a command line name.
 
-ghost use Rattle.std.specs.Prelude.{◌≡◌, IfErr, IfOk, None, codes, false};
+ghost use Rattle.std.specs.Prelude.{◌≡◌, ◌||◌, IfErr, IfOk, None, codes, false, is_some};
 ghost use Rattle.clap.specs.Words.{app_of, rule_of};
 ghost use Rattle.irig_words.specs.Arguments.{option};
 ghost use Rattle.irig_words.specs.Formats.{given};
@@ -67,7 +67,7 @@ pub fn window_named(from: Option<&str>, to: Option<&str>) -> Result<Option<Windo
     ensures window { IfOk result (IsWindow (given from.entry) (given to.entry)) }
     ensures fault { IfErr result (HasWindowFault (given from.entry) (given to.entry)) }
 {
-    if from.is_none() && to.is_none() {
+    if !is_given(from, to) {
         return Ok(None);
     }
     let Some(first) = first_of(from) else {
@@ -83,6 +83,13 @@ pub fn window_named(from: Option<&str>, to: Option<&str>) -> Result<Option<Windo
         from: first,
         to: end,
     }))
+}
+
+/// Whether one of two times is given, or both are.
+fn is_given(from: Option<&str>, to: Option<&str>) -> bool
+    ensures { result ≡ (is_some from.entry || is_some to.entry) }
+{
+    from.is_some() || to.is_some()
 }
 
 /// The first microsecond of a window: 0 if none is given. `None` if the text is no time.

@@ -6,8 +6,7 @@ use Rattle.irig_settings.proofs.command_line.lettered.Goals as goal
 
 pub returns : goal.returns
 returns c =
-    let wired = c.in-Ok.ensures.shape c.option_arg-wire.ensures.local ∙ ap₂ with_rule c.new.ensures.app c.option_arg-wire.ensures.rule in
     let is_letter : IsChoice (codes "format") letters (rule_of c.choice_arg.result) =
     subst (λ (t : List Text). IsChoice (codes "format") t (rule_of c.choice_arg.result)) (search rules) c.choice_arg.ensures.rule in
-    IfOk-weaker c.arg-2.result _ _ (λ cmd added.
-    (rule_of c.choice_arg.result, is_letter, added.shape c.choice_arg.ensures.local ∙ ap₂ with_rule wired refl)) c.arg-2.ensures
+    IfOk-weaker c.arg.result _ _ (λ cmd added.
+    (rule_of c.choice_arg.result, is_letter, added.shape c.choice_arg.ensures.local ∙ ap₂ with_rule c.in-Ok.ensures refl)) c.arg.ensures
