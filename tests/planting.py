@@ -15,7 +15,8 @@ A bug counts as refused if one of its functions has a goal of its own that the s
 - A proof file names what the edit took away.
 - An answer in a proof file no longer fits its goal. The goal may still hold. So a later check takes that answer away, and the search
   decides.
-- The search only gave up at a limit. The bug is named with the goal.
+- The search only gave up at a limit. The bug is named with the goal. It counts only if a line `search: gives up` of the bug says so: its
+  answers are taken away first, and another bug that breaks the same promise has to be refused by a goal.
 What a proof by hand or `Invariants.antt` states counts if it no longer fits, since no search decides it. A bug that is refused in its
 first check costs least.
 
@@ -42,9 +43,10 @@ REFUSED = f"\npub {REFUSED_AT_ONCE} : nothing_has_this_name\n{REFUSED_AT_ONCE} =
 DECLARED = re.compile(r"^(?:(?:pub|abbrev|unfoldable) )*(\S+) :")
 GAVE_UP = "gave up at one of its limits"
 UNSURE = "only the search gave up"
+GIVES_UP = "search: gives up"  # a line of a bug
 LOST_NAME = re.compile(r"has no field|is not in scope|has no `|was not admitted|can be named from here")
 CYCLE = re.compile(r"`(\S+)` is in a cycle of calls")
-CALLS = re.compile(r"it calls (`.*?`), which (?:is|are) not proved")
+CALLS = re.compile(r"(?:it calls|a call of) (`.*?`), which (?:is not proved|are not proved|has no proof)")
 
 
 def declarations(text):
@@ -79,16 +81,19 @@ def without(text, lines):
 
 
 class Bug:
-    """A planted bug: its name, the functions that it changes, and the old and the new text of each place with its file. After a check
-    also the lines of the answers that no longer fit, of each proof file."""
+    """A planted bug: its name, the functions that it changes, whether it counts if the search only gives up, and the old and the new text
+    of each place with its file. After a check also the lines of the answers that no longer fit, of each proof file."""
 
     def __init__(self, crate, path):
         self.path, self.name = path, f"{crate.name}/{os.path.basename(path)[:-len('.edit')]}"
         self.only, self.places, self.unfit, file, old = set(), [], defaultdict(set), "", ""
+        self.may_give_up = False
         for line in open(path, encoding="utf-8").read().split("\n"):
             word, _, rest = line.partition(": ")
             if word == "only":
                 self.only = {f"{crate.name}::{name}" for name in rest.split()}
+            elif line == GIVES_UP:
+                self.may_give_up = True
             elif word == "file":
                 file = rest.strip()
             elif word == "old":
@@ -191,7 +196,8 @@ def callees(name, found):
 
 
 def judged(bug, found):
-    """What a check says of a bug: 'refused', 'unfit', the functions that it waits for, or why it does not count."""
+    """What a check says of a bug: 'refused', 'unfit', the functions that it waits for, that the search gave up and may, or why it does
+    not count."""
     own = [(name, *found[name]) for name in sorted(bug.only) if name in found]
     if not own:
         return f"the check has no function {' '.join(sorted(bug.only))}"
@@ -213,7 +219,7 @@ def judged(bug, found):
     waits = set().union(*(callees(name, found) for name, _, _, _ in own))
     if waits:
         return waits
-    return why_it_counts_not(own, goals, errors)
+    return GAVE_UP if goals and bug.may_give_up else why_it_counts_not(own, goals, errors)
 
 
 def why_it_counts_not(own, goals, errors):
@@ -313,7 +319,7 @@ def try_batches(rtlib, crate, bugs, kept):
             if said == "unfit":
                 continue
             left.remove(bug)
-            if said != "refused":
+            if said not in ("refused", GAVE_UP):
                 failed.append(f"{bug.name}: {said if found else printed[-1000:]}")
     return failed, checks
 
