@@ -2,17 +2,23 @@
 from __future__ import annotations
 
 from dataclasses import dataclass, replace
-from typing import Callable, List, Sequence, Tuple, Union
+from functools import cached_property
+from typing import Callable, List, Sequence, Set, Tuple, Union
 
+from . import limits
 from .analysis import START
 from .apply import Counts, FrameCount, Refused, beside, counts, find_guard, frames_of, run_script
+from .believed import NOTHING_BEARS, without_time
 from .damage import Damage, Seen, look
-from .editor import Editor, Progress
+from .editor import Editor, Listing, Progress
 from .kinds import DamageKind
 from .left import without_line, without_word
 from .opening import Opened
 from .script import Repair
 from .second_try import once_more
+from .taken_times import takers
+
+TAKEN = "the samples at %d and next to it would have no time, or another one"
 
 
 @dataclass(frozen=True)
@@ -57,6 +63,12 @@ class Applied:
         """Those of them that nothing else names."""
         return without_line(self.there(), script, self.refused, self.after.findings.layout.interval)
 
+    @cached_property
+    def no_time(self) -> List[str]:
+        """What is said if no sample gets a time by the repaired track."""
+        why = without_time(self.after.listing)
+        return ["%s after the repair: %s" % (why, NOTHING_BEARS)] if why else []
+
     def _counts(self, seen: Damage) -> bool:
         return self.owns(seen.at) or is_of_all(seen)
 
@@ -69,16 +81,41 @@ def is_of_all(seen: Union[Damage, Repair]) -> bool:
 def applied_to(track: Opened, editor: Editor, script: List[Repair], how: How, repaired: str) -> Applied:
     """Runs a script, and writes what it gives; the script gets the repairs that were tried in the end."""
     before = look(editor, how.progress, how.steady)
-    kind = before.listing.kind
+    refused = _run_without_takers(track, editor, script, how, repaired, before.listing)
+    editor_after = Editor([*track.code, repaired])
+    frames = (frames_of(track.options, track.path, how.owns), frames_of(track.code, repaired, how.owns))
+    if refused.is_nothing:  # it is what the last look of the proposal was at
+        editor_after.knows(editor, [repair.lines() for repair in script], frames[1].info)
+    return Applied(before, look(editor_after, how.progress, how.steady, before.findings.grid), refused, frames, how.owns)
+
+
+def _run_without_takers(track: Opened, editor: Editor, script: List[Repair], how: How, repaired: str, listing: Listing) -> Refused:
+    """Runs a script until no repair of it takes the time of a sample: one that does is left out, with a remark in its place. If the rest
+    moves, samples have other times then."""
+    left: Set[int] = set()
+    for number in range(limits.MOST_CHECKS):
+        tried = list(script)
+        refused = _run_once(track, editor, script, how, repaired, listing.kind, left)
+        taking = [] if how.move else takers(track, listing, script, refused, repaired, number >= limits.MOST_NEAREST)
+        if not taking:
+            return refused
+        left.update(repair.at for repair, _ in taking)
+        remarks = {repair.at: repair.left_out(TAKEN % moment) for repair, moment in taking}
+        without = [remarks.pop(each.at, each) if each.edits else each for each in tried]
+        script[:] = [*remarks.values(), *without]
+    return _run_once(track, editor, script, how, repaired, listing.kind, left)
+
+
+def _run_once(track: Opened, editor: Editor, script: List[Repair], how: How, repaired: str, kind: str, left: Set[int]) -> Refused:
+    """Runs a script. What is tried again is not at one of these times."""
     refused = run_script(track, script, how.save, repaired, how.move, kind, how.others)
     if refused.drops_moves(script):  # what comes after them in the script counts on them
         script[:] = how.propose(editor, False)
         again = run_script(track, script, how.save, repaired, False, kind, how.others)
         refused = replace(again, reasons=[*refused.reasons, *again.reasons])
     result = [*track.code, repaired]
-    refused = once_more(script, refused, lambda: how.propose(Editor(result), how.move), list(how.command(track)), repaired, kind)
-    editor_after = Editor(result)
-    frames = (frames_of(track.options, track.path, how.owns), frames_of(track.code, repaired, how.owns))
-    if refused.is_nothing:  # it is what the last look of the proposal was at
-        editor_after.knows(editor, [repair.lines() for repair in script], frames[1].info)
-    return Applied(before, look(editor_after, how.progress, how.steady, before.findings.grid), refused, frames, how.owns)
+
+    def again_without() -> List[Repair]:
+        return [each for each in how.propose(Editor(result), how.move) if each.at not in left]
+
+    return once_more(script, refused, again_without, list(how.command(track)), repaired, kind)

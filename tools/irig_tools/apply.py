@@ -174,11 +174,11 @@ def run_script(track: Opened, script: Sequence[Repair], save: bool, out: str, mo
     refused. Frames that are fine may move if `moved`. A wire that is upside down is first turned over by the editor, since
     irig_guard goes by the frames that are fine. It gets the dumps of other recordings."""
     ending = "save" if save else "write"
-    guard, many = [find_guard(), *["--moved"] * moved, *beside(others)], _turning(script)
+    guard, many = [find_guard(), *["--moved"] * moved, *beside(others)], turning(script)
     if not many:
         guard, path = [*guard, *track.options], track.path
     else:
-        guard, path = [*guard, *track.code], out + ".turned"
+        guard, path = [*guard, *track.code], turned_track(out)
         _run([find_editor(), *track.options], track.path, [*lines_of_all(script[:many]), ending], path)
     return run_guarded([*guard, *["--save"] * save], path, script[many:], out, kind)
 
@@ -220,7 +220,12 @@ def _reason(program: str, line: str) -> Optional[Reason]:
         raise other_release(program, line.encode()) from error
 
 
-def _turning(script: Sequence[Repair]) -> int:
+def turned_track(out: str) -> str:
+    """Where the track is, turned over, while a script runs that turns it over and writes to this path."""
+    return out + ".turned"
+
+
+def turning(script: Sequence[Repair]) -> int:
     """How many repairs and remarks come up to the one that turns the wire over; 0 if none does."""
     return next((number for number, each in enumerate(script, 1) if each.edits and each.kind == DamageKind.INVERTED), 0)
 

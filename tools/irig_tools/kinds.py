@@ -30,4 +30,5 @@ class DamageKind(str, Enum):
     OTHER = "other"
 
 
+ALL_PULSES = frozenset((DamageKind.INVERTED, DamageKind.THRESHOLD))  # all others are made for the wire as it is after these
 STEPS = frozenset((DamageKind.STEP, DamageKind.CUT, DamageKind.TWICE, DamageKind.TIMES))  # of the recorder's clock: they stay

@@ -108,6 +108,8 @@ OVERLAP = 0.02  # intervals: a pulse that reaches so far beyond the next rise co
 
 # the whole recording (analysis, threshold): pulses are 20, 50 or 80 hundredths wide, and classes end at 5, 35, 65 and 95
 UPSIDE_DOWN, MORE_THAN_UPRIGHT = 0.8, 0.1  # the share of falls in step, as of upright zeros; by how much more than rises
+NEXT_TO_A_TURN = 8  # pulses on either side that are looked at, too: one alone can be damaged
+MOST_EDGES_TRIED = 400  # edges of pulses that do not show whether they are upside down: the end of a search
 TURNED_OVER = 20  # rises or falls out of step: what it costs that a wire is turned over; a frame that is upside down has more
 FIT = 0.5  # the share of the time in step without which it is no such recording: damage of half of it is not mended [0, 1]
 THRESHOLD_SHIFTS = range(-17, 28)  # hundredths of an interval by which all can be longer: a zero is left, a one no position [2, 0]
@@ -149,6 +151,8 @@ MOST_PERIODS = 495  # frames that are farther apart do not support each other, a
 UNLIKE_ELSEWHERE, UNLIKE_SHARE = 2, 0.1  # frames of the same time that may differ, and by how many more, as a share of those that show it
 LEAST_COMPARED = 9  # control functions of a frame that are recorded in both: fewer are alike by chance
 MOST_ALIKE = 400  # moments at which the control functions change in the same way in both: more say nothing of their clocks
+AS_WIDE = 0.02  # intervals: a pulse that is off by more is not as wide as others of its class: in G a width is rounded by a hundredth
+OF_OTHER_WIDTH = 0.1  # the share of the pulses of a class that are off by so much, beyond which a width says nothing
 
 # stretches that are there twice (copies, steps)
 UNLIKE_IN_COPY = 25  # a copy has at most one element in that many that differs: more is no copy, but frames alike [0, 1]
@@ -178,7 +182,12 @@ TREMBLE = 0.005  # intervals: rises that stray less are sound: beyond, steps of 
 SILENCE = 1.5  # intervals: less is no silence: no pulse is missing for sure [92, 30]
 TOGETHER = 3  # that many faulty places one after the other are one line [7, 9]
 ROUNDS = 5  # after that many the script is as it is: the end of a search
+BESIDE_ANOTHER = 2  # intervals: a repair of a later look that is so near after one of a look before it is one with it
 MOST_CHECKS = 5  # after that many no repair is left: the end of a search
+
+# samples that lose their time (taken_times)
+REACH_OF_A_REPAIR = 4  # frames: a frame bears out the two before it and the two after it, and pulses are counted into the next one
+MOST_NEAREST = 2  # runs of irig_guard after which all repairs within that reach are left out, and not just the nearest
 
 # frames before and after the script (check)
 MOVED = 0.2  # intervals: a marker that is moved by less is the same: twice what irig_ed tolerates

@@ -3,6 +3,7 @@ from __future__ import annotations
 
 from itertools import compress, count, groupby
 from operator import ne
+from statistics import median
 from typing import List, Sequence, Tuple
 
 from . import limits
@@ -10,6 +11,8 @@ from .editor import Listing
 from .grouping import grouped
 from .interval import are_odd, distances, places_of
 from .units import Microseconds
+
+WIDTHS = 2, 5, 8  # of the classes, in tenths of an interval
 
 
 def _out_of_step(apart: Sequence[int], interval: int) -> bytes:
@@ -67,8 +70,33 @@ def upside_down(listing: Listing, interval: int) -> List[Tuple[Microseconds, Mic
     alike = [list(group) for _, group in groupby(votes, rises.__getitem__)]
     down = _are_down([-len(group) if rises[group[0]] else len(group) for group in alike])
     stretches = grouped([number for number, each in enumerate(down) if each], lambda before, after: after - before > 1)
-    last = len(listing.rises) - 1
-    first_pulses, last_pulses = [0, *(group[-1] + 2 for group in alike)], [*(group[-1] + 1 for group in alike[:-1]), last]
-    found = [(first_pulses[each[0]], last_pulses[each[-1]]) for each in stretches]
-    return [(listing.falls[begin] if begin else Microseconds(0), listing.falls[end] if end < last else listing.length)
-            for begin, end in found]
+    edges = [edge for pulse in zip(listing.rises, listing.falls) for edge in pulse]
+    clock, found = median([interval, *(each for each in listing.apart if not _is_out(each, interval))]), []
+    for each in stretches:
+        begin, end = Microseconds(0), listing.length
+        if each[0]:  # from a rise of the upright pulses up to one that is a fall there
+            begin = _turned_at(edges, 2 * alike[each[0] - 1][-1] + 2, 2 * alike[each[0]][0] + 2, clock)
+        if each[-1] + 1 < len(alike):  # from a fall that is a rise up to one that is a fall
+            end = _turned_at(edges, 2 * alike[each[-1]][-1] + 1, 2 * alike[each[-1] + 1][0] + 3, clock)
+        found.append((begin, end))
+    return found
+
+
+def _turned_at(edges: List[Microseconds], first: int, last: int, interval: float) -> Microseconds:
+    """At which of these edges a wire is turned over: where most pulses have the width of a class then, and rise a whole number of intervals
+    after one of the first edges, which rise when the wire is upright. If there are very many it is near the first."""
+    more = 2 * limits.NEXT_TO_A_TURN
+    first -= more * (first >= more)
+    near = edges[first:min(last + more * (last + more < len(edges)), first + limits.MOST_EDGES_TRIED) + 1]
+    without = [near[:at] + near[at + 1:] for at in range(1, len(near) - 1)]
+    found = [max(_pulses_of_classes(due, each, interval) for due in near[:more:2]) for each in without]
+    return near[1 + found.index(max(found))]
+
+
+def _pulses_of_classes(due: Microseconds, edges: Sequence[Microseconds], interval: float) -> Tuple[int, float]:
+    """How many pulses with these edges have the width of a class, and rise when they are due, to a tenth of an interval; and by how much
+    their widths are off in all, below 0."""
+    rises = [(rise - due + interval / 2) % interval - interval / 2 for rise in edges[::2]]
+    widths = [min(abs(fall - rise - width * interval / 10) for width in WIDTHS) for rise, fall in zip(edges[::2], edges[1::2])]
+    good = [width for rise, width in zip(rises, widths) if max(abs(rise), width) <= limits.IN_STEP * interval]
+    return len(good), -sum(good)
