@@ -6,23 +6,20 @@ that becomes fine has the time to which the frames next to it lead. What is move
 """
 from __future__ import annotations
 
-import re
 from bisect import bisect_left
 from dataclasses import dataclass
 from itertools import combinations
 from typing import Dict, Iterator, List, NamedTuple, Optional, Sequence, Tuple
 
 from . import limits
+from .believed import fine_frames
 from .editor import Listing
-from .interval import breaks
 from .layout import Layout
 from .moments import CENTURY, DAY, Calendar
 from .parity import Rule
 from .script import Repair
 from .units import ELEMENTS, Hundredths, Microseconds, plus
 from .witnesses import NO_WITNESSES, Witnesses, time_of_frame
-
-MARKED = re.compile("P(?=P[01]{8}P(?:[01]{9}P){9})")
 
 
 @dataclass
@@ -61,15 +58,11 @@ class Frames:
     """The frames of a listing that are fine, where a script moves them, in the order of time."""
 
     def __init__(self, listing: Listing, calendar: Calendar, moved: Moved) -> None:
-        layout, interval = calendar.layout, calendar.layout.interval
-        broken_at = breaks(listing.apart, interval, limits.IN_STEP * interval)
         found: Dict[Microseconds, Frame] = {}
-        for match in MARKED.finditer(listing.classes):
-            marker = match.start() + 1
-            text, broken = listing.classes[marker:marker + ELEMENTS], bisect_left(broken_at, marker)
-            at, told = moved.time(listing.rises[marker]), layout.shown(text)
-            if at is not None and told and broken_at[broken] >= marker + ELEMENTS:
-                found[at] = Frame(at, calendar.moment_of(told), text)
+        for frame in fine_frames(listing, calendar.layout):
+            at = moved.time(listing.rises[frame.marker])
+            if at is not None:
+                found[at] = Frame(at, calendar.moment_of(frame.told), frame.text)
         self.all = [found[at] for at in sorted(found)]
 
     def near(self, at: Microseconds, within: float) -> Optional[Frame]:

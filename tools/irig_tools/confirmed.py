@@ -13,6 +13,7 @@ from .units import ELEMENTS, FrameNumber, PlaceNumber, place_in
 from .witnesses import OTHER, Witnesses, rule_with
 
 BY_HAND = "force the one that is wrong"
+NOT_AS_WIDE = ", and the %s here is not as wide as others"
 NOT_TAKEN = "so nothing of it is taken: its clock was set otherwise, or it is another code"
 
 
@@ -43,8 +44,8 @@ def _compare_elsewhere(faults: Faults) -> None:
                 faults.wanted[place], faults.besides[place] = OTHER[faults.times.texts[number][element]], why
                 faults.by_others.add(place)
             else:
-                faults.remark(place, "%s: %s" % (faults.name(place), elsewhere.said(number, element)), BY_HAND, DamageKind.DIFFERS,
-                              elements=[element])
+                seen = "%s: %s%s" % (faults.name(place), elsewhere.said(number, element), _not_as_wide(faults, number, element))
+                faults.remark(place, seen, BY_HAND, DamageKind.DIFFERS, elements=[element])
         if number in elsewhere.contrary:
             seen = "%s: %s" % (faults.times.name(number), elsewhere.said_of_frame(number))
             faults.remark(faults.track.within(place_in(number)), seen, NOT_TAKEN, DamageKind.DIFFERS)
@@ -52,8 +53,8 @@ def _compare_elsewhere(faults: Faults) -> None:
 
 def _why_damage(faults: Faults, number: FrameNumber, element: int) -> Optional[str]:
     """What else says that an element is damage here which other recordings have otherwise: it is the only one, and the rule says so; or
-    the frames next to it have it as they do; or the frame is damaged, and most recordings have it so, which needs no more words. None if
-    nothing does, or if the rule confirms it."""
+    the frames next to it have it as they do; or its pulse is not as wide as others, and theirs is; or the frame is damaged, and most
+    recordings have it so, which needs no more words. None if nothing does, or if the rule confirms it."""
     times, elsewhere, here = faults.times, faults.elsewhere, faults.times.texts[number][element]
     if times.is_confirmed(number, element):
         return None
@@ -61,7 +62,17 @@ def _why_damage(faults: Faults, number: FrameNumber, element: int) -> Optional[s
         return ", and as element %d says" % elsewhere.rule.element
     if times.are_beside(number, element, OTHER[here]):
         return " and in the frames next to it"
+    width = _not_as_wide(faults, number, element)
+    if width and (number not in times.sound or times.is_beside(number, element, OTHER[here])):  # else irig_guard drops it
+        return width
     return "" if number not in times.sound and elsewhere.outvotes(number, element, here) else None
+
+
+def _not_as_wide(faults: Faults, number: FrameNumber, element: int) -> str:
+    """What is said if the width of a pulse shows that it is damaged here, and not where it is recorded otherwise."""
+    here = faults.times.texts[number][element]
+    is_shown = faults.is_odd(place_in(number, element)) and faults.elsewhere.is_usual(number, element, OTHER[here])
+    return NOT_AS_WIDE % NAMES[here] if is_shown else ""
 
 
 class _Frame:

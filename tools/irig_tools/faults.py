@@ -13,6 +13,7 @@ from .layout import NAMES, POSITIONS, READABLE, SHARE
 from .texts import counted
 from .track import Track
 from .units import ELEMENTS, FrameNumber, Microseconds, PlaceNumber, PulseIndex, frame_of, number_of, place_in, plus, through
+from .widths import Widths
 from .witnesses import Elsewhere, Witnesses
 
 LEFT_FRAME = "the frame is left as it is; regen gives it the time to which the others lead"
@@ -50,6 +51,7 @@ class Faults:
         self.elsewhere = Elsewhere(times, witnesses)
         self.left = set(left)
         self.rises, self.falls = track.rises, track.falls
+        self.widths = Widths(track.rises, track.falls, track.classes, self.layout.interval)
         self.wanted: Dict[PlaceNumber, str] = {}
         self.guesses: Dict[PlaceNumber, str] = {}  # places of control functions that nothing says
         self.by_rule: Set[PlaceNumber] = set()  # places of control functions that a rule says
@@ -225,6 +227,11 @@ class Faults:
         """Whether one pulse of a place was recorded with this class, though it can be late."""
         pulses = self.track.pulses_at(place)
         return len(pulses) == 1 and self.track.classes[pulses[0]] == name and self._is_nominal(place, pulses[0], name)
+
+    def is_odd(self, place: PlaceNumber) -> bool:
+        """Whether the only pulse of a place is not as wide as others of its class."""
+        pulses = self.track.pulses_at(place)
+        return len(pulses) == 1 and self.widths.is_odd(pulses[0])
 
     def _is_nominal(self, place: PlaceNumber, pulse: PulseIndex, name: str) -> bool:
         return abs(self.width_of(pulse) - self.width(name, place)) <= limits.NOMINAL * self.layout.interval

@@ -40,8 +40,8 @@ def mend_folder(given: Given, rules: Sequence[Option], page: Option) -> int:
         try:
             results = work.mend(looked.recordings, record)
         except BaseException:
-            complain("%s: %d of %d recordings are looked at; the same command does the others" % (
-                name_of(folder), len(work.results), len(looked.recordings)), PROGRAM)
+            complain("%s: %d of %d recordings are done; the same command does the others" % (
+                name_of(folder), sum(each.is_read for each in work.results), len(looked.recordings)), PROGRAM)
             raise
     results = worst_first([*results, *(Result(name, "", NOT_READ, [why]) for name, why in looked.problems)])
     _write_all(given, page, folder, results)

@@ -17,6 +17,7 @@ TIME = re.compile(r"(?i)\W*(time|t|timestamp|zeit|temps|x|x-axis|seconds?|sec)(\
 RATE_LINE = re.compile(r"(?i)\W*(?:meta )?samplerate\W*([0-9.]+) *([kmg]?)(?:hz)?\W*")
 IN_BRACKETS = re.compile(r".*[\[(]\s*([^\])]*[^\W\d_][^\])]*)[\])]\W*")  # what may be a unit
 BEGINS_NUMBER = "+-,0123456789"
+MOST_ROWS_OF_HEADS = 50  # if they are next to the first rows
 CHANNELS = re.compile(r"; *Channels \([0-9/]+\): *(.*)")  # of sigrok, which can call each column `logic`
 PREFIXES = {"": 1, "k": 1000, "m": 1000000, "g": 1000000000}
 
@@ -165,6 +166,20 @@ class Heads:
             return int(name) - 1
         listed = ", ".join(filter(None, self.names)) or "the numbers 1 to %d" % self.count
         raise Problem("%s: has no column '%s'; there are: %s" % (self.path, name, listed))
+
+
+def with_values(others: Sequence[Tuple[int, str]], rows: Sequence[Sequence[str]], form: Columns) -> List[Tuple[int, str]]:
+    """Of the other columns of a table that names none, those that have values in its first rows. Heads can be next to these rows: words in
+    the first column, what they name in those up to the time, and nothing below."""
+    first = min(place for place in (form.time, form.value) if place is not None)
+    beside = first if rows[0][0] and not NUMBER.fullmatch(rows[0][0]) else 0
+    found = []
+    for place, name in others:
+        filled = [number for number, fields in enumerate(rows, 1) if fields[place:place + 1] not in ([], [""])]
+        is_head = place < beside and bool(filled) and filled[-1] <= min(MOST_ROWS_OF_HEADS, len(rows) // 2)
+        if filled and not is_head:
+            found.append((place, name))
+    return found
 
 
 def _distinct(names: List[str], heads: Sequence[str]) -> List[str]:

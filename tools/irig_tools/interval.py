@@ -339,11 +339,12 @@ class Clock:
         rises, least, side = self.rises, self.least_stray, limits.SIDE // 2 + 1
         if run.count < (limits.LEAST_LOCAL if self.wander else 2 * side + 1):
             return
-        for first, way, begin, interval in ((run.first, 1, run.begin, run.begin_interval), (run.last, -1, run.end, run.end_interval)):
+        for first, way, clocks in self._ends_of(run):
             for far in range(side):
-                due = begin + way * far * (interval or self.near(first))
-                if abs(rises[first + way * far] - due) > least and rises[first + way * far] > 0:
-                    yield plus(first, way * far), Microseconds(round(due))
+                rise = rises[first + way * far]
+                off = min((rise - begin - way * far * interval for begin, interval in clocks), key=abs)
+                if abs(off) > least and rise > 0:
+                    yield plus(first, way * far), Microseconds(round(rise - off))
         low, beyond = run.first + side, run.last - side + 1
         apart = set(self.listing.apart[low - 1:beyond])
         if not apart or max(apart) - min(apart) <= least:  # no two are more different
@@ -353,6 +354,13 @@ class Clock:
             due = statistics.median([(rises[at - far] + rises[at + far]) / 2 for far in range(1, side + 1)])
             if abs(rises[at] - due) > least:
                 yield PulseIndex(at), Microseconds(round(due))
+
+    def _ends_of(self, run: Run) -> Iterator[Tuple[PulseIndex, int, List[Tuple[float, float]]]]:
+        """Its first and its last pulse, the way into the run, and when each should rise, with the interval there. A clock that wanders says
+        that in two ways: by the pulses that are best over holes of all lengths, and by those that are best over one element."""
+        for at, way, due, interval in ((run.first, 1, run.begin, run.begin_interval), (run.last, -1, run.end, run.end_interval)):
+            near = [self.wander.hop(1).end(self.rises, at, way, run.count, self.near(at))] if self.wander else []
+            yield at, way, [(due, interval or self.near(at)), *near]
 
     def near(self, pulse: int) -> float:
         """The interval after a pulse, as far as all distances near it say it."""

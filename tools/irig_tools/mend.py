@@ -6,15 +6,18 @@ from dataclasses import dataclass, field
 from typing import Dict, List, Optional, Sequence, Set, Tuple
 
 from . import limits
-from .analysis import Findings, looks
+from .analysis import START, Findings, looks
+from .believed import NOTHING_BEARS, without_time
+from .by_marks import by_mark, changes_numbers
 from .check import Check, Harm, Moved
 from .concern import NOTHING, Concern
 from .editor import Editor, Listing, Progress
 from .faults import Remark
 from .joining import one_of
 from .kinds import STEPS, DamageKind
+from .layout import INTERVAL
 from .repairs import repairs
-from .script import BY_LINE, Repair
+from .script import Repair
 from .units import Microseconds
 from .witnesses import NO_WITNESSES, Witnesses
 
@@ -79,7 +82,23 @@ class _Mending:
         found = called_for(findings)
         self.looks.append((len(self.script), listing, findings))
         self.remarks = [each for each in found if not each.edits]
-        self.script += [each for each in found if each.edits and each.text() not in self.refused]
+        changing = [number for number, each in enumerate(self.script) if changes_numbers(each)]
+        for repair in (each for each in found if each.edits):
+            self._add_one(repair, [number for number in changing if self.script[number].at < repair.at], listing)
+
+    def _add_one(self, repair: Repair, changing: Sequence[int], listing: Listing) -> None:
+        """Adds a repair. If repairs of former looks that are before it in time, `changing` of the script, can change its numbers, it is
+        counted from a mark, and is one with one that is next to it."""
+        own = by_mark(repair, listing.rises) if changing else repair
+        near = Microseconds(repair.at - limits.BESIDE_ANOTHER * INTERVAL[listing.kind])
+        beside = [number for number in changing if own is not repair and self.script[number].touches(near, repair.at)]
+        together = one_of([self.script[beside[0]], own]) if beside else own
+        if together.text() in self.refused:
+            return
+        if beside:
+            self.script[beside[0]] = together
+        else:
+            self.script.append(together)
 
     def first_look(self) -> Tuple[int, Listing, Findings]:
         """The first look at pulses that have their classes, or some of them."""
@@ -154,7 +173,7 @@ def propose(editor: Editor, progress: Progress, steady: bool = False, move: bool
             break
         for repair, harm in _blamed(mending.script, harms, turn + 1 == limits.MOST_CHECKS):
             refused.add(repair.text())
-            taken[repair.at] = _left_out(repair, harm)
+            taken[repair.at] = repair.left_out(harm.seen)
     else:
         mending.script = []
     progress("")
@@ -171,10 +190,10 @@ def _blamed(script: Sequence[Repair], harms: Sequence[Harm], all_of_them: bool) 
     return found if found and not all_of_them else [(repair, harms[0]) for repair in edits]
 
 
-def _left_out(repair: Repair, harm: Harm) -> Repair:
-    lines = "; ".join(repair.edits)[:BY_LINE]
-    said = "undecided: at %d: with these lines %s, so they are left out: %s" % (repair.at, harm.seen, lines)
-    return Repair(repair.at, [said], kind=repair.kind, undecided=[said], concern=repair.concern)
+def of_no_time(editor: Editor, script: Sequence[Repair]) -> List[Repair]:
+    """What is said first if no sample gets a time by the track after a script."""
+    why = without_time(editor.ask([repair.lines() for repair in script]))
+    return _said([Remark(START, why + " after this script", NOTHING_BEARS)]) if why else []
 
 
 def script_text(script: Sequence[Repair]) -> str:

@@ -24,7 +24,7 @@ from .folder_program import APPLY_TO, JOBS, REPORT, mend_folder
 from .facts import json_lines, repairs_as_json
 from .kinds import DamageKind
 from .left import left_by, left_lines
-from .mend import called_for, propose, script_text
+from .mend import called_for, of_no_time, propose, script_text
 from .mend_long import LongRecording, looked_at
 from .named import wire_or_none
 from .opening import Opened, is_of_one_wire, opened
@@ -73,8 +73,8 @@ expression are found if they are not given:
 The editor is the program that IRIG_ED names, or irig_ed on the path.
 The status is 0 if there is nothing to repair, 1 if there is something, 2 if the
 track was not read, and 70 if memory ran out or the tool has a defect. With
---apply it is 0 if no damage is left, and 1 if some is; with --apply-to 0 if so
-it is for all recordings, and else 1.
+--apply it is 0 if no damage is left, and 1 if some is, or if no sample gets a
+time; with --apply-to 0 if so it is for all recordings, and else 1.
 """)
 
 
@@ -150,8 +150,9 @@ def mend_with(given: Given, track: Opened, editor: Editor, others: Others, targe
         return End(explain(editor, given, others))
     script = proposed(editor, given, progress, others, given.has(MOVE))
     if not given.has(APPLY):
-        draw_proposal(given, track, script, progress, target.outputs)
-        return End(FOUND if script else ALL_RIGHT, text_to_write(given, script, track))
+        said = of_no_time(editor, script)
+        draw_proposal(given, track, script, said, progress, target.outputs)
+        return End(FOUND if said or script else ALL_RIGHT, text_to_write(given, said + script, track))
     done = apply(given, track, editor, script, progress, target, others)
     return end_of(done, text_to_write(given, script, track) if given.has(OUTPUT) else None)
 
@@ -229,7 +230,7 @@ def explain(editor: Editor, given: Given, others: Others) -> int:
     lines[1:1] = others.lines
     with output(given.text(OUTPUT)) as out:
         out.write("".join(line + "\n" for line in lines).encode("utf-8"))
-    return FOUND if called_for(findings) or others.remarks else ALL_RIGHT
+    return FOUND if called_for(findings) or others.remarks or of_no_time(editor, []) else ALL_RIGHT
 
 
 def check(given: Given) -> None:
@@ -282,14 +283,15 @@ def proposed_text(script: List[Repair]) -> str:
     return "%s proposed, %s left to you; nothing is changed yet" % (counted(edits, "repair"), counted(len(script) - edits, "place"))
 
 
-def draw_proposal(given: Given, track: Opened, script: List[Repair], progress: Progress, outputs: ExitStack) -> None:
-    """Writes the page of what is proposed, if it is asked for."""
+def draw_proposal(given: Given, track: Opened, script: List[Repair], said: List[Repair], progress: Progress, outputs: ExitStack) -> None:
+    """Writes the page of what is proposed, if it is asked for, with what is said of the whole."""
     path = given.text(PAGE_OF_REPAIRS)
     if path is not None:
         editor = Editor(track.words)
         after = editor.ask([repair.lines() for repair in script])
         seen = look(editor, progress, given.has(STEADY))
         sheet = sheet_of(os.path.basename(given.names[0]), wire_or_none(track), seen, script, after)
+        sheet = replace(sheet, notes=(*sheet.notes, *(comment for each in said for comment in each.comments)))
         drawn = page(of_program(sheet, COMMAND.name, "%s: %s" % (name_of(given.names[0]), proposed_text(script))))
         outputs.enter_context(output(path)).write(drawn.encode("utf-8"))
 
@@ -308,7 +310,7 @@ def apply(given: Given, track: Opened, editor: Editor, script: List[Repair], pro
             target.outputs.enter_context(output(given.text(PAGE_OF_REPAIRS))).write(drawn.encode("utf-8"))
         say_put_back(given, target.write(repaired, track))
     code = code_of(given.names[0], track, ran.before.listing)
-    is_whole = done.is_whole and not notes_of_rest(track) and not differs(script)
+    is_whole = done.is_whole and not notes_of_rest(track) and not differs(script) and not ran.no_time
     return Done(done, code, reasons_of(track, script, ran), is_whole)
 
 
@@ -318,9 +320,10 @@ def say_put_back(given: Given, notes: Sequence[str]) -> None:
 
 
 def reasons_of(track: Opened, script: List[Repair], ran: Applied) -> List[str]:
-    """Why something is left: repairs that are not kept, steps that stay, what nothing decides, and a file of which not all was read."""
+    """Why something is left: repairs that are not kept, a recording that gives no time, steps that stay, what nothing decides, and a file
+    of which not all was read."""
     left = [comment for repair in script if not ran.refused.drops(repair) for comment in left_by(repair)]
-    reasons = [reason.text for reason in ran.refused.reasons]
+    reasons = [reason.text for reason in ran.refused.reasons] + ran.no_time
     return reasons + left + left_lines(ran.without_line(script)) + notes_of_rest(track)
 
 
@@ -334,7 +337,7 @@ def drawing(given: Given, track: Opened, script: List[Repair], result: Tuple[App
     changes = changes_of(track, before.listing, repaired)
     changes.command = again(names, track, before.listing)
     sheet = sheet_of(os.path.basename(given.names[0]), wire_or_none(track), before, script, ran.after.listing, changes, ran.there())
-    noted = replace(sheet, notes=(*sheet.notes, *done.notes))
+    noted = replace(sheet, notes=(*sheet.notes, *done.notes, *ran.no_time))
     return page(of_program(noted, COMMAND.name, "%s: %s" % (name_of(given.names[0]), done.text())))
 
 

@@ -16,6 +16,7 @@ from .moments import SECOND, Calendar
 from .script import Repair
 from .texts import counted
 from .units import FrameNumber, Hundredths, PulseIndex
+from .widths import Widths
 from .witnesses import TimeOfFrame, Witness, Witnesses, time_of_frame, unlike
 
 SET = "its control functions are those of this recording, and its times are %s: its clock was set otherwise"
@@ -77,14 +78,15 @@ def other_of(name: str, findings: Findings) -> Other:
     """The frames of a recording that others can rely on: fine and supported."""
     found: List[Tuple[Timed, Witness]] = []
     for part in findings.parts[:1]:  # all parts are of one listing
-        fine = Frames(part.track.listing, part.times.calendar, Moved()).all
+        fine, track = Frames(part.track.listing, part.times.calendar, Moved()).all, part.track
+        widths = Widths(track.rises, track.falls, track.classes, findings.layout.interval)
         for frame in fine:
             told = findings.layout.shown(frame.text)
             near = around(fine, frame.at, 2)
             if told and any(_supports(part, frame, each) for each in near):
-                first = PulseIndex(bisect_left(part.track.rises, frame.at))
+                first = PulseIndex(bisect_left(track.rises, frame.at))
                 timed = Timed(frame.moment, time_of_frame(findings.layout, told), frame.text)
-                found.append((timed, Witness(name, frame.text, part.track.rises, first)))
+                found.append((timed, Witness(name, frame.text, track.rises, first, widths)))
     return Other(name, found)
 
 

@@ -2,6 +2,7 @@
 from __future__ import annotations
 
 import time
+from bisect import bisect_left
 from collections import Counter
 from dataclasses import replace
 from typing import Dict, Iterator, List, Optional, Sequence, Tuple
@@ -38,8 +39,8 @@ def sheet_of(name: str, wire: str, seen: Seen, script: Sequence[Repair] = (), af
     if changes:
         places = _those_left([_made(place) for place in places], script, there)
         places = sorted(places + _still_there(seen, there, places), key=lambda place: place.at)
-    length = seen.listing.length
-    return Sheet(name, length, layout.interval, kind, _stretches(seen.findings, length), tuple(places), lines, said, changes, wire=wire,
+    stretches = _stretches(seen.findings, seen.listing)
+    return Sheet(name, seen.listing.length, layout.interval, kind, stretches, tuple(places), lines, said, changes, wire=wire,
                  span=_span_of_times(seen), clock=tuple(_clock_of(seen)))
 
 
@@ -121,16 +122,33 @@ def _place_of_damage(seen: Seen, damage: Damage, script: Sequence[Repair], after
     return Place(damage.at, until, damage.seen.partition(";")[0], damage.seen + off, before, wave, lines, damage.name)
 
 
-def _stretches(findings: Findings, length: int) -> Tuple[Stretch, ...]:
-    found = [stretch for part in reversed(findings.parts) for stretch in _frame_stretches(part, length)]
-    return merged(found) if found else (Stretch(0, length, DAMAGED),)
+def _stretches(findings: Findings, listing: Listing) -> Tuple[Stretch, ...]:
+    """All from the first frame to the last, each microsecond once. An element lasts up to the next part at most."""
+    found: List[Stretch] = []
+    for stretch in (each for part in reversed(findings.parts) for each in _frame_stretches(part, listing.length)):
+        begin = max(stretch.start, found[-1].start) if found else stretch.start
+        if found and begin < found[-1].end:
+            found[-1] = replace(found[-1], end=begin)
+        elif found:
+            found += _between_parts(listing, found[-1].end, begin, findings.layout.interval)
+        found.append(replace(stretch, start=begin))
+    return merged(found) if found else (Stretch(0, listing.length, DAMAGED),)
 
 
-def lasting_of(findings: Findings, length: int, turned: Sequence[Tuple[int, int]] = ()) -> Dict[str, int]:
-    """For how many microseconds a recording of this length is in each state. What is sound in these stretches is damaged: they were
-    upside down before."""
+def _between_parts(listing: Listing, begin: int, end: int, interval: int) -> Iterator[Stretch]:
+    """What is between two parts, as long as a frame each, but the last one. As of a frame, it is lost if more than half of the elements
+    have no pulse."""
+    for start in range(begin, end, ELEMENTS * interval):
+        beyond = min(end, start + ELEMENTS * interval)
+        pulses = bisect_left(listing.rises, beyond) - bisect_left(listing.rises, start)
+        state = LOST if 2 * pulses * interval < beyond - start else DAMAGED
+        yield Stretch(start, beyond, state, round((beyond - start) / (ELEMENTS * interval)))
+
+
+def lasting_of(findings: Findings, listing: Listing, turned: Sequence[Tuple[int, int]] = ()) -> Dict[str, int]:
+    """For how many microseconds a recording is in each state. What is sound in these stretches is damaged: they were upside down before."""
     found = dict.fromkeys(STATES, 0)
-    for stretch in _stretches(findings, length):
+    for stretch in _stretches(findings, listing):
         spoilt = sum(max(0, min(end, stretch.end) - max(start, stretch.start)) for start, end in turned)
         found[stretch.state] += stretch.end - stretch.start
         if stretch.state == SOUND:

@@ -36,7 +36,8 @@ class Proposal:
     kind: str
     expression: int
     extraction: Optional[Sequence[str]] = None
-    repairs: int = 0  # that irig_mend proposes
+    places: int = 0  # of damage, as irig_damage finds them
+    repairs: int = 0  # that irig_mend proposes: one can be of several places
     remarks: int = 0
     choice: Sequence[str] = ()  # the options of irig_mend for the unit and the dump
     is_part: bool = False  # only a part of the dump was looked at
@@ -49,8 +50,12 @@ class Proposal:
             return [LARGE_ONE % (new, self._into()), mend]
         if not self.repairs + self.remarks:
             return [self._first() + "irig_ed %s --out %s %s" % (self._options(), new, self._track())]
-        told = "damaged: irig_mend has %s; the next line writes the repaired recording as %s (without --apply %s it prints the script%s)"
-        return [told % (self._counted(), new, new, self._into()), self._first() + mend]
+        told = "%s: irig_mend has %s; the next line writes the repaired recording as %s (without --apply %s it prints the script%s)"
+        return [told % (self._damaged(), self._counted(), new, new, self._into()), self._first() + mend]
+
+    def _damaged(self) -> str:
+        """In how many places; a remark can be of none."""
+        return "damaged in %d place%s" % (self.places, "s" * (self.places > 1)) if self.places else "damaged"
 
     def _counted(self) -> str:
         parts = (self.repairs, "repair"), (self.remarks, "remark")

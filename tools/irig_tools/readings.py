@@ -5,8 +5,9 @@ import re
 import statistics
 import subprocess
 from bisect import bisect_right
+from collections import Counter
 from dataclasses import dataclass, field
-from typing import Dict, List, Optional, Sequence, Set
+from typing import Dict, List, Optional, Sequence
 
 from . import limits
 from .editor import CUT_OFF, Editor, Listing, Problem, find_editor, info_of
@@ -17,6 +18,7 @@ from .unread import led
 
 EXPRESSIONS = {"A": range(8), "B": range(8), "E": (1, 2, 5, 6), "G": (1, 2, 5, 6)}
 NEXT_IN_STEP = 0.05  # of the interval
+NO_YEAR, TURN = "00", {"99", "00", "01"}  # a year that no frame shows, and those around a turn of the century
 CONTROL_TOO = {2: 1, 3: 0, 6: 5, 7: 4}  # expressions without control functions, and those that have them besides
 
 
@@ -30,8 +32,7 @@ class Reading:
     fine: int = 0
     first: str = ""  # the time of the first fine frame
     last: str = ""
-    years: Set[str] = field(default_factory=set)
-    controls: Set[str] = field(default_factory=set)
+    years: Counter[str] = field(default_factory=Counter)  # and in how many fine frames each is
     led: int = 0  # if no frame is fine under any: those that fit the time to which all lead together
 
     def line(self, words: Sequence[str]) -> None:
@@ -41,11 +42,18 @@ class Reading:
             return
         self.fine += 1
         self.last = " ".join(words[3:5])
-        for name, kept in (("year", self.years), ("control", self.controls)):
-            if name in words and len(kept) < 1000:
-                kept.add(words[words.index(name) + 1])
-                self.last += " year " + words[words.index(name) + 1] if name == "year" else ""
+        if "year" in words:
+            year = words[words.index("year") + 1]
+            self.years[year] += 1
+            self.last += " year " + year
         self.first = self.first or self.last
+
+    @property
+    def is_dated(self) -> bool:
+        """Whether it shows a year that is not 00: in half of the fine frames, or in several at a turn of the century. Else it is damage."""
+        without = self.years[NO_YEAR]
+        dated = sum(self.years.values()) - without
+        return 0 < len(self.years) < 3 and dated > 0 and (dated >= without or dated > 1 and TURN.issuperset(self.years))
 
     def text(self) -> str:
         told = "expression %d: %d of %d frames fine" % (self.expression, self.fine, self.frames)
@@ -174,7 +182,7 @@ def _plainest(left: Sequence[Reading]) -> Reading:
     """Of expressions under which as many frames can be read that which uses what is there, and no more."""
     with_seconds = [row for row in left if row.expression in WITH_BINARY]
     left = with_seconds or left
-    dated = [row for row in left if 0 < len(row.years) < 3 and row.years != {"00"}]
+    dated = [row for row in left if row.is_dated]
     plain = [row for row in left if row.expression not in WITH_YEAR]
     left = dated or plain or left
     quiet = [row for row in left if row.expression not in WITH_CONTROL]

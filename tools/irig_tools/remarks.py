@@ -114,7 +114,8 @@ def _of_times(track: Track, times: Times, before: Span, after: Span) -> Remark:
 
 
 def _of_control(track: Track, times: Times) -> List[Remark]:
-    """Names the frames whose control functions are like those of no other frame, if most are alike."""
+    """Names the frames whose control functions are like those of no other frame, if most are alike. If many of the first or the last frame
+    are, they change there: nothing beyond it shows that, and damage would seldom leave a nominal width to each of them."""
     elements = [each for each in track.layout.control if not times.rule or each > times.rule.element]  # the others it confirms
     if not elements or not times.sound:
         return []
@@ -128,6 +129,8 @@ def _of_control(track: Track, times: Times) -> List[Remark]:
     for number, value in told:
         if often[value] == 1 and value != usual:
             unlike = [each for each, a, b in zip(elements, value, usual) if a != b]
+            if len(unlike) > limits.MOST_CONTRARY and number in (told[0][0], told[-1][0]):
+                continue
             seen = "%s, element %s: control functions that no other frame has" % (
                 times.name(number), ", ".join(map(str, unlike)))
             at, concern = track.rise_at(place_in(number, unlike[0])), of_frame(times.shown(number), unlike)

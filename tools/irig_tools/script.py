@@ -10,6 +10,7 @@ from .units import Microseconds
 
 LONGEST_COMMENT = 395  # letters of a comment; the editor refuses lines that are far longer
 BY_LINE = 200
+LEFT_OUT = "so they are left out"
 
 Move = Tuple[Microseconds, int, int]  # from when on all is moved, by how many microseconds, and how many are taken out there
 
@@ -44,8 +45,14 @@ class Repair:
         """The editor refuses one of the edits: the other way, or if there is none a remark."""
         if self.instead:
             return replace(self, edits=self.instead, instead=[], moves=[])
-        said = "the editor refuses these lines, so they are left out: " + "; ".join(self.edits)[:BY_LINE]
+        said = "the editor refuses these lines, %s: %s" % (LEFT_OUT, "; ".join(self.edits)[:BY_LINE])
         return Repair(self.at, self.comments + [said], kind=self.kind, undecided=self.undecided, concern=self.concern)
+
+    def left_out(self, seen: str) -> Repair:
+        """A remark in its place: what is seen with its lines."""
+        lines = "; ".join(self.edits)[:BY_LINE]
+        said = "undecided: at %d: with these lines %s, %s: %s" % (self.at, seen, LEFT_OUT, lines)
+        return Repair(self.at, [said], kind=self.kind, undecided=[said], concern=self.concern)
 
 
 def _bounded(comment: str) -> str:

@@ -63,7 +63,7 @@ class Sheet:
     length: int
     interval: int                       # from one element to the next
     format: str                         # as the editor names it: `B 4`
-    stretches: tuple[Stretch, ...]      # in the order of time; what is between two is not known
+    stretches: tuple[Stretch, ...]      # in the order of time, from the first frame to the last
     places: tuple[Place, ...]           # in the order of time
     script: tuple[str, ...] = ()        # the whole script, line by line; empty if none is proposed
     notes: tuple[str, ...] = ()         # what holds for the whole recording: a clock that drifts, jitter

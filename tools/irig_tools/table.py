@@ -12,7 +12,7 @@ from .aside import Aside
 from .cycles import Edge
 from .digits import NUMBER, WHOLE
 from .editor import Problem
-from .heads import Heads, fields_of, is_row, rate_of
+from .heads import Heads, fields_of, is_row, rate_of, with_values
 from .row_kind import RowKind, even_distances
 from .samples import LARGEST, MICROSECONDS, Samples, stream_of
 from .wire import LONGEST_TIME
@@ -64,6 +64,7 @@ class Table(Samples):
         self.times = array("d")
         self.lost = 0  # stretches of rows
         self.others: List[Tuple[int, str]] = []  # columns with their names
+        self.held: List[Tuple[float, Sequence[str]]] = []  # the first rows, until they show which columns have more than heads
         self.is_open = False  # the last line has no end, so it can be cut
         self.lines = self._lines(stream_of(path))
         heads, first = self._heads([int(name) - 1 for name in (time, value) if name and WHOLE.fullmatch(name) and int(name)])
@@ -74,12 +75,17 @@ class Table(Samples):
             self.notes.append("the times of the table are not read, as --rate is given: its first row is at 0 in the dump")
         if self.form.time is None and not self.rate:
             raise Problem("%s: has no column of times; name it by --time-column, or give --rate, in samples a second" % path)
-        if aside:
-            self.aside, self.others = aside, named.others(self.form)
-            aside.begin(path, [each for _, each in self.others])
+        self.aside = aside
         self.seen, rows = RowKind(self.form.time), self._rows(first)
         looked = list(islice(rows, LOOKED_AT))
         self.rows = chain(looked, rows)
+        if aside:
+            others = named.others(self.form)
+            self.others = others if any(named.names) else with_values(others, [fields for _, fields in self.held], self.form)
+            aside.begin(path, [each for _, each in self.others])
+            for since, fields in self.held:
+                self._set_aside(since, fields)
+            self.held = []
         values = {level for _, level in looked}
         self.is_levels = values <= {0.0, 1.0} and not (volts and values == {0.0})
         times = [time for time, _ in looked]
@@ -135,8 +141,10 @@ class Table(Samples):
 
     def _set_aside(self, since: float, fields: Sequence[str]) -> None:
         """The other columns of a row, at its time in the dump."""
-        if self.aside:
+        if self.aside and self.others:
             self.aside.take_row(self._seconds(since), [fields[place] if place < len(fields) else "" for place, _ in self.others])
+        elif self.aside:
+            self.held.append((since, fields))
 
     def _is_whole(self, fields: Sequence[str]) -> bool:
         """Whether a row that has no end has its numbers."""

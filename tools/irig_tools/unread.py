@@ -2,8 +2,9 @@
 the frames are, and all of them together which time they have; so the expression is the one under which most of them fit."""
 from __future__ import annotations
 
+from collections import Counter
 from dataclasses import replace
-from typing import Iterator, NamedTuple, Set, Tuple
+from typing import Iterator, NamedTuple, Tuple
 
 from . import limits
 from .analysis import examine
@@ -18,7 +19,7 @@ class Led(NamedTuple):
 
     frames: int
     against: int
-    years: Set[str]
+    years: Counter[str]
 
 
 def led(listing: Listing, kind: str, expression: int) -> Led:
@@ -29,9 +30,9 @@ def led(listing: Listing, kind: str, expression: int) -> Led:
                    classes=listing.classes[:many], length=beyond[0] if beyond else listing.length)
     some = levelled(some, layout)
     if ten_apart(some.classes) < limits.SOME_TEN_APART * some.classes.count("P"):  # which would take long, and lead to nothing
-        return Led(0, 0, set())
+        return Led(0, 0, Counter())
     found = [each for part in examine(some).parts for each in _frames_that_fit(part.times)]
-    return Led(len(found), sum(against for against, _ in found), {year for _, year in found} if layout.with_year else set())
+    return Led(len(found), sum(against for against, _ in found), Counter(year for _, year in found if layout.with_year))
 
 
 def _frames_that_fit(times: Times) -> Iterator[Tuple[int, str]]:

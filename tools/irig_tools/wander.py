@@ -235,8 +235,20 @@ def _nine_of_ten(found: Sequence[float]) -> float:
 
 
 def curve(apart: Sequence[int], least: float, most: float) -> List[float]:
-    """The interval near each distance: of each block of distances what half of those in step are above, and between them what
-    lies between."""
+    """The interval near each distance: of each block of distances what half of those in step are above, and between them what lies
+    between. Over a hole as long as a block the interval can have changed, so each side of it has blocks of its own. Nothing if no block
+    says an interval."""
+    ends = [at + 1 for at, each in enumerate(apart) if each > limits.BLOCK * most]
+    parts = [_curve_of(apart[begin:end], least, most) for begin, end in zip([0, *ends], [*ends, len(apart)])]
+    said = [each for part in parts for each in part if each]
+    found: List[float] = []
+    for part in parts:  # one without a block of its own has what was said last before it
+        found += [each or (found or said)[-1 if found else 0] for each in part] if said else []
+    return found
+
+
+def _curve_of(apart: Sequence[int], least: float, most: float) -> List[float]:
+    """The same of a stretch without such a hole; zeros if no block says an interval."""
     size = limits.BLOCK
     blocks: List[Optional[float]] = []
     for at in range(0, len(apart), size):
@@ -244,7 +256,7 @@ def curve(apart: Sequence[int], least: float, most: float) -> List[float]:
         blocks.append(median(part) if 2 * len(part) >= size else None)
     known = [(at, each) for at, each in enumerate(blocks) if each is not None]
     if not known:
-        return []
+        return [0.0] * len(apart)
     smooth = [(at, median([each for _, each in known[max(0, number - 1):number + 2]])) for number, (at, _) in enumerate(known)]
     if len(smooth) > 2:  # the first and the last have one neighbour
         smooth[0], smooth[-1] = known[0], known[-1]

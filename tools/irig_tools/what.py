@@ -12,7 +12,7 @@ from .dump_choice import Signal, wire_name, wire_text, wire_texts
 from .dump_header import shown
 from .editor import Editor
 from .kept_wire import write_kept
-from .mend import propose
+from .mend import of_no_time, propose
 from .opening import MOST_READ, needed_name
 from .overview import lasting_of
 from .proposal import Proposal, no_option
@@ -35,6 +35,7 @@ class CodeWire:
     kind: str
     readings: Readings
     doubtful: List[str]
+    places: Optional[int] = None  # of damage, if they were looked for
     script: List[Repair] = field(default_factory=list)  # that irig_mend proposes
     lasting: Dict[str, int] = field(default_factory=dict)  # for how many microseconds it is sound, damaged or lost
 
@@ -81,7 +82,7 @@ class CodeWire:
             "format": self.kind, "pulses": self.readings.pulses, "length": self.readings.length, "expression": self.expression,
             "frames": self.best.frames if self.best else 0, "fine": self.fine,
             "readings": [row.as_object() for row in self.readings.rows],
-            "repairs": sum(1 for repair in self.script if repair.edits),
+            "places": self.places, "repairs": sum(1 for repair in self.script if repair.edits),
             "remarks": sum(1 for repair in self.script if not repair.edits),
             **{state: self.lasting.get(state) for state in STATES},
             "refused": self.readings.refused or None, "notes": self.doubtful}
@@ -107,13 +108,13 @@ class CodeWire:
         return texts
 
 
-def _lasting(editor: Editor, first: Findings, length: int) -> Dict[str, int]:
+def _lasting(editor: Editor, first: Findings) -> Dict[str, int]:
     """For how long it is in each state. If some of it is upside down, the rest is seen once that is turned over."""
     if not first.partly:
-        return lasting_of(first, length)
+        return lasting_of(first, editor.ask([]))
     inverts = [line.split() for repair in first.whole for line in repair.edits]  # `invert START END`
     turned = [(int(start), int(end)) for _, start, end in inverts]
-    return lasting_of(look(editor, lambda text: None).findings, length, turned)
+    return lasting_of(look(editor, lambda text: None).findings, editor.ask([repair.lines() for repair in first.whole]), turned)
 
 
 class What:
@@ -163,7 +164,9 @@ class What:
                 editor.knows_listing(listing, carrier.expression)
             seen: List[Findings] = []
             carrier.script = propose(editor, lambda text: None, seen=seen)
-            carrier.lasting = _lasting(editor, seen[0], carrier.readings.length)
+            carrier.script[:0] = of_no_time(editor, carrier.script)
+            carrier.places = sum(not each.is_remark for each in look(editor, lambda text: None).damages)
+            carrier.lasting = _lasting(editor, seen[0])
         return carrier
 
     def lines(self) -> List[str]:
@@ -193,7 +196,7 @@ class What:
         name, edits = self._wire_option(), sum(1 for repair in carrier.script if repair.edits)
         is_read = self.is_part or (not carrier.inverted if carrier.script else self._is_read(carrier, name))
         return Proposal(self.shown_path, name, carrier.kind, carrier.expression, None if is_read else self._extraction(carrier, name),
-                        edits, len(carrier.script) - edits, self._choice(), self.is_part)
+                        carrier.places or 0, edits, len(carrier.script) - edits, self._choice(), self.is_part)
 
     def _is_read(self, carrier: CodeWire, name: Optional[str]) -> bool:
         """Whether the editor reads the wire of the dump as it is; irig_mend does, if it is upright."""

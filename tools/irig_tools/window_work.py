@@ -16,19 +16,18 @@ from .applied import Applied, How, applied_to, is_of_all
 from .apply import Counts
 from .editor import Editor
 from .ending import ALL_RIGHT, ended, heed_signals
-from .kinds import DamageKind
+from .kinds import ALL_PULSES
 from .left import left_by, left_lines
 from .mend import propose
 from .opening import Opened
-from .script import Repair
+from .script import LEFT_OUT, Repair
 from .windows import TimeWindow
 from .wire import Wish
 from .wire_edges import WireEdges
 from .written import head, edges_text
 
 MENDER = "irig_mend"
-ALL_PULSES = DamageKind.INVERTED, DamageKind.THRESHOLD  # repairs of these kinds concern the wire, so each window has them
-NUMBERS = re.compile(r"\b(pulses? )([0-9]+)(?:( to )([0-9]+))?|\b()([0-9]+)(?:(,)([0-9]+))?(?= (?:delete|join|force|shift)\b)")
+NUMBERS = re.compile(r"\b(pulses? )([0-9]+)(?:( to )([0-9]+))?|(?<![+-])\b()([0-9]+)(?:(,)([0-9]+))?(?= (?:delete|join|force|shift)\b)")
 NO_WINDOW = TimeWindow(0, 0, 0, 0, 0, 0, False)
 NOT_REPAIRED = "from %d to %d nothing is repaired: %s"
 NONE_SOUND = "from %d to %d no frame is sound, so this part is left as it was"
@@ -106,7 +105,7 @@ def _quiet(text: str) -> None:
 
 
 def _own(window: TimeWindow, script: Sequence[Repair]) -> List[Repair]:
-    """The repairs and the remarks of its own part; none reaches over its end."""
+    """The repairs and the remarks of its own part; none reaches over its end. Those of all pulses each window has."""
     return [each for each in script if each.edits and each.kind in ALL_PULSES or is_of_all(each)
             or window.owns(each.at) and window.owns(max(each.at, each.until))]
 
@@ -124,9 +123,11 @@ def _left_as_it_was(counted: Counts) -> Counts:
 
 
 def _own_reasons(window: TimeWindow, script: Sequence[Repair], ran: Applied) -> List[Tuple[str, bool]]:
-    """Why something is left. What is no repair is what the last look saw, at the repaired recording."""
+    """Why something is left. What is no repair is what the last look saw, at the repaired recording,
+    but for what is left out: its lines are of the recorded one."""
     refused = ran.refused
-    left = [(comment if window.owns(repair.at) else NOT_REPAIRED % (window.begin, window.end, comment), not repair.edits)
+    left = [(comment if window.owns(repair.at) else NOT_REPAIRED % (window.begin, window.end, comment),
+             not repair.edits and LEFT_OUT not in comment)
             for repair in script if not refused.drops(repair) and (window.owns(repair.at) or is_of_all(repair))
             for comment in left_by(repair)]
     return [*((text, True) for text in [*(reason.text for reason in refused.reasons), *left_lines(ran.without_line(script))]), *left]

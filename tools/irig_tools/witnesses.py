@@ -9,7 +9,8 @@ from .frames import Times
 from .layout import NAMES, Fields, Layout
 from .parity import Rule, rule_of, usual_rule_of
 from .texts import counted, seconds
-from .units import FrameNumber, Microseconds, PulseIndex
+from .units import FrameNumber, Microseconds, PulseIndex, plus
+from .widths import Widths
 
 TimeOfFrame = Tuple[int, ...]  # the fields of a frame, in the order of its layout
 
@@ -21,10 +22,15 @@ class Witness(NamedTuple):
     text: str  # its classes
     rises: Sequence[Microseconds]  # of all pulses of that recording
     first: PulseIndex
+    widths: Widths  # of these pulses
 
     def source(self, element: int) -> str:
         """Where an element of it is."""
         return "%s at %s" % (self.name, seconds(self.rises[self.first + element]))
+
+    def is_usual(self, element: int) -> bool:
+        """Whether the pulse of an element is as wide as others of its class there."""
+        return self.widths.is_usual(plus(self.first, element))
 
 
 class Witnesses:
@@ -116,6 +122,10 @@ class Elsewhere:
         """Whether of all recordings that have a frame, this one counted, most have another class there than is recorded here."""
         told = [each.text[element] for each in self._near.get(number, ())]
         return bool(told) and 2 * told.count(OTHER[here]) > len(told) + 1
+
+    def is_usual(self, number: FrameNumber, element: int, told: str) -> bool:
+        """Whether one that has this class there has it in a pulse that is as wide as others of its class."""
+        return any(each.text[element] == told and each.is_usual(element) for each in self._near.get(number, ()))
 
     def is_by_rule(self, number: FrameNumber, element: int) -> bool:
         """Whether the rule says that an element is damaged here: the frame does not fit it, and would with what others have."""
