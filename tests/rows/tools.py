@@ -324,32 +324,46 @@ def missing_near_the_end(first, beyond, count):
     return pulses
 
 
+def split(pulses, at):
+    """The same with a gap in one pulse."""
+    rise, fall = pulses[at]
+    return [list(pulse) for pulse in (*pulses[:at], (rise, rise + 500), (rise + 540, fall), *pulses[at + 1:])]
+
+
 def missing():
-    """What is on the other side of a cut near an end has another time: the frame that the cut makes of two is left, and the one
-    next to it is repaired."""
+    """What is on the other side of a cut near an end has another time: the frame that the cut makes of two is left, and what is
+    damaged next to it is repaired. With --move what is damaged in that frame is repaired, too."""
     rows = (("one marker comes after it", 460, 470, 515, 0, False),
             ("the last pulse is cut by the end", 460, 470, 520, 5000, False),
             ("no whole frame is next to it", 585, 599, 618, 0, True))
     for name, first, beyond, count, lost, is_repaired in rows:
         pulses = missing_near_the_end(first, beyond, count)
         pulses[-1][1] -= lost
-        broken = [list(pulse) for pulse in pulses]
-        rise, fall = broken[430]  # a glitch, after which no frame is whole
-        broken[430:431] = [[rise, rise + 500], [rise + 540, fall]]
-        for there, wanted in ((pulses, pulses), (broken, pulses if is_repaired else broken)):
-            script, after = mended(there, pulses[-1][1] + 2000 * (not lost), expression=6)
+        broken = split(pulses, 430)  # after it no frame is whole
+        for there, move, wanted in ((pulses, False, pulses), (broken, False, pulses if is_repaired else broken), (broken, True, pulses)):
+            script, after = mended(there, pulses[-1][1] + 2000 * (not lost), move=move, expression=6)
             changed = [at for at, (one, other) in enumerate(zip(after, wanted)) if one != other]
-            yield same("%s, %d pulses" % (name, len(there)), ("# undecided: at" in script or "# stays: at" in script, changed), (True, []))
-    early = recording(8, expression=6)[130:]  # the same near the beginning, soon after a marker
+            yield same("%s, %d pulses%s" % (name, len(there), ", --move" * move),
+                       ("# undecided: at" in script or "# stays: at" in script, changed), (True, []))
+    yield from missing_near_the_beginning()
+
+
+def missing_near_the_beginning():
+    """The same soon after the first marker of a recording; what is damaged before the loss is repaired, also if other code follows and
+    stays, so that the frame next to it never gets whole."""
+    early = recording(8, expression=6)[130:]
     del early[72:82]
     moved(early, 72, -100000)
     moved(early, 0, -1300000)
-    broken = [list(pulse) for pulse in early]
-    rise, fall = broken[205]
-    broken[205:206] = [[rise, rise + 500], [rise + 540, fall]]
-    script, after = mended(broken, early[-1][1] + 2000, expression=6)
-    changed = [at for at, (one, other) in enumerate(zip(after, early)) if one != other]
-    yield same("near the beginning", ("# undecided: at" in script or "# stays: at" in script, changed), (True, []))
+    elsewhere = [[rise, rise + 2500] for rise in range(2051500, 2242000, 7300)]  # other code, which is left
+    until_then = [list(pulse) for pulse in (*early[:205], *elsewhere, *early[225:])]
+    wide = [list(pulse) for pulse in until_then]
+    wide[15][1] += 7700  # a zero of the frame before the one that is cut
+    for name, broken, wanted in (("near the beginning", split(early, 205), early),
+                                 ("near the beginning, and other code follows", wide, until_then)):
+        for move in (False, True):
+            script, after = mended(broken, early[-1][1] + 2000, move=move, expression=6)
+            yield same(name + ", --move" * move, ("# undecided: at" in script or "# stays: at" in script, after), (True, wanted))
 
 
 def late_for_a_while(pulses, by=3300, back=3300):
@@ -476,6 +490,12 @@ def larger_rows():
     yield starts("a control function of one frame", script.splitlines(), [seen])
     yield same("a control function of one frame, the pulses", after, lone)
     yield same("the same, --steady", mended(lone, 8000000, True)[1], recording())
+    for number, many, wanted in ((7, 3, 0), (0, 3, 0), (7, 2, 1), (4, 3, 1)):
+        set_anew = recording()
+        for element in (64, 66, 71)[:many]:
+            set_anew[100 * number + element][1] += 3000
+        said = [line for line in mended(set_anew, 8000000)[0].splitlines() if "no other frame has" in line]
+        yield same("%d control functions of frame %d alone are other ones" % (many, number), len(said), wanted)
     changing = recording(12)
     for frame in (4, 7, 8):
         changing[100 * frame + 74][1] += 3000
@@ -486,13 +506,11 @@ def larger_rows():
     turns = "the falls come at one distance, the rises do not: the wire is upside down from "
     over = recording()
     upside_down_in(over, 2503000, 8000000)
-    swapped = "2500000 %s2, element 50 to 51" % FRAME  # when the wires were
-    yield starts("upside down from some time on", lines_of(over, 8000000), [swapped, "2510000 " + turns + "2510000 to 8000000"])
+    yield starts("upside down from some time on", lines_of(over, 8000000), ["2503000 " + turns + "2503000 to 8000000"])
     yield same("upside down from some time on, mended", mended(over, 8000000)[1], recording())
     over = recording()
     upside_down_in(over, 2503000, 5503000)
-    back = ["%s %s5, element %d" % (at, FRAME, element) for at, element in ((5500000, 50), (5510000, 51))]
-    yield starts("upside down for a while", lines_of(over, 8000000), [swapped, "2510000 " + turns + "2510000 to 5", *back])
+    yield starts("upside down for a while", lines_of(over, 8000000), ["2503000 " + turns + "2503000 to 5503000"])
     yield same("upside down for a while, mended", mended(over, 8000000)[1], recording())
     few = recording(12, begin=(730120, 0))  # 1 January 2000, with few ones: the wire is upright for one frame alone
     for stretch in ((2003000, 5943000), (7023000, 11003000)):
@@ -521,6 +539,23 @@ def larger_rows():
             "3002430000 %s2, element 43: no pulse; a zero has to be there" % FRAME,
         ],
     )
+
+
+def turned_next_to_a_hole():
+    """A stretch that is upside down, and a hole next to its begin or its end, or over one of them: each rise that was sent comes back, with
+    its class."""
+    def told(pulses):
+        return [(rise, Layout("B", 4).class_of(fall - rise)) for rise, fall in pulses]
+
+    for name, end, first, beyond in (
+            ("a hole before it", 5503000, 200, 250), ("a hole after it", 5503000, 551, 600), ("a hole at its begin", 5503000, 251, 300),
+            ("a hole at its end", 5503000, 500, 550), ("a hole over its begin", 5503000, 230, 275),
+            ("a hole over its end", 5503000, 530, 575), ("a hole over its begin, and it has no end", 8000000, 230, 275)):
+        for move in (False, True):
+            pulses = recording()
+            del pulses[first:beyond]
+            upside_down_in(pulses, 2503000, end)
+            yield same(name + ", --move" * move, told(mended(pulses, 8000000, move=move)[1]), told(recording()))
 
 
 def explained():
@@ -655,6 +690,7 @@ def cases(top):
     found += [case("mend: repaired: " + name, gives_back, name, change, length) for name, change, length, _ in ROWS[:9]]
     groups = (("larger rows", larger_rows), ("steps", steps), ("steps that belong together", together),
               ("elements are missing near an end", missing),
-              ("samples of a recorder", sampled), ("harms", harms), ("explained", explained))
+              ("samples of a recorder", sampled), ("harms", harms), ("upside down next to a hole", turned_next_to_a_hole),
+              ("explained", explained))
     found += [case("mend: " + name, rows) for name, rows in groups]
     return found + [case("mend: processes", processes, top), case("mend: hostile tracks", no_line_refused, top)]

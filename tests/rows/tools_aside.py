@@ -51,6 +51,11 @@ WORKED = (
     ("in milliseconds, with decimal commas", "--table --column V", b"Zeit (ms);V;I;J\n0;1;0,5;3\n1,5;0;0,25;4\n",
      "0\t0.5\t3\n1500\t0.25\t4\n"),
     ("rows at a rate", "--table --rate 1000 --column 2", b"5,1\n6,0\n7,1\n", "0\t5\n1000\t6\n2000\t7\n"),
+    ("an old scope, which has heads next to its first rows", "--table --time-column 4 --column 5",
+     b"Record Length,4.000000e+00,Points,-0.000400,0,5.5,\nSample Interval,4e-04,s,0.000000,1,5.6,\n,,,0.000400,0,5.7,\n,,,0.000800,0,,\n",
+     "0\t5.5\n400\t5.6\n800\t5.7\n1200\t\n"),
+    ("words next to all rows", "--table --time-column 2 --column 3", b"1 May,0,1,on\n1 May,0.5,0,\n2 May,1,0,\n",
+     "0\t1 May\ton\n500000\t1 May\t\n1000000\t2 May\t\n"),
     ("a column of words", "--table --time-column 1 --column 2", b"0,1,on\n0.5,0,off\n", "0\ton\n500000\toff\n"),
 )
 
@@ -70,6 +75,7 @@ def worked(name, words, data, wanted):
 REFUSED = (
     ("--level --samples x -", wav(shorts(LEFT), 8000), "has nothing next to the code; --samples writes other channels or columns"),
     ("--table --samples x -", b"t,V\n0,1\n1,0\n", "has nothing next to the code"),
+    ("--table --time-column 4 --column 5 --samples x -", b"Sample Interval,4e-04,s,0,0,\n,,,0.0004,1,\n", "has nothing next to the code"),
     ("--raw s16 --rate 8000 --samples x -", b"\0\0", "--samples is for sound files and tables; --raw has one channel"),
     ("--table --samples x --out ./x -", b"t,V,I\n0,1,2\n1,0,2\n", "are one file"),
     ("--table --column V --samples - -", b"t,V,I\n0,1,2\n1,0,2\n", "are one file"),

@@ -184,7 +184,8 @@ def troubled(top):
             shutil.copytree(top + "/tools", folder + "/share/irig_ed/tools")
             os.unlink(folder + "/bin/irig_ed")
             shutil.copy(os.environ["IRIG_ED"], folder + "/bin/irig_ed")
-            shutil.copy(top + "/crates/irig_guard/out/irig_guard", folder + "/bin")
+            for name in ("irig_guard", "irig_time"):
+                shutil.copy(top + "/crates/%s/out/%s" % (name, name), folder + "/bin")
             if code:
                 with open(folder + "/bin/irig_diff", "w", encoding="ascii") as file:
                     file.write("#!/bin/sh\n%s\n" % code)
@@ -201,7 +202,7 @@ def troubled(top):
 
 
 def unguarded(top):
-    """Without irig_guard nothing is written, also if frames are moved; one line says why."""
+    """Without irig_guard nothing is written, also if frames are moved, and without irig_time if they are not; one line says why."""
     with tempfile.TemporaryDirectory() as folder:
         filled(folder)
         shutil.copytree(top + "/tools", folder + "/share/irig_ed/tools")
@@ -214,6 +215,12 @@ def unguarded(top):
             status, out, said = shell(top, folder, tool % words)
             yield same("no irig_guard " + words, (status, out, said.count("\n"), said.endswith(text)), (2, "", 1, True))
             yield same("no irig_guard, the files", contents(folder), before)
+        shutil.copy(top + "/crates/irig_guard/out/irig_guard", folder + "/bin")
+        before = contents(folder)
+        status, out, said = shell(top, folder, tool % "")
+        text = "irig_time is not found next to irig_ed, and --apply looks by it whether each sample keeps its time"
+        yield same("no irig_time", (status, out, said.count("\n"), text in said), (2, "", 1, True))
+        yield same("no irig_time, the files", contents(folder), before)
 
 
 def unwritten(top):

@@ -189,11 +189,23 @@ def never_over():
     return in_folder(lambda: list(holds()))
 
 
-SLOW = """#!/bin/sh
-echo x >> '%s'
-sleep 0.4
+# Once there are `most` results it does nothing but say something until nobody reads it: so a recording is being looked at whenever the run
+# is ended, on any machine.
+HELD = """#!/bin/sh
+if [ "$(ls mended | grep -c vcd)" = "$(cat most)" ]
+then echo $PPID > new; mv new held; while echo held; do sleep 0.02; done
+fi
 exec '%s' "$@"
 """
+
+
+def was_running(process):
+    """Ends a process with this number; whether there was one."""
+    try:
+        os.kill(process, signal.SIGTERM)
+    except ProcessLookupError:
+        return False
+    return True
 
 
 def takes_interrupts():
@@ -201,38 +213,73 @@ def takes_interrupts():
     signal.signal(signal.SIGINT, signal.SIG_DFL)
 
 
+def held_programs():
+    """Makes four recordings, programs that do not end once `most` results are there, and a folder for what is temporary; the variables to
+    use them, and the command."""
+    text = damages.dump(recorded(glitch), END)
+    write_all({"in/%d.vcd" % number: text for number in range(4)})
+    os.mkdir("tmp")
+    for name in ("irig_ed", "irig_guard"):
+        program = os.path.join(os.path.dirname(os.environ["IRIG_ED"]), "../../%s/out/%s" % (name, name))
+        write_all({name: HELD % os.path.abspath(program)})
+        os.chmod(name, 0o755)
+    held = dict(os.environ, IRIG_ED=os.path.abspath("irig_ed"), TMPDIR=os.path.abspath("tmp"))
+    return held, [sys.executable, "-S", os.path.join(TOP, "tools", "irig_mend"), *TO, "--jobs=1", "in"]
+
+
 def ended():
     """A run that is ended goes on where it was, and leaves nothing but results."""
     def holds():
-        text = damages.dump(recorded(glitch), END)
-        write_all({"in/%d.vcd" % number: text for number in range(4)})
-        os.mkdir("tmp")
-        for name in ("irig_ed", "irig_guard"):
-            program = os.path.join(os.path.dirname(os.environ["IRIG_ED"]), "../../%s/out/%s" % (name, name))
-            write_all({name: SLOW % (os.path.abspath("begun"), os.path.abspath(program))})
-            os.chmod(name, 0o755)
-        slow = dict(os.environ, IRIG_ED=os.path.abspath("irig_ed"), TMPDIR=os.path.abspath("tmp"))
-        command = [sys.executable, "-S", os.path.join(TOP, "tools", "irig_mend"), *TO, "--jobs=1", "in"]
+        held, command = held_programs()
         for number, wanted in ((signal.SIGTERM, 143), (signal.SIGINT, 130), (signal.SIGKILL, -9)):
-            process = subprocess.Popen(command, env=slow, stdout=subprocess.DEVNULL, stderr=subprocess.PIPE, text=True,
+            write_all({"most": str(len(whole()) + 1)})
+            process = subprocess.Popen(command, env=held, stdout=subprocess.DEVNULL, stderr=subprocess.PIPE, text=True,
                                        preexec_fn=takes_interrupts)
-            done = len(whole())
-            while len(whole()) == done and process.poll() is None:
+            while not os.path.exists("held") and process.poll() is None:
                 time.sleep(0.05)
-            time.sleep(0.3)
             process.send_signal(number)
             process.wait()  # not for those that hold its standard error
             left = os.listdir("tmp"), [name for name in os.listdir("mended") if name[0] == "."]
             said = process.communicate()[1]
             yield same("the status after signal %d" % number, process.returncode, wanted)
+            yield same("whether a recording is still looked at", was_running(int(text_of("held"))), number == signal.SIGKILL)
+            os.remove("held")
             if number != signal.SIGKILL:
-                yield same("what is said", "of 4 recordings are looked at; the same command does the others" in said, True)
+                yield same("what is said", "of 4 recordings are done; the same command does the others" in said, True)
                 yield same("what is left", left, ([], []))
         kept = {name: os.stat("mended/" + name).st_mtime_ns for name in whole()[:2]}
         status, lines, _ = mended()
         yield same("the rest is done", (status, whole()), (0, ["%d.vcd" % number for number in range(4)]))
         yield same("and no more", {name: os.stat("mended/" + name).st_mtime_ns for name in kept}, kept)
         yield same("what is said then", RUN_BEFORE in lines[-1], True)
+
+    return in_folder(lambda: list(holds()))
+
+
+BACKGROUND = '"$@" 2> said & echo $! > pid; wait $!; echo $? > status'
+
+
+def in_background():
+    """A shell that is no user's has a run in the background ignore interrupts; TERM ends it as Ctrl-C ends one in the foreground, and the
+    same command continues it."""
+    def holds():
+        held, command = held_programs()
+        write_all({"most": "2"})
+        shell = subprocess.Popen(["sh", "-c", BACKGROUND, "sh", *command], env=held, stdout=subprocess.DEVNULL)
+        while not whole() and shell.poll() is None:
+            time.sleep(0.05)
+        number = int(text_of("pid"))
+        os.kill(number, signal.SIGINT)
+        while not os.path.exists("held") and shell.poll() is None:
+            time.sleep(0.05)
+        yield same("an interrupt does not end it", (len(whole()), shell.poll()), (2, None))
+        os.kill(number, signal.SIGTERM)
+        shell.wait()
+        yield same("the status after TERM", text_of("status"), "143\n")
+        yield same("what is said", "of 4 recordings are done; the same command does the others" in text_of("said"), True)
+        yield same("what is left", (os.listdir("tmp"), [name for name in os.listdir("mended") if name[0] == "."]), ([], []))
+        status, lines, _ = mended()
+        yield same("the rest is done", (status, len(whole()), RUN_BEFORE in lines[-1]), (0, 4, True))
 
     return in_folder(lambda: list(holds()))
 
@@ -273,5 +320,5 @@ def several_expressions():
 
 def cases(top):
     """Each part by its name."""
-    parts = (ended, table, not_all_read, goes_on, packed, never_over, alone, several_expressions)
+    parts = (ended, in_background, table, not_all_read, goes_on, packed, never_over, alone, several_expressions)
     return [case("folder: " + part.__name__, part) for part in parts]

@@ -151,7 +151,7 @@ def mended(top):
         lines, status, printed, is_left, sound = continued(top, name, text)
         good = lines[-1] == command and (status, is_left, sound) == (0, True, [0]) and "1 place found, 1 repaired" in printed
         new = command.split("--apply ")[1].split()[0]
-        told = "damaged: irig_mend has 1 repair; the next line writes the repaired recording as %s (without --apply" % new
+        told = "damaged in 1 place: irig_mend has 1 repair; the next line writes the repaired recording as %s (without --apply" % new
         good = good and lines[-2].startswith(told) and ("--into one.vcd" in lines[-2]) == ("--wire" in command)
         good or print("FAILED irig_what %s: %s %s %s" % (name, lines[-2:], status, printed))
         yield good

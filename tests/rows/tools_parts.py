@@ -239,6 +239,16 @@ def of_another_speed():
         yield same(name + ", to a tenth of an interval", max(far, default=0) < 1000, True)
 
 
+def of_fast_wow():
+    """After a hole at which a fast wow changes its speed most, all pulses are of one run, and the hole is filled to a tenth of an
+    interval."""
+    sound = wow(tools.recording(40), 0.0184, 53.5)
+    for first in (1518, 1542):
+        part, = analysis.examine(listing_of(sound[:first] + sound[first + 32:])).parts
+        far = max(abs(part.track.rise_at(place) - sound[place][0]) for place in part.faults.wanted)
+        yield same("a hole from %d on" % first, (len(part.faults.wanted), far < 1000), (32, True))
+
+
 def of_off():
     """What is filled in on a clock that wanders has a word on how far off it can be, and is not farther off; but not if that is less than
     a hundredth of an interval, and not on a steady clock."""
@@ -871,7 +881,7 @@ def cases():
         ("upright by few pulses", of_upright),
         ("sure runs", of_parts), ("tenths", of_tenths), ("other code", of_other_code),
         ("every second pulse", of_every_second), ("ends of runs on a clock that wanders", of_ends),
-        ("a long hole on a clock that wanders", of_vague), ("another speed", of_another_speed),
+        ("a long hole on a clock that wanders", of_vague), ("another speed", of_another_speed), ("a fast wow", of_fast_wow),
         ("flutter", of_flutter),
         ("how far off what is filled in can be", of_off),
         ("undamaged", of_undamaged), ("a rise that is off", of_strays), ("a clock that was set", of_set), ("places", of_places),

@@ -9,20 +9,22 @@ import subprocess
 import sys
 import tempfile
 
-from built import TOP
+from built import TIME, TOP
 from cases import case
-from irig_tools import analysis
+from irig_tools import analysis, editor, mend
 from rows import tools_parts, tools_rare
 from rows.tools_parts import same
 
 sys.path.insert(0, os.path.join(TOP, "bench", "shares"))
 
+import recordings  # noqa: E402
 from recordings import PARITY, Draft, Recording  # noqa: E402
 from sent import DAY, HOUR, MINUTE, SECOND, Run, control_elements, year_length  # noqa: E402
 from tape import Clock, Wave, dump  # noqa: E402
 
 EDGE = re.compile(r"^#(\d+)\s+([01])!", re.M)
 COUNTS = (("undecided", "undecided"), ("step", "stays"))
+FLUTTERS = (0.0042, 21.4, 0.3), (0.0048, 15.1, 2.0)  # by how much it is faster, the elements of a turn, the phase
 
 
 def nothing(draft):
@@ -200,6 +202,32 @@ def of_other_code():
         yield same(name + ", the counts", found.counts_hold(), True)
 
 
+def of_later_looks():
+    """A repair of a later look is that of its own pulses, also if one before it, that changes how many pulses there are, is left out."""
+    def late_into_the_next(draft):
+        number = element_of(draft, 5, 49)
+        (rise, _), = draft.wire.pulses[number]
+        (_, fall), = draft.wire.pulses[number + 1]
+        draft.wire.pulses[number:number + 2] = [[(rise + 0.42 * draft.format.interval, fall)], []]
+
+    for number, early in enumerate(("glitches", "merged", "missing")):
+        made = Made(500 + number, "B", "2", 12, still, several(late_into_the_next, at(0.15, early)))
+        with tempfile.TemporaryDirectory() as folder:
+            path = os.path.join(folder, "track.vcd")
+            with open(path, "w", encoding="ascii") as file:
+                file.write(made.damaged.text)
+            opened = editor.Editor(["--format=B", "--expression=2", path])
+            script = mend.propose(opened, lambda text: None)
+            first = min((each for each in script if each.edits), key=lambda each: each.at)
+            found = opened.ask([each.lines() for each in script if each is not first])
+        late = [each for each in script if any(line.endswith(" force position") for line in each.edits)]
+        begin = made.sound.length * 0.3
+        sound = [pulse for pulse in pulses_of(made.sound.text) if pulse[0] > begin]
+        own = [pulse for pulse in zip(found.rises, found.falls) if pulse[0] > begin and pulse[1] < made.sound.length]
+        off = [max(abs(rise - mine), abs(fall - other)) for (rise, fall), (mine, other) in zip(sound, own)]
+        yield same(early, (len(late), len(found.refused), len(own) - len(sound), max(off) <= 2 + 2 * made.near), (1, 0, 0, True))
+
+
 # 2: damage that is not seen
 
 
@@ -226,6 +254,13 @@ def of_sound():
         found = made.mended()
         same_edges = edges_of(found.text) == edges_of(made.damaged.text)
         yield same("undamaged %d" % number, (found.status, len(found.lines), same_edges), (0, 1, True))
+    # two flutters at once: many pulses say the interval worse than few
+    both = on(lambda draft: Clock(0.0, 0.0, [Wave(share, many * draft.format.interval, phase) for share, many, phase in FLUTTERS]))
+    for number in range(4):
+        made = Made(320 + number, "A", frames=40, before=both)
+        found = made.mended()
+        same_edges = edges_of(found.text) == edges_of(made.damaged.text)
+        yield same("undamaged, two flutters, %d" % number, (found.status, len(found.lines), same_edges), (0, 1, True))
 
 
 # 4: steps that are none, and long holes on a clock that wanders
@@ -367,7 +402,7 @@ def of_rarer():
 
     def always(draft):
         elements = control_elements(draft.format, 0)
-        draft._controls = lambda: lambda time: {elements[4]}
+        draft._controls = lambda timed: lambda time: {elements[4]}
 
     def as_a_zero(draft):
         number = element_of(draft, 30, 54)
@@ -452,9 +487,131 @@ def of_parity():
     yield same("a fine frame with another element is seen", (len(found.lines) > 1 or "1 place found" in found.lines[0]), True)
 
 
+# 11: recordings that give no sample a time
+
+
+def set_at_the_second_frame(draft):
+    """The recording has one frame before the sender's clock was set, and one after that."""
+    beginning(0.95, 2.1)(draft)
+    moment = 2 * draft.format.frame
+    draft.runs = [Run(0, moment, 0, draft.time), Run(moment, draft.sent, moment, draft.time + moment + 3 * HOUR)]
+
+
+def a_hole_in_each_frame(draft):
+    """The recording begins at a marker and ends after 200 elements."""
+    draft.wire.clear(element_of(draft, 1, 39), 20)
+    draft.wire.clear(element_of(draft, 2, 81), 19)
+
+
+NO_FRAME, NO_SUPPORT = "no frame is sound", "no sound frame supports another one"
+# name, format and expression, what is sent, the damage, and why no sample gets a time
+TIMELESS = (
+    ("hole", "E6", beginning(0.9993, 2), a_hole_in_each_frame, NO_FRAME),
+    ("short", "E6", beginning(0.5, 1), nothing, NO_FRAME),
+    ("set", "B2", set_at_the_second_frame, nothing, NO_SUPPORT),
+    ("one", "B2", beginning(0.95, 1.2), nothing, ""),
+    ("three", "B2", beginning(0.95, 3.2), lambda draft: draft.wire.clear(element_of(draft, 2, 33), 1), ""),
+)
+
+
+def times_of(folder, form, name, moments):
+    """What irig_time gives these moments."""
+    command = [TIME, "--format=" + form[0], "--expression=" + form[1], os.path.join(folder, name)]
+    lines = "".join("%.3f\n" % moment for moment in moments)
+    printed = subprocess.run(command, input=lines, capture_output=True, text=True, check=False).stdout
+    return [line.partition("\t")[0] for line in printed.splitlines()]
+
+
+def has_times(folder, form, length):
+    """Whether irig_time gives one of 200 samples a time."""
+    return any(time != "-" for time in times_of(folder, form, "mended.vcd", [length * number // 200 for number in range(200)]))
+
+
+def run_on(folder, *words):
+    """The status of irig_mend in a folder, and the lines that it prints."""
+    command = [os.path.join(TOP, "tools", "irig_mend"), *words]
+    done = subprocess.run(command, cwd=folder, capture_output=True, text=True, check=False)
+    return done.returncode, done.stdout.splitlines()
+
+
+def of_no_time():
+    """If no frame is sound after a repair, or none that another one supports, nothing bears it out: a line says so, and a person has to
+    look. It is so just if irig_time gives no sample a time."""
+    with tempfile.TemporaryDirectory() as folder:
+        os.mkdir(os.path.join(folder, "in"))
+        for name, form, before, after, why in TIMELESS:
+            made = Made(111, form[0], form[1], 0, several(still, before), after)
+            path, options = "in/%s.vcd" % name, ["--format=" + form[0], "--expression=" + form[1]]
+            with open(os.path.join(folder, path), "w", encoding="ascii") as file:
+                file.write(made.damaged.text)
+            status, lines = run_on(folder, *options, "--apply", "mended.vcd", "--page", "page.html", path)
+            told = ["%s: %s after the repair: nothing bears it out, and no sample gets a time" % (path, why)] * bool(why)
+            yield same(name, (status, [line for line in lines if " after the repair" in line]), (int(bool(why)), told))
+            with open(os.path.join(folder, "page.html"), encoding="utf-8") as file:
+                yield same(name + ", on the page", "after the repair: nothing bears it out" in file.read(), bool(why))
+            yield same(name + ", by irig_time", has_times(folder, form, made.damaged.length), not why)
+            status, lines = run_on(folder, *options, path)
+            told = "# undecided: at 0: %s after this script; nothing bears it out, and no sample gets a time" % why
+            is_damaged = after is not nothing
+            yield same(name + ", its script", (status, told in lines), (int(is_damaged or bool(why)), bool(why)))
+            yield same(name + ", explained", run_on(folder, *options, "--explain", path)[0], int(is_damaged or bool(why)))
+        status, lines = run_on(folder, "--format=B", "--expression=2", "--apply-to", "out", "in")
+        reasons = [line.partition(": ")[::2] for line in lines if " after the repair: " in line]
+        yield same("a folder", (status, lines[-1].partition(";")[0]),
+                   (1, "5 recordings: 2 whole, 3 with damage left, 0 not repaired"))
+        yield same("a folder, the reasons", [(name, why.partition(" after")[0]) for name, why in reasons], [("set.vcd", NO_SUPPORT)])
+
+
+# 12: samples that a repair would leave without a time
+
+TAKERS = (("many", 7214), ("slip", 7060), ("parity", 7023), ("wow", 7011))  # kinds of bench/shares, with seeds
+
+
+def of_taken_times():
+    """A repair is left out, with a remark, if it would take the time of a sample: what is damaged is next to silence at an end, to a step,
+    or to a frame that shows another time, and would count as that."""
+    for kind, seed in TAKERS:
+        made = recordings.make(kind, seed)
+        form, moments = (made.format, str(made.expression)), recordings.samples(made)
+        with tempfile.TemporaryDirectory() as folder:
+            with open(os.path.join(folder, "track.vcd"), "w", encoding="ascii") as file:
+                file.write(made.text)
+            status, lines = run_on(folder, "--format=" + form[0], "--expression=" + form[1], "--apply", "mended.vcd", "track.vcd")
+            before, after = [times_of(folder, form, name, moments) for name in ("track.vcd", "mended.vcd")]
+        lost = sum(one != "-" and other == "-" for one, other in zip(before, after))
+        said = any("next to it would have no time, or another one, so they are left out" in line for line in lines)
+        yield same("%s, %d" % (kind, seed), (status, lost, said), (1, 0, True))
+
+
+def upside_down(text, length, begin, end):
+    """The recording with its wire turned over between two moments."""
+    edges = sorted({edge for pulse in pulses_of(text) for edge in pulse} ^ {begin, end})
+    return dump(list(zip(edges[::2], edges[1::2])), length)
+
+
+def of_turned_times():
+    """A stretch that is upside down is turned over at just the moments at which it was, also if zeros are next to them, which are in step
+    both ways; what else is damaged is repaired. Samples that had a time only while their wire was upside down do not count."""
+    for number in (2, 6, 18, 22):
+        made = Made(140 + number, "B", "2", 30, still, several(at(0.04, "split"), at(0.5, "missing"), at(0.9, "late")))
+        begin = element_of_moment(made, 4, 40 + number) + 14 * made.interval // 25
+        found = Mended(upside_down(made.damaged.text, made.damaged.length, begin, begin + 617 * made.interval),
+                       ["--format=B", "--expression=2"])
+        yield same("%d" % number, [line for line in found.lines if "left out" in line], [])
+        yield same("%d, pulses that are not as sent" % number, made.unlike(found), (0, 0))
+
+
+def element_of_moment(made, frame, element):
+    """The moment of an element of a frame of a recording."""
+    first = min(rise for rise, _ in pulses_of(made.sound.text))
+    return first + (100 * frame + element) * made.interval
+
+
 def cases():
     """Each by its name."""
     return [case("mend: sent: " + name, holds) for name, holds in (
         ("other code", of_other_code), ("damage is seen", of_unseen), ("sound pulses", of_sound), ("clocks that wander", of_wandering),
         ("late rises", of_late_rises), ("a clock that was set", of_set), ("a loss next to an end", of_lost_at_an_end),
-        ("rarer damage", of_rarer), ("no frame is fine", of_unread), ("parity", of_parity))]
+        ("rarer damage", of_rarer), ("no frame is fine", of_unread), ("parity", of_parity), ("later looks", of_later_looks),
+        ("no time", of_no_time), ("times that a repair takes", of_taken_times),
+        ("times of what is upside down", of_turned_times))]

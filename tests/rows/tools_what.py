@@ -1,6 +1,8 @@
 """Worked rows for irig_what: dumps with time code, made by the reference encoder, and what is found in them."""
+import json
 import os
 import random
+import re
 import shlex
 import subprocess
 import sys
@@ -11,7 +13,15 @@ from built import TOP
 from cases import case
 from irig_tools import search
 from reference import timecode
+from rows import tools_sent
 from rows.in_process import run
+
+sys.path.insert(0, os.path.join(TOP, "bench", "shares"))
+
+import damage  # noqa: E402
+import recordings  # noqa: E402
+from sent import DAY, HOUR, year_length  # noqa: E402
+from tape import dump as dump_of  # noqa: E402
 
 
 def frame(kind, expression, second, hundredths):
@@ -80,6 +90,13 @@ def partly_turned():
     return sorted([*levels, (begin, 1), (end, 0)]), length
 
 
+def slipped(first, beyond, by):
+    """Six frames. Counted from the second one, the elements from one up to another are lost, and the rest comes later by some
+    microseconds."""
+    edges, length = track("B", 6, 30000)
+    return [*edges[:2 * first + 202], *((time + by, level) for time, level in edges[2 * beyond + 202:])], length + by
+
+
 LOST = B[0][:222] + B[0][642:], B[1]  # frame 1 but for its first ten elements, frame 2, and twenty elements of frame 3
 
 # name, dump, arguments, status, parts of what is printed, the frames that the last line lists as fine
@@ -93,7 +110,14 @@ ROWS = [
      ["in seconds: sound 4.010000, damaged 0.000000, lost 0.000000, without frames 0.050000"], 4),
     ("for how long it is lost", dump(*LOST), [], 0,
      ["in seconds: sound 1.010000, damaged 1.000000, lost 2.000000, without frames 0.050000"], None),
-    ("for how long it is upside down", dump(*partly_turned()), [], 0, ["in seconds: sound 3.9", ", damaged 2.0", "lost 0.000000"], None),
+    ("for how long it is lost where the recorder slipped", dump(*slipped(150, 350, 3700)), [], 0,
+     ["in seconds: sound 3.010000, damaged 1.000000, lost 2.003700, without frames 0.050000"], None),
+    ("for how long it is lost where the recorder lost some", dump(*slipped(150, 220, -3700)), [], 0,
+     ["in seconds: sound 4.010000, damaged 1.300000, lost 0.696300, without frames 0.050000"], None),
+    ("for how long it is damaged by a slip alone", dump(*slipped(151, 151, -3700)), [], 0,
+     ["in seconds: sound 5.010000, damaged 0.996300, lost 0.000000, without frames 0.050000"], None),
+    ("for how long it is upside down", dump(*partly_turned()), [], 0,
+     ["in seconds: sound 4.010000, damaged 2.000000, lost 0.000000, without frames 0.020000"], None),
     ("noise that is near control elements", dump(*noisy()), [], 0,
      ["expression 2: 5 of ", "  expressions 2, 1, 5 and 6 fit equally; 2 is first, because it has no unused"], None),
     ("format A", dump(*track("A", 5)), [], 0, ["expression 2: 5 of 5", "12:34:20.00 to 061 12:34:20.40"], 5),
@@ -212,11 +236,86 @@ def judged():
         yield good
 
 
-def silent():
-    """100,000 wires that are silent take less than 50 million bytes."""
-    codes = ["".join(chr(33 + number // 94 ** place % 94) for place in range(3)) for number in range(100000)]
-    text = "".join("$var wire 1 %s wire_%d $end\n" % (code, number) for number, code in enumerate(codes))
-    text += "$enddefinitions $end\n#0\n" + "".join("0%s\n" % code for code in codes) + "#9\n"
+def holes():
+    """Of recordings of the generator of bench/shares, in which a recorder loses some in a hole: all from the first pulse to the last one is
+    in a state, and as long is lost as there are no pulses, but for half a frame at each end of it."""
+    for seed in range(8):
+        made = recordings.make("hole", seed)
+        rises = [int(time) for time in re.findall(r"^#(\d+)\n1!", made.text, re.M)]
+        silence = sum(max(0, after - before - made.interval) for before, after in zip(rises, rises[1:]))
+        with tempfile.NamedTemporaryFile("w", suffix=".vcd") as file:
+            file.write(made.text)
+            file.flush()
+            found = json.loads(run("irig_what", ["--json", file.name])[1].splitlines()[0])
+        ends = rises[0] + made.length - rises[-1] - made.interval
+        rest = found["length"] - sum(found[state] for state in ("sound", "damaged", "lost"))
+        good = abs(rest - max(0, ends)) <= 2 * made.interval and abs(found["lost"] - silence) <= made.frame
+        good or print("FAILED irig_what, hole %d: %d without pulses, %d at the ends: %s" % (seed, silence, ends, found))
+        yield good
+
+
+def flipped(*elements):
+    """In the tenth frame these elements are of the other class, and the frame reads well."""
+    def change(draft):
+        draft.time = 60 * DAY + 12 * HOUR
+        draft.flips[draft.time + 10 * draft.format.frame] = set(elements)
+    return change
+
+
+def with_year(year, before):
+    """The recording begins some frames before the end of a year."""
+    def change(draft):
+        draft.first, draft.year, draft.time = 0.0, year, year_length(year) * DAY - before * draft.format.frame
+    return change
+
+
+# what is sent, and the expression that is found with the years that it shows first and last
+YEARS = (
+    ("one frame of thirty with an element of the year", "2", flipped(51), (1, None, None)),
+    ("one with two elements of it, and binary seconds", "3", flipped(50, 56), (0, None, None)),
+    ("each frame with its year", "6", with_year(2024, 200), (6, "24", "24")),
+    ("three frames of 1999, and all others of 2000", "6", with_year(1999, 3), (6, "99", "00")),
+)
+
+
+def of_years():
+    """A year is what most fine frames show. One damaged frame makes none, and format A after it neither."""
+    for name, expression, before, wanted in YEARS:
+        made = tools_sent.Made(121, "B", expression, 30, tools_sent.several(tools_sent.still, before))
+        end = made.damaged.length
+        code_after = [(rise + end, fall + end) for rise, fall in tools_sent.pulses_of(tools_sent.Made(122, "A", "2", 10).sound.text)]
+        for words, after, length in (("", [], end), (", then format A", code_after, end + 1000000)):
+            with tempfile.NamedTemporaryFile("w", suffix=".vcd") as file:
+                file.write(dump_of([*tools_sent.pulses_of(made.damaged.text), *after], length))
+                file.flush()
+                found = json.loads(run("irig_what", ["--json", file.name])[1].splitlines()[0])
+            row = next(each for each in found["readings"] if each["expression"] == found["expression"])
+            years = [row[each].partition(" year ")[2] or None for each in ("first", "last")]
+            yield tools_sent.same(name + words, (found["format"], found["expression"], *years), ("B", *wanted))
+
+
+def of_places():
+    """Where two damages are next to each other, one repair mends both: irig_what says how many places are damaged, as irig_mend --apply
+    does, and how many repairs the script has."""
+    def hurt(draft):
+        for kind, frame, element in (("merged", 3, 51), ("missing", 4, 50), ("split", 4, 51)):
+            damage.KINDS[kind](draft.wire, tools_sent.element_of(draft, frame, element))
+        draft.event("lose", draft.clock.place(7.3 * draft.format.frame), draft.format.frame)
+
+    made = tools_sent.Made(131, "B", "2", 0, tools_sent.several(tools_sent.still, tools_sent.beginning(0.95, 10)), hurt)
+    with tempfile.NamedTemporaryFile("w", suffix=".vcd") as file:
+        file.write(made.damaged.text)
+        file.flush()
+        lines = run("irig_what", [file.name])[1].decode().splitlines()
+        found = json.loads(run("irig_what", ["--json", file.name])[1])
+    yield tools_sent.same("the line", lines[-2].partition(";")[0], "damaged in 4 places: irig_mend has 2 repairs and 1 remark")
+    yield tools_sent.same("for programs", [found[name] for name in ("places", "repairs", "remarks")], [4, 2, 1])
+    said = "4 places found, 3 repaired, 0 undecided, 0 left, 1 step that stays"
+    yield tools_sent.same("by irig_mend", made.mended().lines[0].partition(";")[0], said)
+
+
+def most_memory_of(text):
+    """What irig_what says first of a dump, and how many bytes it took at most."""
     watch = "import sys; sys.path.insert(0, sys.argv.pop(1)); from irig_tools import what_program; what_program.main(); " \
         "print(*[line.split()[1] for line in open('/proc/self/status') if line.startswith('VmHWM')])"
     with tempfile.NamedTemporaryFile("w", suffix=".vcd") as file:
@@ -225,8 +324,20 @@ def silent():
         done = subprocess.run([sys.executable, "-c", watch, os.path.join(TOP, "tools"), file.name], stdin=subprocess.DEVNULL,
                               stdout=subprocess.PIPE, text=True, check=False)
     lines = done.stdout.split("\n")
-    good = lines[0].startswith("no wire of 100000") and int(lines[1]) * 1024 < 50e6
-    good or print("FAILED irig_what, silent wires: %s" % lines)
+    return lines[0], 1024 * int(lines[1])
+
+
+def silent():
+    """A wire that is silent takes less than 400 bytes, be there 100,000 of them. What Python itself takes differs from machine to
+    machine, so a dump of one wire is measured beside."""
+    def of_wires(many):
+        codes = ["".join(chr(33 + number // 94 ** place % 94) for place in range(3)) for number in range(many)]
+        text = "".join("$var wire 1 %s wire_%d $end\n" % (code, number) for number, code in enumerate(codes))
+        return text + "$enddefinitions $end\n#0\n" + "".join("0%s\n" % code for code in codes) + "#9\n"
+
+    (said, many), (_, one) = most_memory_of(of_wires(100000)), most_memory_of(of_wires(1))
+    good = said.startswith("no wire of 100000") and many - one < 100000 * 400
+    good or print("FAILED irig_what, silent wires: %s, %d and %d bytes" % (said, many, one))
     return good
 
 
@@ -236,5 +347,6 @@ def cases(top):
     simulated = "a simulator's dump", verilator(top), [], 0, parts, 1
     return [*(case("what: " + row[0], row_holds, top, *row) for row in (*ROWS, simulated)),
             case("what: in a pipe", piped, top), case("what: one pass", passes), case("what: windows", judged),
-            case("what: silent wires", silent),
+            case("what: silent wires", silent), case("what: holes in which a recorder slipped", holes),
+            case("what: years", of_years), case("what: places and repairs", of_places),
             case("what: help", lambda: run("irig_what", ["--help"])[0] == 0)]

@@ -335,6 +335,57 @@ def of_beside():
         yield same(name, (wanted, len(remarks)), ({}, many))
 
 
+def of_width():
+    """A pulse that is not as wide as others of its class is damaged, if another recording has one of the other class that is as wide."""
+    at = of_three(lambda before, told, after: before == told == after)
+    alone = of_three(lambda before, told, after: told not in (before, after))
+    told, exact, words = class_at(code(), at), flipped(code(), at), {}
+    for name, pulses, other, wanted in (
+        ("and the frames next to it have the same", odd(at), code(), {at: told}),
+        ("they have not", odd(alone), code(), {}),
+        ("nor have they, and the frame is damaged", without(odd(alone), 1045), code(), {1045: "0", alone: class_at(code(), alone)}),
+        ("as wide as others", exact, code(), {}),
+        ("as wide as others, which are all wider", [[rise, fall + 300] for rise, fall in exact], code(), {}),
+        ("off by less than a fiftieth of an interval", odd(at, 190), code(), {}),
+        ("some others are off, too", uneven(odd(at)), code(), {}),
+        ("and so are some there", odd(at), uneven(code()), {}),
+        ("the other one is off, too", odd(at), widened(code(), at), {}),
+        ("the other one alone is off", exact, widened(code(), at), {}),
+    ):
+        found = mended(pulses, slow(other))
+        yield same(name, (found[0], found[2], len(found[3])), (wanted, set(), int(not wanted)))
+        words[name] = found[1] + found[3]
+    here = {"0": "one", "1": "zero"}
+    for name, place in (("and the frames next to it have the same", at), ("they have not", alone)):
+        said = ", and the %s here is not as wide as others" % here[class_at(code(), place)]
+        yield same(name + ": what is said", [each.endswith(" s" + said) for each in words[name]], [True])
+    yield same("as wide as others: what is said", ["as wide as" in each for each in words["as wide as others"]], [False])
+
+
+def of_three(is_it):
+    """The first control function of the frame of 12:00:10 of which something is true with those of the frames next to it."""
+    return next(at for at in range(1060, 1069) if is_it(*(class_at(code(), at + by) for by in (-100, 0, 100))))
+
+
+def odd(at, by=700):
+    """The code with a pulse of the other class that is off by some microseconds, towards what it was."""
+    pulses = flipped(code(), at)
+    pulses[at][1] += by if class_at(code(), at) == "1" else -by
+    return pulses
+
+
+def widened(pulses, *places):
+    """These pulses are 290 microseconds wider."""
+    for at in places:
+        pulses[at] = [pulses[at][0], pulses[at][1] + 290]
+    return pulses
+
+
+def uneven(pulses):
+    """One pulse of six is wider."""
+    return widened(pulses, *range(0, len(pulses), 6))
+
+
 def of_inserted():
     """An inserted second is lost at an end: another recording shows it. Else the times after it would be a second early."""
     whole = tools.recording(12, leap=True)
@@ -440,7 +491,7 @@ def of_mended():
 
 def of_fine():
     """irig_guard gets the other recording for frames that were fine, too: a control function that both next to it have, though others
-    change there; and the day of the first frame."""
+    change there, by a parity or by a width; and the day of the first frame."""
     def with_parity(*places):
         return flipped(code(parity=(75, 1)), *places)
 
@@ -448,14 +499,17 @@ def of_fine():
     at = next(at for at in range(1062, 1068) if len({class_at(sent_there, at + frame) for frame in (-100, 0, 100)}) == 1)
 
     def holds():
-        for name in ("function", "first"):
-            status, printed, _ = run_of("--with", "other.vcd", "--apply", "new.vcd", name + ".vcd")
+        for name, other, whole, alone in (("function", "other.vcd", sent_there, 1), ("first", "other.vcd", sent_there, 1),
+                                          ("width", "plain.vcd", code(), 0)):
+            status, printed, _ = run_of("--with", other, "--apply", "new.vcd", name + ".vcd")
             yield same(name, (status, len(printed)), (0, 1))
-            yield same(name + ": what is written", edges(text_of("new.vcd")) == edges(dump(sent_there)), True)
+            yield same(name + ": what is written", edges(text_of("new.vcd")) == edges(dump(whole)), True)
             status = run_of("--apply", "alone.vcd", name + ".vcd")[0]
-            yield same(name + ": without it", (status, edges(text_of("alone.vcd")) == edges(dump(sent_there))), (1, False))
+            yield same(name + ": without it", (status, edges(text_of("alone.vcd")) == edges(dump(whole))), (alone, False))
 
-    return in_folder(lambda: list(holds()), function=dump(with_parity(at)), first=dump(with_parity(130)), other=dump(slow(sent_there), 100))
+    width = odd(of_three(lambda before, told, after: before == told == after))
+    return in_folder(lambda: list(holds()), function=dump(with_parity(at)), first=dump(with_parity(130)), other=dump(slow(sent_there), 100),
+                     width=dump(width), plain=dump(slow(code()), 100))
 
 
 def run_of(*words):
@@ -526,6 +580,6 @@ def of_refused():
 
 
 def cases(_top):
-    parts = (of_lost, of_recorded, of_votes, of_trusted, of_other_code, of_contrary, of_rules, of_few, of_beside, of_inserted, of_apply,
-             of_guarded, of_mended, of_fine, of_refused)
+    parts = (of_lost, of_recorded, of_votes, of_trusted, of_other_code, of_contrary, of_rules, of_few, of_beside, of_width, of_inserted,
+             of_apply, of_guarded, of_mended, of_fine, of_refused)
     return [case("mend: with: " + part.__name__[3:].replace("_", " "), lambda part=part: list(part())) for part in parts]
