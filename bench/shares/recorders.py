@@ -12,6 +12,8 @@ from recordings import PARITY, Draft, Recording
 from sent import DAY, HOUR, MINUTE, SECOND, Calendar, Run, Sender, control_elements, has_controls, year_length
 from tape import Clock
 
+Controls = Callable[[int, int], Set[int]]  # the ones of the frame of a time, which shows another one if the clock was set otherwise
+
 MOST_OFF = 0.001  # of a recorder's clock
 ALWAYS = 0.7  # of the sessions have other control functions in each frame
 LEAST_DAMAGE, MOST_DAMAGE = 2, 12  # places of damage
@@ -39,12 +41,13 @@ class Source(Draft):
         self.sent = self.length + 2 * self.format.frame
         self.parity = random.random() < 0.5
         self.expression = int(random.choice([each for each in self.expressions if has_controls(int(each))]))
+        self.timed = Sender(self.format, self.expression, Calendar(self.year, self.inserted), lambda time: set())  # times alone
         self.controls = control_functions(self, random.random(), random.random() < ALWAYS)
         self.sender = self.heard(self.controls)
 
-    def heard(self, controls: Callable[[int], Set[int]], later: int = 0) -> Sender:
+    def heard(self, controls: Controls, later: int = 0) -> Sender:
         """A sender with these control functions, whose clock is later by some microseconds."""
-        sender = Sender(self.format, self.expression, Calendar(self.year, self.inserted), lambda time: controls(time - later))
+        sender = Sender(self.format, self.expression, self.timed.calendar, lambda time: controls(time - later, time))
         runs = self.runs or [Run(0, self.sent, 0, self.time)]
         sender.runs = [each._replace(time=each.time + later, end=min(each.end, self.sent)) for each in runs]
         return sender
@@ -69,17 +72,19 @@ class Source(Draft):
         return sum(1 << bit for bit, element in enumerate(control_elements(self.format, self.expression)) if element in ones)
 
 
-def control_functions(source: Source, word: float, always: bool) -> Callable[[int], Set[int]]:
-    """The elements that are ones in the frame with a time: others in each, or seldom; with a parity or without it."""
+def control_functions(source: Source, word: float, always: bool) -> Controls:
+    """The elements that are ones in the frame of a time: others in each, or seldom; with a parity or without it. As in IEEE C37.118 the
+    parity is of all elements before it, so also of the time that the frame shows."""
     elements, odd = control_elements(source.format, source.expression), word < 0.5
-    period, parity = source.format.frame * (1 if always else 9), source.parity
+    period = source.format.frame * (1 if always else 9)
 
-    def controls(time: int) -> Set[int]:
+    def controls(time: int, shown: int) -> Set[int]:
         chance = Random("%f %d" % (word, time // period))
         ones = {each for each in elements if chance.random() < 0.5}
-        if parity:
+        if source.parity:
             ones.discard(PARITY)
-            if sum(each < PARITY for each in ones) % 2 != odd:
+            before = source.timed.classes(shown)[:PARITY].count(1) + sum(each < PARITY for each in ones)
+            if before % 2 != odd:
                 ones.add(PARITY)
         return ones
 

@@ -102,7 +102,8 @@ class Draft:
         """What is sent, as the recorder's clock has it, each rise a little early or late."""
         self.expression = int(self.random.choice(self.expressions))
         calendar = Calendar(self.year, self.inserted)
-        self.sender = Sender(self.format, self.expression, calendar, self._controls())
+        timed = Sender(self.format, self.expression, calendar, lambda time: set())  # times alone
+        self.sender = Sender(self.format, self.expression, calendar, self._controls(timed))
         self.sender.runs = self.runs or [Run(0, self.sent, 0, self.time)]
         self.sender.flips = self.flips
         self.hear()
@@ -116,8 +117,9 @@ class Draft:
         sent = [(rise + by, fall + by) for rise, fall, by in zip(rises, falls, late)]
         self.wire = damage.Wire(sent, self.format.interval, self.random)
 
-    def _controls(self) -> Callable[[int], Set[int]]:
-        """The control functions of the frame with a time: none, always the same, others in each frame, or with a parity."""
+    def _controls(self, timed: Sender) -> Callable[[int], Set[int]]:
+        """The control functions of the frame with a time: none, always the same, others in each frame, or with a parity. As in IEEE C37.118
+        the parity is of all elements before it, so also of the time that the frame shows."""
         elements = control_elements(self.format, self.expression)
         way = "each" if self.parity and self.random.random() < 0.6 else self.random.choice(("none", "same", "same", "each", "rare"))
         if self.parity and way == "none":
@@ -130,7 +132,8 @@ class Draft:
             ones = set() if way == "none" else {each for each in elements if source.random() < 0.3}
             if self.parity:
                 ones.discard(PARITY)
-                if sum(each < PARITY for each in ones) % 2 != odd:
+                before = timed.classes(time)[:PARITY].count(1) + sum(each < PARITY for each in ones)
+                if before % 2 != odd:
                     ones.add(PARITY)
             return ones
 
