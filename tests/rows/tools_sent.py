@@ -302,6 +302,15 @@ def of_late_rises():
         off = max(abs(nearest(own, rise) - rise) for rise in true)
         yield same("a late rise in " + kind, (found.status, made.unlike(found), off <= 2 * made.near), (0, (0, 0), True))
 
+    def late_alone(draft):
+        (rise, fall), = draft.wire.pulses[834]
+        draft.wire.pulses[834] = [(rise + 0.03 * draft.format.interval, fall)]
+
+    made = Made(31, "B", "2", 14, still, late_alone)
+    found = made.mended()
+    yield same("a late rise in a frame that is fine",
+               (found.status, len(found.says("late; the frame is fine")), edges_of(found.text) == edges_of(made.damaged.text)), (1, 1, True))
+
 
 # 6: frames that say another time
 
@@ -352,6 +361,12 @@ def beginning(share, frames):
     return change
 
 
+def set_back_in_frame_12(draft):
+    """The sender's clock is set back by a frame, after the date of frame 12: the next frame shows its time again."""
+    begin, moment = 12 * draft.format.frame, 12.6 * draft.format.frame
+    draft.runs = [Run(0, moment, 0, draft.time), Run(moment, draft.sent, begin, draft.time + begin - draft.format.frame)]
+
+
 def of_lost_at_an_end():
     """What was recorded next to the loss stays, whatever the rest leads to; what is damaged without a loss is mended."""
     def narrow(element):
@@ -371,6 +386,10 @@ def of_lost_at_an_end():
         found = made.mended()
         yield same(name, (found.status, len(found.says(said)), edges_of(found.text) == edges_of(made.damaged.text), found.counts_hold()),
                    (1, 1, True, True))
+    made = Made(77, "B", "2", 0, several(still, beginning(0.781, 12.32), set_back_in_frame_12))
+    found = made.mended()
+    yield same("the clock is set back in the last whole frame",
+               (found.status, len(found.says("1 element contradicts")), edges_of(found.text) == edges_of(made.damaged.text)), (1, 1, True))
     for element in (79, 99):
         made = Made(78, "B", "2", 0, several(still, beginning(0.781, 12)), narrow(element))
         found = made.mended()

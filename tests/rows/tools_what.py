@@ -329,7 +329,7 @@ def most_memory_of(text):
 
 def silent():
     """A wire that is silent takes less than 400 bytes, be there 100,000 of them. What Python itself takes differs from machine to
-    machine, so a dump of one wire is measured beside."""
+    machine, so a dump of one wire is measured, too."""
     def of_wires(many):
         codes = ["".join(chr(33 + number // 94 ** place % 94) for place in range(3)) for number in range(many)]
         text = "".join("$var wire 1 %s wire_%d $end\n" % (code, number) for number, code in enumerate(codes))

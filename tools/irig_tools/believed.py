@@ -48,6 +48,14 @@ def fine_frames(listing: Listing, layout: Layout) -> Iterator[FineFrame]:
             yield FineFrame(marker, text, told)
 
 
+def is_fine_at(listing: Listing, layout: Layout, marker: PulseIndex) -> bool:
+    """Whether the frame with this marker is fine."""
+    text, apart = listing.classes[marker:marker + ELEMENTS], listing.apart[max(0, marker - 1):marker + ELEMENTS - 1]
+    if not marker or not MARKED.match(listing.classes, marker - 1) or not layout.shown(text):
+        return False
+    return breaks(apart, layout.interval, limits.IN_STEP * layout.interval) == [ELEMENTS + 1]
+
+
 def without_time(listing: Listing) -> str:
     """Why no sample gets a time by a recording; an empty text if one can."""
     layout = layout_of(listing.kind, listing.expression, False)

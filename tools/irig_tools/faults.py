@@ -3,9 +3,11 @@ from __future__ import annotations
 
 import copy
 from dataclasses import dataclass
+from itertools import groupby
 from typing import Container, Dict, Iterable, List, Optional, Sequence, Set
 
 from . import limits
+from .believed import is_fine_at
 from .concern import NOTHING, Concern, of_frame
 from .frames import Times
 from .kinds import STEPS, DamageKind
@@ -17,6 +19,7 @@ from .widths import Widths
 from .witnesses import Elsewhere, Witnesses
 
 LEFT_FRAME = "the frame is left as it is; regen gives it the time to which the others lead"
+STAYS_IN_FINE = "the frame is fine, so it is left; shift moves it, and samples next to it get another time"
 
 
 @dataclass
@@ -71,6 +74,22 @@ class Faults:
             told = track.told[place - track.first]
             if told in SHARE and frame_of(place) in times.texts:
                 self.wanted.setdefault(place, told)
+        self._leave_fine_frames()
+
+    def _leave_fine_frames(self) -> None:
+        """A rise that is off is moved, but not in a frame that is fine: samples next to it have a time by it as it is."""
+        for number, places in groupby([place for place in sorted(self.wanted) if self._is_off_alone(place)], frame_of):
+            marker = self.track.pulses_at(max(self.track.first, place_in(number)))
+            if marker and is_fine_at(self.track.listing, self.layout, marker[0]):
+                for place in places:
+                    seen = "%s: %s" % (self.where(place), self.seen(place))
+                    self.remark(place, seen, STAYS_IN_FINE, DamageKind.LATE, [place % ELEMENTS])
+                    del self.wanted[place]
+
+    def _is_off_alone(self, place: PlaceNumber) -> bool:
+        """Whether one pulse is there, of the class that is wanted: nothing but its rise can be off."""
+        pulses = self.track.pulses_at(place)
+        return len(pulses) == 1 and self.track.classes[pulses[0]] == self.wanted[place]
 
     def without(self, places: Container[PlaceNumber]) -> Faults:
         """The same, as if nothing were wrong at these places, and in frames that are to stay as they are."""
@@ -137,7 +156,7 @@ class Faults:
         in_one = not binary.isdisjoint(told) and (binary.isdisjoint(against) or binary.issuperset(against))
         most = limits.MOST_CONTRARY if in_one or self.is_between(number) else limits.CONTRARY_AT_END
         is_clear = len(against) > (0 if twice_told or self.times.turns_at(number) else most)
-        if not is_clear and not self._can_be_of_a_loss(number, told, against):
+        if not is_clear and not self._shows_a_time_nearby(number, told, against):
             return False
         seen = "%s: %s contradict%s the time that the frames next to it lead to" % (
             self.times.name(number), counted(len(against), "element"), "" if against[1:] else "s")
@@ -145,16 +164,16 @@ class Faults:
         self.remark(first, seen, LEFT_FRAME)
         return True
 
-    def _can_be_of_a_loss(self, number: FrameNumber, told: Sequence[int], against: Sequence[int]) -> bool:
-        """Whether a frame at an end shows just what it would if a recorder had lost whole frames next to what contradicts: in the last
-        frame a later time from there on, in the first one an earlier time up to there."""
+    def _shows_a_time_nearby(self, number: FrameNumber, told: Sequence[int], against: Sequence[int]) -> bool:
+        """Whether a frame at an end shows just what it would if a recorder had lost whole frames next to what contradicts, or had some
+        twice, or if the clock had been set by as many: another time, in the last frame from there on, in the first one up to there."""
         moment, agreeing = self.times.moment(number), self.times.agreeing
         if moment is None or not against or not agreeing or min(agreeing) <= number <= max(agreeing):
             return False
-        way = 1 if number > max(agreeing) else -1
-        shown = [element for element in told if way * element >= way * against[0 if way > 0 else -1]]
-        for frames in range(1, limits.LONGEST_CUT // ELEMENTS + 1):
-            other = self.layout.encode(self.times.calendar.fields(plus(moment, way * frames * self.layout.period)))
+        is_last, most = number > max(agreeing), limits.LONGEST_CUT // ELEMENTS
+        shown = [element for element in told if (element >= against[0] if is_last else element <= against[-1])]
+        for frames in [*range(-most, 0), *range(1, most + 1)]:
+            other = self.layout.encode(self.times.calendar.fields(plus(moment, frames * self.layout.period)))
             if all(other[element] == self.times.texts[number][element] for element in shown):
                 return True
         return False
