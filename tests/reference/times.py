@@ -216,13 +216,26 @@ class Counting:
                 continue
             earlier, later = fine[place - 1] if place else None, fine[place + 1] if place + 1 < len(fine) else None
             first = TIME_ELEMENTS[self.kind] if self.jumps_before(earlier, frame) else 0
-            end = 1 if self.jumps_after(frame, later) else 100
+            end = self.end_of(frame, later)
             if not place:
                 found += self.heard_before(frame)
             elif earlier in held and not first:
                 found += self.between(earlier, frame)
             found.append(Part(frame.marker + first, first, max(0, end - first), frame.time))
         return found + (self.heard_after(fine[-1]) if fine and fine[-1] in held else [])
+
+    def end_of(self, frame, later):
+        """How many elements of a frame have its time: the marker alone, if the time jumps after it; those before the identifier of element
+        89, if tens of intervals are lost between it and the next frame."""
+        if self.jumps_after(frame, later):
+            return 1
+        return 89 if later and self.loses_tens(frame, later) else 100
+
+    def loses_tens(self, one, other):
+        """Whether the stretch between two frames is torn, and what is lost there is tens of intervals."""
+        gap = other.marker - one.marker - 100
+        after, before = self.ahead(one.marker + 100, min(gap, 100)), self.behind(other.marker, min(gap, 100))
+        return after + before <= gap and self.is_torn(one, other) and self.lost_tens(one, other)
 
     def head(self, frame, count, time):
         return Part(frame.marker + 100, 0, count, time)
@@ -310,7 +323,7 @@ class Counting:
             if self.lost_tens(one, other):
                 return []
             after = self.borne([(one.marker + 100 + k, k) for k in range(after)], first)
-            before = self.borne([(other.marker - 1 - k, 99 - k) for k in range(before)], last)
+            before = self.borne([(other.marker - 1 - k, 99 - k) for k in range(before)], last, True)
         if many == 1:  # no element that both reach
             after, before = min(after, 100 - before), min(before, 100 - after)
         if after + before > gap:
@@ -334,16 +347,20 @@ class Counting:
         """Whether tens of intervals are lost, to a fifth of one: each position identifier is at the place of another."""
         return min(self.tenths(one, other) % 100, -self.tenths(one, other) % 100) <= 2
 
-    def borne(self, side, time):
+    def borne(self, side, time, is_back=False):
         """How many pulses of a side, each with its element, are borne out: those up to the last position identifier that is at its place,
-        before the first pulse that says another time."""
+        without it, before the first pulse that says another element. Before a frame it is none without the pulse before it."""
         if time.micros > LONG_MINUTE:
             return 0
         wanted = self.wanted(time)
-        denied = [place for place, (number, element) in enumerate(side) if self.denies(number, element, wanted)]
-        marks = [place for place, (number, element) in enumerate(side[:denied[0]] if denied else side)
+        sure = next((place for place, (number, element) in enumerate(side) if self.is_other(number, element, wanted)), len(side))
+        marks = [place for place, (number, element) in enumerate(side[:max(0, sure - is_back)])
                  if wanted[element] == "position" == self.class_at(number)]
-        return marks[-1] + 1 if marks else 0
+        return marks[-1] if marks else 0
+
+    def is_other(self, number, element, wanted):
+        """Whether a pulse says another element, or is a position identifier where there is none."""
+        return self.denies(number, element, wanted) or wanted[element] != "position" == self.class_at(number)
 
     def class_at(self, number):
         rise, fall = self.pulses[number]
@@ -393,10 +410,17 @@ class Counting:
                 if not (part.number == 0 and self.is_silence(self.pulses[0][0])) or self.has_its_time(part)]
 
     def heard_after(self, frame):
-        """The same after the last frame, if the recording ends with silence."""
-        return [part for part in self.after(frame)
-                if not (part.number + part.count == len(self.pulses) and self.is_silence(self.length - self.pulses[-1][0]))
-                or self.has_its_time(part)]
+        """The same after the last frame, if the recording ends with silence. What was lost in these pulses shows nowhere else, so they
+        count only up to the last position identifier, without it."""
+        found = []
+        for part in self.after(frame):
+            if part.number + part.count == len(self.pulses) and self.is_silence(self.length - self.pulses[-1][0]):
+                if not self.has_its_time(part):
+                    continue
+                side = [(part.number + k, k) for k in range(part.count)]
+                part = part._replace(count=self.borne(side, part.time))
+            found.append(part)
+        return found
 
     def is_silence(self, micros):
         """Whether some microseconds without a rise are silence: more than two intervals."""

@@ -62,8 +62,8 @@ TimesStay = (old new : State) → IsTrack old.micros old.pulses → IsTrack new.
     → HasTime old.format century new.pulses after d n x
 
 -- so by counting: a moment that has a time by a frame that is believed is timed after the repair, and
--- at the same time, if the frame is believed then and the time does not jump next to it, and so is the
--- one that follows it if the moment is in its last element
+-- at the same time, if the frame is believed then, the time does not jump next to it and no tens of
+-- intervals are lost after it, and so is the next one if the moment is in its last element
 abbrev pub CountedTimesStay : Type 0
 CountedTimesStay = (old new : State) → IsTrack old.micros old.pulses → IsTrack new.micros new.pulses
     → IsSafeUnmoved old new

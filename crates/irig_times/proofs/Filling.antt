@@ -1,5 +1,5 @@
 -- What is counted between frames fits between them.
-use Rattle.std.proofs.Common.{◌*◌, ◌≡◌, ◌<◌, ◌≤◌, ◌+◌, ◌-◌, ◌++◌, ◌∷◌, [], ℕ, suc, zero, ◌==◌, ◌&&◌, nat_le, nat_lt, Bool, true, false, cond, List, Option, Some, None, drop, length, slice_get}
+use Rattle.std.proofs.Common.{◌*◌, ◌≡◌, ◌<◌, ◌≤◌, ◌+◌, ◌-◌, ◌++◌, ◌∷◌, [], ℕ, suc, zero, ◌==◌, ◌&&◌, nat_le, nat_lt, Bool, true, false, List, Option, Some, None, drop, length, slice_get}
 use Rattle.std.proofs.Common.{refl, sym, ap, ◌∙◌, subst, append_assoc, arith}
 use Rattle.std.specs.Prelude.{IfSome, is_some, min}
 use Rattle.std.proofs.lemmas.Option.{none-some, same_Some, slice_get_within}
@@ -10,11 +10,12 @@ use Rattle.irig_recording.specs.declared.pulse.Pulse.{Pulse}
 use Rattle.irig_times.specs.{declared.missing.Missing.Missing, declared.part.Part.Part, declared.time.Time.Time, Follows.same_day}
 use Rattle.irig_times.specs.Between.{at_micros, at_minute, day_micros, gap, head_of, is_middle, is_whole, middle, missing_by, missing_in, missing_more, missing_one}
 use Rattle.irig_times.specs.Between.{head_left, is_seam, kept, next_time, rounded, sides, sides_at, sides_by, tail_left, tail_of, time_before}
-use Rattle.irig_times.specs.Sides.{between, borne_at, side_after, side_before, sides_in, sides_of}
+use Rattle.irig_times.specs.Sides.{between, borne_at, side_after, side_before, side_of, sides_in, sides_of}
 use Rattle.irig_times.specs.Torn.{are_tens, is_torn, tenths_found}
-use Rattle.irig_times.specs.Counted.{filled, kept_at, sides_before, sides_without, with_frame, with_sides}
+use Rattle.irig_times.specs.Counted.{filled, kept_at, kept_before, sides_before, sides_without, with_frame, with_sides}
+use Rattle.irig_times.specs.Tens.{before_tens, loses_tens_to}
 use Rattle.irig_times.specs.Jumps.{after_jump, before_jump, is_jump_between}
-use Rattle.irig_times.specs.Silence.{counted_after, counted_before, counts_after, counts_before, heard_after, heard_before}
+use Rattle.irig_times.specs.Silence.{counted_after, counted_before, counts_before, has_its_time, heard_after, heard_before, precedes_silence, up_to_mark}
 use Rattle.irig_times.specs.Follows.{is_later}
 use Rattle.irig_times.specs.Parts.{AreParts, IsFrameTime, IsPart, is_empty}
 use Rattle.irig_times.specs.Laws.{IsOfCalendar}
@@ -240,15 +241,27 @@ module _ (f : FormatView) (ps : List Pulse) where
       let few = behind-few f ps (min b.number 100) b.number in
       alone-fits 0 b.number (tail_of b (behind f ps b.number (min b.number 100)) x) (omega arith) (grind (arith, few)) (grind (arith, few)) cal
 
--- what counts at an end is what is counted there
+-- what counts at an end is what is counted there, or less of it
 pub heard-before-holds : (P : Part × Part → Type 0) (f : FormatView) (ps : List Pulse) (s : Option (Part × Part)) → IfSome s P → IfSome (heard_before f ps s) P
 heard-before-holds P f ps None h = tt
 heard-before-holds P f ps (Some s) h = cond-holds (λ o. IfSome o P) (counts_before f ps s.0) _ _ (λ on. h) (λ off. tt)
 
-pub heard-after-holds : (P : Part × Part → Type 0) (f : FormatView) (micros : ℕ) (ps : List Pulse) (s : Option (Part × Part)) → IfSome s P
-    → IfSome (heard_after f micros ps s) P
-heard-after-holds P f micros ps None h = tt
-heard-after-holds P f micros ps (Some s) h = cond-holds (λ o. IfSome o P) (counts_after f micros ps s.0) _ _ (λ on. h) (λ off. tt)
+pub heard-after-holds : (P : Part × Part → Type 0) (f : FormatView) (micros : ℕ) (ps : List Pulse) (s : Option (Part × Part))
+    → ((s : Part × Part) → P s → P (up_to_mark f ps s.0, s.1)) → IfSome s P → IfSome (heard_after f micros ps s) P
+heard-after-holds P f micros ps None less h = tt
+heard-after-holds P f micros ps (Some s) less h = cond-holds (λ o. IfSome o P) (precedes_silence f micros ps s.0) _ _
+    (λ silent. cond-holds (λ o. IfSome o P) (has_its_time f ps s.0) _ _ (λ all. less s h) (λ some. tt)) (λ heard. h)
+
+mark-fits : (f : FormatView) (ps : List Pulse) (from to : ℕ) (s : Part × Part) → Fit f from to s → Fit f from to (up_to_mark f ps s.0, s.1)
+mark-fits f ps from to s h =
+    let few = borne_at-few f ps s.0.time (side_of s.0) s.0.count in
+    record {
+      first = h.first;
+      one = record { few = omega (arith, few, h.one.few); time = h.one.time };
+      middle = omega (arith, few, h.middle);
+      two = h.two;
+      last = h.last;
+    }
 
 -- a part of a part of a frame
 min-few : (k m : ℕ) → min k m ≤ k
@@ -262,27 +275,45 @@ pub record Cut (f : FormatView) (b q : Part) : Type 0 where
   pub is : IsPart f q
 
 module _ (f : FormatView) where
+  -- the first pulses of a part
+  front-cut : (n : ℕ) (b : Part) → IsPart f b → Cut f b (record { number = b.number; element = b.element; count = min b.count n; time = b.time })
+  front-cut n b is =
+      let few = min-few b.count n in
+      record {
+        low = omega arith;
+        high = omega (arith, few);
+        place = omega arith;
+        same = refl;
+        is = record { few = omega (arith, few, is.few); time = is.time };
+      }
+
+  all-cut : (b : Part) → IsPart f b → Cut f b b
+  all-cut b is = record { low = omega arith; high = omega arith; place = omega arith; same = refl; is = is }
+
   before-cut : (jumps : Bool) (b : Part) → IsPart f b → Cut f b (before_jump jumps b)
-  before-cut false b is = record { low = omega arith; high = omega arith; place = omega arith; same = refl; is = is }
-  before-cut true b is =
-      let few : min b.count 1 ≤ b.count = grind arith in
-      record { low = omega arith; high = omega (arith, few); place = omega arith; same = refl; is = record { few = omega (arith, few, is.few); time = is.time } }
+  before-cut false b is = all-cut b is
+  before-cut true b is = front-cut 1 b is
+
+  tens-cut : (loses : Bool) (b : Part) → IsPart f b → Cut f b (before_tens loses b)
+  tens-cut false b is = all-cut b is
+  tens-cut true b is = front-cut 89 b is
 
   after-cut : (jumps : Bool) (b : Part) → IsPart f b → Cut f b (after_jump f.kind jumps b)
-  after-cut false b is = record { low = omega arith; high = omega arith; place = omega arith; same = refl; is = is }
+  after-cut false b is = all-cut b is
   after-cut true b is =
       let few = min-few b.count (time_elements f.kind) in
       record { low = omega arith; high = omega (arith, few); place = omega arith; same = refl; is = record { few = omega (arith, few, is.few); time = is.time } }
 
   pub kept-cut : (century : ℕ) (ps : List Pulse) (before : Option Part) (b : Part) (next : Option Part) → IsPart f b → Cut f b (kept_at f century ps before b next)
   kept-cut century ps before b next is =
-      let one = before-cut (is_jump_between f century ps (Some b) next) b is in
-      let two = after-cut (is_jump_between f century ps before (Some b)) (before_jump (is_jump_between f century ps (Some b) next) b) one.is in
+      let tens = tens-cut (loses_tens_to f ps b next) b is in
+      let one = before-cut (is_jump_between f century ps (Some b) next) (before_tens (loses_tens_to f ps b next) b) tens.is in
+      let two = after-cut (is_jump_between f century ps before (Some b)) (kept_before f century ps b next) one.is in
       record {
-        low = omega (arith, one.low, two.low);
-        high = omega (arith, one.high, two.high);
-        place = omega (arith, one.place, two.place);
-        same = two.same ∙ one.same;
+        low = omega (arith, tens.low, one.low, two.low);
+        high = omega (arith, tens.high, one.high, two.high);
+        place = omega (arith, tens.place, one.place, two.place);
+        same = two.same ∙ (one.same ∙ tens.same);
         is = two.is;
       }
 
@@ -327,7 +358,7 @@ module _ (f : FormatView) (century micros : ℕ) (ps : List Pulse) where
   after-fit None from ends le = tt
   after-fit (Some a) from ends le =
       subst (λ k. IfSome (counted_after f micros ps (Some a)) (Fit f k n)) (sym ends.0)
-      (heard-after-holds (Fit f (a.number + a.count) n) f micros ps (end_after f ps (Some a))
+      (heard-after-holds (Fit f (a.number + a.count) n) f micros ps (end_after f ps (Some a)) (mark-fits f ps (a.number + a.count) n)
       (cond-holds (λ o. IfSome o (Fit f (a.number + a.count) n)) (is_empty a) _ _ (λ none. tt)
       (λ some. last-fits f ps a (next_time (frame_period_of f.kind) a.time) (omega (arith, ends.0, le)) (next-is f century a.time ends.1.time))))
 
@@ -360,23 +391,24 @@ module _ (f : FormatView) (century micros : ℕ) (ps : List Pulse) where
   earlier before parts (suc k) = slice_get parts k
 
   kept-whole : (before : Option Part) (b : Part) (next : Option Part) → is_jump_between f century ps before (Some b) ≡ false
-      → is_jump_between f century ps (Some b) next ≡ false → kept_at f century ps before b next ≡ b
-  kept-whole before b next first last = λ i. after_jump f.kind (first i) (before_jump (last i) b)
+      → is_jump_between f century ps (Some b) next ≡ false → loses_tens_to f ps b next ≡ false → kept_at f century ps before b next ≡ b
+  kept-whole before b next first last none = λ i. after_jump f.kind (first i) (before_jump (last i) (before_tens (none i) b))
 
   pub filled-stays : (before : Option Part) (parts : List Part) (k : ℕ) (p : Part) → slice_get parts k ≡ Some p
       → is_jump_between f century ps (earlier before parts k) (Some p) ≡ false → is_jump_between f century ps (Some p) (slice_get parts (k + 1)) ≡ false
-      → (i : ℕ) × (slice_get (filled f century micros ps before parts) i ≡ Some p)
-  filled-stays before [] k p here first last = absurd (none-some p here)
-  filled-stays before (b ∷ parts) zero p here first last =
+      → loses_tens_to f ps p (slice_get parts (k + 1)) ≡ false → (i : ℕ) × (slice_get (filled f century micros ps before parts) i ≡ Some p)
+  filled-stays before [] k p here first last none = absurd (none-some p here)
+  filled-stays before (b ∷ parts) zero p here first last none =
       let same : b ≡ p = same_Some b p here in
       let whole : kept_at f century ps before b (slice_get parts 0) ≡ p =
-      ap (λ q. kept_at f century ps before q (slice_get parts 0)) same ∙ kept-whole before p (slice_get parts 0) first last in
+      ap (λ q. kept_at f century ps before q (slice_get parts 0)) same ∙ kept-whole before p (slice_get parts 0) first last none in
       with-stays (sides_without (is_jump_between f century ps before (Some b)) f century ps before b) (kept_at f century ps before b (slice_get parts 0))
       (filled f century micros ps (Some b) parts) zero p (ap Some whole)
-  filled-stays before (b ∷ parts) (suc k) p here first last =
+  filled-stays before (b ∷ parts) (suc k) p here first last none =
       let e : suc k + 1 ≡ suc (k + 1) = omega arith in
       let end = subst (λ i. is_jump_between f century ps (Some p) (slice_get (b ∷ parts) i) ≡ false) e last in
-      let it = filled-stays (Some b) parts k p here (earlier-same before b parts k p first) end in
+      let whole = subst (λ i. loses_tens_to f ps p (slice_get (b ∷ parts) i) ≡ false) e none in
+      let it = filled-stays (Some b) parts k p here (earlier-same before b parts k p first) end whole in
       with-stays (sides_without (is_jump_between f century ps before (Some b)) f century ps before b) (kept_at f century ps before b (slice_get parts 0))
       (filled f century micros ps (Some b) parts) (suc it.0) p it.1
     where

@@ -1,5 +1,5 @@
 -- A moment that has a time by a frame that is believed has it by the parts.
-use Rattle.std.proofs.Common.{◌≡◌, inl, inr, ◌<◌, ◌≤◌, ◌+◌, ◌-◌, ◌*◌, ℕ, Bool, true, List, Option, Some, None, false, suc, zero, slice_get, refl, ap, ◌∙◌, subst, arith}
+use Rattle.std.proofs.Common.{◌≡◌, inl, inr, ◌<◌, ◌≤◌, ◌+◌, ◌-◌, ◌*◌, ℕ, Bool, true, List, Some, None, false, suc, zero, slice_get, refl, ap, ◌∙◌, subst, arith}
 use Rattle.std.specs.Prelude.{is_some}
 use Rattle.std.proofs.lemmas.{Bool.cases_lt}
 use Rattle.irig_track.specs.Track.{IsTrack}
@@ -10,7 +10,7 @@ use Rattle.irig_recording.specs.declared.pulse.Pulse.{Pulse}
 use Rattle.irig_index.specs.{Frames.frames}
 use Rattle.irig_times.specs.{Counted.timed_parts, Elements.IntervalEnds, Elements.NextRises, Elements.share, Held.IsHeldElement}
 use Rattle.irig_times.specs.{Parts.GoesOn, Parts.IsPoint, Parts.plus, PartLaws.HeldGoesOn, PartLaws.IsSteady, PartLaws.KeepsTimes, PartLaws.TimedPartsAreParts, Support.believed, Times.minute_micros, Times.time_in, Whole.whole, Whole.whole_parts}
-use Rattle.irig_times.specs.{Jumps.is_jump_between, declared.part.Part.Part}
+use Rattle.irig_times.specs.{Jumps.is_jump_between, Tens.loses_tens_to, declared.part.Part.Part}
 use Rattle.irig_times.specs.declared.time.Time.{Time}
 use Rattle.irig_times.proofs.{Filling.earlier, Filling.filled-are, Filling.filled-stays, WholeFrames.whole-are, WholeFrames.whole-there}
 
@@ -34,6 +34,11 @@ module _ (f : FormatView) (alone : Bool) (century micros : ℕ) (ps : List Pulse
       → is_jump_between f century ps (Some p) (slice_get (whole_parts f alone ps) (i + 1)) ≡ false
   steady-after i p here steady = (steady i p here refl).1
 
+  -- and no tens of intervals are lost there
+  steady-tens : (i : ℕ) (p : Part) → slice_get (whole_parts f alone ps) i ≡ Some p → IsSteady f alone century ps p.number
+      → loses_tens_to f ps p (slice_get (whole_parts f alone ps) (i + 1)) ≡ false
+  steady-tens i p here steady = (steady i p here refl).2
+
   -- each element of a frame that is believed has its time, if the time does not jump next to it
   held-point : (number element : ℕ) (g : Fields) → (is : IsHeldElement f (frames f ps) (believed f alone ps) number element g)
       → IsSteady f alone century ps is.0.one.marker → IsPoint (timed_parts f alone century micros ps) number element (time_in g 0)
@@ -41,7 +46,7 @@ module _ (f : FormatView) (alone : Bool) (century micros : ℕ) (ps : List Pulse
       let there = whole-there f (frames f ps) (believed f alone ps) is.at is.one g is.there on is.tells in
       let p = whole is.one.marker true g in
       let stays = filled-stays f century micros ps None (whole_parts f alone ps) there.0 p there.1 (steady-before there.0 p there.1 steady)
-      (steady-after there.0 p there.1 steady) in
+      (steady-after there.0 p there.1 steady) (steady-tens there.0 p there.1 steady) in
       record {
         at = stays.0;
         one = p;

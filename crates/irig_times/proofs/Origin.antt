@@ -9,12 +9,12 @@ use Rattle.irig_recording.specs.declared.pulse.Pulse.{Pulse}
 use Rattle.irig_index.specs.{Frames.frames, declared.record.Record.Record}
 use Rattle.irig_times.specs.{declared.missing.Missing.Missing, declared.part.Part.Part, declared.time.Time.Time}
 use Rattle.irig_times.specs.{Follows.is_later, Parts.IsFrameTime, Parts.IsPart, Parts.is_empty, Support.believed, Times.timed}
-use Rattle.irig_times.specs.Between.{gap, head_left, head_of, is_seam, kept, sides, sides_at, sides_by, tail_left, tail_of}
-use Rattle.irig_times.specs.Sides.{between, borne_at, side_after, side_before, sides_in, sides_of}
+use Rattle.irig_times.specs.Between.{gap, head_left, head_of, is_seam, kept, sides, sides_by, tail_left, tail_of}
+use Rattle.irig_times.specs.Sides.{between, borne_at, side_after, side_before, side_of, sides_in, sides_of}
 use Rattle.irig_times.specs.Torn.{are_tens, is_torn, tenths_found}
 use Rattle.irig_times.specs.{Counted.filled, Counted.kept_at, Counted.sides_before, Counted.sides_without, Counted.with_sides, Jumps.is_jump_between}
 use Rattle.irig_times.specs.Ends.{after_last, alone, before_first, end_after, end_before, is_borne_out}
-use Rattle.irig_times.specs.Silence.{counted_after}
+use Rattle.irig_times.specs.Silence.{counted_after, up_to_mark}
 use Rattle.irig_times.specs.Origins.{CountedBack, CountedOn, InFrame, IsBelieved, TimesAreCounted}
 use Rattle.irig_times.specs.Steps.{ahead, behind, is_in_step_at}
 use Rattle.irig_times.specs.Whole.{whole, whole_in, with_part}
@@ -238,9 +238,14 @@ module _ (f : FormatView) (alone_frames : Bool) (century : ℕ) (ps : List Pulse
 
   after-counted : (micros : ℕ) (before : Option Part) → IfSome before IsSeen → IfSome (counted_after f micros ps before) BothCounted
   after-counted micros None h = tt
-  after-counted micros (Some a) h = heard-after-holds BothCounted f micros ps (end_after f ps (Some a))
+  after-counted micros (Some a) h = heard-after-holds BothCounted f micros ps (end_after f ps (Some a)) mark-counted
       (cond-holds (λ o. IfSome o BothCounted) (is_empty a) _ _ (λ none. tt)
       (λ some. last-counted a (h some) _ (next-later f century a.time (h some).time)))
+    where
+      mark-counted : (s : Part × Part) → BothCounted s → BothCounted (up_to_mark f ps s.0, s.1)
+      mark-counted s h =
+          let few = borne_at-few f ps s.0.time (side_of s.0) s.0.count in
+          (λ skip lt. h.0 skip (omega (arith, lt, few)), h.1)
 
   abbrev AllCounted : List Part → Type 0
   AllCounted parts = (k : ℕ) (p : Part) → slice_get parts k ≡ Some p → EachCounted p

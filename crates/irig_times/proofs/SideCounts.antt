@@ -1,11 +1,10 @@
 -- How many pulses of a side are borne out, one by one.
-use Rattle.std.proofs.Common.{◌≡◌, ℕ, zero, suc, ◌+◌, ◌-◌, ◌<◌, ◌≤◌, ◌==◌, cond, Bool, true, false, List, refl, sym, ap, ◌∙◌, arith}
+use Rattle.std.proofs.Common.{◌≡◌, ℕ, zero, suc, ◌+◌, ◌-◌, ◌<◌, ◌≤◌, cond, Bool, true, false, List, refl, ap, ◌∙◌, arith}
 use Rattle.std.specs.Prelude.{nat_lt}
-use Rattle.std.proofs.lemmas.Bool.{eqb-true}
 use Rattle.irig_codes.specs.{Format.FormatView, Encoding.encoded, Fields.fits_in, declared.width.Element.Element}
 use Rattle.irig_recording.specs.declared.pulse.Pulse.{Pulse}
 use Rattle.irig_times.specs.{Ends.fields_at, declared.time.Time.Time, declared.torn.Side.Side}
-use Rattle.irig_times.specs.Sides.{borne, borne_at, confirmed, undenied}
+use Rattle.irig_times.specs.Sides.{borne, borne_at, confirmed, placed, undenied}
 use Rattle.irig_times.specs.Torn.{confirms, denies}
 
 pub cond-holds : {X : Type 0} (P : X → Type 0) (b : Bool) (x y : X) → (b ≡ true → P x) → (b ≡ false → P y) → P (cond b x y)
@@ -14,6 +13,9 @@ cond-holds P false x y p q = q refl
 
 pub lt-false : (x y : ℕ) → y ≤ x → nat_lt x y ≡ false
 lt-false x y h = grind (arith, h)
+
+placed-few : (s : Side) (n : ℕ) → placed s n ≤ n
+placed-few s n = cond-holds (λ m. m ≤ n) s.is_back _ _ (λ back. omega arith) (λ on. omega arith)
 
 module _ (f : FormatView) (ps : List Pulse) (wanted : List Element) (s : Side) where
   undenied-step : (n k : ℕ) → denies f ps wanted s k ≡ false → undenied f ps wanted s k (suc n) ≡ suc (undenied f ps wanted s (k + 1) n)
@@ -39,14 +41,14 @@ module _ (f : FormatView) (ps : List Pulse) (wanted : List Element) (s : Side) w
   confirmed-less left all lt off so_far =
       let n = left - 1 in
       let is : left ≡ suc n = omega (arith, lt) in
-      so_far ∙ (ap (confirmed f ps wanted s) is ∙ ap (λ c. cond c (suc n) (confirmed f ps wanted s n)) off)
+      so_far ∙ (ap (confirmed f ps wanted s) is ∙ ap (λ c. cond c n (confirmed f ps wanted s n)) off)
 
   pub confirmed-found : (left all : ℕ) → 0 < left → confirms f ps wanted s (left - 1) ≡ true
-      → all ≡ confirmed f ps wanted s left → all ≡ left
+      → all ≡ confirmed f ps wanted s left → all ≡ left - 1
   confirmed-found left all lt on so_far =
       let n = left - 1 in
       let is : left ≡ suc n = omega (arith, lt) in
-      so_far ∙ (ap (confirmed f ps wanted s) is ∙ (ap (λ c. cond c (suc n) (confirmed f ps wanted s n)) on ∙ sym is))
+      so_far ∙ (ap (confirmed f ps wanted s) is ∙ ap (λ c. cond c n (confirmed f ps wanted s n)) on)
 
   pub confirmed-none : (n : ℕ) → n ≡ 0 → confirmed f ps wanted s n ≡ 0
   confirmed-none n e = ap (confirmed f ps wanted s) e
@@ -61,7 +63,7 @@ module _ (f : FormatView) (ps : List Pulse) (wanted : List Element) (s : Side) w
   confirmed-few (suc n) = cond-holds (λ m. m ≤ suc n) (confirms f ps wanted s n) _ _ (λ on. omega arith) (λ off. omega (arith, confirmed-few n))
 
   pub borne-few : (n : ℕ) → borne f ps wanted s n ≤ n
-  borne-few n = omega (arith, confirmed-few (undenied f ps wanted s 0 n), undenied-few n 0)
+  borne-few n = omega (arith, confirmed-few (placed s (undenied f ps wanted s 0 n)), placed-few s (undenied f ps wanted s 0 n), undenied-few n 0)
 
 pub borne_at-few : (f : FormatView) (ps : List Pulse) (x : Time) (s : Side) (n : ℕ) → borne_at f ps x s n ≤ n
 borne_at-few f ps x s n = cond-holds (λ m. m ≤ n) (nat_lt 61000000 x.micros) _ _ (λ late. omega arith)

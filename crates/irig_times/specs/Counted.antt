@@ -1,6 +1,7 @@
 -- All pulses of a track that have a time: those of the frames that are believed, and those that are
 -- counted from them. Over a frame that has a time and is not believed nothing is counted, nor where
--- the time jumps. This project's own.
+-- the time jumps. Next to a jump, and before tens of lost intervals, a frame keeps fewer. This
+-- project's own.
 use Rattle.std.specs.Prelude.{ℕ, Bool, true, false, if◌then◌else◌, List, [], ◌∷◌, Option, Some}
 use Rattle.std.specs.Prelude.{None, slice_get}
 use Rattle.irig_codes.specs.Format.{FormatView}
@@ -10,6 +11,7 @@ use Rattle.irig_times.specs.{declared.part.Part.Part, Sides.between, Support.bel
 use Rattle.irig_times.specs.{Jumps.after_jump, Jumps.before_jump}
 use Rattle.irig_times.specs.Silence.{counted_after, counted_before}
 use Rattle.irig_times.specs.{Jumps.is_jump_between, declared.time.Time.Time}
+use Rattle.irig_times.specs.Tens.{before_tens, loses_tens_to}
 use Rattle.irig_times.specs.{Parts.TellsByParts, Parts.is_empty, Whole.whole_in}
 
 -- two parts more before others, if there are two
@@ -29,11 +31,17 @@ abbrev pub sides_without : Bool → FormatView → ℕ → List Pulse → Option
 sides_without true f century ps before b = None
 sides_without false f century ps before b = sides_before f century ps before b
 
+-- of a frame before another one, the pulses that have its time by what is between the two
+abbrev pub kept_before : FormatView → ℕ → List Pulse → Part → Option Part → Part
+kept_before f century ps b next =
+    before_jump (is_jump_between f century ps (Some b) next)
+    (before_tens (loses_tens_to f ps b next) b)
+
 -- of a frame between two others, the pulses that have its time
 abbrev pub kept_at : FormatView → ℕ → List Pulse → Option Part → Part → Option Part → Part
 kept_at f century ps before b next =
     after_jump f.kind (is_jump_between f century ps before (Some b))
-    (before_jump (is_jump_between f century ps (Some b) next) b)
+    (kept_before f century ps b next)
 
 -- the same, and what is counted before them, before other parts
 abbrev pub with_frame : FormatView → ℕ → List Pulse → Option Part → Part → Option Part → List Part

@@ -18,6 +18,7 @@ pub mod Silence
 pub mod Starts
 pub mod Steps
 pub mod Support
+pub mod Tens
 pub mod Times
 pub mod Torn
 pub mod Untimed

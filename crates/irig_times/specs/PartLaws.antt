@@ -8,7 +8,8 @@ use Rattle.irig_recording.specs.declared.pulse.Pulse.{Pulse}
 use Rattle.irig_track.specs.Track.{IsTrack}
 use Rattle.irig_times.specs.{Chains.IsAfter, Laws.IsOfCalendar, Laws.NotBefore, declared.part.Part.Part, declared.time.Time.Time}
 use Rattle.irig_times.specs.{Counted.timed_parts, Follows.is_later, Held.HasTime, Held.IsHeldElement}
-use Rattle.irig_times.specs.{Jumps.is_jump_between, Support.believed, Times.time_in}
+use Rattle.irig_times.specs.{Jumps.is_jump_between, Support.believed, Tens.loses_tens_to}
+use Rattle.irig_times.specs.Times.{time_in}
 use Rattle.irig_times.specs.{Whole.whole_parts, Whys.frame_before}
 use Rattle.irig_times.specs.Parts.{AreParts, GoesOn, IsPoint, TellsByParts, plus}
 
@@ -66,13 +67,15 @@ TimedPartsAreParts = (f : FormatView) (alone : Bool) (century micros : ℕ) (ps 
     → AreParts f 0 (length ps) (timed_parts f alone century micros ps)
 
 -- the time does not jump next to the frame with this marker: neither between the frame with a time
--- before it and this one, nor between this one and the next; and no pulse at an end of the track says
--- another time than this frame, if it is the first or the last one
+-- before it and this one, nor between this one and the next; no pulse at an end of the track says
+-- another time than this frame, if it is the first or the last one; and tens of intervals are not
+-- lost between this frame and the next
 abbrev pub IsSteady : FormatView → Bool → ℕ → List Pulse → ℕ → Type 0
 IsSteady f alone century ps marker = (k : ℕ) (p : Part)
     → slice_get (whole_parts f alone ps) k ≡ Some p → p.number ≡ marker
     → (is_jump_between f century ps (frame_before (whole_parts f alone ps) k) (Some p) ≡ false)
     × (is_jump_between f century ps (Some p) (slice_get (whole_parts f alone ps) (k + 1)) ≡ false)
+    × (loses_tens_to f ps p (slice_get (whole_parts f alone ps) (k + 1)) ≡ false)
 
 -- the time of an element of a frame that is believed goes on there, or in the next frame that is
 abbrev pub HeldGoesOn : FormatView → Bool → ℕ → List Pulse → ℕ → ℕ → Fields → Type 0
@@ -84,7 +87,7 @@ HeldGoesOn f alone century ps number element g =
 
 -- a moment that has a time by a frame that is believed has the same time by the parts, but for the
 -- last element of a frame that no other one that is believed follows, and for frames next to which
--- the time jumps
+-- the time jumps or tens of intervals are lost
 abbrev pub KeepsTimes : Type 0
 KeepsTimes = (f : FormatView) (alone : Bool) (century micros : ℕ) (ps : List Pulse) (d n : ℕ)
     (x : Time)

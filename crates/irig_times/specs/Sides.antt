@@ -1,7 +1,7 @@
 -- Which pulses between two frames have a time: those of both sides that are in step, and of a torn
 -- stretch those that are borne out by what was recorded. This project's own.
-use Rattle.std.specs.Prelude.{ℕ, zero, suc, ◌+◌, ◌-◌, ◌==◌, nat_lt, min}
-use Rattle.std.specs.Prelude.{Bool, true, false, List, Option, Some, None, if◌then◌else◌}
+use Rattle.std.specs.Prelude.{ℕ, zero, suc, ◌+◌, ◌-◌, nat_lt, min}
+use Rattle.std.specs.Prelude.{true, false, List, Option, Some, None, if◌then◌else◌}
 use Rattle.std.specs.Prelude.{slice_get}
 use Rattle.irig_codes.specs.Format.{FormatView, frame_period_of}
 use Rattle.irig_codes.specs.{Encoding.encoded, Fields.fits_in, declared.width.Element.Element}
@@ -19,15 +19,21 @@ undenied f ps wanted s k zero = 0
 undenied f ps wanted s k (suc n) =
     if denies f ps wanted s k then 0 else suc (undenied f ps wanted s (k + 1) n)
 
--- of n pulses of a side those up to the last position identifier
+-- of n pulses of a side those up to the last position identifier, without it: what is lost can be
+-- within it
 abbrev pub confirmed : FormatView → List Pulse → List Element → Side → ℕ → ℕ
 confirmed f ps wanted s zero = 0
 confirmed f ps wanted s (suc n) =
-    if confirms f ps wanted s n then suc n else confirmed f ps wanted s n
+    if confirms f ps wanted s n then n else confirmed f ps wanted s n
+
+-- of n pulses of a side those among which a position identifier is at its place: going back, not
+-- the last one, since without the pulse before it it can be the marker of its frame
+abbrev pub placed : Side → ℕ → ℕ
+placed s n = if s.is_back then n - 1 else n
 
 -- those up to the last position identifier before the first that says another element, or of all n
 abbrev pub borne : FormatView → List Pulse → List Element → Side → ℕ → ℕ
-borne f ps wanted s n = confirmed f ps wanted s (undenied f ps wanted s 0 n)
+borne f ps wanted s n = confirmed f ps wanted s (placed s (undenied f ps wanted s 0 n))
 
 -- the same of a side that is of a frame of this time
 abbrev pub borne_at : FormatView → List Pulse → Time → Side → ℕ → ℕ
@@ -35,7 +41,11 @@ borne_at f ps x s n =
     if nat_lt 61000000 x.micros then 0
     else (if fits_in f (fields_at f x) then borne f ps (encoded f (fields_at f x)) s n else 0)
 
--- the pulses after a frame, from the first on, and those before one, from the last back
+-- the pulses of a part, those after a frame, from the first on, and those before one, from the last
+-- back
+abbrev pub side_of : Part → Side
+side_of p = record { is_back = false; number = p.number }
+
 abbrev pub side_after : Part → Side
 side_after a = record { is_back = false; number = a.number + a.count }
 

@@ -7,6 +7,7 @@ use Rattle.irig_codes.specs.Format.{FormatView, interval_of}
 use Rattle.irig_recording.specs.declared.pulse.Pulse.{Pulse}
 use Rattle.irig_times.specs.declared.part.Part.{Part}
 use Rattle.irig_times.specs.Ends.{end_after, end_before, telling, time_elements}
+use Rattle.irig_times.specs.Sides.{borne_at, side_of}
 
 -- some microseconds without a rise are silence: more than two intervals
 abbrev pub is_silence : FormatView → ℕ → Bool
@@ -35,12 +36,24 @@ precedes_silence f micros ps p =
 abbrev pub has_its_time : FormatView → List Pulse → Part → Bool
 has_its_time f ps p = p.element == 0 && nat_le (time_elements f.kind) (telling ps p)
 
--- a part counts if it is not next to silence, or has all elements of its time
+-- a part before the first frame counts if it is not next to silence, or has all elements of its time
 abbrev pub counts_before : FormatView → List Pulse → Part → Bool
 counts_before f ps p = not (follows_silence f ps p) || has_its_time f ps p
 
-abbrev pub counts_after : FormatView → ℕ → List Pulse → Part → Bool
-counts_after f micros ps p = not (precedes_silence f micros ps p) || has_its_time f ps p
+-- of a part the pulses up to the last position identifier that is at its place, without it
+abbrev pub up_to_mark : FormatView → List Pulse → Part → Part
+up_to_mark f ps p = record {
+  number = p.number;
+  element = p.element;
+  count = borne_at f ps p.time (side_of p) p.count;
+  time = p.time;
+}
+
+-- what counts of a part before silence, if it has all elements of its time: what was lost after its
+-- last position identifier shows nowhere
+abbrev pub before_silence : FormatView → List Pulse → (Part × Part) → Option (Part × Part)
+before_silence f ps s =
+    if has_its_time f ps s.0 then Some (up_to_mark f ps s.0, s.1) else None
 
 -- what is counted at an end, if it counts
 abbrev pub heard_before : FormatView → List Pulse → Option (Part × Part) → Option (Part × Part)
@@ -49,7 +62,8 @@ heard_before f ps (Some s) = if counts_before f ps s.0 then Some s else None
 
 abbrev pub heard_after : FormatView → ℕ → List Pulse → Option (Part × Part) → Option (Part × Part)
 heard_after f micros ps None = None
-heard_after f micros ps (Some s) = if counts_after f micros ps s.0 then Some s else None
+heard_after f micros ps (Some s) =
+    if precedes_silence f micros ps s.0 then before_silence f ps s else Some s
 
 -- the pulses before the first frame that have a time, and those after the last one
 abbrev pub counted_before : FormatView → List Pulse → Part → Option (Part × Part)

@@ -1,10 +1,8 @@
 -- The stretch between two frames is torn if it does not last as many intervals as their times say,
 -- since the recorder lost some there, or has some twice. What pulses of it say of the elements that
 -- are counted there. This project's own.
-use Rattle.std.specs.Prelude.{ℕ, ◌+◌, ◌-◌, ◌*◌, ◌/◌, ◌%◌, ◌==◌, ◌&&◌, nat_le}
-use Rattle.std.specs.Prelude.{nat_lt, not}
-use Rattle.std.specs.Prelude.{Bool, true, false, List, Option, Some, None, if◌then◌else◌}
-use Rattle.std.specs.Prelude.{slice_get}
+use Rattle.std.specs.Prelude.{ℕ, ◌+◌, ◌-◌, ◌*◌, ◌/◌, ◌%◌, ◌==◌, ◌&&◌, ◌||◌, nat_le}
+use Rattle.std.specs.Prelude.{Bool, false, List, Option, Some, None, if◌then◌else◌, nat_lt, not, slice_get}
 use Rattle.irig_codes.specs.Format.{FormatView, frame_period_of}
 use Rattle.irig_codes.specs.declared.width.Element.{Element}
 use Rattle.irig_index.specs.Marker.{class_at, is_position}
@@ -60,10 +58,17 @@ pulse_of s k = if s.is_back then s.number - k else s.number + k
 abbrev pub element_of : Side → ℕ → ℕ
 element_of s k = if s.is_back then 99 - k else k
 
+-- a pulse is a position identifier where none is wanted
+abbrev pub is_stray : FormatView → Option Pulse → Option Element → Bool
+is_stray f None w = false
+is_stray f (Some p) None = false
+is_stray f (Some p) (Some w) = not (is_identifier w) && is_position (class_at f p)
+
 -- the pulse there says another element, or is a position identifier as it should be
 abbrev pub denies : FormatView → List Pulse → List Element → Side → ℕ → Bool
 denies f ps wanted s k =
     contradicts f (element_of s k) (slice_get ps (pulse_of s k)) (slice_get wanted (element_of s k))
+    || is_stray f (slice_get ps (pulse_of s k)) (slice_get wanted (element_of s k))
 
 abbrev pub is_mark : FormatView → Option Pulse → Option Element → Bool
 is_mark f None w = false

@@ -9,8 +9,8 @@
 ghost use Rattle.std.specs.Prelude.{[], ◌≡◌, ◌≤◌, ◌<◌, ◌++◌, ◌∷◌, IfOk, None, OnOk, Some, length};
 ghost use Rattle.irig_index.specs.Frames.{frames};
 ghost use Rattle.std.specs.Prelude.{IfSome, MatchOption, ◌^◌, ◌+◌, slice_get};
-ghost use Rattle.irig_times.specs.Counted.{filled, parts_by, sides_without, with_frame};
-ghost use Rattle.irig_times.specs.Counted.{with_sides};
+ghost use Rattle.irig_times.specs.Counted.{filled, kept_before, parts_by, sides_without};
+ghost use Rattle.irig_times.specs.Counted.{with_frame, with_sides};
 ghost use Rattle.irig_times.specs.Parts.{AreParts};
 
 use crate::between::sides_before;
@@ -18,6 +18,7 @@ use crate::frame_lens::FrameLens;
 use crate::jumps::{after_jump, before_jump, is_jump_between};
 use crate::part::Part;
 use crate::silence::counted_after;
+use crate::tens::{before_tens, loses_tens_to};
 use crate::whole::whole_parts;
 use irig_codes::Format;
 use irig_track::Lens;
@@ -89,9 +90,8 @@ fn part_at(parts: &[Part], place: usize) -> Option<Part>
 }
 
 /// Adds to a list what is counted before a frame (`part`), and what the frame keeps of its own
-/// pulses: if the time jumps before it, those after the elements of its time; if the time jumps
-/// after it, only its marker; if both, none. `before` and `next` are the frames before and after
-/// it.
+/// pulses: if the time jumps before it, those after the elements of its time; by what is after it
+/// those of `kept_before`. `before` and `next` are the frames before and after it.
 fn put_frame(
     list: &mut Vec<Part>,
     pulses: &mut Lens<'_>,
@@ -115,10 +115,33 @@ fn put_frame(
 {
     let follows_jump = is_jump_between(pulses, format, century, before, Some(part));
     let sides = sides_without(pulses, format, century, follows_jump, before, &part);
-    let ends_in_jump = is_jump_between(pulses, format, century, Some(part), next);
+    let kept = kept_before(pulses, format, century, part, next);
     put_sides(list, sides)?;
-    list.push(after_jump(format, follows_jump, before_jump(ends_in_jump, part)))?;
+    list.push(after_jump(format, follows_jump, kept))?;
     Ok(())
+}
+
+/// What a frame (`part`) keeps of its own pulses by what is after it: only its marker, if the time
+/// jumps; those before element 89, if tens of intervals are lost. `next` is the frame after it.
+fn kept_before(
+    pulses: &mut Lens<'_>,
+    format: Format,
+    century: u32,
+    part: Part,
+    next: Option<Part>,
+) -> Part
+    requires century { century ≤ 99 }
+    requires part { part.time.micros < 2 ^ 59 }
+    requires next { IfSome next (λ b. (b.time.micros < 2 ^ 59) × (b.number < 2 ^ 30)) }
+    requires order { MatchOption next (part.number + part.count < 2 ^ 30)
+        (λ b. part.number + part.count ≤ b.number) }
+    ensures part { result ≡ kept_before format century pulses.old.track.pulses part next }
+    ensures first { (result.number ≡ part.number) × (result.element ≡ part.element) }
+    ensures pulses { pulses.new.track ≡ pulses.old.track }
+{
+    let jumps = is_jump_between(pulses, format, century, Some(part), next);
+    let loses = loses_tens_to(pulses, format, &part, next);
+    before_jump(jumps, before_tens(loses, part))
 }
 
 /// What is counted before a frame (`part`); `None` if the time `jumps` there, or if nothing can be

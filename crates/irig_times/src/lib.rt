@@ -18,6 +18,7 @@ mod silence;
 mod start;
 mod steps;
 mod support;
+mod tens;
 mod time;
 mod torn;
 mod whole;

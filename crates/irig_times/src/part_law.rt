@@ -21,7 +21,8 @@ ghost use Rattle.irig_times.specs.PartLaws.{TimedPartsAreParts};
 ///   from one, at most a hundred pulses on or back (`counted`).
 /// - Another frame agrees with each believed frame, or it is the only one (`supported`).
 /// - A moment that has a time by a believed frame alone has it by the parts too, except next to a
-///   jump of the time and in a last element that no believed frame follows (`keeps`).
+///   jump of the time, before tens of lost intervals, and in a last element that no believed frame
+///   follows (`keeps`).
 pub fn parts_are_exact()
     ensures one { OneTimeByParts }
     ensures points { ExactAtParts }

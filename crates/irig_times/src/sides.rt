@@ -1,15 +1,15 @@
 //! What is counted between two frames, from both sides, as far as it is borne out. Pulses are borne
-//! out up to the last position identifier at its place before one that says another element. `from`
-//! and `to` are two believed frames, as parts; a pair is the part on from the one and the part back
-//! from the other. A side is the pulses next to one of them, from it on or back; pulse 0 of a side
-//! is the nearest. `wanted` is the elements that the frame there should have. Pulses are in step if
-//! each rises one interval after the one before. `denies`: a pulse says another element;
-//! `confirms`: it is a position identifier at its place. A side counts a hundred pulses at most, a
-//! frame: further on a slip of one interval would go unseen.
+//! out up to the last position identifier at its place, without it, before one that says another
+//! element. `from` and `to` are two believed frames, as parts; a pair is the part on from the one
+//! and the part back from the other. A side is the pulses next to one of them, from it on or back;
+//! pulse 0 of a side is the nearest. `wanted` is the elements that the frame there should have.
+//! Pulses are in step if each rises one interval after the one before. `denies`: a pulse says
+//! another element; `confirms`: it is a position identifier at its place. A side counts a hundred
+//! pulses at most, a frame: further on a slip of one interval would go unseen.
 
 ghost use Rattle.std.specs.Prelude.{◌≡◌, ◌≤◌, ◌<◌, ◌+◌, ◌^◌};
-ghost use Rattle.irig_times.specs.Sides.{between, borne, borne_at, confirmed, side_after};
-ghost use Rattle.irig_times.specs.Sides.{side_before, sides_in, torn_sides, undenied};
+ghost use Rattle.irig_times.specs.Sides.{between, borne, borne_at, confirmed, placed, side_after};
+ghost use Rattle.irig_times.specs.Sides.{side_before, side_of, sides_in, torn_sides, undenied};
 
 use crate::between::{gap, min, missing_by, sides_at};
 use crate::ends::fields_at;
@@ -47,8 +47,8 @@ fn undenied(
     count
 }
 
-/// How many of the first `most` pulses of a side there are up to its last position identifier that
-/// is at its place.
+/// How many of the first `most` pulses of a side there are before its last position identifier that
+/// is at its place. It is not counted itself: what is lost can be within it.
 fn confirmed(
     pulses: &mut Lens<'_>,
     format: Format,
@@ -64,7 +64,7 @@ fn confirmed(
     let mut left = most;
     while left > 0 {
         if confirms(pulses, format, wanted, side, left - 1) {
-            return left;
+            return left - 1;
         }
         left -= 1;
     }
@@ -72,7 +72,8 @@ fn confirmed(
 }
 
 /// How many of the first `most` pulses of a side are kept: those up to the last position identifier
-/// before the first that says another element, since what is lost can be anywhere after it.
+/// before the first that says another element, without it, since what is lost can be anywhere after
+/// its rise.
 fn borne(
     pulses: &mut Lens<'_>,
     format: Format,
@@ -86,12 +87,32 @@ fn borne(
     ensures pulses { pulses.new.track ≡ pulses.old.track }
 {
     let count = undenied(pulses, format, wanted, side, most);
-    confirmed(pulses, format, wanted, side, count)
+    confirmed(pulses, format, wanted, side, placed(side, count))
+}
+
+/// Among how many of the first `most` pulses of a side position identifiers are at their places:
+/// on a side that goes back not the last one, since without the pulse before it it can be the
+/// marker of its frame.
+fn placed(side: &Side, most: usize) -> usize
+    ensures count { result ≡ placed side.now most }
+    ensures few { result ≤ most }
+{
+    if side.is_back {
+        most.saturating_sub(1)
+    } else {
+        most
+    }
 }
 
 /// How many of the first `most` pulses of a side are kept, by the elements of a frame of this time;
 /// none if no frame has it, as it is past its minute or does not fit the format.
-fn borne_at(pulses: &mut Lens<'_>, format: Format, time: &Time, side: &Side, most: usize) -> usize
+pub fn borne_at(
+    pulses: &mut Lens<'_>,
+    format: Format,
+    time: &Time,
+    side: &Side,
+    most: usize,
+) -> usize
     requires { (side.now.number < 2 ^ 32) × (most ≤ 100) }
     ensures count { result ≡ borne_at format pulses.old.track.pulses time.now side.now most }
     ensures few { result ≤ most }
@@ -106,6 +127,16 @@ fn borne_at(pulses: &mut Lens<'_>, format: Format, time: &Time, side: &Side, mos
     }
     let wanted = encode(format, &fields);
     borne(pulses, format, &wanted, side, most)
+}
+
+/// The pulses of a part.
+pub fn side_of(part: &Part) -> Side
+    ensures { result ≡ side_of part.now }
+{
+    Side {
+        is_back: false,
+        number: part.number,
+    }
 }
 
 /// The side after a frame.

@@ -1,16 +1,19 @@
 //! The pulses at the two ends of a track that count. A clock can be set in silence, and only the
 //! elements of the time show it. So pulses next to silence, at the begin or the end of the
-//! recording, count only if all these elements were recorded there. Pulses and elements count from
-//! 0. A pair of parts is what is counted, and an empty part.
+//! recording, count only if all these elements were recorded there. At the end they count only up
+//! to the last position identifier, without it. Pulses and elements count from 0. A pair of parts
+//! is what is counted, and an empty part.
 
 ghost use Rattle.std.specs.Prelude.{◌≡◌, ◌≤◌, ◌<◌, ◌+◌, ◌^◌, IfSome};
-ghost use Rattle.irig_times.specs.Silence.{counted_after, counted_before, counts_after};
+ghost use Rattle.irig_times.specs.Silence.{before_silence, counted_after, counted_before};
 ghost use Rattle.irig_times.specs.Silence.{counts_before, follows_silence, has_its_time};
 ghost use Rattle.irig_times.specs.Silence.{heard_after, heard_before, is_silence};
 ghost use Rattle.irig_times.specs.Silence.{is_silent_after, is_silent_before, precedes_silence};
+ghost use Rattle.irig_times.specs.Silence.{up_to_mark};
 
 use crate::ends::{end_after, end_before, telling, time_elements};
 use crate::part::Part;
+use crate::sides::{borne_at, side_of};
 use crate::steps::pulse_at;
 use irig_codes::Format;
 use irig_recording::Pulse;
@@ -89,14 +92,34 @@ fn counts_before(pulses: &mut Lens<'_>, format: Format, part: &Part) -> bool
     !follows_silence(pulses, format, part) || has_its_time(pulses, format, part)
 }
 
-/// Whether a part after the last frame counts.
-fn counts_after(pulses: &mut Lens<'_>, format: Format, part: &Part) -> bool
+/// The pulses of a part up to the last position identifier that is at its place, without it.
+fn up_to_mark(pulses: &mut Lens<'_>, format: Format, part: &Part) -> Part
     requires small { (part.now.number < 2 ^ 32) × (part.now.count ≤ 100) }
-    ensures counts { result ≡ counts_after format pulses.old.track.micros pulses.old.track.pulses
-        part.now }
+    ensures part { result ≡ up_to_mark format pulses.old.track.pulses part.now }
     ensures pulses { pulses.new.track ≡ pulses.old.track }
 {
-    !precedes_silence(pulses, format, part) || has_its_time(pulses, format, part)
+    let count = borne_at(pulses, format, &part.time, &side_of(part), part.count);
+    Part { count, ..*part }
+}
+
+/// What counts of a part before silence, and the empty part after it: nothing without all elements
+/// of its time, and nothing from its last position identifier on, as what was lost there shows
+/// nowhere.
+fn before_silence(
+    pulses: &mut Lens<'_>,
+    format: Format,
+    part: &Part,
+    next: Part,
+) -> Option<(Part, Part)>
+    requires small { (part.now.number < 2 ^ 32) × (part.now.count ≤ 100) }
+    ensures part { result ≡ before_silence format pulses.old.track.pulses (part.now, next) }
+    ensures pulses { pulses.new.track ≡ pulses.old.track }
+{
+    if has_its_time(pulses, format, part) {
+        Some((up_to_mark(pulses, format, part), next))
+    } else {
+        None
+    }
 }
 
 /// What is counted before the first frame, if it counts.
@@ -119,7 +142,7 @@ fn heard_before(
     }
 }
 
-/// What is counted after the last frame, if it counts.
+/// What is counted after the last frame, as far as it counts.
 fn heard_after(
     pulses: &mut Lens<'_>,
     format: Format,
@@ -133,10 +156,10 @@ fn heard_after(
     let Some((part, next)) = sides else {
         return None;
     };
-    if counts_after(pulses, format, &part) {
-        Some((part, next))
+    if precedes_silence(pulses, format, &part) {
+        before_silence(pulses, format, &part, next)
     } else {
-        None
+        Some((part, next))
     }
 }
 
@@ -154,7 +177,7 @@ pub fn counted_before(pulses: &mut Lens<'_>, format: Format, to: &Part) -> Optio
 
 /// The pulses after the last frame that have a time. `None` if the frame is not there, not believed
 /// or ends the day, if a pulse says another time, or if silence is after them and not all elements
-/// of the time are there.
+/// of the time are there. With silence after them they end before the last position identifier.
 pub fn counted_after(
     pulses: &mut Lens<'_>,
     format: Format,

@@ -6,7 +6,7 @@ ghost use Rattle.std.specs.Prelude.{◌≡◌, ◌≤◌, ◌<◌, ◌+◌, ◌*
 ghost use Rattle.irig_codes.specs.Format.{frame_period_of};
 ghost use Rattle.irig_index.specs.Marker.{is_position};
 ghost use Rattle.irig_times.specs.Torn.{are_near, are_tens, both_last, confirms, denies};
-ghost use Rattle.irig_times.specs.Torn.{element_of, from_to, is_mark, is_torn, pulse_of};
+ghost use Rattle.irig_times.specs.Torn.{element_of, from_to, is_mark, is_stray, is_torn, pulse_of};
 ghost use Rattle.irig_times.specs.Torn.{tenths_by, tenths_found, tenths_told};
 
 use crate::between::gap;
@@ -167,8 +167,21 @@ fn element_of(side: &Side, place: usize) -> usize
     if side.is_back { LAST - place } else { place }
 }
 
+/// Whether a pulse is there and is a position identifier by its width, and none is wanted.
+fn is_stray(format: Format, pulse: Option<Pulse>, wanted: Element) -> bool
+    ensures { result ≡ is_stray format pulse (Some wanted) }
+{
+    match pulse {
+        Some(pulse) => {
+            !is_identifier(wanted)
+                && is_position(class(format, pulse.fall.saturating_sub(pulse.rise)))
+        }
+        None => false,
+    }
+}
+
 /// Whether pulse `place` of a side says another element than the frame there should have; `wanted`
-/// is the elements of that frame.
+/// is the elements of that frame. A position identifier where none belongs does so, too.
 pub fn denies(
     pulses: &mut Lens<'_>,
     format: Format,
@@ -182,7 +195,11 @@ pub fn denies(
 {
     let number = pulse_of(side, place);
     let element = element_of(side, place);
-    contradicts(pulses, format, wanted, number, element)
+    if contradicts(pulses, format, wanted, number, element) {
+        return true;
+    }
+    let pulse = pulse_at(pulses, number);
+    is_stray(format, pulse, wanted[element])
 }
 
 /// Whether a pulse is there and is a position identifier by its width, and one is wanted.
