@@ -628,7 +628,8 @@ def of_refused():
         status, printed, _ = mend("--with=wrong.vcd", "--apply=new.vcd")
         yield same("a frame that differs", (status, printed[0][:60], len(printed)),
                    (1, "rec.vcd: 1 place found, 1 repaired, 0 undecided, 0 left, 0 s", 2))
-        yield same("what is said", (printed[1].startswith("rec.vcd: differs: at "), " is recorded here, and a " in printed[1]), (True, True))
+        begins = printed[1].startswith("rec.vcd: differs: at ")
+        yield same("what is said", (begins, " is recorded here, and a " in printed[1]), (True, True))
         status, printed, _ = mend("--with=wrong.vcd", "--with=right.vcd")
         yield same("two others that differ", (status, printed[0].partition(": it is ")[2].partition(" in ")[0], len(printed)),
                    (1, "a zero", 2))

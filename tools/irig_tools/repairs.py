@@ -15,7 +15,7 @@ from .kinds import DamageKind
 from .layout import SHARE
 from .script import Repair
 from .units import PlaceNumber, plus, through
-from .unsure import parts_of
+from .unsure import unsure_parts
 from .wholes import as_elsewhere, late_zones, left_rest, lost_frames, shift
 
 OFF_HERE = "the clock wanders: what is filled in here can be %.3g milliseconds off"
@@ -34,7 +34,7 @@ def repairs(seen: Faults) -> Tuple[List[Repair], List[Remark]]:
 
 def _in_parts(whole: Repair, faults: Faults, group: List[Item]) -> Repair:
     """The repair of a group, with its parts if it has several. They are the other way, as the editor has not tried them."""
-    parts = parts_of(faults, group)
+    parts = unsure_parts(faults, group)
     if len(parts) == 1:
         return replace(whole, is_unsure=parts[0][1])
     return replace(whole, parts=[replace(_repair(faults, items).another_way(), is_unsure=is_unsure) for items, is_unsure in parts])

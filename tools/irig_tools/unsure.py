@@ -11,13 +11,13 @@ from .layout import SHARE
 from .units import ELEMENTS, PlaceNumber, frame_of, plus, through
 
 
-def parts_of(faults: Faults, group: Sequence[Item]) -> List[Tuple[List[Item], bool]]:
+def unsure_parts(faults: Faults, group: Sequence[Item]) -> List[Tuple[List[Item], bool]]:
     """The items of a group in parts, from the last to the first, and whether each part is unsure. There are several if a control function
     is that nothing supports: each frame is one, and of a frame with such functions one of these, with what touches it. Without that the
     frame stays broken, and all else of it can be kept."""
     if any(item.step for item in group) or not any(_is_unsure(faults, item) for item in group):
         return [(list(group), False)]
-    single = [each for item in group for each in _by_place(faults, item)]
+    single = [each for item in group for each in _places_of_frames(faults, item)]
     frames = grouped(single, lambda later, item: frame_of(item.high) < frame_of(later.low))
     return [part for own in frames for part in _of_frame(faults, own)]
 
@@ -29,7 +29,7 @@ def _of_frame(faults: Faults, own: List[Item]) -> Iterator[Tuple[List[Item], boo
             yield part, is_unsure
 
 
-def _by_place(faults: Faults, item: Item) -> List[Item]:
+def _places_of_frames(faults: Faults, item: Item) -> List[Item]:
     """Instead of frames that are generated again their places, if they are unsure."""
     if not item.targets or not _is_unsure(faults, item):
         return [item]
