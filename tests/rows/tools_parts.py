@@ -370,6 +370,11 @@ def of_other_code():
         said = [remark.seen for part in found.parts for remark in part.remarks]
         got = ["is other code" in each for each in said], [part.faults.wanted for part in found.parts]
         yield same(name + ", one of %d is lost" % lost, got, ([True], [{}]))
+    glitches = [[2383334, 2383500], [2386667, 2386800]]  # a third of an interval apart, as the marker after them is
+    lost = [*range(240, 259), *range(261, 277)]
+    pulses = [pulse for at, pulse in enumerate(tools.recording()) if at not in lost]
+    found = analysis.examine(listing_of([*pulses[:239], *glitches, *pulses[239:]]))
+    yield same("glitches that pulses of this code follow in a hole", [sorted(part.faults.wanted) for part in found.parts], [[238, *lost]])
     for name, lost in (("four of seven, 2, 2, 2 and 1 apart", [at for at in range(232, 262) if at % 7 not in (0, 2, 4, 6)]),
                        ("three of eight, 2, 2 and 4 apart", [at for at in range(232, 282) if at % 8 not in (0, 2, 4)])):
         found = analysis.examine(listing_of([pulse for at, pulse in enumerate(tools.recording()) if at not in lost]))

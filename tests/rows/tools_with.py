@@ -136,6 +136,33 @@ def of_recorded():
     yield same("in a burst of damage", mended(noisy, slow(code()))[0][LOST], class_at(pulses, LOST))
 
 
+def of_explained():
+    """What one damage here explains is as a sound pulse of the other recording has it, whatever it looks like here."""
+    at = next(at for at in range(1061, 1068) if class_at(code(), at) == "1")
+    cut, noise, wide = reshaped(at, 3000, 2000), reshaped(at, 2200, 2000), reshaped(at, -900, 5800)
+    zero = reshaped(at, 2200, 2000, sent_there=False)
+    for name, pulses, other, wanted, guesses in (
+        ("it begins late, and ends when it should", cut, code(), {at: "1"}, set()),
+        ("and the other pulse is not as wide as others", cut, widened(code(), at), {at: "0"}, {at}),
+        ("it is late, and not as wide as others", reshaped(at, 2200, 2300), code(), {at: "1"}, set()),
+        ("it is late, and as wide as others", noise, code(), {at: "0"}, {at}),
+        ("so is one that was sent so, and the other is damaged", zero, code(), {at: "0"}, {at}),
+        ("it is late, and the one next to it is lost", without(noise, at + 1), code(), {at: "1", at + 1: class_at(code(), at + 1)}, set()),
+        ("it is early and wide, and was a zero", wide, flipped(code(), at), {at: "0"}, set()),
+    ):
+        found = mended(pulses, slow(other))
+        yield same(name, (found[0], found[2]), (wanted, guesses))
+    yield same("its reason", [each.startswith("a one as recorded in B.vcd at ") for each in mended(cut, slow(code()))[1]], [True])
+
+
+def reshaped(at, late_by, width, sent_there=True):
+    """The code with a pulse that rises late by some microseconds, and has another width; it can be damaged in the other recording only."""
+    pulses = [list(pulse) for pulse in (code() if sent_there else flipped(code(), at))]
+    rise = pulses[at][0] + late_by
+    pulses[at] = [rise, rise + width]
+    return pulses
+
+
 def of_votes():
     """Of several recordings most decide; if as many say the opposite, nothing does."""
     pulses, right, wrong = without(code(), LOST), slow(code()), slow(flipped(code(), LOST), -0.0008)
@@ -475,6 +502,60 @@ def of_guarded():
     return in_folder(lambda: list(holds()), rec=dump(noisy), other=dump(slow(code()), 100))
 
 
+def noisy(pulses, first, last, touching=False):
+    """Noise instead of these pulses: each place has two, neither of which rises when one is due; the second can last until the next is."""
+    noise = [[10000 * at + begin, 10000 * at + end] for at in range(first, last + 1)
+             for begin, end in ((1500 + 160 * (at % 7), 3500), (5600 - 110 * (at % 5), 10000 if touching and at < last else 8000))]
+    return [*pulses[:first], *noise, *pulses[last + 1:]]
+
+
+def between(text, begin, end):
+    return [edge for edge in edges(text) if begin <= edge < end]
+
+
+def is_within(at, stretches):
+    return any(begin <= at < end for begin, end in stretches)
+
+
+def of_parts():
+    """Of noise that leaves control functions which nothing supports, those alone are left: not what else is repaired in their frame, nor
+    a frame next to it."""
+    sure, holed, two = dump(code()), noisy(code(), 1062, 1065), noisy(noisy(code(), 1262, 1265), 1062, 1065)
+    gone = next(1000 + each for each in range(70, 78) if class_at(code(), 900 + each) != class_at(code(), 1100 + each))
+    of_frames = [(begin, begin + 190000) for begin in (9600000, 10600000, 11600000, 12600000)]  # control functions of a hole are guesses
+    noise, another = (10620000, 10660000), (12620000, 12660000)
+    for name, pulses, left, guesses in (
+        ("noise from a frame into the next one", noisy(code(), 995, 1065), [(10600000, 10660000)], []),
+        ("noise, and elements of the time of its frame that are lost", without(holed, *range(1005, 1036)), [noise], []),
+        ("noise that lasts until the next element, which is lost", without(
+            noisy(code(), gone, gone + 1, True), *range(1005, 1036), gone + 2, gone + 3), [(10000 * gone, 10000 * gone + 20000)], []),
+        ("noise, and a control function of its frame that is lost", [*holed[:gone + 4], *holed[gone + 5:]], [noise],
+         [(10000 * gone, 10000 * gone + 10000)]),
+        ("noise in a hole of three frames", [*holed[:950], *holed[1062:1070], *code()[1150:]], [noise], of_frames[:2]),
+        ("noise twice in a hole of three frames", [*two[:950], *two[1062:1070], *two[1266:1274], *code()[1280:]], [noise, another],
+         of_frames),
+    ):
+        def holds(name=name, left=left, guesses=guesses):
+            status, printed, _ = mend("--apply", "new.vcd")
+            written = text_of("new.vcd")
+            yield same(name, (status, " %d after" % (29 - len(left)) in printed[0], " refused" in printed[0]), (1, True, False))
+            unlike = sorted(set(edges(written)) ^ set(edges(sure)))
+            yield same(name + ": what is repaired", [at for at in unlike if not is_within(at, left + guesses)], [])
+            for each in left:
+                yield same(name + ": what is left", set(between(written, *each)) >= set(between(sure, *each)), False)
+            said = " would have control functions that are not supported, so they are left out: "
+            yield same(name + ": what is said", [said in each for each in printed if ": undecided: " in each], [True] * len(left))
+
+        yield from in_folder(lambda holds=holds: list(holds()), rec=dump(pulses))
+
+    def of_one():
+        status, printed, _ = mend("--apply", "new.vcd")
+        found = status, " 1 line refused" in printed[0], between(text_of("new.vcd"), 10050000, 10060000)
+        yield same("noise, and one pulse of the time of its frame: fewer samples would have a time", found, (1, True, []))
+
+    yield from in_folder(lambda: list(of_one()), rec=dump(without(holed, 1005)))
+
+
 def of_mended():
     """A frame that reads well gets a control function that another recording and the frames next to it have."""
     def seldom():
@@ -547,7 +628,8 @@ def of_refused():
         status, printed, _ = mend("--with=wrong.vcd", "--apply=new.vcd")
         yield same("a frame that differs", (status, printed[0][:60], len(printed)),
                    (1, "rec.vcd: 1 place found, 1 repaired, 0 undecided, 0 left, 0 s", 2))
-        yield same("what is said", " is recorded here, and a " in printed[1], True)
+        begins = printed[1].startswith("rec.vcd: differs: at ")
+        yield same("what is said", (begins, " is recorded here, and a " in printed[1]), (True, True))
         status, printed, _ = mend("--with=wrong.vcd", "--with=right.vcd")
         yield same("two others that differ", (status, printed[0].partition(": it is ")[2].partition(" in ")[0], len(printed)),
                    (1, "a zero", 2))
@@ -580,6 +662,6 @@ def of_refused():
 
 
 def cases(_top):
-    parts = (of_lost, of_recorded, of_votes, of_trusted, of_other_code, of_contrary, of_rules, of_few, of_beside, of_width, of_inserted,
-             of_apply, of_guarded, of_mended, of_fine, of_refused)
+    parts = (of_lost, of_recorded, of_explained, of_votes, of_trusted, of_other_code, of_contrary, of_rules, of_few, of_beside, of_width,
+             of_inserted, of_apply, of_guarded, of_parts, of_mended, of_fine, of_refused)
     return [case("mend: with: " + part.__name__[3:].replace("_", " "), lambda part=part: list(part())) for part in parts]

@@ -1,6 +1,7 @@
 """A proposed script that was run on its track, and what was seen before and after it."""
 from __future__ import annotations
 
+import os
 from dataclasses import dataclass, replace
 from functools import cached_property
 from typing import Callable, List, Sequence, Set, Tuple, Union
@@ -14,9 +15,10 @@ from .editor import Editor, Listing, Progress
 from .kinds import DamageKind
 from .left import without_line, without_word
 from .opening import Opened
+from .parted import parted
 from .script import Repair
 from .second_try import once_more
-from .taken_times import takers
+from .taken_times import takers, timed
 
 TAKEN = "the samples at %d and next to it would have no time, or another one"
 
@@ -94,8 +96,7 @@ def _run_without_takers(track: Opened, editor: Editor, script: List[Repair], how
     moves, samples have other times then."""
     left: Set[int] = set()
     for number in range(limits.MOST_CHECKS):
-        tried = list(script)
-        refused = _run_once(track, editor, script, how, repaired, listing.kind, left)
+        refused, tried = _run_in_parts(track, editor, script, how, repaired, listing, left)
         taking = [] if how.move else takers(track, listing, script, refused, repaired, number >= limits.MOST_NEAREST)
         if not taking:
             return refused
@@ -103,7 +104,26 @@ def _run_without_takers(track: Opened, editor: Editor, script: List[Repair], how
         remarks = {repair.at: repair.left_out(TAKEN % moment) for repair, moment in taking}
         without = [remarks.pop(each.at, each) if each.edits else each for each in tried]
         script[:] = [*remarks.values(), *without]
-    return _run_once(track, editor, script, how, repaired, listing.kind, left)
+    return _run_in_parts(track, editor, script, how, repaired, listing, left)[0]
+
+
+def _run_in_parts(track: Opened, editor: Editor, script: List[Repair], how: How, repaired: str, listing: Listing,
+                  left: Set[int]) -> Tuple[Refused, List[Repair]]:
+    """Runs a script; and again without what is unsure, if fewer lines are refused then, and no fewer moments have a time. The script gets
+    the repairs of the run that counts; also those that it began with."""
+    first, parts = list(script), repaired + ".parts"
+    refused = _run_once(track, editor, script, how, repaired, listing.kind, left)
+    tried, again = first, refused
+    for _ in range(0 if how.move else limits.MOST_PARTED):
+        before, tried = tried, parted(tried, again, listing.kind)
+        if tried == before:
+            break
+        last = list(tried)
+        again = _run_once(track, editor, last, how, parts, listing.kind, left)
+        if again.lines < refused.lines and timed(track, listing, first, repaired) <= timed(track, listing, first, parts):
+            os.replace(parts, repaired)
+            script[:], first, refused = last, tried, again
+    return refused, first
 
 
 def _run_once(track: Opened, editor: Editor, script: List[Repair], how: How, repaired: str, kind: str, left: Set[int]) -> Refused:

@@ -35,8 +35,9 @@ class Remark:
     concern: Concern = NOTHING
 
     def comment(self) -> str:
-        """A step of the recorder's clock stays; of all else nothing decides what is right."""
-        word = "stays" if self.kind in STEPS else "undecided"
+        """A step of the recorder's clock stays; what another recording has otherwise differs, and is no place of damage; of all else
+        nothing decides what is right."""
+        word = "stays" if self.kind in STEPS else "differs" if self.kind == DamageKind.DIFFERS else "undecided"
         return "%s: at %d: %s%s" % (word, self.at, self.seen, "; " + self.choice if self.choice else "")
 
 
@@ -95,6 +96,12 @@ class Faults:
         """The same, as if nothing were wrong at these places, and in frames that are to stay as they are."""
         found, kept = copy.copy(self), [place for place in self.wanted if frame_of(place) not in self.left]
         found.wanted = {place: self.wanted[place] for place in kept if place not in places}
+        return found
+
+    def only(self, places: Container[PlaceNumber]) -> Faults:
+        """The same, as if nothing were wrong but at these places."""
+        found = copy.copy(self)
+        found.wanted = {place: target for place, target in self.wanted.items() if place in places}
         return found
 
     def _doubted(self) -> Set[FrameNumber]:
@@ -208,14 +215,24 @@ class Faults:
         return self.guesses[place]
 
     def _kept(self, place: PlaceNumber, own: str, other: Optional[str], near: Optional[str]) -> str:
-        """What is recorded here stays, unless several other recordings have something else; nothing decides it if one has, and the frames
-        next to it do not have the same."""
+        """What is recorded here stays, unless several other recordings have something else, or one has and the damage here explains what
+        it looks like; nothing decides it if one has something else, and the frames next to it do not have the same."""
         if other and other != own and near != own:
-            if self.elsewhere.outvotes(frame_of(place), place % ELEMENTS, own):
+            if self.elsewhere.outvotes(frame_of(place), place % ELEMENTS, own) or self._is_explained(place, other):
                 self.by_others.add(place)
                 return other
             self.guesses[place] = own
         return own
+
+    def _is_explained(self, place: PlaceNumber, other: str) -> bool:
+        """Whether one damage here explains that a place does not look like the class that a sound pulse elsewhere has: its rise alone is
+        late, the only pulse is not as wide as others of its class, or a place next to it is damaged, too."""
+        pulses, at = self.track.pulses_at(place), place - self.track.first
+        if not pulses or not self.elsewhere.is_usual(frame_of(place), place % ELEMENTS, other):
+            return False
+        off = self.falls[pulses[-1]] - self.track.rise_at(place) - self.width(other, place)
+        beside = self.track.told[max(0, at - 1):at] + self.track.told[at + 1:at + 2]
+        return abs(off) <= limits.AS_WIDE * self.layout.interval or self.is_odd(place) or any(each not in "01P~" for each in beside)
 
     def _nearest_shape(self, place: PlaceNumber) -> str:
         """The class that a place looks like most."""

@@ -11,8 +11,8 @@ from typing import NamedTuple, Optional
 NOTHING_FINE = "# nothing to go by: no frame of the recording is fine"
 NOT_KEPT = "# not kept: "
 # after the name of a frame, and when it begins
-OF_A_FRAME = (" would be lost", " would change", " would have a time that is not supported",
-              " would have control functions that are not supported", ": its pulses would move",
+NO_CONTROLS = " would have control functions that are not supported"
+OF_A_FRAME = (" would be lost", " would change", " would have a time that is not supported", NO_CONTROLS, ": its pulses would move",
               ": its pulses would rise where nothing supports it")
 UNSUPPORTED = "fine frames would not support each other"  # no frame was fine, so it is of all frames
 OF_NO_FRAME = ("not a repair", "memory ran out")

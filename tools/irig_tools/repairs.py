@@ -1,6 +1,7 @@
 """The repairs of a track, with their reasons, from its end to its beginning, so that numbers of pulses stay true."""
 from __future__ import annotations
 
+from dataclasses import replace
 from math import ceil
 from typing import Dict, List, Tuple
 
@@ -14,6 +15,7 @@ from .kinds import DamageKind
 from .layout import SHARE
 from .script import Repair
 from .units import PlaceNumber, plus, through
+from .unsure import unsure_parts
 from .wholes import as_elsewhere, late_zones, left_rest, lost_frames, shift
 
 OFF_HERE = "the clock wanders: what is filled in here can be %.3g milliseconds off"
@@ -27,7 +29,15 @@ def repairs(seen: Faults) -> Tuple[List[Repair], List[Remark]]:
     single = faults.without({place for item in whole for place in item.targets})
     found = [shift(faults, zone) for zone in moved] + whole + misread(single) + items(single)
     groups = grouped(sorted(found, key=lambda item: -item.low), lambda before, item: before.low - item.high > 1)
-    return [_repair(single, group) for group in groups], [left_rest(seen, zone) for zone in left]
+    return [_in_parts(_repair(single, group), faults, group) for group in groups], [left_rest(seen, zone) for zone in left]
+
+
+def _in_parts(whole: Repair, faults: Faults, group: List[Item]) -> Repair:
+    """The repair of a group, with its parts if it has several. They are the other way, as the editor has not tried them."""
+    parts = unsure_parts(faults, group)
+    if len(parts) == 1:
+        return replace(whole, is_unsure=parts[0][1])
+    return replace(whole, parts=[replace(_repair(faults, items).another_way(), is_unsure=is_unsure) for items, is_unsure in parts])
 
 
 def _repair(faults: Faults, group: List[Item]) -> Repair:

@@ -29,6 +29,8 @@ class Repair:
     undecided: List[str] = field(default_factory=list)  # the comments that say of what nothing decides
     concern: Concern = NOTHING
     off: int = 0  # by how many microseconds what it fills in can be off, if the clock wanders and that is worth a word
+    parts: List[Repair] = field(default_factory=list)  # the same edits in several repairs, which irig_guard can keep without each other
+    is_unsure: bool = False  # nothing supports one of its control functions
 
     def text(self) -> str:
         """Its edits, by which it is known."""
@@ -44,9 +46,13 @@ class Repair:
     def refused(self) -> Repair:
         """The editor refuses one of the edits: the other way, or if there is none a remark."""
         if self.instead:
-            return replace(self, edits=self.instead, instead=[], moves=[])
+            return replace(self.another_way(), moves=[])
         said = "the editor refuses these lines, %s: %s" % (LEFT_OUT, "; ".join(self.edits)[:BY_LINE])
         return Repair(self.at, self.comments + [said], kind=self.kind, undecided=self.undecided, concern=self.concern)
+
+    def another_way(self) -> Repair:
+        """The other way, if there is one."""
+        return replace(self, edits=self.instead, instead=[]) if self.instead else self
 
     def left_out(self, seen: str) -> Repair:
         """A remark in its place: what is seen with its lines."""

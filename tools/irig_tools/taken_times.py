@@ -33,7 +33,7 @@ def takers(track: Opened, listing: Listing, script: Sequence[Repair], refused: R
         listing = Editor([*options, path]).ask([])
     interval = INTERVAL[listing.kind]
     reach = limits.REACH_OF_A_REPAIR * ELEMENTS * interval
-    moments = list(_moments(listing.rises, interval, sorted((each.at - reach, _end(each) + reach) for each in kept)))
+    moments = list(_moments(listing.rises, interval, _stretches_near(kept, interval)))
     if not moments:
         return []
     before, after = _times(options, path, moments), _times(track.code, repaired, moments)
@@ -44,6 +44,19 @@ def takers(track: Opened, listing: Listing, script: Sequence[Repair], refused: R
         nearest = min(_distance(each, moment) for each in kept)
         found.update({number: moment for number, each in enumerate(kept) if _distance(each, moment) <= max(nearest, most)})
     return [(kept[number], found[number]) for number in sorted(found)]
+
+
+def timed(track: Opened, listing: Listing, script: Sequence[Repair], repaired: str) -> int:
+    """How many moments of the track of this listing, near these repairs, have a time in a repaired one."""
+    interval = INTERVAL[listing.kind]
+    moments = list(_moments(listing.rises, interval, _stretches_near([each for each in script if each.edits], interval)))
+    return sum(time != UNTIMED for time in _times(track.code, repaired, moments)) if moments else 0
+
+
+def _stretches_near(script: Sequence[Repair], interval: int) -> List[Tuple[int, int]]:
+    """The stretches in which a repair can give a time, or take one."""
+    reach = limits.REACH_OF_A_REPAIR * ELEMENTS * interval
+    return sorted((each.at - reach, _end(each) + reach) for each in script)
 
 
 def _end(repair: Repair) -> int:

@@ -58,7 +58,18 @@ class Zone:
         if not found:
             return None
         pulses, classes = through(found.first, found.last), self.clock.classes[found.first:found.last + 1]
-        return None if survives(list(map(self.place_of, pulses)), classes, sum(map(self._is_own, pulses))) else found
+        if survives(list(map(self.place_of, pulses)), classes, sum(map(self._is_own, pulses))):
+            return None
+        return self._other_code(*self._between_own(found))
+
+    def _between_own(self, other: OtherCode) -> Tuple[PulseIndex, PulseIndex]:
+        """The first and the last pulse of other code without those of this code on either side that do not follow it at once."""
+        first, last, rises = other.first, other.last, self.rises
+        while first < last and self._is_own(first) and not other.is_apart(rises[first + 1] - rises[first]):
+            first = plus(first, 1)
+        while first < last and self._is_own(last) and not other.is_apart(rises[last] - rises[last - 1]):
+            last = plus(last, -1)
+        return first, last
 
     def _other_code(self, first: PulseIndex, last: PulseIndex) -> Optional[OtherCode]:
         return other_code(self.rises, self.clock.listing.falls, through(first, last), self._is_own, self.interval)
