@@ -361,19 +361,21 @@ def beginning(share, frames):
     return change
 
 
-def set_back_in_frame_12(draft):
-    """The sender's clock is set back by a frame, after the date of frame 12: the next frame shows its time again."""
-    begin, moment = 12 * draft.format.frame, 12.6 * draft.format.frame
-    draft.runs = [Run(0, moment, 0, draft.time), Run(moment, draft.sent, begin, draft.time + begin - draft.format.frame)]
+def set_in_frame_12(frames):
+    """The sender's clock is set by some frames, after the date of frame 12."""
+    def change(draft):
+        begin, moment = 12 * draft.format.frame, round(12.6 * draft.format.frame)
+        draft.runs = [Run(0, moment, 0, draft.time), Run(moment, draft.sent, begin, draft.time + begin + frames * draft.format.frame)]
+    return change
 
 
 def of_lost_at_an_end():
     """What was recorded next to the loss stays, whatever the rest leads to; what is damaged without a loss is mended."""
-    def narrow(element):
+    def narrow(frame, element, width):
         def change(draft):
-            number = element_of(draft, 0, element)
+            number = element_of(draft, frame, element)
             (rise, _), = draft.wire.pulses[number]
-            draft.wire.pulses[number] = [(rise, rise + 0.2 * draft.format.interval)]
+            draft.wire.pulses[number] = [(rise, rise + width * draft.format.interval)]
         return change
 
     # the one P of the first seven pulses is two elements early; of the last eight two elements late
@@ -386,14 +388,16 @@ def of_lost_at_an_end():
         found = made.mended()
         yield same(name, (found.status, len(found.says(said)), edges_of(found.text) == edges_of(made.damaged.text), found.counts_hold()),
                    (1, 1, True, True))
-    made = Made(77, "B", "2", 0, several(still, beginning(0.781, 12.32), set_back_in_frame_12))
-    found = made.mended()
-    yield same("the clock is set back in the last whole frame",
-               (found.status, len(found.says("1 element contradicts")), edges_of(found.text) == edges_of(made.damaged.text)), (1, 1, True))
-    for element in (79, 99):
-        made = Made(78, "B", "2", 0, several(still, beginning(0.781, 12)), narrow(element))
+    for name, kind, by in (("back by a frame", "B", -1), ("on by an hour", "G", 360000)):
+        made = Made(77, kind, "2", 0, several(still, beginning(0.781, 12.6), set_in_frame_12(by)))
         found = made.mended()
-        yield same("element %d of the first frame" % element, (found.status, made.unlike(found)), (0, (0, 0)))
+        yield same("the clock is set %s in the last whole frame" % name,
+                   (found.status, len(found.says("1 element contradicts")), edges_of(found.text) == edges_of(made.damaged.text)), (1, 1, True))
+    # position identifiers of the first frame; an hour of the last one, in a pulse that is not as wide as zeros are
+    for frame, element, width in ((0, 79, 0.2), (0, 99, 0.2), (12, 21, 0.28)):
+        made = Made(78, "B", "2", 0, several(still, beginning(0.781, 12)), narrow(frame, element, width))
+        found = made.mended()
+        yield same("element %d of frame %d" % (element, frame), (found.status, made.unlike(found)), (0, (0, 0)))
 
 
 # 8: rarer damage

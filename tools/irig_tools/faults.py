@@ -163,7 +163,7 @@ class Faults:
         in_one = not binary.isdisjoint(told) and (binary.isdisjoint(against) or binary.issuperset(against))
         most = limits.MOST_CONTRARY if in_one or self.is_between(number) else limits.CONTRARY_AT_END
         is_clear = len(against) > (0 if twice_told or self.times.turns_at(number) else most)
-        if not is_clear and not self._shows_a_time_nearby(number, told, against):
+        if not is_clear and not self._can_be_another_time(number, against):
             return False
         seen = "%s: %s contradict%s the time that the frames next to it lead to" % (
             self.times.name(number), counted(len(against), "element"), "" if against[1:] else "s")
@@ -171,19 +171,14 @@ class Faults:
         self.remark(first, seen, LEFT_FRAME)
         return True
 
-    def _shows_a_time_nearby(self, number: FrameNumber, told: Sequence[int], against: Sequence[int]) -> bool:
-        """Whether a frame at an end shows just what it would if a recorder had lost whole frames next to what contradicts, or had some
-        twice, or if the clock had been set by as many: another time, in the last frame from there on, in the first one up to there."""
-        moment, agreeing = self.times.moment(number), self.times.agreeing
-        if moment is None or not against or not agreeing or min(agreeing) <= number <= max(agreeing):
+    def _can_be_another_time(self, number: FrameNumber, against: Sequence[int]) -> bool:
+        """Whether what contradicts in a frame at an end can be another time, as after a loss of whole frames, or if the clock was set there:
+        each such element is one pulse, as wide as others of its class."""
+        agreeing = self.times.agreeing
+        if not against or not agreeing or min(agreeing) <= number <= max(agreeing):
             return False
-        is_last, most = number > max(agreeing), limits.LONGEST_CUT // ELEMENTS
-        shown = [element for element in told if (element >= against[0] if is_last else element <= against[-1])]
-        for frames in [*range(-most, 0), *range(1, most + 1)]:
-            other = self.layout.encode(self.times.calendar.fields(plus(moment, frames * self.layout.period)))
-            if all(other[element] == self.times.texts[number][element] for element in shown):
-                return True
-        return False
+        places = [place_in(number, element) for element in against]
+        return all(len(self.track.pulses_at(place)) == 1 and not self.is_odd(place) for place in places)
 
     def is_between(self, number: FrameNumber) -> bool:
         """Whether frames before this one and after it show the time to which all lead."""
