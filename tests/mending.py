@@ -96,7 +96,8 @@ def judge(case, options, true_path, damaged_path, script):
             if near >= min(abs(when - at), abs(when - case.gone * case.interval - at))
         ]
         if time_of(text) not in map(time_of, truth):
-            if not any(time_of(true) == time_of(text) and is_late(case, at - when) for when, true in fine):
+            late = any(time_of(true) == time_of(text) and is_late(case, at - when) for when, true in fine)
+            if not late and not is_left(case, options, damaged_path, script, (at, text)):
                 return WRONG
             verdict = LEFT
         elif text not in truth and verdict != LEFT:
@@ -106,6 +107,13 @@ def judge(case, options, true_path, damaged_path, script):
     if len(found) < len(fine):
         return LEFT
     return WHOLE if verdict == TOLD and not case.exact else verdict
+
+
+def is_left(case, options, damaged_path, script, frame):
+    """Whether a frame is as it was recorded, and the script says that it contradicts the others: damage can look as if the clock had been
+    set. irig_time gives no sample a time by it alone."""
+    named = map(int, re.findall("undecided: at ([0-9]+): frame [^;]*: [0-9]+ elements? contradicts? ", script))
+    return frame in listed(options, damaged_path, "")[1] and any(abs(at - frame[0]) < case.interval for at in named)
 
 
 def is_late(case, by):

@@ -309,7 +309,7 @@ def of_late_rises():
     made = Made(31, "B", "2", 14, still, late_alone)
     found = made.mended()
     yield same("a late rise in a frame that is fine",
-               (found.status, len(found.says("late; the frame is fine")), edges_of(found.text) == edges_of(made.damaged.text)), (1, 1, True))
+               (found.status, len(found.says("a pulse would move in a frame that is fine")), edges_of(found.text) == edges_of(made.damaged.text)), (1, 1, True))
 
 
 # 6: frames that say another time

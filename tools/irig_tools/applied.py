@@ -21,6 +21,7 @@ from .second_try import once_more
 from .taken_times import takers, timed
 
 TAKEN = "the samples at %d and next to it would have no time, or another one"
+MOVED = "a pulse would move in a frame that is fine, and samples next to it would have another time"
 
 
 @dataclass(frozen=True)
@@ -82,6 +83,7 @@ def is_of_all(seen: Union[Damage, Repair]) -> bool:
 
 def applied_to(track: Opened, editor: Editor, script: List[Repair], how: How, repaired: str) -> Applied:
     """Runs a script, and writes what it gives; the script gets the repairs that were tried in the end."""
+    script[:] = _without_moves_in_fine(script)
     before = look(editor, how.progress, how.steady)
     refused = _run_without_takers(track, editor, script, how, repaired, before.listing)
     editor_after = Editor([*track.code, repaired])
@@ -89,6 +91,11 @@ def applied_to(track: Opened, editor: Editor, script: List[Repair], how: How, re
     if refused.is_nothing:  # it is what the last look of the proposal was at
         editor_after.knows(editor, [repair.lines() for repair in script], frames[1].info)
     return Applied(before, look(editor_after, how.progress, how.steady, before.findings.grid), refused, frames, how.owns)
+
+
+def _without_moves_in_fine(script: Sequence[Repair]) -> List[Repair]:
+    """The script without what irig_guard never keeps, with remarks in its place: a frame that is fine keeps each rise."""
+    return [each.left_out(MOVED) if each.is_in_fine else each for each in script]
 
 
 def _run_without_takers(track: Opened, editor: Editor, script: List[Repair], how: How, repaired: str, listing: Listing) -> Refused:
@@ -136,6 +143,6 @@ def _run_once(track: Opened, editor: Editor, script: List[Repair], how: How, rep
     result = [*track.code, repaired]
 
     def again_without() -> List[Repair]:
-        return [each for each in how.propose(Editor(result), how.move) if each.at not in left]
+        return [each for each in _without_moves_in_fine(how.propose(Editor(result), how.move)) if each.at not in left]
 
     return once_more(script, refused, again_without, list(how.command(track)), repaired, kind)

@@ -26,6 +26,7 @@ class Item:
     targets: Dict[PlaceNumber, str] = field(default_factory=dict)  # the classes of a frame that is generated again
     kind: DamageKind = DamageKind.OTHER
     is_guess: bool = False  # nothing decides one of its classes
+    is_in_fine: bool = False  # its rise alone is off, in a frame that is fine
     step: Optional[int] = None  # by how many microseconds a rest that it moves is late
 
 
@@ -119,4 +120,5 @@ def _reduce(faults: Faults, place: PlaceNumber, pulses: Sequence[PulseIndex], ta
     change = [force] * wrong + [shift] * off
     edits += change if begin > rise else reversed(change)
     why = "%s: %s; %s" % (faults.where(place), faults.seen(place), faults.reason(place))
-    return Item(place, place, edits, why, single=True, kind=faults.kind(place), is_guess=place in faults.guesses)
+    return Item(place, place, edits, why, single=True, kind=faults.kind(place), is_guess=place in faults.guesses,
+                is_in_fine=place in faults.in_fine)

@@ -19,7 +19,6 @@ from .widths import Widths
 from .witnesses import Elsewhere, Witnesses
 
 LEFT_FRAME = "the frame is left as it is; regen gives it the time to which the others lead"
-STAYS_IN_FINE = "the frame is fine, so it is left; shift moves it, and samples next to it get another time"
 
 
 @dataclass
@@ -75,17 +74,14 @@ class Faults:
             told = track.told[place - track.first]
             if told in SHARE and frame_of(place) in times.texts:
                 self.wanted.setdefault(place, told)
-        self._leave_fine_frames()
+        off = [place for place in sorted(self.wanted) if self._is_off_alone(place)]
+        # of which the rise alone is off, in frames that are fine
+        self.in_fine = {place for number, places in groupby(off, frame_of) if self._is_fine(number) for place in places}
 
-    def _leave_fine_frames(self) -> None:
-        """A rise that is off is moved, but not in a frame that is fine: samples next to it have a time by it as it is."""
-        for number, places in groupby([place for place in sorted(self.wanted) if self._is_off_alone(place)], frame_of):
-            marker = self.track.pulses_at(max(self.track.first, place_in(number)))
-            if marker and is_fine_at(self.track.listing, self.layout, marker[0]):
-                for place in places:
-                    seen = "%s: %s" % (self.where(place), self.seen(place))
-                    self.remark(place, seen, STAYS_IN_FINE, DamageKind.LATE, [place % ELEMENTS])
-                    del self.wanted[place]
+    def _is_fine(self, number: FrameNumber) -> bool:
+        """Whether a frame is fine as it is."""
+        marker = self.track.pulses_at(max(self.track.first, place_in(number)))
+        return bool(marker) and is_fine_at(self.track.listing, self.layout, marker[0])
 
     def _is_off_alone(self, place: PlaceNumber) -> bool:
         """Whether one pulse is there, of the class that is wanted: nothing but its rise can be off."""

@@ -31,6 +31,7 @@ class Repair:
     off: int = 0  # by how many microseconds what it fills in can be off, if the clock wanders and that is worth a word
     parts: List[Repair] = field(default_factory=list)  # the same edits in several repairs, which irig_guard can keep without each other
     is_unsure: bool = False  # nothing supports one of its control functions
+    is_in_fine: bool = False  # it moves rises that are off, of frames that are fine, and does nothing else
 
     def text(self) -> str:
         """Its edits, by which it is known."""
