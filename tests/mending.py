@@ -112,8 +112,9 @@ def judge(case, options, true_path, damaged_path, script):
 def is_left(case, options, damaged_path, script, frame):
     """Whether a frame is as it was recorded, and the script says that it contradicts the others: damage can look as if the clock had been
     set. irig_time gives no sample a time by it alone."""
-    named = map(int, re.findall("undecided: at ([0-9]+): frame [^;]*: [0-9]+ elements? contradicts? ", script))
-    return frame in listed(options, damaged_path, "")[1] and any(abs(at - frame[0]) < case.interval for at in named)
+    named = [int(at) for at in re.findall("undecided: at ([0-9]+): frame [^;]*: [0-9]+ elements? contradicts? ", script)]
+    recorded = any(text == frame[1] for _, text in listed(options, damaged_path, "")[1])
+    return recorded and any(abs(at - frame[0]) < case.interval for at in named)
 
 
 def is_late(case, by):
