@@ -225,11 +225,15 @@ class Counting:
         return found + (self.heard_after(fine[-1]) if fine and fine[-1] in held else [])
 
     def end_of(self, frame, later):
-        """How many elements of a frame have its time: the marker alone, if the time jumps after it; those before the identifier of element
-        89, if tens of intervals are lost between it and the next frame."""
+        """How many elements of a frame have its time: the marker alone, if the time jumps after it; all, if no tens of intervals are lost
+        between it and the next frame. Else a marker after the loss would be whole frames before that one, at an element of this frame. It
+        reads well, so the loss is later, and the elements before the identifier before that marker have its time."""
         if self.jumps_after(frame, later):
             return 1
-        return 89 if later and self.loses_tens(frame, later) else 100
+        if not later or not self.loses_tens(frame, later):
+            return 100
+        tens = (self.tenths(frame, later) + 50) // 100 % 10
+        return 10 * tens - 1 if tens else 100
 
     def loses_tens(self, one, other):
         """Whether the stretch between two frames is torn, and what is lost there is tens of intervals."""

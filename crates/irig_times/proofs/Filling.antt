@@ -1,5 +1,5 @@
 -- What is counted between frames fits between them.
-use Rattle.std.proofs.Common.{◌*◌, ◌≡◌, ◌<◌, ◌≤◌, ◌+◌, ◌-◌, ◌++◌, ◌∷◌, [], ℕ, suc, zero, ◌==◌, ◌&&◌, nat_le, nat_lt, Bool, true, false, List, Option, Some, None, drop, length, slice_get}
+use Rattle.std.proofs.Common.{◌*◌, ◌≡◌, ◌<◌, ◌≤◌, ◌+◌, ◌-◌, ◌++◌, ◌∷◌, [], ℕ, suc, zero, ◌==◌, ◌&&◌, nat_le, nat_lt, Bool, true, false, cond, List, Option, Some, None, drop, length, slice_get}
 use Rattle.std.proofs.Common.{refl, sym, ap, ◌∙◌, subst, append_assoc, arith}
 use Rattle.std.specs.Prelude.{IfSome, is_some, min}
 use Rattle.std.proofs.lemmas.Option.{none-some, same_Some, slice_get_within}
@@ -13,7 +13,7 @@ use Rattle.irig_times.specs.Between.{head_left, is_seam, kept, next_time, rounde
 use Rattle.irig_times.specs.Sides.{between, borne_at, side_after, side_before, side_of, sides_in, sides_of}
 use Rattle.irig_times.specs.Torn.{are_tens, is_torn, tenths_found}
 use Rattle.irig_times.specs.Counted.{filled, kept_at, kept_before, sides_before, sides_without, with_frame, with_sides}
-use Rattle.irig_times.specs.Tens.{before_tens, loses_tens_to}
+use Rattle.irig_times.specs.Tens.{front_of, loses_tens, loses_tens_to, sure_elements, up_to_loss}
 use Rattle.irig_times.specs.Jumps.{after_jump, before_jump, is_jump_between}
 use Rattle.irig_times.specs.Silence.{counted_after, counted_before, counts_before, has_its_time, heard_after, heard_before, precedes_silence, up_to_mark}
 use Rattle.irig_times.specs.Follows.{is_later}
@@ -294,9 +294,9 @@ module _ (f : FormatView) where
   before-cut false b is = all-cut b is
   before-cut true b is = front-cut 1 b is
 
-  tens-cut : (loses : Bool) (b : Part) → IsPart f b → Cut f b (before_tens loses b)
-  tens-cut false b is = all-cut b is
-  tens-cut true b is = front-cut 89 b is
+  loss-cut : (ps : List Pulse) (b : Part) (next : Option Part) → IsPart f b → Cut f b (up_to_loss f ps b next)
+  loss-cut ps b None is = all-cut b is
+  loss-cut ps b (Some c) is = cond-holds (Cut f b) (loses_tens f ps b c) _ _ (λ loses. front-cut (sure_elements (tenths_found ps b c)) b is) (λ none. all-cut b is)
 
   after-cut : (jumps : Bool) (b : Part) → IsPart f b → Cut f b (after_jump f.kind jumps b)
   after-cut false b is = all-cut b is
@@ -306,14 +306,14 @@ module _ (f : FormatView) where
 
   pub kept-cut : (century : ℕ) (ps : List Pulse) (before : Option Part) (b : Part) (next : Option Part) → IsPart f b → Cut f b (kept_at f century ps before b next)
   kept-cut century ps before b next is =
-      let tens = tens-cut (loses_tens_to f ps b next) b is in
-      let one = before-cut (is_jump_between f century ps (Some b) next) (before_tens (loses_tens_to f ps b next) b) tens.is in
+      let loss = loss-cut ps b next is in
+      let one = before-cut (is_jump_between f century ps (Some b) next) (up_to_loss f ps b next) loss.is in
       let two = after-cut (is_jump_between f century ps before (Some b)) (kept_before f century ps b next) one.is in
       record {
-        low = omega (arith, tens.low, one.low, two.low);
-        high = omega (arith, tens.high, one.high, two.high);
-        place = omega (arith, tens.place, one.place, two.place);
-        same = two.same ∙ (one.same ∙ tens.same);
+        low = omega (arith, loss.low, one.low, two.low);
+        high = omega (arith, loss.high, one.high, two.high);
+        place = omega (arith, loss.place, one.place, two.place);
+        same = two.same ∙ (one.same ∙ loss.same);
         is = two.is;
       }
 
@@ -392,7 +392,11 @@ module _ (f : FormatView) (century micros : ℕ) (ps : List Pulse) where
 
   kept-whole : (before : Option Part) (b : Part) (next : Option Part) → is_jump_between f century ps before (Some b) ≡ false
       → is_jump_between f century ps (Some b) next ≡ false → loses_tens_to f ps b next ≡ false → kept_at f century ps before b next ≡ b
-  kept-whole before b next first last none = λ i. after_jump f.kind (first i) (before_jump (last i) (before_tens (none i) b))
+  kept-whole before b next first last none = λ i. after_jump f.kind (first i) (before_jump (last i) (all-own b next none i))
+    where
+      all-own : (b : Part) (next : Option Part) → loses_tens_to f ps b next ≡ false → up_to_loss f ps b next ≡ b
+      all-own b None none = refl
+      all-own b (Some c) none = ap (λ (e : Bool). cond e (front_of b (sure_elements (tenths_found ps b c))) b) none
 
   pub filled-stays : (before : Option Part) (parts : List Part) (k : ℕ) (p : Part) → slice_get parts k ≡ Some p
       → is_jump_between f century ps (earlier before parts k) (Some p) ≡ false → is_jump_between f century ps (Some p) (slice_get parts (k + 1)) ≡ false

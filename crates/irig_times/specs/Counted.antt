@@ -11,7 +11,7 @@ use Rattle.irig_times.specs.{declared.part.Part.Part, Sides.between, Support.bel
 use Rattle.irig_times.specs.{Jumps.after_jump, Jumps.before_jump}
 use Rattle.irig_times.specs.Silence.{counted_after, counted_before}
 use Rattle.irig_times.specs.{Jumps.is_jump_between, declared.time.Time.Time}
-use Rattle.irig_times.specs.Tens.{before_tens, loses_tens_to}
+use Rattle.irig_times.specs.Tens.{up_to_loss}
 use Rattle.irig_times.specs.{Parts.TellsByParts, Parts.is_empty, Whole.whole_in}
 
 -- two parts more before others, if there are two
@@ -34,8 +34,7 @@ sides_without false f century ps before b = sides_before f century ps before b
 -- of a frame before another one, the pulses that have its time by what is between the two
 abbrev pub kept_before : FormatView → ℕ → List Pulse → Part → Option Part → Part
 kept_before f century ps b next =
-    before_jump (is_jump_between f century ps (Some b) next)
-    (before_tens (loses_tens_to f ps b next) b)
+    before_jump (is_jump_between f century ps (Some b) next) (up_to_loss f ps b next)
 
 -- of a frame between two others, the pulses that have its time
 abbrev pub kept_at : FormatView → ℕ → List Pulse → Option Part → Part → Option Part → Part

@@ -36,7 +36,8 @@ precedes_silence f micros ps p =
 abbrev pub has_its_time : FormatView → List Pulse → Part → Bool
 has_its_time f ps p = p.element == 0 && nat_le (time_elements f.kind) (telling ps p)
 
--- a part before the first frame counts if it is not next to silence, or has all elements of its time
+-- a part before the first frame counts if it is not next to silence, or has all elements of its
+-- time
 abbrev pub counts_before : FormatView → List Pulse → Part → Bool
 counts_before f ps p = not (follows_silence f ps p) || has_its_time f ps p
 

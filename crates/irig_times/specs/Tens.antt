@@ -1,7 +1,8 @@
--- What a frame keeps of its own pulses if tens of intervals are lost up to the next one. Then its
--- last ten elements can be those of a later frame, since the loss can be after its identifier of
--- element 89: each identifier is at the place of another one. This project's own.
-use Rattle.std.specs.Prelude.{◌+◌, ◌&&◌, min, Bool, true, false, List, Option, Some, None}
+-- What a frame keeps of its own pulses if tens of intervals are lost up to the next one. Each
+-- position identifier after the loss is at the place of another one, so the last elements of the
+-- frame can be those of a later one. This project's own.
+use Rattle.std.specs.Prelude.{◌≡◌, ℕ, ◌+◌, ◌-◌, ◌*◌, ◌/◌, ◌%◌, ◌==◌, ◌&&◌, min, Bool, true, false, List}
+use Rattle.std.specs.Prelude.{Option, Some, None, if◌then◌else◌}
 use Rattle.irig_codes.specs.Format.{FormatView}
 use Rattle.irig_recording.specs.declared.pulse.Pulse.{Pulse}
 use Rattle.irig_times.specs.{declared.part.Part.Part, Between.gap, Steps.ahead, Steps.behind}
@@ -19,12 +20,27 @@ abbrev pub loses_tens_to : FormatView → List Pulse → Part → Option Part �
 loses_tens_to f ps a None = false
 loses_tens_to f ps a (Some b) = loses_tens f ps a b
 
--- of a frame before such a loss the pulses before its identifier of element 89
-abbrev pub before_tens : Bool → Part → Part
-before_tens false p = p
-before_tens true p = record {
+-- If the marker of the next frame is n tenths after that of a frame, markers after the loss are
+-- whole frames before it, so one would be at element 10, 20 .. or 90 of the frame. It reads well,
+-- so none is there, and the loss is later. This is how many elements come before the position
+-- identifier just before that place. Whole frames show no place
+abbrev pub sure_elements : ℕ → ℕ
+sure_elements n = if (n + 50) / 100 % 10 == 0 then 100 else 10 * ((n + 50) / 100 % 10) - 1
+
+-- the first n pulses of a part
+abbrev pub front_of : Part → ℕ → Part
+front_of p n = record {
   number = p.number;
   element = p.element;
-  count = min p.count 89;
+  count = min p.count n;
   time = p.time;
 }
+
+-- of a frame before another one the pulses that are surely its own
+abbrev pub before_loss : FormatView → List Pulse → Part → Part → Part
+before_loss f ps a b =
+    if loses_tens f ps a b then front_of a (sure_elements (tenths_found ps a b)) else a
+
+abbrev pub up_to_loss : FormatView → List Pulse → Part → Option Part → Part
+up_to_loss f ps a None = a
+up_to_loss f ps a (Some b) = before_loss f ps a b

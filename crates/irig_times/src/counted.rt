@@ -18,7 +18,7 @@ use crate::frame_lens::FrameLens;
 use crate::jumps::{after_jump, before_jump, is_jump_between};
 use crate::part::Part;
 use crate::silence::counted_after;
-use crate::tens::{before_tens, loses_tens_to};
+use crate::tens::up_to_loss;
 use crate::whole::whole_parts;
 use irig_codes::Format;
 use irig_track::Lens;
@@ -122,7 +122,8 @@ fn put_frame(
 }
 
 /// What a frame (`part`) keeps of its own pulses by what is after it: only its marker, if the time
-/// jumps; those before element 89, if tens of intervals are lost. `next` is the frame after it.
+/// jumps; those that are surely its own, if tens of intervals are lost. `next` is the frame after
+/// it.
 fn kept_before(
     pulses: &mut Lens<'_>,
     format: Format,
@@ -140,8 +141,7 @@ fn kept_before(
     ensures pulses { pulses.new.track ≡ pulses.old.track }
 {
     let jumps = is_jump_between(pulses, format, century, Some(part), next);
-    let loses = loses_tens_to(pulses, format, &part, next);
-    before_jump(jumps, before_tens(loses, part))
+    before_jump(jumps, up_to_loss(pulses, format, part, next))
 }
 
 /// What is counted before a frame (`part`); `None` if the time `jumps` there, or if nothing can be

@@ -3,7 +3,7 @@
 //! before.
 
 ghost use Rattle.std.specs.Prelude.{◌≡◌, ◌≤◌, ◌<◌, ◌+◌, ◌^◌, IfSome};
-ghost use Rattle.irig_times.specs.Tens.{before_tens, loses_tens, loses_tens_to};
+ghost use Rattle.irig_times.specs.Tens.{before_loss, front_of, loses_tens, sure_elements, up_to_loss};
 
 use crate::between::{gap, min};
 use crate::part::Part;
@@ -11,9 +11,6 @@ use crate::steps::{ahead, behind};
 use crate::torn::{are_tens, is_torn, tenths_found};
 use irig_codes::Format;
 use irig_track::Lens;
-
-/// The elements before the last position identifier that is followed by others of its frame.
-const ELEMENTS: usize = 89;
 
 /// Whether intervals are lost between two frames, and as many as tens of them.
 fn loses_tens(pulses: &mut Lens<'_>, format: Format, from: &Part, to: &Part) -> bool
@@ -31,30 +28,55 @@ fn loses_tens(pulses: &mut Lens<'_>, format: Format, from: &Part, to: &Part) -> 
     are_tens(tenths_found(pulses, from, to))
 }
 
-/// The same of a frame and the next one; false if there is none.
-pub fn loses_tens_to(pulses: &mut Lens<'_>, format: Format, from: &Part, to: Option<Part>) -> bool
-    requires order { IfSome to (λ b. from.now.number + from.now.count ≤ b.number) }
-    requires small { IfSome to (λ b. b.number < 2 ^ 32) }
-    ensures lost { result ≡ loses_tens_to format pulses.old.track.pulses from.now to }
-    ensures pulses { pulses.new.track ≡ pulses.old.track }
+/// How many elements of a frame are surely its own, if the marker of the next frame is `found`
+/// tenths of an interval after its own. Markers after the loss are whole frames before that one, so
+/// one would be at element 10, 20 .. or 90 of the frame. It reads well, so none is there, and the
+/// loss is later: all elements before the position identifier just before that place are its own.
+/// 100 if whole frames are lost, which show no place.
+fn sure_elements(found: u64) -> usize
+    requires { found ≤ 2 ^ 54 }
+    ensures { result ≡ sure_elements found }
 {
-    match to {
-        Some(to) => loses_tens(pulses, format, from, &to),
-        None => false,
+    let tens = ((found + 50) / 100 % 10) as usize;
+    if tens == 0 { 100 } else { 10 * tens - 1 }
+}
+
+/// The first `most` pulses of a part.
+fn front_of(part: Part, most: usize) -> Part
+    ensures { result ≡ front_of part most }
+{
+    Part {
+        count: min(part.count, most),
+        ..part
     }
 }
 
-/// A frame, if tens of intervals are lost up to the next one (`loses`): of its pulses those before
-/// its identifier of element 89 keep its time, since the loss can be after that. Else as it is.
-pub fn before_tens(loses: bool, part: Part) -> Part
-    ensures { result ≡ before_tens loses part }
+/// Of a frame before another one (`to`) the pulses that are surely its own: all, unless tens of
+/// intervals are lost between the two.
+fn before_loss(pulses: &mut Lens<'_>, format: Format, part: Part, to: &Part) -> Part
+    requires order { part.number + part.count ≤ to.now.number }
+    requires small { to.now.number < 2 ^ 32 }
+    ensures part { result ≡ before_loss format pulses.old.track.pulses part to.now }
+    ensures first { (result.number ≡ part.number) × (result.element ≡ part.element) }
+    ensures pulses { pulses.new.track ≡ pulses.old.track }
 {
-    if loses {
-        Part {
-            count: min(part.count, ELEMENTS),
-            ..part
-        }
-    } else {
-        part
+    if !loses_tens(pulses, format, &part, to) {
+        return part;
+    }
+    let found = tenths_found(pulses, &part, to);
+    front_of(part, sure_elements(found))
+}
+
+/// The same of a frame and the next one; all if there is none.
+pub fn up_to_loss(pulses: &mut Lens<'_>, format: Format, part: Part, to: Option<Part>) -> Part
+    requires order { IfSome to (λ b. part.number + part.count ≤ b.number) }
+    requires small { IfSome to (λ b. b.number < 2 ^ 32) }
+    ensures part { result ≡ up_to_loss format pulses.old.track.pulses part to }
+    ensures first { (result.number ≡ part.number) × (result.element ≡ part.element) }
+    ensures pulses { pulses.new.track ≡ pulses.old.track }
+{
+    match to {
+        Some(to) => before_loss(pulses, format, part, &to),
+        None => part,
     }
 }
