@@ -267,6 +267,9 @@ def of_other_code():
     early = signal(FRAMES, begin=MIDDAY + 200, control=slowly.__getitem__)
     yield same("those that change seldom do", mended(signal(FRAMES, control=slowly.__getitem__), slow(early))[3],
                ["B.vcd is not used: " + was_set % "2.00 seconds later"])
+    once, early = (signal(14, begin=MIDDAY + by, control=lambda k: SENT[k // 9]) for by in (0, 100))
+    yield same("those that change once, in a clock that is a second off", mended(once, slow(early))[3][:1],
+               ["B.vcd is not used: " + unlike % (1, 12)])
     few = flipped(flipped(code(), 463), 1463)
     yield same("two frames that differ are damage", len(mended(pulses, slow(few))[3]), 2)
     yield same("and the rest is used", mended(pulses, slow(few))[2], set())

@@ -110,10 +110,11 @@ class Likeness:
     agree: int = 0
     telling: int = 0  # of these, frames that have not what most have
     against: int = 0
+    strange: int = 0  # sound frames that have more otherwise than damage makes
 
     @property
     def is_same_code(self) -> bool:
-        return self.against <= limits.UNLIKE_ELSEWHERE + limits.UNLIKE_SHARE * self.telling
+        return not self.strange and self.against <= limits.UNLIKE_ELSEWHERE + limits.UNLIKE_SHARE * self.telling
 
 
 def is_compared(text: str, elements: Sequence[int]) -> bool:
@@ -128,7 +129,10 @@ def likeness(here: Sequence[Timed], there: Dict[TimeOfFrame, str], elements: Seq
     agree = [text for text, other in known if not unlike(text, other, elements)]
     usual = Counter(_part_of(text, elements) for text in agree).most_common(1)
     telling = sum(_part_of(text, elements) != usual[0][0] for text in agree)
-    return Likeness(len(common), len(agree), telling, len(known) - len(agree))
+    often = Counter(frame.time for frame in here)  # one that is there twice can be of another moment
+    sound = [(frame.text, there[frame.time]) for frame in here if frame.is_fine and frame.time in there and often[frame.time] == 1]
+    strange = sum(len(unlike(text, other, elements)) > limits.MOST_CONTRARY for text, other in sound)
+    return Likeness(len(common), len(agree), telling, len(known) - len(agree), strange)
 
 
 def _part_of(text: str, elements: Sequence[int]) -> str:
@@ -197,7 +201,7 @@ class Comparison:
         return False
 
     def likeness(self, other: Other) -> Likeness:
-        return likeness(self.here, {frame.time: frame.text for frame, _ in other.frames}, self.elements)
+        return likeness(self.here, {time: found[0].text for time, found in _by_time(other) if _is_one(found)}, self.elements)
 
     def line(self, other: Other, why: str) -> str:
         """What is said of another recording, to explain it."""
@@ -220,7 +224,7 @@ def others_of(findings: Findings, found: Sequence[Other]) -> Others:
         remarks += [not_used(other.name, why)] if why else []
         paths += [] if why else [other.path]
         for time, frames in () if why else _by_time(other):
-            if len({each.text for each in frames}) == 1:  # else it has this time twice
+            if _is_one(frames):
                 witnesses[time].append(frames[0])
     return Others(Witnesses(dict(witnesses)), remarks, lines, paths)
 
@@ -230,6 +234,11 @@ def _by_time(other: Other) -> ItemsView[TimeOfFrame, List[Witness]]:
     for frame, witness in other.frames:
         found[frame.time].append(witness)
     return found.items()
+
+
+def _is_one(frames: Sequence[Witness]) -> bool:
+    """Whether all frames of a time have the same; else a recording has this time twice."""
+    return len({each.text for each in frames}) == 1
 
 
 def not_used(name: str, why: str) -> Repair:
