@@ -36,6 +36,7 @@ from .overview import of_program, sheet_of
 from .page import page
 from .readings import is_opened
 from .script import Repair
+from .sheet import Sheet
 from .sampled import can_be_long
 from .temporary import named_if_no_room, temporary_folder
 from .texts import counted
@@ -288,10 +289,11 @@ def original_of(given: Given, path: str) -> Iterator[Optional[str]]:
         yield original
 
 
-def proposed_text(script: List[Repair]) -> str:
-    """What a page says first of a script."""
-    edits = sum(bool(repair.edits) for repair in script)
-    return "%s proposed, %s left to you; nothing is changed yet" % (counted(edits, "repair"), counted(len(script) - edits, "place"))
+def proposed_text(script: List[Repair], sheet: Sheet) -> str:
+    """What a page says first of a script: a repair can be of several places."""
+    left, edits = sum(place.is_left for place in sheet.places), sum(bool(repair.edits) for repair in script)
+    return "%s found, %s proposed for %d of them, %d left to you; nothing is changed yet" % (
+        counted(len(sheet.places), "place"), counted(edits, "repair"), len(sheet.places) - left, left)
 
 
 def draw_proposal(given: Given, track: Opened, script: List[Repair], said: List[Repair], progress: Progress, outputs: ExitStack) -> None:
@@ -303,7 +305,7 @@ def draw_proposal(given: Given, track: Opened, script: List[Repair], said: List[
         seen = look(editor, progress, given.has(STEADY))
         sheet = sheet_of(os.path.basename(given.names[0]), wire_or_none(track), seen, script, after)
         sheet = replace(sheet, notes=(*sheet.notes, *(comment for each in said for comment in each.comments)))
-        drawn = page(of_program(sheet, COMMAND.name, "%s: %s" % (name_of(given.names[0]), proposed_text(script))))
+        drawn = page(of_program(sheet, COMMAND.name, "%s: %s" % (name_of(given.names[0]), proposed_text(script, sheet))))
         outputs.enter_context(output(path)).write(drawn.encode("utf-8"))
 
 
