@@ -41,7 +41,7 @@ def place(number: int, element: int) -> Place:
     if kind == 2:
         lines: tuple[str, ...] = ("# place %d: choose a class" % number,)
         reason = "One or zero: nothing decides."
-        return Place(rise, fall + 600, TITLES[kind], reason, before, None, lines, frame)
+        return Place(rise, fall + 600, TITLES[kind], reason, before, None, lines, frame, True)
     lines = "# place %d: it has to be %s" % (number, name), "insert %d %d" % (rise, fall)
     return Place(rise, fall, TITLES[kind], "Its neighbours need %s." % name, before, near, lines, frame)
 

@@ -8,6 +8,7 @@ from reference import timecode
 
 PERIOD = {kind: 100 * interval for kind, interval in timecode.INTERVAL.items()}  # microseconds
 UNITS = {"s": Fraction(10**6), "ms": Fraction(10**3), "us": Fraction(1), "ns": Fraction(1, 10**3), "ps": Fraction(1, 10**6)}
+UNITS.update({"%d%s" % (many, unit): many * size for unit, size in UNITS.copy().items() for many in (1, 10, 100)})
 LONG_MINUTE = 61_000_000  # microseconds
 LONGEST_LINE = 2**20
 NUMBER = re.compile(rb"[ \t\r]*([+-]?[0-9]+(?:\.[0-9]+)?)(?:[eE]([+-]?[0-9]+))?[ \t\r]*")

@@ -27,7 +27,7 @@ def little_memory():
 def run(tool, words, data=b""):
     """The status, what is printed, and what is said."""
     out, said = io.TextIOWrapper(io.BytesIO(), "utf-8"), io.StringIO()
-    given = io.TextIOWrapper(io.BytesIO(data))
+    given = io.TextIOWrapper(io.BufferedReader(io.BytesIO(data)))
     with mock.patch.multiple(sys, argv=[tool, *words], stdin=given, stdout=out, stderr=said):
         with mock.patch("signal.signal"), little_memory():
             status = MAINS[tool]()

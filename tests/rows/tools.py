@@ -628,6 +628,9 @@ def on_damage(top, tool, broken):
     )
 
 
+OF_FOLDERS = "; --apply-to FOLDER writes the repaired recordings of one into another"
+
+
 def refusals(top, tool, folder, sound):
     """What ends with status 2, and what is said of it."""
     junk, missing = os.path.join(folder, "junk"), os.path.join(folder, "missing.vcd")
@@ -635,7 +638,7 @@ def refusals(top, tool, folder, sound):
         file.write(b"\0\xff junk")
     for words, complaint in (
         (missing, "%s: %s: No such file or directory" % (tool, missing)),
-        (folder, "%s: %s: is a folder" % (tool, folder)),
+        (folder, "%s: %s: is a folder%s" % (tool, folder, OF_FOLDERS if tool == "irig_mend" else "")),
         ("", "%s: no TRACK is given (%s --help says more)" % (tool, tool)),
         ("--expression 4", "%s: no TRACK is given (%s --help says more)" % (tool, tool)),
         ("--page= " + sound, "%s: --page needs a file: --page FILE (%s --help says more)" % (tool, tool)),

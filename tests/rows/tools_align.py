@@ -100,6 +100,7 @@ def in_any_size():
         for given, words in (
                 (lines, [column]), (lines, [column, "--why"]), (lines, [column, "--alone", "--form=seconds"]),
                 (odd.encode()[:-1], ["--why", "--year=1977"]), (odd.encode(), ["--comma=;", "--unit=ns", "--offset=-1.0005E+09"]),
+                (odd.encode(), ["--comma=;", "--unit=100ns", "--offset=-1.0005E+07"]),
                 (csv.encode(), ["--comma=,", column, "--header=2", "--name=UTC", "--unit=s", "--offset=-4.5", "--form=calendar"]),
                 (lines, [column, "--expression=0"]), (b"", []), (b"time\n", ["--header=3"])):
             words = [*CODE[:1], *words, *[CODE[1]] * ("--expression=0" not in words), "track.vcd"]

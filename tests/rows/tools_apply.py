@@ -2,17 +2,19 @@
 import json
 import os
 import re
+import subprocess
 import tempfile
 from unittest import mock
 
-from built import GUARD
+from built import GUARD, TIME
 from cases import case
 from irig_tools import damage_program, mend_program
 from irig_tools.apply import Refused
+from irig_tools.became import became_of
 from irig_tools.damage import Damage
 from irig_tools.guard_words import Reason
 from irig_tools.kinds import DamageKind
-from irig_tools.left import left_lines, without_line, without_word
+from irig_tools.left import left_lines, without_line
 from irig_tools.script import Repair
 from random_input import damages
 from reference import timecode
@@ -202,6 +204,26 @@ def into():
     return in_folder(lambda: list(holds()), rec=nanoseconds(recorded(glitch)))
 
 
+def not_read():
+    """If another wire has letters of VHDL, the proved programs do not read what --into writes: a line has the command that makes a dump of
+    the wire, and this is read. Without such letters no line says it."""
+    def holds():
+        for name, is_silent in (("vhdl.vcd", False), ("plain.vcd", True)):
+            status, _, said = run("irig_mend", ["--apply", "new.vcd", "--into", name, name])
+            line = "irig_mend: %s: irig_ed and irig_time do not read this file as it is, but a dump of its wire: " % name
+            yield same(name, (status, line + "irig_wire new.vcd code > one.vcd" in said.splitlines(), line in said),
+                       (0, not is_silent, not is_silent))
+        run("irig_mend", ["--apply", "new.vcd", "--into", "vhdl.vcd", "vhdl.vcd"])
+        yield same("the command", run("irig_wire", ["new.vcd", "code", "--out", "one.vcd"])[0], 0)
+        times = subprocess.run([TIME, "--expression=4", "one.vcd"], input="1500000\n", stdout=subprocess.PIPE, text=True, check=False)
+        yield same("it is read", (times.returncode, times.stdout[:4]), (0, "2024"))
+
+    text = damages.dump(recorded(glitch), END)
+    head, end, body = text.partition("$enddefinitions $end")
+    text = head + '$var wire 1 " data $end ' + end + body
+    return in_folder(lambda: list(holds()), plain=text, vhdl=text.replace("#0 1!", '#0 1! U"', 1))
+
+
 def options_of_a_script():
     """What irig_ed needs for a script and the user did not give is its first line; an empty script has none."""
     def holds():
@@ -386,7 +408,8 @@ def outside():
         status, printed, _ = run("irig_mend", ["--expression=4", "--apply", "new.vcd", "--page", "page.html", "rec.vcd"])
         lines = printed.decode().splitlines()
         yield same("the sums", (status, "0 repaired, 0 undecided, 1 left" in lines[0]), (1, True))
-        yield same("the line", lines[1:], ["rec.vcd: left: at 8101000: pulses 801 to 803: pulses that belong to no frame"])
+        line = "rec.vcd: left: at 8101000: pulses 801 to 803 of the repaired recording: pulses that belong to no frame"
+        yield same("the line", lines[1:], [line])
         with open("page.html", encoding="utf-8") as file:
             page = json.loads(file.read().split('id="data">')[1].split("</script>")[0])
         yield same("the page", [(each["at"], "after" in each) for each in page["places"]], [(8101000, False)])
@@ -410,8 +433,29 @@ def named():
     lines = without_line(there, script, not_kept, 10000)
     yield same("without a line", [each.at for each in lines], [2989999, 4000000, 6000000])
     yield same("the lines", left_lines(lines[:1]), ["left: at 2989999: frame X, element 1: it is spoilt"])
-    yield same("left", [each.at for each in without_word(there, script)], [2989999, 2990000, 3999999, 4000000])
+    yield same("left", [each.at for each in became_of([], there, script, 0).left], [2989999, 2990000, 3999999, 4000000])
     yield same("nothing is said of it", [each.at for each in without_line(there, [], Refused(0), 10000)], [each.at for each in there])
+
+
+def places_that_became():
+    """A place is repaired if nothing is damaged there now. One that became two is none that is repaired, and both are left; neither is one
+    whose begin only moved, but one next to which another is left is. A comment names one place."""
+    def became(found, there, script=()):
+        now = became_of([seen_at(*each) for each in found], [seen_at(*each) for each in there], script, 50000)
+        return [[each.at for each in places] for places in (now.repaired, now.steps, now.undecided, now.left, now.comments)]
+
+    undecided = Repair(20000, ["undecided: here"], until=60000, undecided=["undecided: here"])
+    step, moved = DamageKind.STEP, Repair(9000, [], ["9,$ shift 7000"], moves=[(9000, 7000, 0)])
+    for name, found, there, script, wanted in (
+            ("all repaired", [(0,), (20000,)], [], (), [[0, 20000], [], [], [], []]),
+            ("one is repaired, and the next element is left", [(0,), (10000,)], [(10000,)], (), [[0], [], [], [10000], []]),
+            ("one became two", [(0,), (90000,)], [(2000,), (8000,)], (), [[90000], [], [], [2000, 8000], []]),
+            ("its begin moved", [(0,), (990000, step)], [(960000, step)], (), [[0], [960000], [], [], []]),
+            ("one that was hidden", [(0,)], [(700000,)], (), [[0], [], [], [700000], []]),
+            ("a comment on two places", [(20000,), (40000,)], [(20000,), (40000,)], [undecided], [[], [], [20000], [40000], []]),
+            ("a comment on none", [(20000,)], [], [undecided], [[20000], [], [], [], [20000]]),
+            ("the rest was moved", [(0,), (990000,)], [(997000,)], [moved], [[0], [], [], [997000], []])):
+        yield same("became: " + name, became(found, there, script), wanted)
 
 
 def lost_function(pulses):
@@ -465,7 +509,7 @@ REFUSED = (
     ("--explain --json rec.vcd", "--explain and --json exclude each other"),
     ("--apply new.vcd --save --into two.vcd rec.vcd", "--save and --into exclude each other"),
     ("--apply - --out - rec.vcd", "--out - and --apply - are one file"),
-    ("--apply new.vcd --into - rec.vcd", "standard input: is no dump"),
+    ("--apply new.vcd --into - rec.vcd", "standard input: is empty"),
     ("--apply new.vcd --into none.vcd rec.vcd", "none.vcd: No such file"),
     ("--apply none/new.vcd rec.vcd", "No such file or directory"),
     ("--apply new.vcd --into two.vcd rec.vcd", "several wires are named 'irig'"),
@@ -593,5 +637,5 @@ def cases(top):
     """Each part by its name."""
     return [*(case("apply: " + row[0], applied, *row) for row in APPLIED),
             *(case("apply: " + part.__name__, part)
-              for part in (into, options_of_a_script, late_times, saved, page_alone, one_line, cut, growing, upside_down, steady,
-                           guarded, listings, outside, named, guesses, filled, refused, objects, ends, kinds))]
+              for part in (into, not_read, options_of_a_script, late_times, saved, page_alone, one_line, cut, growing, upside_down, steady,
+                           guarded, listings, outside, named, places_that_became, guesses, filled, refused, objects, ends, kinds))]

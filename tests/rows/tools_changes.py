@@ -2,6 +2,7 @@
 import json
 import os
 import random
+import re
 import shutil
 import subprocess
 import tempfile
@@ -18,9 +19,11 @@ from random_input import damages
 from rows.in_process import run
 from rows.tools_apply import END, both, glitch, in_folder, nanoseconds, recorded, same, text_of
 from rows.tools_outputs import contents, filled, shell
+from rows.tools_sent import Draft, Recording, recordings
 from rows.tools_with import Track
 
 RANDOM = 20  # damaged recordings
+SEEDS, KINDS_OF_PAGES = 12, ("many", "slip", "noise", "buffer", "twice", "set")  # of the generator of bench/shares
 PAGE = ["--page", "page.html", "--apply", "new.vcd"]
 
 
@@ -263,11 +266,51 @@ def dropped(top):
 
 
 def gone():
-    """A place at which nothing was changed is on the page of a repair only if something is damaged there now."""
+    """A place at which nothing was changed is left on the page of a repair only if something is damaged there now."""
     seen = damage.look(Track(recorded(glitch)), lambda text: None)
-    for name, there, wanted in (("still damaged", seen.damages, len(seen.damages)), ("no longer damaged", [], 0)):
+    for name, there, wanted in (("still damaged", seen.damages, [True]), ("no longer damaged", [], [False])):
         sheet = sheet_of("rec.vcd", "irig", seen, (), seen.listing, Changes(), there)
-        yield same("a place without a repair, " + name, len(sheet.places), wanted)
+        yield same("a place without a repair, " + name, [place.is_left for place in sheet.places], wanted)
+
+
+SUMS = re.compile(r"(\d+) places? found, (\d+) repaired.*?, (\d+) undecided, (\d+) left, (\d+) steps? that stays?")
+
+
+def spoilt(seed):
+    """Fifteen minutes with damage in more than 150 places, many of them next to each other, and four slips."""
+    draft = Draft("spoilt", seed, "B")
+    draft.frames, draft.length = 900, 900 * draft.format.frame
+    draft.sent = draft.first + 1.1 * draft.length
+    draft.send()
+    for many in (150, *[10] * 8):
+        draft.some_damage(many, many, None if many > 10 else draft.any_place())
+    for _ in range(4):
+        draft.event("lose", draft.any_place(), draft.random.choice((7300, 41000, 370000)))
+    draft.play()
+    return Recording("spoilt", seed, draft)
+
+
+def summed():
+    """The first line of a page is the one that is printed. Its list has as many repaired places and as many that are left as that says,
+    and irig_damage counts as many places as are found."""
+    def holds():
+        for seed in range(SEEDS):
+            made = recordings.make(KINDS_OF_PAGES[seed % len(KINDS_OF_PAGES)], seed) if seed < SEEDS - 2 else spoilt(seed)
+            with open("made.vcd", "w", encoding="ascii") as file:
+                file.write(made.text)
+            words = ["--format=" + made.format, "--expression=%d" % made.expression]
+            printed = run("irig_mend", [*words, *PAGE, "made.vcd"])[1].decode().splitlines()[0]
+            found, repaired, *left = map(int, SUMS.search(printed).groups())
+            page = held()
+            places = page["places"]
+            rows = len(places), sum("left" in place for place in places), page["left"]
+            yield same("%s %d: %s" % (made.kind, seed, printed), rows, (repaired + sum(left), sum(left), sum(left)))
+            with open("page.html", encoding="utf-8") as file:
+                yield same("%s %d, the first line" % (made.kind, seed), "<h1>%s</h1>" % printed in file.read(), True)
+            counted = run("irig_damage", ["--count", *words, "made.vcd"])[1]
+            yield same("%s %d, irig_damage" % (made.kind, seed), int(counted), found)
+
+    return in_folder(lambda: list(holds()), rec="")
 
 
 def counted():
@@ -295,4 +338,4 @@ def cases(top):
     found += [case("mend: changes: damaged %d" % seed, damaged, top, seed) for seed in range(RANDOM)]
     found += [case("mend: changes: irig_mend " + row[0], commanded, top, *row) for row in COMMANDS]
     found += [case("mend: changes: " + part.__name__, part, top) for part in (troubled, unguarded, unwritten, dropped)]
-    return found + [case("mend: changes: " + part.__name__, part) for part in (proposed, gone, counted)]
+    return found + [case("mend: changes: " + part.__name__, part) for part in (proposed, gone, summed, counted)]

@@ -1,4 +1,5 @@
 """How the tools end: closed streams, full devices, readers that go away, too little memory, and defects."""
+import gzip
 import os
 import shutil
 import tempfile
@@ -45,6 +46,32 @@ def unwritten(top):
             good = full == (2, "%s: No space left on device\n" % tool, "") and deaf == mute == (2, "", "")
             good = good and broken[1:] == ("141\n", "")
             good or print("FAILED %s: %s %s %s %s" % (tool, full, deaf, broken, mute))
+            yield good
+
+
+def nothing_there(top):
+    """An empty file is called empty, packed or not, and a folder a folder, also if the file that has to be there is another one."""
+    with tempfile.TemporaryDirectory() as folder:
+        filled(folder)
+        for name, data in (("empty", b""), ("empty.gz", gzip.compress(b""))):
+            with open(os.path.join(folder, name), "wb") as file:
+                file.write(data)
+        lines = ["%s %s" % (tool, words) for tool in TOOLS for words in ("empty", "- < empty")]
+        lines += ["irig_wire empty.gz", "irig_wire --into empty rec.vcd", "irig_wire --windows empty", "irig_mend --format B empty",
+                  "irig_mend --format B --apply new --into empty rec.vcd",
+                  "irig_demodulate --table empty", "irig_demodulate --raw s16 --rate 9 empty"]
+        for line in lines:
+            name = "standard input" if "<" in line else "empty.gz" if ".gz" in line else "empty"
+            done = shell(top, folder, line)
+            good = done == (2, "", "%s: %s: is empty\n" % (line.split()[0], name))
+            good or print("FAILED %s: %s" % (line, done))
+            yield good
+        for line in (*("%s files" % tool for tool in TOOLS), "irig_wire --into files rec.vcd", "irig_mend --apply new --into files rec.vcd",
+                     "irig_demodulate --table files", "irig_wire --out files rec.vcd"):
+            os.makedirs(os.path.join(folder, "files"), exist_ok=True)
+            status, _, said = shell(top, folder, line)
+            good = status == 2 and said.startswith("%s: files: is a folder" % line.split()[0])
+            good or print("FAILED %s: %s %s" % (line, status, said))
             yield good
 
 
@@ -202,7 +229,8 @@ def raising():
 
 def cases(top):
     """Each part by its name."""
-    return [case("ending: closed streams", closed, top), case("ending: full devices and readers", unwritten, top),
+    return [case("ending: closed streams", closed, top), case("ending: empty files and folders", nothing_there, top),
+            case("ending: full devices and readers", unwritten, top),
             case("ending: signals", stopped, top), case("ending: no room", without_room, top),
             case("ending: no room at all", without_any_room, top),
             case("ending: early and late signals", early_and_late, top),

@@ -252,6 +252,8 @@ ROWS = (
      "#0 0! #5000 1! #7000 0! #9000"),
     ("a recording after it under one header", NANO + "#0 0! #5000 1! #9000 #8000 0!", ["--wire=irig"], "#5 1! #7 0! #9", "",
      "#0 0! #5000 1! #7000 0! #9000 #8000 0!"),
+    ("words that no program reads", NANO + "#0 0! junk #5000 1! #-17 #7000 0! #9000 #12.5\n", ["--wire=irig"], "#5 1! #8 0! #9", "",
+     "#0 0! #5000 1! #7000 #8000 0! #9000"),
     ("several wires", NANO + OWN, [], "#5 1! #20", "", "the dump has several wires of one bit"),
     ("a port", NANO.replace("wire", "port") + "#0 pD 6 0 ! #9000", ["--wire=irig"], "#5 1! #9", "", "is a port of an extended dump"),
     ("no wire to choose", NANO + OWN, None, "#5 1! #9", "", "--wire is only for --into"),
@@ -276,20 +278,21 @@ def row_holds(original, words, track, comment, wanted):
 
 def others_are_left(top):
     """Dumps of simulators with several wires: bytes that are not of the wire stay, packed or not. Of a dump that is cut, or whose last
-    time goes back, that word is not written, since no program would read the file with it; the status is 1."""
+    time goes back, that word is not written, since no program would read the file with it, and neither is a time that is no number; the
+    status is 1."""
     with open(os.path.join(top, "examples", "dumps", "irig_b.vcd"), "rb") as file:
         text = file.read()
     results = []
     lines = text.replace(b"\n", b"\r\n")
     for data, wanted, ended in ((text, text, 0), (gzip.compress(text), text, 0), (b"\xef\xbb\xbf" + text, text, 0), (lines, lines, 0),
-                                (text + b"#1", text, 1), (text + b"1", text, 1), (text + b"#1\n", text, 1)):
+                                (text + b"#-17\n", text, 1), (text + b"#1", text, 1), (text + b"1", text, 1), (text + b"#1\n", text, 1)):
         with tempfile.TemporaryDirectory() as folder:
             path = os.path.join(folder, "original.vcd")
             with open(path, "wb") as file:
                 file.write(data)
             track = run("irig_wire", [path, "irig"])[1]
             status, merged, said = run("irig_wire", ["--into", path, "--wire=irig", "-"], track)
-        results.append((status, merged, "that word is not written again" in said) == (ended, wanted, bool(ended)))
+        results.append((status, merged, " not written again" in said) == (ended, wanted, bool(ended)))
         results[-1] or print("FAILED irig_wire --into, bytes: %d %s" % (status, said))
     return results
 

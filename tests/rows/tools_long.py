@@ -12,6 +12,7 @@ from cases import case
 from irig_tools import mend_long, sampled, seams, window_jobs
 from irig_tools.command import of_any_length
 from irig_tools.editor import Problem
+from irig_tools.ending import Stopped
 from random_input import damages
 from reference import timecode
 from rows.in_process import run
@@ -23,6 +24,7 @@ KINDS = (damages.glitch_in, damages.glitch_between, damages.merged, damages.miss
          damages.wrong_width, damages.marker)
 SIZES = (100000, 59000, 34000, 12000)  # pulses of a window: so there are 1, 2, 3 and 7
 CODE = ("--format=B", "--expression=4")
+BEGUN = "has more pulses than a track holds, so it is repaired in windows of {:,} pulses; the result is written when all are repaired\n"
 FAILS_IN_THE_THIRD = """case "$*" in */3.vcd*) echo irig_guard: input failed >&2; exit 4 ;; esac
 exec "%s" "$@\""""
 
@@ -119,8 +121,10 @@ def in_any_size():
             new, sums = text_of("new.vcd"), whole[1].decode().splitlines()
             yield same("whole", (whole[0], "21 places found, " in sums[0], ", 1 step that stays; " in sums[0]), (1, True, True))
             for size in SIZES:
-                found = in_windows(size, "irig_mend", *CODE, "--jobs=2", *words)
-                yield same("in windows of %d" % size, found, whole)
+                status, printed, said = in_windows(size, "irig_mend", *CODE, "--jobs=2", *words)
+                begun = "irig_mend: track.vcd: " if words[2:] == ["track.vcd"] else "irig_mend: two.vcd: "
+                yield same("in windows of %d" % size, (status, printed, said.replace(begun + BEGUN.format(size), "")), whole)
+                yield same("in windows of %d, what is said first" % size, said.startswith(begun + BEGUN.format(size)), True)
                 yield same("in windows of %d, the file" % size, text_of("new.vcd") == new, True)
         left, found = in_windows(0, "irig_mend", "--json", "--apply=a.vcd", "track.vcd"), in_windows(
             12000, "irig_mend", "--json", "--apply=b.vcd", "track.vcd")
@@ -192,7 +196,7 @@ def that_fail():
             for words in ([], ["--into", "track.vcd"]):
                 status, printed, said = in_windows(12000, "irig_mend", *CODE, "--apply", "new.vcd", *words, "track.vcd")
                 said = re.sub(r" \(it writes .*\)", "", re.sub("[0-9]{2,}", "N", said))
-                yield same("a program that fails", (status, printed, said),
+                yield same("a program that fails", (status, printed, said.partition("\n")[2]),
                            (2, b"", "irig_mend: window 3, from N to N: irig_guard: input failed\n"))
         yield same("what was there", (text_of("new.vcd"), sorted(os.listdir("."))), ("kept", ["bin", "new.vcd", "packed.gz", "track.vcd"]))
 
@@ -204,6 +208,30 @@ def that_fail():
         return list(holds())
 
     return in_folder(prepared, track=dump(damaged(1000, 20)))
+
+
+def that_are_ended():
+    """Ctrl-C, or a signal TERM, in the third window: a line says how far it was, and nothing is written over."""
+    def holds():
+        with open("new.vcd", "w", encoding="ascii") as file:
+            file.write("kept")
+        start = window_jobs.WindowJobs.start
+        for error, ends_with in ((KeyboardInterrupt(), 130), (Stopped(15), 143)):
+            def ended_in_the_third(jobs, window, edges):
+                if window.number == 3:  # the two before it are repaired
+                    jobs._wait_for(0)
+                    raise error
+                start(jobs, window, edges)
+
+            with mock.patch.object(window_jobs.WindowJobs, "start", ended_in_the_third):
+                status, printed, said = in_windows(12000, "irig_mend", *CODE, "--apply", "new.vcd", "track.vcd")
+            line = "irig_mend: track.vcd: ended, 2 windows repaired, 0 on their way; nothing is written, and the same command begins " \
+                   "at the first window"
+            yield same("the status", (status, printed), (ends_with, b""))
+            yield same("how far it was", said.splitlines()[1:], [line])
+            yield same("what was there", (text_of("new.vcd"), sorted(os.listdir("."))), ("kept", ["new.vcd", "track.vcd"]))
+
+    return in_folder(lambda: list(holds()), track=dump(damaged(1000, 20)))
 
 
 def cut_packed(text, size):
@@ -262,4 +290,4 @@ def proposed():
 def cases(top):
     """Each part by its name."""
     return [case("long: " + part.__name__, part) for part in (chosen_seams, printed_windows, in_any_size, of_no_sound_frame, that_end_early,
-                                                              that_fail, refused, looked_at_later, proposed)]
+                                                              that_fail, that_are_ended, refused, looked_at_later, proposed)]

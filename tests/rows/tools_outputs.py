@@ -164,7 +164,7 @@ def whole(top):
         os.mkdir(os.path.join(folder, "dir"))
         before = contents(folder)
         os.symlink("circle", os.path.join(folder, "circle"))
-        for command, text in (("irig_damage --page dir rec.vcd", "irig_damage: dir: Is a directory\n"),
+        for command, text in (("irig_damage --page dir rec.vcd", "irig_damage: dir: is a folder\n"),
                               ("irig_damage --page none/a rec.vcd", "irig_damage: none/a: No such file or directory\n"),
                               ("irig_damage --page circle rec.vcd", "irig_damage: circle: Too many levels of symbolic links\n"),
                               ("irig_damage --page %s rec.vcd" % ("p" * 256), "irig_damage: %s: File name too long\n" % ("p" * 256)),

@@ -77,6 +77,9 @@ TABLES = (
     ("a scope, upside down", ["--level", "--swap"], lambda: "t,V\n" + volts("%.5f,%.3f\n", sign=-1)),
     ("units in their own line", ["--level", "--column=Channel A"],
      lambda: "\ufeffTime;Channel A;Channel B\n(ms);(V);(V)\n\n" + comma(volts("%.2f;%.3f;0.0\n", 1e-3, -20.0))),
+    ("ticks of 100 nanoseconds", [], lambda: "Time (100 ns),D0\n" + "".join("%d,%d\n" % (10 * time, level) for time, level in [
+        (0, 0), *EDGES, (LENGTH, 0)])),
+    ("ticks of 10 microseconds in their own line", ["--level", "--column=A"], lambda: "Time,A\n(10 us),(V)\n" + volts("%.1f,%.3f\n", 1e-5)),
     ("a unit in words", [], lambda: "Time (msec),D0\n" + "".join(
         "%.3f,%d\n" % (time / 1000, level) for time, level in [(0, 0), *EDGES, (LENGTH, 0)])),
     ("a unit in German", [], lambda: "Zeit [Millisekunden];D0\n" + "".join(
@@ -281,7 +284,8 @@ def refused():
     """What is said of a table that is not read."""
     head, results = "Time [s],A\n", []
     for words, text, said in (
-            ([], "", "no row of numbers"), ([], "hello\nworld\n", "no row of numbers"),
+            ([], "", "is empty"), ([], "hello\nworld\n", "no row of numbers"),
+            ([], "Time (25 ns),A\n0,0\n1,1\n", "the times of column 1 are in '25 ns', which is not read as a unit; change its head"),
             ([], "Time,A,State\n0,1.5,OK\n1,1.4,OK\n", "if others have words, give the numbers of both, as --time-column 1"),
             ([], "Time [min],A\n0,0\n1,1\n", "the times of column 1 are in 'min', which is not read as a unit; change its head"),
             ([], "Time [s],A,B\n0,0,1\n", "as --column 'A': A, B"),

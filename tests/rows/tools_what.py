@@ -118,8 +118,11 @@ ROWS = [
      ["in seconds: sound 5.010000, damaged 0.996300, lost 0.000000, without frames 0.050000"], None),
     ("for how long it is upside down", dump(*partly_turned()), [], 0,
      ["in seconds: sound 4.010000, damaged 2.000000, lost 0.000000, without frames 0.020000"], None),
+    ("how many frames, of which noise makes more", dump(*noisy()), [], 0, ["expression 2: 5 of 6 frames fine"], None),
+    ("how many frames, two in a hole", dump(*LOST), [], 0, ["expression 2: 1 of 4 frames fine"], None),
+    ("how many frames, one is cut", dump(B[0][:-100], B[1] - 500000), [], 0, ["expression 2: 3 of 3 frames fine"], None),
     ("noise that is near control elements", dump(*noisy()), [], 0,
-     ["expression 2: 5 of ", "  expressions 2, 1, 5 and 6 fit equally; 2 is first, because it has no unused"], None),
+     ["expression 2: 5 of 6 frames fine", "  expressions 2, 1, 5 and 6 fit equally; 2 is first, because it has no unused"], None),
     ("format A", dump(*track("A", 5)), [], 0, ["expression 2: 5 of 5", "12:34:20.00 to 061 12:34:20.40"], 5),
     ("format E", dump(*track("E", 3)), [], 0, ["format E", "expression 2: 3 of 3"], 3),
     ("format G", dump(*track("G", 9)), [], 0, ["format G", "expression 2: 9 of 9"], 9),
@@ -254,6 +257,22 @@ def holes():
         yield good
 
 
+def numbered():
+    """Of recordings of the generator of bench/shares with damage and noise: as many frames as there is time for from the first pulse to the
+    last one, or one less, since a frame can be cut at both ends."""
+    for kind, seed in [(kind, seed) for kind in ("noise", "many", "hole") for seed in range(6)]:
+        made = recordings.make(kind, seed)
+        rises = [int(time) for time in re.findall(r"^#(\d+)\n1!", made.text, re.M)]
+        most = (rises[-1] - rises[0] + made.interval) // made.frame
+        with tempfile.NamedTemporaryFile("w", suffix=".vcd") as file:
+            file.write(made.text)
+            file.flush()
+            found = json.loads(run("irig_what", ["--json", file.name])[1].splitlines()[0])
+        good = most - 1 <= found["frames"] <= most and found["fine"] <= found["frames"]
+        good or print("FAILED irig_what, frames of %s %d: %d are whole at most: %s" % (kind, seed, most, found))
+        yield good
+
+
 def flipped(*elements):
     """In the tenth frame these elements are of the other class, and the frame reads well."""
     def change(draft):
@@ -348,5 +367,6 @@ def cases(top):
     return [*(case("what: " + row[0], row_holds, top, *row) for row in (*ROWS, simulated)),
             case("what: in a pipe", piped, top), case("what: one pass", passes), case("what: windows", judged),
             case("what: silent wires", silent), case("what: holes in which a recorder slipped", holes),
+            case("what: how many frames by their times", numbered),
             case("what: years", of_years), case("what: places and repairs", of_places),
             case("what: help", lambda: run("irig_what", ["--help"])[0] == 0)]

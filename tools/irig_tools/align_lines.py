@@ -8,7 +8,8 @@ from typing import IO, Iterator, Optional, Tuple
 from .editor import Problem
 
 LONGEST_LINE_READ = 1 << 20  # bytes that irig_time reads, without the newline
-UNIT_PLACES = {"s": 12, "ms": 9, "us": 6, "ns": 3, "ps": 0}  # digits after the point of a unit, down to a picosecond
+PLACES_OF_UNITS = {"s": 12, "ms": 9, "us": 6, "ns": 3, "ps": 0}  # digits after the point, down to a picosecond
+UNIT_PLACES = {many + unit: places + max(0, len(many) - 1) for many in ("", "1", "10", "100") for unit, places in PLACES_OF_UNITS.items()}
 PICOS = 10 ** 6  # in a microsecond
 TOO_FAR = 1 << 120  # picoseconds from which on no line has a time
 NUMBER_DIGITS = 60  # that count: TOO_FAR has fewer

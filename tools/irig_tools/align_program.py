@@ -25,7 +25,8 @@ from .windows import named_size
 ALIGN_WIRE = Option("--wire", "NAME", "the wire of the dump, as irig_time has it")
 ALIGN_FORMAT = Option("--format", "A|B|E|G", "the format; B, if it is not given", choices=tuple(INTERVAL))
 ALIGN_EXPRESSION = Option("--expression", "0..7", "the coded expression; 2, if it is not given", choices=tuple("01234567"))
-TIME_UNIT = Option("--unit", "UNIT", "of the recorder's time: s, ms, us, ns or ps; us, if it is not given", choices=tuple(UNIT_PLACES))
+TIME_UNIT = Option("--unit", "UNIT", "of the recorder's time: s, ms, us, ns or ps, or 10 or 100 of it, as 100ns; us, if it is not given",
+                   choices=tuple(UNIT_PLACES))
 OFFSET = Option("--offset", "NUMBER", "the recorder's time at the start of the track, in the unit; 0, if it is not given")
 LINE_COLUMN = Option("--column", "N", "the column of the recorder's time, from 1", whole(1))
 COMMA = Option("--comma", "CHARACTER", "what parts columns; white space, if it is not given")

@@ -8,17 +8,19 @@ from typing import Callable, List, Sequence, Set, Tuple, Union
 
 from . import limits
 from .analysis import START
-from .apply import Counts, FrameCount, Refused, beside, counts, find_guard, frames_of, run_script
+from .apply import Counts, FrameCount, Refused, beside, find_guard, frames_of, guesses_in, most_off, run_script
+from .became import became_of
 from .believed import NOTHING_BEARS, without_time
 from .damage import Damage, Seen, look
 from .editor import Editor, Listing, Progress
 from .kinds import DamageKind
-from .left import without_line, without_word
+from .left import without_line
 from .opening import Opened
 from .parted import parted
 from .script import Repair
 from .second_try import once_more
 from .taken_times import takers, timed
+from .units import ELEMENTS
 
 TAKEN = "the samples at %d and next to it would have no time, or another one"
 MOVED = "a pulse would move in a frame that is fine, and samples next to it would have another time"
@@ -53,10 +55,12 @@ class Applied:
 
     def counts(self, script: Sequence[Repair]) -> Counts:
         """What the script did, of what counts."""
-        before = [each for each in self.before.damages if self._counts(each)]
-        after = [each for each in self.after.damages if self._counts(each)]
-        return replace(counts(before, after, script, (self.frames[0].sound, self.frames[1].sound), self.refused),
-                       alone=len(without_word(self.there(), script)))
+        found = [each for each in self.before.damages if not each.is_remark and self._counts(each)]
+        became = became_of(found, self.there(), script, ELEMENTS * self.before.findings.layout.interval)
+        refused, (first, last) = self.refused, self.frames
+        return Counts(len(found), len(became.repaired), len(became.steps), len(became.undecided) + len(became.comments), len(became.left),
+                      guesses_in(script, found, refused), refused.filled, refused.lines, first.sound, last.sound,
+                      most_off(script, refused))
 
     def there(self) -> List[Damage]:
         """The places of damage that are still there."""
@@ -137,7 +141,7 @@ def _run_once(track: Opened, editor: Editor, script: List[Repair], how: How, rep
     """Runs a script. What is tried again is not at one of these times."""
     refused = run_script(track, script, how.save, repaired, how.move, kind, how.others)
     if refused.drops_moves(script):  # what comes after them in the script counts on them
-        script[:] = how.propose(editor, False)
+        script[:] = _without_moves_in_fine(how.propose(editor, False))
         again = run_script(track, script, how.save, repaired, False, kind, how.others)
         refused = replace(again, reasons=[*refused.reasons, *again.reasons])
     result = [*track.code, repaired]

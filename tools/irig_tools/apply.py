@@ -2,6 +2,7 @@
 from __future__ import annotations
 
 import os
+import shlex
 import shutil
 import subprocess
 from bisect import bisect_left, bisect_right
@@ -12,21 +13,24 @@ from typing import IO, Callable, Dict, List, Optional, Sequence, Set, Tuple
 
 from .damage import Damage
 from .dump_header import Reader
-from .dump_choice import singles
+from .dump_choice import choose, singles, wire_name
 from .dump_source import Source
 from .editor import CUT_OFF, Info, Listing, Problem, find_beside, find_editor, info_of, other_release
 from .guard_words import NOTHING_FINE, Reason, filled_frames, filled_text, guard_reason
 from .joining import frames_at_fault, joined
-from .kinds import STEPS, DamageKind
+from .kinds import DamageKind
 from .named import wire_named, wire_or_none
 from .opening import Opened
-from .output import output
+from .output import is_standard_output, output
+from .proposal import no_option
 from .put_back import PutBack, TrackEdges, TrackLevel
+from .readings import is_opened
 from .script import Repair
 from .temporary import temporary_script
 from .wire import Wish
 
 HEAD = b"$timescale 1 us $end\n"  # how a dump of the editor begins
+UNREAD_AS_IT_IS = "irig_ed and irig_time do not read this file as it is, but a dump of its wire: %s > one.vcd"
 OFF_AT_MOST = "the clock wanders: times in holes that were filled can be up to %.3g milliseconds off"
 
 
@@ -101,12 +105,12 @@ class Refused:
 class Counts:
     """What is counted of a recording, or of a part of it."""
 
-    found: int  # places of damage before
-    there: int  # and after
-    steps: int  # of these steps
+    found: int  # places of damage
+    repaired: int  # of these
+    steps: int
     undecided: int
+    left: int
     guesses: int  # places that are repaired by one
-    alone: int  # places after it that are neither steps nor said to be undecided
     filled: Optional[int]
     refused: int
     sound_before: int
@@ -120,22 +124,18 @@ class Counts:
         return Counts(**{**sums, "off": max(self.off, other.off)})
 
     def summary(self) -> Summary:
-        repaired = max(0, self.found - self.there)
-        left = max(self.alone, self.there - self.steps - self.undecided)
-        return Summary(self.found, repaired, self.undecided, left, self.steps, min(repaired, self.guesses), self.filled, self.refused,
-                       self.sound_before, self.sound_after, self.off)
+        return Summary(self.found, self.repaired, self.undecided, self.left, self.steps, min(self.repaired, self.guesses), self.filled,
+                       self.refused, self.sound_before, self.sound_after, self.off)
 
 
-def counts(before: Sequence[Damage], after: Sequence[Damage], script: Sequence[Repair], sound: Tuple[int, int], refused: Refused) -> Counts:
-    """`before` and `after` are what irig_damage finds, and `sound` how many frames of both tracks are. What is undecided are the comments
-    that say so, but not where another recording differs; a guess is a place that is repaired by one: not if it is dropped."""
-    found, there = (sum(not each.is_remark for each in seen) for seen in (before, after))
-    steps = sum(each.kind in STEPS for each in after)
-    undecided = sum(len(each.undecided) for each in script if not each.edits and each.kind != DamageKind.DIFFERS)
-    guesses = [each for each in script if each.edits and each.undecided and not refused.drops(each)]
-    guessed = _places_of(guesses, [each for each in before if not each.is_remark])
-    off = max((each.off for each in script if each.edits and not refused.drops(each)), default=0)
-    return Counts(found, there, steps, undecided, guessed, 0, refused.filled, refused.lines, *sound, off)
+def guesses_in(script: Sequence[Repair], found: Sequence[Damage], refused: Refused) -> int:
+    """How many places are repaired by a guess: not if the repair is dropped."""
+    return _places_of([each for each in script if each.edits and each.undecided and not refused.drops(each)], found)
+
+
+def most_off(script: Sequence[Repair], refused: Refused) -> int:
+    """By how many microseconds what is filled in can be off at most."""
+    return max((each.off for each in script if each.edits and not refused.drops(each)), default=0)
 
 
 def _places_of(repairs: Sequence[Repair], damages: Sequence[Damage]) -> int:
@@ -294,7 +294,18 @@ class Target:
             return []
         level = TrackEdges(repaired, None)
         level.offset = track.offset
-        return self.put_back(level, track, out)
+        return self.put_back(level, track, out) + self._unread(out, track)
+
+    def _unread(self, out: IO[bytes], track: Opened) -> List[str]:
+        """What is said if the proved programs do not read the file, as if another wire has letters of VHDL: these stay."""
+        if is_standard_output(self.out):
+            return []
+        out.flush()
+        path, header = "/proc/%d/fd/%d" % (os.getpid(), out.fileno()), Reader(Source(self.into or "")).read()
+        name = wire_name(header, choose(header, self._wire(track)))
+        if not os.path.isfile(path) or is_opened(path, ["--wire=" + name]):
+            return []
+        return [UNREAD_AS_IT_IS % " ".join(map(shlex.quote, ["irig_wire", no_option(self.out), name]))]
 
     def put_back(self, level: TrackLevel, track: Opened, out: IO[bytes]) -> List[str]:
         """Writes the file with the level of the repaired track; what is said of it."""

@@ -11,7 +11,7 @@ from contextlib import contextmanager
 from typing import Callable, Iterator, Tuple, Union
 
 from .editor import Problem, called
-from .ending import DEFECT, INTERRUPTED, SIGNALLED, Stopped, ended, heed_signals, unheed_signals
+from .ending import DEFECT, INTERRUPTED, IS_FOLDER, SIGNALLED, Stopped, ended, heed_signals, unheed_signals
 from .options import HELP, VERSION, Command, Given
 from .temporary import named_if_no_room, temporary_track
 from .version import version
@@ -31,7 +31,7 @@ def kept(path: str) -> Iterator[str]:
         yield path
         return
     if stat.S_ISDIR(mode):
-        raise Problem("%s: is a folder" % path)
+        raise Problem("%s: %s" % (path, IS_FOLDER))
     with temporary_track() as copy:
         with sys.stdin.buffer if path == "-" else open(path, "rb") as source, named_if_no_room():
             shutil.copyfileobj(source, copy)

@@ -32,8 +32,9 @@ class Damage:
     kind: DamageKind = DamageKind.OTHER
     is_told: bool = False  # the text names its pulses, if it has to
 
-    def line(self) -> str:
-        pulses = [pulses_text(*self.concern.pulses)] if self.concern.pulses and not self.is_told else []
+    def line(self, counted_in: str = "") -> str:
+        """Its pulses are counted in what was looked at, which can be named."""
+        pulses = [pulses_text(*self.concern.pulses) + counted_in] if self.concern.pulses and not self.is_told else []
         names = [self.name, *pulses] if self.name else ["remark"] if self.is_remark else pulses
         return "%d %s%s" % (self.at, ", ".join(names) + ": " if names else "", self.seen)
 

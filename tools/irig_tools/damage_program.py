@@ -29,7 +29,8 @@ COUNT = Option("--count", about="prints only how many places are damaged")
 COMMAND = Command("irig_damage", ("TRACK",), """\
 Lists where a recording of IRIG 200-04 time code is damaged, in the order of
 time, one line each: the time in microseconds, the frame, the element and the
-pulses, and what is seen there. The track is not changed; - is standard input.
+pulses, counted from 1 in the recording as it is, and what is seen there. The track
+is not changed; - is standard input.
 Any dump that irig_wire reads is read; the wire, the format and the expression are
 found if they are not given. The interval is that of the recording: a clock that drifts and rises that tremble
 are said once. A leap second is no damage, and neither is a frame that is cut at

@@ -8,6 +8,7 @@ from typing import Dict, Iterator, List, NamedTuple, Optional, Tuple
 from .dump_offset import Offset, read_offset
 from .dump_source import Source
 from .editor import Problem
+from .ending import EMPTY_FILE
 
 HEADS = {b"$date", b"$version", b"$timescale", b"$scope", b"$upscope", b"$var", b"$enddefinitions",
          b"$attrbegin", b"$attrend"}
@@ -17,6 +18,7 @@ NO_BITS = {"real", "realtime", "event", "parameter", "string", "shortreal"}
 PORT_RANGE = re.compile(rb"\[([0-9]{1,9}):([0-9]{1,9})\]")
 MOST_BEFORE = 10000  # words before the header
 REPLACED = "\ufffd"  # what is shown of a letter that cannot be printed
+NO_HEAD = "is no dump: no declaration is found; samples and tables are for irig_demodulate"
 ENDLESS = ": is no dump: the declarations do not end; the file is cut off, or it has no $enddefinitions"
 
 
@@ -126,7 +128,7 @@ class Reader:
             before.append(word)
             if len(before) > MOST_BEFORE:
                 break
-        raise Problem("%s: is no dump: no declaration is found; samples and tables are for irig_demodulate" % self.source.path)
+        raise Problem("%s: %s" % (self.source.path, NO_HEAD if before else EMPTY_FILE))
 
     def _section(self) -> List[bytes]:
         """The words up to `$end`; a declaration that is not closed ends at the next one."""

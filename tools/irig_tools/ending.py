@@ -16,6 +16,7 @@ ALL_RIGHT, FOUND, NOT_READ = 0, 1, 2  # statuses
 DEFECT = 70  # a defect, or memory ran out: EX_SOFTWARE of sysexits.h
 INTERRUPTED, UNREAD = 130, 141  # as a shell shows the signals INT and PIPE
 SIGNALLED = 128  # and any other: with its number more
+EMPTY_FILE, IS_FOLDER = "is empty", "is a folder"  # what is said of an input
 ESCAPED = {code: repr(chr(code))[1:-1] for code in (*range(32), 127)}  # letters of a name that would end or change the line
 
 
@@ -95,7 +96,7 @@ def _known(error: Exception, program: str) -> int:
     if isinstance(error, Usage):
         text += " (%s --help says more)" % program
     if isinstance(error, OSError):
-        text = str(error.strerror or error)
+        text = IS_FOLDER if isinstance(error, IsADirectoryError) else str(error.strerror or error)
         text = "%s: %s" % (error.filename, text) if error.filename else text
     if text.startswith("-: "):
         text = name_of("-") + text[1:]

@@ -8,10 +8,12 @@ from typing import List, NamedTuple, Optional, Sequence, Tuple
 from .digits import FRACTION, NUMBER, WHOLE
 from .editor import Problem
 
-OF_A_SECOND = {"": 1.0, "m": 1e-3, "milli": 1e-3, "u": 1e-6, "\u00b5": 1e-6, "\u03bc": 1e-6, "micro": 1e-6, "n": 1e-9,
-               "mikro": 1e-6, "nano": 1e-9, "p": 1e-12, "pico": 1e-12}
+OF_A_SECOND = {"": "e0", "m": "e-3", "milli": "e-3", "u": "e-6", "\u00b5": "e-6", "\u03bc": "e-6", "micro": "e-6", "mikro": "e-6",
+               "n": "e-9", "nano": "e-9", "p": "e-12", "pico": "e-12", "f": "e-15", "femto": "e-15"}
 SECOND_NAMES = ("s", "sec", "second", "seconds", "sek", "sekunden", "secondes")
-SECONDS_IN = {part + name: size for part, size in OF_A_SECOND.items() for name in SECOND_NAMES}
+SECONDS_IN = {part + name: float("1" + size) for part, size in OF_A_SECOND.items() for name in SECOND_NAMES}
+TICKS = ("1", "10", "100")  # of a unit, as a dump can have them
+SECONDS_IN.update({many + part + name: float(many + size) for many in TICKS for part, size in OF_A_SECOND.items() for name in SECOND_NAMES})
 NO_TIMES = ("v", "mv", "volt", "volts", "sequence")
 TIME = re.compile(r"(?i)\W*(time|t|timestamp|zeit|temps|x|x-axis|seconds?|sec)(\W.*|_(%s))?" % "|".join(SECONDS_IN))
 RATE_LINE = re.compile(r"(?i)\W*(?:meta )?samplerate\W*([0-9.]+) *([kmg]?)(?:hz)?\W*")
@@ -92,7 +94,7 @@ class Heads:
         lines = [fields_of(head, self.parted) for head in heads if head and not head.startswith(";")]
         lines = [fields for fields in lines if len(fields) >= self.count - 1]
         last = lines[-1] if lines else []
-        units = [field.strip("()[] ").lower() for field in last]
+        units = [field.strip("()[] ").lower().replace(" ", "") for field in last]
         has_units = len(lines) > 1 and all(not unit or unit in SECONDS_IN or unit in NO_TIMES or NUMBER.fullmatch(unit) for unit in units)
         self.names = _distinct(lines[-2] if has_units else last, heads)
         self.units = units if has_units else [_in_name(name) for name in self.names]
@@ -189,6 +191,17 @@ def _distinct(names: List[str], heads: Sequence[str]) -> List[str]:
 
 
 def _in_name(name: str) -> str:
-    """The last unit that a name has, as in `Time [s]`, `time_us`, `Time in ms` and `Milliseconds`."""
+    """The last unit that a name has, as in `Time [s]`, `time_us`, `Time in ms`, `Milliseconds` and `Time (100 ns)`."""
     words: List[str] = re.findall(r"[^\W_]+", name.lower())
-    return next((word for word in reversed(words) if word in SECONDS_IN), "")
+    if _has_other_ticks(name):
+        return ""
+    for before, word in zip(reversed(["", *words[:-1]]), reversed(words)):
+        if word in SECONDS_IN:
+            return before + word if before in TICKS and before + word in SECONDS_IN else word
+    return ""
+
+
+def _has_other_ticks(name: str) -> bool:
+    """Whether times are counted in other ticks than those of a dump, as in `Time (25 ns)`."""
+    found = IN_BRACKETS.fullmatch(name)
+    return found is not None and found[1][:1].isdigit() and "".join(found[1].lower().split()) not in SECONDS_IN

@@ -39,12 +39,6 @@ def undecided_of(script: Sequence[Repair]) -> List[Repair]:
     return [each for each in script if not each.edits and each.undecided and each.kind != DamageKind.DIFFERS]
 
 
-def without_word(damages: Sequence[Damage], script: Sequence[Repair]) -> List[Damage]:
-    """The places that no comment says to be undecided."""
-    said = _stretches_of(undecided_of(script))
-    return [each for each in damages if each.kind not in STEPS and not said.meets(each.at, max(each.at, each.until))]
-
-
 def without_line(damages: Sequence[Damage], script: Sequence[Repair], refused: Refused, interval: int) -> List[Damage]:
     """The places that no line names: neither a comment, nor the frame because of which a repair is not kept."""
     said = _stretches_of([each for each in script if left_by(each) and not refused.drops(each)])
@@ -59,4 +53,4 @@ def _stretches_of(script: Sequence[Repair]) -> Stretches:
 
 def left_lines(damages: Sequence[Damage]) -> List[str]:
     """What is seen at each, with its place, but not what would have to be there."""
-    return [LEFT_PLACE % (each.at, each.line().partition(" ")[2].partition(";")[0]) for each in damages]
+    return [LEFT_PLACE % (each.at, each.line(" of the repaired recording").partition(" ")[2].partition(";")[0]) for each in damages]

@@ -12,6 +12,7 @@ from typing import IO, Callable, Iterator, List, Optional, Tuple
 from .apply import Code, Counts
 from .cut_end import notes_of_rest
 from .editor import Problem, Progress
+from .ending import Stopped
 from .merger import Level
 from .named import wire_or_none
 from .opening import Opened, opened
@@ -37,6 +38,7 @@ class LongRecording:
         self.parts: List[OwnPart] = []
         self.windows: List[TimeWindow] = []
         self.length = 0
+        self.ended = ""  # how far it was, if somebody ended it
 
     def mend(self, task: Task, jobs: int, check: Callable[[], None]) -> bool:
         """Repairs all windows as the task says; nothing is done if all fits in a track. A check comes before the first one."""
@@ -52,6 +54,9 @@ class LongRecording:
                 windows = Windows(self.track.path, self.wish, take)
                 reading = windows.read()
             self.parts = work.finish()
+        except (KeyboardInterrupt, Stopped):
+            self.ended = work.how_far()
+            raise
         finally:
             self.progress("")
             work.end_all()

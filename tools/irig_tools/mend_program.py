@@ -18,7 +18,7 @@ from .cut_end import is_of_rest, note_if_cut, notes_of_rest
 from .damage import look
 from .damage_program import say_notes
 from .editor import Editor, Problem, Progress, progress_to
-from .ending import ALL_RIGHT, ESCAPED, FOUND, Usage, complain, name_of
+from .ending import ALL_RIGHT, ESCAPED, FOUND, IS_FOLDER, Usage, complain, name_of
 from .explain import explained
 from .folder_program import APPLY_TO, JOBS, REPORT, mend_folder
 from .facts import json_lines, repairs_as_json
@@ -36,11 +36,12 @@ from .overview import of_program, sheet_of
 from .page import page
 from .readings import is_opened
 from .script import Repair
+from .sheet import Sheet
 from .sampled import can_be_long
 from .temporary import named_if_no_room, temporary_folder
 from .texts import counted
 from .window_work import Task
-from .windows import named_size
+from .windows import SIZE, named_size
 
 PAGE_OF_REPAIRS = Option("--page", "FILE", "also writes a page (HTML) to look at: the whole recording, each place before and "
                          "after its repair, and the script; with --apply what was changed, as irig_diff prints it")
@@ -76,6 +77,9 @@ track was not read, and 70 if memory ran out or the tool has a defect. With
 --apply it is 0 if no damage is left, and 1 if some is, or if no sample gets a
 time; with --apply-to 0 if so it is for all recordings, and else 1.
 """)
+
+
+ENDED = "%s: ended, %s; nothing is written, and the same command begins at the first window"
 
 
 @dataclass(frozen=True)
@@ -180,7 +184,12 @@ def mend_windows(given: Given, path: str, original: Optional[str], outputs: Exit
     recording = LongRecording(track, progress)
     with temporary_folder() as folder:
         task = Task(folder, recording.track.code, given.has(STEADY), original is None)
-        if not recording.mend(task, given.number(JOBS) or len(os.sched_getaffinity(0)), lambda: check_windows(given)):
+        try:
+            is_long = recording.mend(task, given.number(JOBS) or len(os.sched_getaffinity(0)), lambda: begin_windows(given))
+        finally:
+            if recording.ended:
+                complain(ENDED % (name_of(name), recording.ended), COMMAND.name)
+        if not is_long:
             return None
         say_notes(recording.track, name, COMMAND.name)
         target = target_of(given, recording.track, original, outputs)
@@ -199,12 +208,13 @@ def fits_in_a_track(track: Opened) -> bool:
     return named_size() is None and track.unit is None and is_opened(track.path, wire)
 
 
-def check_windows(given: Given) -> None:
-    """Refuses what is not there for windows."""
+def begin_windows(given: Given) -> None:
+    """Refuses what is not there for windows, and says that the work has begun: it takes minutes."""
+    is_long = "%s: has more pulses than a track holds, so it is repaired in windows" % name_of(given.names[0])
     for option in (SAVE, MOVE, WITH, OUTPUT, PAGE_OF_REPAIRS):
         if given.has(option):
-            raise Problem("%s: has more pulses than a track holds, so it is repaired in windows, and that goes without %s" % (
-                name_of(given.names[0]), option.name))
+            raise Problem("%s, and that goes without %s" % (is_long, option.name))
+    complain("%s of %s; the result is written when all are repaired" % (is_long, counted(named_size() or SIZE, "pulse")), COMMAND.name)
 
 
 def proposed(editor: Editor, given: Given, progress: Progress, others: Others, move: bool) -> List[Repair]:
@@ -243,6 +253,8 @@ def check(given: Given) -> None:
             raise Usage("--apply-to and %s exclude each other" % option.name)
     if given.has(APPLY_TO):
         return
+    if os.path.isdir(given.names[0]):
+        raise Problem("%s: %s; --apply-to FOLDER writes the repaired recordings of one into another" % (given.names[0], IS_FOLDER))
     for option in (APPLY, PAGE_OF_REPAIRS, JSON):
         if given.has(EXPLAIN) and given.has(option):
             raise Usage("--explain and %s exclude each other" % option.name)
@@ -277,10 +289,11 @@ def original_of(given: Given, path: str) -> Iterator[Optional[str]]:
         yield original
 
 
-def proposed_text(script: List[Repair]) -> str:
-    """What a page says first of a script."""
-    edits = sum(bool(repair.edits) for repair in script)
-    return "%s proposed, %s left to you; nothing is changed yet" % (counted(edits, "repair"), counted(len(script) - edits, "place"))
+def proposed_text(script: List[Repair], sheet: Sheet) -> str:
+    """What a page says first of a script: a repair can be of several places."""
+    left, edits = sum(place.is_left for place in sheet.places), sum(bool(repair.edits) for repair in script)
+    return "%s found, %s proposed for %d of them, %d left to you; nothing is changed yet" % (
+        counted(len(sheet.places), "place"), counted(edits, "repair"), len(sheet.places) - left, left)
 
 
 def draw_proposal(given: Given, track: Opened, script: List[Repair], said: List[Repair], progress: Progress, outputs: ExitStack) -> None:
@@ -292,7 +305,7 @@ def draw_proposal(given: Given, track: Opened, script: List[Repair], said: List[
         seen = look(editor, progress, given.has(STEADY))
         sheet = sheet_of(os.path.basename(given.names[0]), wire_or_none(track), seen, script, after)
         sheet = replace(sheet, notes=(*sheet.notes, *(comment for each in said for comment in each.comments)))
-        drawn = page(of_program(sheet, COMMAND.name, "%s: %s" % (name_of(given.names[0]), proposed_text(script))))
+        drawn = page(of_program(sheet, COMMAND.name, "%s: %s" % (name_of(given.names[0]), proposed_text(script, sheet))))
         outputs.enter_context(output(path)).write(drawn.encode("utf-8"))
 
 

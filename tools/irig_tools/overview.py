@@ -8,13 +8,13 @@ from dataclasses import replace
 from typing import Dict, Iterator, List, Optional, Sequence, Tuple
 
 from .analysis import Findings, Part
+from .became import Became, became_of, moved_by
 from .damage import THE_WHOLE, Damage, Seen
 from .editor import Listing
 from .ending import ESCAPED
-from .left import Stretches
 from .moments import DAY, SECOND
 from .repairs import OFF_HERE
-from .script import Repair
+from .script import Move, Repair
 from .sheet import DAMAGED, LOST, SOUND, STATES, Changes, Place, Sheet, Stretch, Wave, cut, merged
 from .spans import Span
 from .steps import cut_by_a_step
@@ -31,14 +31,15 @@ def sheet_of(name: str, wire: str, seen: Seen, script: Sequence[Repair] = (), af
     """The data of a wire of a recording; `after` is the listing after the script, or after what was made of it, with its changes and
     what is still damaged then."""
     layout = seen.findings.layout
-    notes = [each for each in seen.damages if each.is_remark or each.name == THE_WHOLE]
-    places = [_place_of_damage(seen, each, script, after) for each in seen.damages if each not in notes]
+    found = [each for each in seen.damages if not each.is_remark]
     lines = tuple(line for repair in script for line in repair.lines())
     kind = "%s %d" % (layout.kind, layout.expression)
-    said = tuple(each.seen for each in notes)
-    if changes:
-        places = _those_left([_made(place) for place in places], script, there)
-        places = sorted(places + _still_there(seen, there, places), key=lambda place: place.at)
+    said = tuple(each.seen for each in seen.damages if each.is_remark or each.name == THE_WHOLE)
+    if changes and after:
+        became = became_of(found, there, script, ELEMENTS * layout.interval)
+        places = sorted(_places_after(seen, became, script, after), key=lambda place: place.at)
+    else:
+        places = [_place_of_damage(seen, each, script, after) for each in found]
     stretches = _stretches(seen.findings, seen.listing)
     return Sheet(name, seen.listing.length, layout.interval, kind, stretches, tuple(places), lines, said, changes, wire=wire,
                  span=_span_of_times(seen), clock=tuple(_clock_of(seen)))
@@ -86,40 +87,60 @@ def _of_day(part: Part, span: Span, place: PlaceNumber) -> int:
     return HUNDREDTH * hundredths % (DAY * HUNDREDTH)
 
 
-def _made(place: Place) -> Place:
-    """A place without a repair that was proposed for it and not made."""
-    return place if place.after != place.before else replace(place, after=None)
+def _places_after(seen: Seen, became: Became, script: Sequence[Repair], after: Listing) -> Iterator[Place]:
+    """The places of a repair that was made: those that are repaired, as they were found, and those that are damaged now, or of which a
+    comment says that nothing decides them, as they are now. All are at their times in the recording."""
+    moves = sorted(move for repair in script for move in repair.moves)
+    found = {(each.name, each.seen) for each in seen.damages}
+    for damage in became.repaired:
+        place = _place_of_damage(seen, damage, script, after)
+        yield replace(place, after=place.after or _wave_after(seen, after, place.at, place.end, moved_by(place.at, moves)), is_left=False)
+    for damage in became.there:
+        moved = _moved_back(damage.at, moves)
+        own = replace(damage, at=damage.at - moved, until=max(damage.at, damage.until) - moved)
+        place = _place_of_damage(seen, own, [each for each in script if not each.edits], None)
+        now = _wave_after(seen, after, place.at, place.end, moved)
+        said = place.reason if (own.name, own.seen) in found else "after the repair: " + place.reason
+        yield replace(place, reason=said, after=None if now == place.before else now)
+    for repair in became.comments:
+        end = max(repair.at, repair.until)
+        yield Place(repair.at, end, "undecided", repair.undecided[0], _wave(seen, seen.listing, repair.at, end), is_left=True,
+                    lines=tuple(repair.lines()))
 
 
-def _those_left(places: Sequence[Place], script: Sequence[Repair], there: Sequence[Damage]) -> List[Place]:
-    """The places but those at which nothing was changed and where nothing is damaged now: a step next to other damage can go with it.
-    If a repair moves what comes after it, what is damaged now has other times, so all places are kept."""
-    left = Stretches((each.at, max(each.at, each.until)) for each in there)
-    moved = any(repair.moves for repair in script)
-    return [each for each in places if moved or each.after is not None or left.meets(each.at, each.end)]
+def _moved_back(time: int, moves: Sequence[Move]) -> int:
+    """By how much later a time of the repaired recording is than it was; the moves are in the order of time."""
+    moved = 0
+    for begin, by, _ in moves:
+        moved += by if begin < time - moved else 0
+    return moved
 
 
-def _still_there(seen: Seen, there: Sequence[Damage], places: Sequence[Place]) -> List[Place]:
-    """The places that are left, and that none of these places shows as one that is."""
-    shown = Stretches((place.at, place.end) for place in places if place.after is None)
-    hidden = [each for each in there if each.name != THE_WHOLE and not shown.meets(each.at, max(each.at, each.until))]
-    return [replace(_place_of_damage(seen, each, (), None), reason="after the repair: " + each.seen) for each in hidden]
+def _wave(seen: Seen, listing: Listing, start: int, end: int) -> Wave:
+    """The pulses of a listing in some time and around it."""
+    around = AROUND * seen.findings.layout.interval
+    return cut(listing.rises, listing.falls, listing.classes, start - around, end + around)
+
+
+def _wave_after(seen: Seen, after: Listing, start: int, end: int, moved: int) -> Wave:
+    """The same after the script, which has moved all that, at the times of the recording."""
+    around = AROUND * seen.findings.layout.interval
+    start, end = max(0, start - around), min(seen.listing.length, end + around)
+    cut_out = cut(after.rises, after.falls, after.classes, start + moved, end + moved)
+    return tuple((rise - moved, fall - moved, name) for rise, fall, name in cut_out)
 
 
 def _place_of_damage(seen: Seen, damage: Damage, script: Sequence[Repair], after: Optional[Listing]) -> Place:
-    around, until = AROUND * seen.findings.layout.interval, max(damage.until, damage.at)
-    start, end = max(0, damage.at - around), min(seen.listing.length, until + around)
+    """A place; if the script repairs it also its pulses after it, else it is left."""
+    until = max(damage.until, damage.at)
     repairs = [each for each in script if each.touches(damage.at, damage.at)]
     lines = tuple(line for repair in repairs[:1] for line in repair.lines())
-    moved = sum(by for repair in script for begin, by, _ in repair.moves if begin < damage.at)  # rests that begin before it
     wave: Optional[Wave] = None
     if after and repairs and repairs[0].edits:
-        cut_out = cut(after.rises, after.falls, after.classes, start + moved, end + moved)
-        wave = tuple((rise - moved, fall - moved, name) for rise, fall, name in cut_out)
-    listing = seen.listing
-    before = cut(listing.rises, listing.falls, listing.classes, start, end)
+        wave = _wave_after(seen, after, damage.at, until, moved_by(damage.at, [move for repair in script for move in repair.moves]))
     off = "".join("; " + OFF_HERE % (each.off / 1000) for each in repairs[:1] if each.off)
-    return Place(damage.at, until, damage.seen.partition(";")[0], damage.seen + off, before, wave, lines, damage.name)
+    before = _wave(seen, seen.listing, damage.at, until)
+    return Place(damage.at, until, damage.seen.partition(";")[0], damage.seen + off, before, wave, lines, damage.name, wave is None)
 
 
 def _stretches(findings: Findings, listing: Listing) -> Tuple[Stretch, ...]:
@@ -142,7 +163,7 @@ def _between_parts(listing: Listing, begin: int, end: int, interval: int) -> Ite
         beyond = min(end, start + ELEMENTS * interval)
         pulses = bisect_left(listing.rises, beyond) - bisect_left(listing.rises, start)
         state = LOST if 2 * pulses * interval < beyond - start else DAMAGED
-        yield Stretch(start, beyond, state, round((beyond - start) / (ELEMENTS * interval)))
+        yield Stretch(start, beyond, state)
 
 
 def lasting_of(findings: Findings, listing: Listing, turned: Sequence[Tuple[int, int]] = ()) -> Dict[str, int]:

@@ -43,7 +43,7 @@ places.forEach((place, index) => {
   const state = !isMended ? "" : isLeft(place) ? "left to you" : "repair";
   const item = make("li", {role: "option", id: `item-${index + 1}`, "aria-selected": "false", class: isLeft(place) ? "" : "done"},
     make("span", {class: "count"}, String(index + 1)), make("span", {class: "title"}, place.title),
-    make("span", {class: "state" + (place.after ? "" : " open")}, state),
+    make("span", {class: "state" + (isLeft(place) ? " open" : "")}, state),
     make("span", {class: "where"}, seconds(place.at) + (place.frame ? ", " + place.frame : "")));
   item.addEventListener("click", () => select(place));
   item.addEventListener("dblclick", () => open(place));
@@ -223,7 +223,7 @@ function showChanges() {
   });
 }
 
-byId("open-count").textContent = places.filter(isLeft).length;
+byId("open-count").textContent = held.left;
 byId("filter").hidden = !places.some(isLeft);
 byId("open-only").addEventListener("change", filter);
 byId("more").textContent = held.more ? `${held.more} more places are not on this page.` : "";

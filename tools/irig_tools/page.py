@@ -9,8 +9,8 @@ import re
 from collections.abc import Iterator, Mapping, Sequence
 from pathlib import Path
 
-from .sheet import STATES, Changes, Place, Sheet, Wave, facts_of, frames_in, merged, window
-from .texts import counted, escaped, plain
+from .sheet import STATES, Changes, Place, Sheet, Wave, facts_of, merged, time_in, window
+from .texts import counted, escaped, plain, seconds
 from .units import ELEMENTS
 
 FILES = Path(__file__).resolve().parent
@@ -58,11 +58,10 @@ def digest(code: str) -> str:
 
 
 def legend_items(sheet: Sheet) -> Iterator[str]:
-    """What the bars of the strip mean, with the number of frames of each kind; those of a repair are as they were before it."""
+    """What the bars of the strip mean, with the time that is of each kind; those of a repair are as they were before it."""
     when = "before, " if sheet.changes else ""
     for state in STATES:
-        yield '<li><span class="key %s"></span>%s%s: %s</li>' % (
-            state, when, state, escaped(counted(frames_in(sheet, state), "frame, whole or in part", "frames, whole or in part")))
+        yield '<li><span class="key %s"></span>%s%s: %s</li>' % (state, when, state, escaped(seconds(time_in(sheet, state))))
     if sheet.changes:
         yield '<li><span class="key changed"></span>changed: %s; up is now high, down is now low</li>' % (
             escaped(counted(sheet.changes.stretches, "stretch", "stretches")))
@@ -94,6 +93,7 @@ def data(sheet: Sheet, most: int) -> str:
         "strip": strip_words(sheet),
         "places": [place_data(sheet, place, start, pulses) for place, start in zip(places, starts)],
         "more": len(sheet.places) - len(places),
+        "left": sum(place.is_left for place in sheet.places),
         "script": [plain(line) for line in sheet.script],
         "clock": sheet.clock,
     }
@@ -120,6 +120,8 @@ def place_data(sheet: Sheet, place: Place, start: int, pulses: int) -> dict[str,
     }
     if place.after is not None:
         found["after"] = wave_words(place.after, pulses)
+    if place.is_left:
+        found["left"] = True
     if start >= 0:
         found["part"] = [start, len(place.lines)]
     elif place.lines:
@@ -159,14 +161,12 @@ def digits(number: int) -> str:
 
 
 def strip_words(sheet: Sheet) -> str:
-    """Each stretch as a letter, its length, and after a dot its frames unless it is one; - is a gap."""
+    """Each stretch as a letter and its length; - is a gap."""
     words, last = [], 0
     for stretch in merged(sheet.stretches):
         if stretch.start > last:
             words.append("-" + digits(stretch.start - last))
         words.append(stretch.state[0].upper() + digits(stretch.end - stretch.start))
-        if stretch.frames != 1:
-            words.append("." + digits(stretch.frames))
         last = stretch.end
     return "".join(words)
 

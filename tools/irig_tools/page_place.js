@@ -17,9 +17,10 @@ function shownPlace(place) {
   const facts = [make("p", {class: "times"}, times(place))];
   if (!place.reason.includes(place.frame)) facts.push(make("p", {}, "In " + place.frame));
   facts.push(make("p", {class: "reason"}, place.reason));
-  const open = held.changes ? "Nothing was changed here: this place is left to you."
-    : "No repair is proposed: this place is left to you.";
-  if (!place.after && held.script.length) facts.push(make("p", {class: "open"}, open));
+  const open = !held.changes ? "No repair is proposed: this place is left to you."
+    : place.after ? "What was changed here does not repair it: this place is left to you."
+      : "Nothing was changed here: this place is left to you.";
+  if (isLeft(place)) facts.push(make("p", {class: "open"}, open));
   return {picture, facts};
 }
 

@@ -126,7 +126,7 @@ function columns(view, from = SIDE, to = view.width - SIDE) {
       taken[x] = rank < worst[x] ? taken[x] : share + (rank === worst[x] ? taken[x] : 0);
       worst[x] = Math.max(worst[x], rank);
     }
-    alone.set(first, {wide: last - first, frames: stretch.frames});
+    alone.set(first, {wide: last - first, long: stretch.end - stretch.start});
   }
   const shareAt = (x) => worst[x] < 2 ? SHARES : Math.max(1, Math.min(SHARES, Math.round(taken[x] * SHARES)));
   const runs = [];
@@ -149,7 +149,7 @@ function bars(view, top, high, out) {
     const y = state === "damaged" ? top - out : top + high - inside;
     made.append(draw("rect", {x, width: wide, y, height: inside + (state === "sound" ? 0 : out), class: state}));
     if (!of || of.wide !== wide || wide < 120) continue;
-    const words = state + ", " + of.frames.toLocaleString("en") + (of.frames === 1 ? " frame" : " frames");
+    const words = state + ", " + span(of.long);
     made.append(draw("text", {x: x + wide / 2, y: top + high / 2 + 4, class: "on-" + state}, words));
   }
   return made;

@@ -28,9 +28,9 @@ function draw(name, attributes = {}, ...children) {
 function readStrip(words) {
   const found = [];
   let start = 0;
-  for (const [, state, length, frames] of words.matchAll(/([SDL-])([0-9a-z]+)(?:\.([0-9a-z]+))?/g)) {
+  for (const [, state, length] of words.matchAll(/([SDL-])([0-9a-z]+)/g)) {
     const end = start + number(length);
-    if (state !== "-") found.push({start, end, state: STATES[state], frames: number(frames || "1")});
+    if (state !== "-") found.push({start, end, state: STATES[state]});
     start = end;
   }
   return found;
@@ -62,7 +62,7 @@ const places = held.places.map((place) => ({
 
 // The places that the list shows: all, or those that are left to the user.
 const isMended = held.script.length > 0 || Boolean(held.changes);
-const isLeft = (place) => isMended && !place.after;
+const isLeft = (place) => isMended && Boolean(place.left);
 const listed = () => document.getElementById("open-only").checked ? places.filter(isLeft) : places;
 
 // A time in seconds, to the last digit.

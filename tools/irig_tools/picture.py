@@ -2,7 +2,7 @@
 import textwrap
 from collections.abc import Iterator
 
-from .sheet import STATES, Place, Sheet, facts_of, frames_in, window
+from .sheet import STATES, Place, Sheet, facts_of, time_in, window
 from .svg import (BAND, FAINT, GRID, GROUND, INK, LEFT, OUT, RIGHT, TINT, WIDE, Scale, axis, bar, differences,
                   rect, strip, text, wave_labels, wave_path)
 from .texts import counted, escaped, plain, seconds
@@ -32,7 +32,7 @@ def picture(sheet: Sheet, most: int = MOST_DRAWN) -> str:
 
 def title(sheet: Sheet) -> str:
     """What the picture shows, in words, for readers who cannot see it."""
-    states = ", ".join("%s %s" % (counted(frames_in(sheet, state), "frame"), state) for state in STATES)
+    states = ", ".join("%s %s" % (state, seconds(time_in(sheet, state))) for state in STATES)
     return "%s, %s: %s; %s of damage" % (
         sheet.name, seconds(sheet.length), states, counted(len(sheet.places), "place"))
 
@@ -40,7 +40,7 @@ def title(sheet: Sheet) -> str:
 def blocks(sheet: Sheet, most: int) -> Iterator[Block]:
     """The parts of the picture from above to below."""
     yield 26, [text(LEFT, 20, 16, shortened(sheet.name), "start", ' font-weight="bold"')]
-    yield from lines_of([facts_of(sheet), *sheet.notes])
+    yield from lines_of(["%s, %s of damage" % (facts_of(sheet), counted(len(sheet.places), "place")), *sheet.notes])
     yield overview(sheet, min(most, len(sheet.places)))
     yield legend_block(sheet)
     for number, place in enumerate(sheet.places[:most], 1):
@@ -79,10 +79,10 @@ def overview(sheet: Sheet, count: int) -> Block:
 
 
 def legend_block(sheet: Sheet) -> Block:
-    """What the bars of the strip mean, with the number of frames of each kind."""
+    """What the bars of the strip mean, with the time that is of each kind."""
     drawn = []
     for column, state in enumerate(STATES):
-        words = "%s: %s" % (state, counted(frames_in(sheet, state), "frame"))
+        words = "%s: %s" % (state, seconds(time_in(sheet, state)))
         x = LEFT + 190 * column
         drawn += [bar(x, 10, 14, state), text(x + 22, 27, 12, words, "start")]
     return 50, drawn

@@ -21,6 +21,7 @@ from .wire import ENDS_WITHIN, SEVERAL_DUMPS, Report, Wish, first_of, unit_in
 from .wire_edges import WireEdges
 from .wire_words import words_of
 
+STRANGE = "words that mean no change are not written again, %d of them; the first is '%s', after time %d"
 ANOTHER = 0.9  # of the time for which a track is high: a wire that differs for longer is another one
 
 
@@ -66,6 +67,10 @@ class _Body(Body):
             yield change
             self.value = ""
 
+    def _strange(self, word: bytes) -> None:
+        super()._strange(word)
+        self.put.source.taken[-1] = b""  # no program reads a file with it
+
     def _port(self, word: bytes) -> Iterator[Change]:
         for _ in super()._port(word):
             raise Problem("the wire is a port of an extended dump; no track can be put back into that")
@@ -107,6 +112,8 @@ class PutBack:
         if within:  # no program reads a part of a word
             del self.source.taken[-body.end_words:]
             self.report.doubtful.append(ENDS_WITHIN[within] + "; that word is not written again")
+        if body.counts["strange"]:
+            self.report.doubtful.append(STRANGE % (body.counts["strange"], body.strange, body.strange_at))
         self.merger.flush(len(self.source.taken), True)
         self.source.free = True
         self._check_end(body)

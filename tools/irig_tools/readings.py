@@ -11,7 +11,7 @@ from typing import Dict, List, Optional, Sequence
 
 from . import limits
 from .editor import CUT_OFF, Editor, Listing, Problem, find_editor, info_of
-from .layout import WITH_BINARY, WITH_CONTROL, WITH_YEAR, Layout
+from .layout import INTERVAL, WITH_BINARY, WITH_CONTROL, WITH_YEAR, Layout
 from .temporary import temporary_script
 from .units import ELEMENTS
 from .unread import led
@@ -28,8 +28,9 @@ class Reading:
 
     kind: str
     expression: int
-    frames: int = 0
-    fine: int = 0
+    frames: int = 0  # whole ones that the recording has, by their times
+    listed: int = 0  # as the editor lists them: noise makes some, and a long hole hides some
+    begins: List[int] = field(default_factory=list)  # of the fine ones, in microseconds
     first: str = ""  # the time of the first fine frame
     last: str = ""
     years: Counter[str] = field(default_factory=Counter)  # and in how many fine frames each is
@@ -37,16 +38,32 @@ class Reading:
 
     def line(self, words: Sequence[str]) -> None:
         """Takes one line of `frames`."""
-        self.frames += 1
+        self.listed += 1
         if words[-1] != "fine":
             return
-        self.fine += 1
+        self.begins.append(int(words[2]))
         self.last = " ".join(words[3:5])
         if "year" in words:
             year = words[words.index("year") + 1]
             self.years[year] += 1
             self.last += " year " + year
         self.first = self.first or self.last
+
+    @property
+    def fine(self) -> int:
+        return len(self.begins)
+
+    def measure(self, first: int, last: int) -> None:
+        """Counts the whole frames between these two rises, those of the first pulse and of the last. Those that are not fine are counted by
+        how long they last. A frame needs the position identifier before it, as for the editor."""
+        period = ELEMENTS * INTERVAL[self.kind]
+        gaps = [after - before for before, after in zip(self.begins, self.begins[1:])]
+        period = statistics.median_low([gap for gap in gaps if 2 * gap < 3 * period] or [period])  # on the clock of the recording
+        interval = period / ELEMENTS
+        begin, end = (self.begins[0], self.begins[-1] + period) if self.begins else (first + interval, first + interval)
+        before = (begin - interval / 2 - first) // period  # half an interval more: rises stray
+        after = (last + 1.5 * interval - end) // period
+        self.frames = int(max(0, before) + sum(max(1, round(gap / period)) for gap in gaps) + bool(self.begins) + max(0, after))
 
     @property
     def is_dated(self) -> bool:
@@ -80,8 +97,9 @@ class Readings:
 
 def read(track: str, kind: str) -> Readings:
     """Asks the editor for the frames of a track of one wire under every expression of a format."""
-    script = "".join("format %s %d\ninfo\nframes\n" % (kind, number) for number in EXPRESSIONS[kind])
+    script = "".join("format %s %d\ninfo\nframes\n" % (kind, number) for number in EXPRESSIONS[kind]) + "1 list\n$ list\n"
     found, row = Readings(), Reading(kind, 0)
+    ends: List[int] = []
     command = [find_editor(), "--out", "/dev/null", track]
     pipe = subprocess.PIPE
     with temporary_script(script) as lines, subprocess.Popen(command, stdin=lines, stdout=pipe, stderr=pipe) as run:
@@ -95,9 +113,13 @@ def read(track: str, kind: str) -> Readings:
                 found.length, found.pulses = info.length, info.pulses
             elif len(words) > 4 and words[0].isdigit():
                 row.line(words)
+            elif len(words) == 4 and words[0].isdigit():
+                ends.append(int(words[1]))
         found.refused = run.stderr.read().decode(errors="replace").strip().rpartition(": ")[2]
     if run.returncode < 0 or found.rows and run.returncode:  # by a signal, or after a part of the answer
         raise Problem(CUT_OFF)
+    for row in found.rows if len(ends) == 2 else ():
+        row.measure(*ends)
     if found.rows:
         _choose_careful(track, found)
     return found
@@ -112,7 +134,7 @@ def _choose_careful(track: str, found: Readings) -> None:
         return
     found.best = best(found.rows)
     kind, fine, number = found.best.kind, found.best.fine, CONTROL_TOO.get(found.best.expression)
-    careful = next((row for row in found.rows if row.expression == number and 0 < row.fine == fine < row.frames), None)
+    careful = next((row for row in found.rows if row.expression == number and 0 < row.fine == fine < row.listed), None)
     if careful:
         found.listing = Editor(["--format", kind, "--expression", str(number), track]).ask([])
         if _has_control(found.listing):

@@ -1,6 +1,7 @@
 """Samples of a recorder, from a sound file, raw numbers, or numbers in lines, a stretch at a time."""
 from __future__ import annotations
 
+import io
 import math
 import re
 import sys
@@ -11,7 +12,7 @@ from . import texts
 from .aside import Aside
 from .digits import NUMBER
 from .editor import Problem
-from .ending import Usage
+from .ending import EMPTY_FILE, Usage
 from .progress import metered
 from .sound import SoundReader
 
@@ -43,7 +44,11 @@ def numbers_of(data: bytes, kind: str) -> Sequence[float]:
 
 
 def stream_of(path: str) -> IO[bytes]:
-    return metered(cast(IO[bytes], sys.stdin.buffer) if path == "-" else open(path, "rb"), path)
+    """What is read; a problem if nothing is there."""
+    stream = cast(io.BufferedReader, sys.stdin.buffer if path == "-" else open(path, "rb"))
+    if not stream.peek(1):
+        raise Problem("%s: %s" % (path, EMPTY_FILE))
+    return metered(stream, path)
 
 
 class Samples:

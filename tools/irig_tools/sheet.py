@@ -7,7 +7,7 @@ from collections.abc import Iterable, Sequence
 from dataclasses import dataclass, field
 from typing import Optional
 
-from .texts import counted, seconds
+from .texts import seconds
 
 SOUND, DAMAGED, LOST = "sound", "damaged", "lost"
 STATES = (SOUND, DAMAGED, LOST)         # from the least to the worst
@@ -24,7 +24,6 @@ class Stretch:
     start: int
     end: int                            # not of the stretch
     state: str                          # one of STATES
-    frames: int = 1                     # how many frames it holds
 
 
 @dataclass(frozen=True)
@@ -39,6 +38,7 @@ class Place:
     after: Optional[Wave] = None        # the same stretch after the repair; None if there is none
     lines: tuple[str, ...] = ()         # the part of the script for this place, comments included
     frame: str = ""                     # the frame it is in, as the user reads it
+    is_left: bool = False               # it is damaged after the repair, too
 
 
 @dataclass
@@ -81,7 +81,7 @@ def merged(stretches: Iterable[Stretch]) -> tuple[Stretch, ...]:
     for stretch in stretches:
         last = found[-1] if found else None
         if last and (last.end, last.state) == (stretch.start, stretch.state):
-            found[-1] = Stretch(last.start, stretch.end, last.state, last.frames + stretch.frames)
+            found[-1] = Stretch(last.start, stretch.end, last.state)
         else:
             found.append(stretch)
     return tuple(found)
@@ -95,15 +95,14 @@ def cut(rises: Sequence[int], falls: Sequence[int], letters: Sequence[str], star
 
 
 def facts_of(sheet: Sheet) -> str:
-    """The format, length, interval and number of places of a recording, in one line; also its wire and its times, if known."""
+    """The format, length and interval of a recording, in one line; also its wire and its times, if known."""
     named = ["wire " + sheet.wire] * bool(sheet.wire) + ["format " + sheet.format] + [sheet.span] * bool(sheet.span)
-    return "%s, %s, interval %s µs, %s of damage" % (
-        ", ".join(named), seconds(sheet.length), format(sheet.interval, ","), counted(len(sheet.places), "place"))
+    return "%s, %s, interval %s µs" % (", ".join(named), seconds(sheet.length), format(sheet.interval, ","))
 
 
-def frames_in(sheet: Sheet, state: str) -> int:
-    """How many frames are in a state."""
-    return sum(stretch.frames for stretch in sheet.stretches if stretch.state == state)
+def time_in(sheet: Sheet, state: str) -> int:
+    """For how many microseconds a recording is in a state."""
+    return sum(stretch.end - stretch.start for stretch in sheet.stretches if stretch.state == state)
 
 
 def window(sheet: Sheet, place: Place) -> tuple[int, int]:

@@ -72,8 +72,11 @@ class WindowJobs:
                 each.check()
             if len(self.running) <= many:
                 return
-            self.progress("%d windows repaired, %d on their way" % (len(self.tasks) - len(self.running), len(self.running)))
+            self.progress(self.how_far())
             time.sleep(LOOK_AGAIN)
+
+    def how_far(self) -> str:
+        return "%d windows repaired, %d on their way" % (len(self.tasks) - len(self.running), len(self.running))
 
     def end_all(self) -> None:
         """Lets those that run remove their files, and waits for them."""

@@ -118,7 +118,7 @@ def _has_sound(ran: Applied, script: Sequence[Repair]) -> bool:
 def _left_as_it_was(counted: Counts) -> Counts:
     """Of a part that is left as it was."""
     found = max(1, counted.found)
-    return replace(counted, found=found, there=found, steps=0, undecided=0, guesses=0, filled=0, refused=0,
+    return replace(counted, found=found, repaired=0, steps=0, undecided=0, left=found, guesses=0, filled=0, refused=0,
                    sound_after=counted.sound_before, off=0)
 
 

@@ -3,7 +3,8 @@ use Rattle.std.specs.Prelude.{◌≡◌, ◌&&◌, ℕ, true, false, Option, Som
 use Rattle.irig_codes.specs.Format.{FormatView}
 use Rattle.irig_stamps.specs.declared.settings.Settings.{Settings}
 use Rattle.irig_time.specs.Chosen.{HasSettings, lacks_year, tells_of_lines, wants_table}
-use Rattle.irig_time.specs.Values.{comma_named, form_named, offset_named, places_named}
+use Rattle.irig_time.specs.Units.{places_named}
+use Rattle.irig_time.specs.Values.{comma_named, form_named, offset_named}
 use Rattle.irig_time.specs.{Names.is_name, Samples.IsComma, Samples.names_column}
 use Rattle.irig_time.specs.Values.{whole_between}
 use Rattle.irig_words.specs.Formats.{HasFormatFault, IsFormat, given, text_or}

@@ -1,4 +1,5 @@
 pub mod Options
+pub mod Units
 pub mod Values
 pub mod Names
 pub mod Samples

@@ -4,7 +4,8 @@ use Rattle.std.specs.Prelude.{Option, Some, None, codes, is_some, is_none}
 use denote.Ref.{Bor}
 use Rattle.irig_stamps.specs.Numbers.{whole_in}
 use Rattle.irig_stamps.specs.{declared.picos.Picos.Picos, declared.settings.Form.Form}
-use Rattle.irig_time.specs.Values.{comma_named, form_named, offset_named, places_named}
+use Rattle.irig_time.specs.Units.{places_named}
+use Rattle.irig_time.specs.Values.{comma_named, form_named, offset_named}
 use Rattle.irig_time.specs.{Names.is_name, Values.whole_between, declared.asked.Asked.Asked}
 use Rattle.irig_time.specs.declared.samples.Column.{Column}
 use Rattle.irig_words.specs.Formats.{text_or}

@@ -15,19 +15,6 @@ within first last (Some v) = if nat_le first v && nat_le v last then Some v else
 abbrev pub whole_between : ℕ → ℕ → List ℕ → Option ℕ
 whole_between first last text = within first last (whole_in text)
 
--- 10^n picoseconds are the unit with this letter before its s
-abbrev pub prefix_places : ℕ → Option ℕ
-prefix_places p =
-    if p == 109 then Some 9 else (if p == 117 then Some 6
-    else (if p == 110 then Some 3 else (if p == 112 then Some 0 else None)))
-
--- 10^n picoseconds are the unit with this name: s, ms, us, ns or ps
-abbrev pub places_named : List ℕ → Option ℕ
-places_named [] = None
-places_named (b ∷ []) = if b == 115 then Some 12 else None
-places_named (p ∷ b ∷ []) = if b == 115 then prefix_places p else None
-places_named (p ∷ b ∷ c ∷ bs) = None
-
 -- a letter of ASCII
 abbrev pub is_letter : ℕ → Bool
 is_letter b = (nat_le 65 b && nat_le b 90) || (nat_le 97 b && nat_le b 122)

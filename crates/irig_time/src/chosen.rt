@@ -33,7 +33,7 @@ pub enum OptionFault {
     #[error(transparent)]
     Format(FormatFault),
     /// No unit.
-    #[error("--unit: not s, ms, us, ns or ps")]
+    #[error("--unit: not s, ms, us, ns or ps, nor 10 or 100 of it, as 100ns")]
     Unit,
     /// No number, or one that is too great.
     #[error("--offset: not a number in the unit")]

@@ -134,7 +134,7 @@ fn marking<'a>(alloc: Global) -> Result<Command<'a>, AllocError>
 fn placing<'a>(alloc: Global) -> Result<Command<'a>, AllocError>
     ensures { IfOk result (λ c. IsPlacing (app_of c)) }
 {
-    let unit = option_arg(alloc, "unit", "UNIT", "s, ms, us, ns or ps: us");
+    let unit = option_arg(alloc, "unit", "UNIT", "s, ms, us, ns, ps; 10ns, 100ns: us");
     let offset = option_arg(
         alloc,
         "offset",

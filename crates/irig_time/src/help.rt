@@ -33,7 +33,7 @@ fn help_text<'a>() -> &'a str
      --to <TIME>            in microseconds, ends the part that is read\n      \
      --format <FORMAT>      A, B, E or G: B\n      \
      --expression <NUMBER>  of the format: 2\n      \
-     --unit <UNIT>          s, ms, us, ns or ps: us\n      \
+     --unit <UNIT>          s, ms, us, ns, ps; 10ns, 100ns: us\n      \
      --offset <NUMBER>      its time at the start of TRACK: 0\n      \
      --column <COLUMN>      of its time: a number from 1, or its name in the \
      header: 1\n      \

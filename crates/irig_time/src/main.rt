@@ -11,6 +11,7 @@ mod naming;
 mod options;
 mod samples;
 mod statuses;
+mod units;
 mod values;
 
 ghost use Rattle.std.specs.Prelude.{map, string_bytes};

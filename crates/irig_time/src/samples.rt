@@ -11,7 +11,8 @@ ghost use Rattle.irig_time.specs.declared.chosen.OptionFault.TheVariants.{Comma}
 
 use crate::asked::Asked;
 use crate::chosen::OptionFault;
-use crate::values::{comma_named, form_named, offset_named, places_named, whole_between};
+use crate::units::places_named;
+use crate::values::{comma_named, form_named, offset_named, whole_between};
 use irig_stamps::{Form, Picos, whole};
 use irig_words::text_or;
 

@@ -4,8 +4,7 @@
 ghost use Rattle.std.specs.Prelude.{◌≡◌, ◌≤◌, ◌<◌, ◌^◌, IfSome, Some};
 ghost use Rattle.std.specs.Str.{bytes_eq};
 ghost use Rattle.irig_time.specs.Values.{comma_named, form_named, is_of_text};
-ghost use Rattle.irig_time.specs.Values.{is_parting, near, offset_named, places_named};
-ghost use Rattle.irig_time.specs.Values.{prefix_places, whole_between, within};
+ghost use Rattle.irig_time.specs.Values.{is_parting, near, offset_named, whole_between, within};
 
 use irig_stamps::{Form, Picos, number, whole};
 
@@ -35,30 +34,6 @@ fn within(first: u128, last: u128, number: u128) -> Option<u128>
         Some(number)
     } else {
         None
-    }
-}
-
-/// The n of the unit with this name: 10^n picoseconds are one of the unit.
-pub fn places_named(name: &[u8]) -> Option<usize>
-    ensures { result ≡ places_named name.now }
-{
-    match name {
-        [b's'] => Some(12),
-        [prefix, b's'] => prefix_places(*prefix),
-        _ => None,
-    }
-}
-
-/// The n of the unit with this letter before its s: 10^n picoseconds are one of the unit.
-fn prefix_places(prefix: u8) -> Option<usize>
-    ensures { result ≡ prefix_places prefix }
-{
-    match prefix {
-        b'm' => Some(9),
-        b'u' => Some(6),
-        b'n' => Some(3),
-        b'p' => Some(0),
-        _ => None,
     }
 }
 
