@@ -309,7 +309,8 @@ def of_late_rises():
     made = Made(31, "B", "2", 14, still, late_alone)
     found = made.mended()
     yield same("a late rise in a frame that is fine",
-               (found.status, len(found.says("a pulse would move in a frame that is fine")), edges_of(found.text) == edges_of(made.damaged.text)), (1, 1, True))
+               (found.status, len(found.says("would move in a frame that is fine")), edges_of(found.text) == edges_of(made.damaged.text)),
+               (1, 1, True))
 
 
 # 6: frames that say another time
@@ -371,7 +372,7 @@ def set_in_frame_12(frames):
 
 def of_lost_at_an_end():
     """What was recorded next to the loss stays, whatever the rest leads to; what is damaged without a loss is mended."""
-    def narrow(frame, element, width):
+    def retimed(frame, element, width):
         def change(draft):
             number = element_of(draft, frame, element)
             (rise, _), = draft.wire.pulses[number]
@@ -392,10 +393,13 @@ def of_lost_at_an_end():
         made = Made(77, kind, "2", 0, several(still, beginning(0.781, 12.6), set_in_frame_12(by)))
         found = made.mended()
         yield same("the clock is set %s in the last whole frame" % name,
-                   (found.status, len(found.says("1 element contradicts")), edges_of(found.text) == edges_of(made.damaged.text)), (1, 1, True))
-    # position identifiers of the first frame; an hour of the last one, in a pulse that is not as wide as zeros are
-    for frame, element, width in ((0, 79, 0.2), (0, 99, 0.2), (12, 21, 0.28)):
-        made = Made(78, "B", "2", 0, several(still, beginning(0.781, 12)), narrow(frame, element, width))
+                   (found.status, len(found.says("1 element contradicts")), edges_of(found.text) == edges_of(made.damaged.text)),
+                   (1, 1, True))
+    # position identifiers of the first frame; an hour of the last one in a pulse that is not as wide as zeros are; the same in one that
+    # is, if the seconds of the day are there; and a day
+    for frame, element, width, expression in ((0, 79, 0.2, "2"), (0, 99, 0.2, "2"), (12, 21, 0.28, "2"), (12, 21, 0.2, "3"),
+                                              (12, 35, 0.5, "2")):
+        made = Made(78, "B", expression, 0, several(still, beginning(0.781, 12.2)), retimed(frame, element, width))
         found = made.mended()
         yield same("element %d of frame %d" % (element, frame), (found.status, made.unlike(found)), (0, (0, 0)))
 

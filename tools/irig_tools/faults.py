@@ -12,12 +12,14 @@ from .concern import NOTHING, Concern, of_frame
 from .frames import Times
 from .kinds import STEPS, DamageKind
 from .layout import NAMES, POSITIONS, READABLE, SHARE
+from .moments import SECOND
 from .texts import counted
 from .track import Track
 from .units import ELEMENTS, FrameNumber, Microseconds, PlaceNumber, PulseIndex, frame_of, number_of, place_in, plus, through
 from .widths import Widths
 from .witnesses import Elsewhere, Witnesses
 
+OF_A_DAY = {"hundredths": 1, "seconds": SECOND, "minutes": 60 * SECOND, "hours": 3600 * SECOND}
 LEFT_FRAME = "the frame is left as it is; regen gives it the time to which the others lead"
 
 
@@ -159,7 +161,7 @@ class Faults:
         in_one = not binary.isdisjoint(told) and (binary.isdisjoint(against) or binary.issuperset(against))
         most = limits.MOST_CONTRARY if in_one or self.is_between(number) else limits.CONTRARY_AT_END
         is_clear = len(against) > (0 if twice_told or self.times.turns_at(number) else most)
-        if not is_clear and not self._can_be_another_time(number, against):
+        if not is_clear and not self._can_be_another_time(number, told, against):
             return False
         seen = "%s: %s contradict%s the time that the frames next to it lead to" % (
             self.times.name(number), counted(len(against), "element"), "" if against[1:] else "s")
@@ -167,14 +169,31 @@ class Faults:
         self.remark(first, seen, LEFT_FRAME)
         return True
 
-    def _can_be_another_time(self, number: FrameNumber, against: Sequence[int]) -> bool:
-        """Whether what contradicts in a frame at an end can be another time, as after a loss of whole frames, or if the clock was set there:
-        each such element is one pulse, as wide as others of its class."""
-        agreeing = self.times.agreeing
-        if not against or not agreeing or min(agreeing) <= number <= max(agreeing):
+    def _can_be_another_time(self, number: FrameNumber, told: Sequence[int], against: Sequence[int]) -> bool:
+        """Whether a frame at an end shows another time of its day, as after a loss of whole frames, or if the clock was set there: what
+        contradicts is one pulse each, as wide as others of its class, and in the last frame all from there on is as it would be then, in
+        the first one all up to there."""
+        moment, agreeing = self.times.moment(number), self.times.agreeing
+        if moment is None or not against or not agreeing or min(agreeing) <= number <= max(agreeing):
             return False
         places = [place_in(number, element) for element in against]
-        return all(len(self.track.pulses_at(place)) == 1 and not self.is_odd(place) for place in places)
+        if any(len(self.track.pulses_at(place)) != 1 or self.is_odd(place) for place in places):
+            return False
+        is_last, text, most = number > max(agreeing), self.times.texts[number], limits.LONGEST_CUT // ELEMENTS
+        shown = [element for element in told if (element >= against[0] if is_last else element <= against[-1])]
+        for off in (self._set_by(text, against), *(by * self.layout.period for by in range(-most, most + 1))):
+            other = self.layout.encode(self.times.calendar.fields(plus(moment, off)))
+            if all(other[element] == text[element] for element in shown):
+                return True
+        return False
+
+    def _set_by(self, text: str, against: Sequence[int]) -> int:
+        """By how many hundredths of a second a clock was set that shows just these elements otherwise: by what they say of the time of day,
+        or if they say nothing of that by what they say of its seconds."""
+        fields, of_a_day = self.layout.fields, [element for name in OF_A_DAY for element, _ in self.layout.fields.get(name, ())]
+        sizes = OF_A_DAY if not set(of_a_day).isdisjoint(against) else {"binary": SECOND}
+        rows = [(element, weight * sizes.get(name, 0)) for name in fields for element, weight in fields[name] if element in against]
+        return sum(weight if text[element] == "1" else -weight for element, weight in rows)
 
     def is_between(self, number: FrameNumber) -> bool:
         """Whether frames before this one and after it show the time to which all lead."""
