@@ -38,8 +38,8 @@ def _in_parts(whole: Repair, faults: Faults, group: List[Item]) -> Repair:
     parts, is_in_fine = unsure_parts(faults, group), group[0].is_in_fine
     if len(parts) == 1:
         return replace(whole, is_unsure=parts[0][1], is_in_fine=is_in_fine)
-    tried = [replace(_repair(faults, items).another_way(), is_unsure=is_unsure) for items, is_unsure in parts]
-    return replace(whole, is_in_fine=is_in_fine, parts=tried)
+    several = [replace(_repair(faults, items).another_way(), is_unsure=is_unsure) for items, is_unsure in parts]
+    return replace(whole, is_in_fine=is_in_fine, parts=several)
 
 
 def _repair(faults: Faults, group: List[Item]) -> Repair:
