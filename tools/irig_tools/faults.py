@@ -172,9 +172,9 @@ class Faults:
     def _can_be_another_time(self, number: FrameNumber, told: Sequence[int], against: Sequence[int]) -> bool:
         """Whether a frame at an end shows another time of its day, as after a loss of whole frames, or if the clock was set there: what
         contradicts is one pulse each, as wide as others of its class, and in the last frame all from there on is as it would be then, in
-        the first one all up to there."""
+        the first one all up to there. No other recording has the time to which the others lead."""
         moment, agreeing = self.times.moment(number), self.times.agreeing
-        if moment is None or not against or not agreeing or min(agreeing) <= number <= max(agreeing):
+        if moment is None or not against or not agreeing or min(agreeing) <= number <= max(agreeing) or self.elsewhere.have(number):
             return False
         places = [place_in(number, element) for element in against]
         if any(len(self.track.pulses_at(place)) != 1 or self.is_odd(place) for place in places):

@@ -114,6 +114,10 @@ class Elsewhere:
         often = Counter(each.text[element] for each in self._near.get(number, ())).most_common(2)
         return None if not often or (len(often) > 1 and often[0][1] == often[1][1]) else often[0][0]
 
+    def have(self, number: FrameNumber) -> bool:
+        """Whether one of them has a frame with the time to which the frames here lead."""
+        return number in self._near
+
     def is_split(self, number: FrameNumber, element: int) -> bool:
         """Whether as many of several have a zero there as a one."""
         return number in self._near and self.told(number, element) is None
