@@ -591,7 +591,7 @@ def of_no_time():
 
 # 12: samples that a repair would leave without a time
 
-TAKERS = (("many", 7214), ("slip", 7060), ("parity", 7023), ("wow", 7011))  # kinds of bench/shares, with seeds
+TAKERS = (("many", 7214), ("slip", 7060), ("wow", 7011))  # kinds of bench/shares, with seeds
 
 
 def of_taken_times():
@@ -624,7 +624,7 @@ def of_turned_times():
         begin = element_of_moment(made, 4, 40 + number) + 14 * made.interval // 25
         found = Mended(upside_down(made.damaged.text, made.damaged.length, begin, begin + 617 * made.interval),
                        ["--format=B", "--expression=2"])
-        yield same("%d" % number, [line for line in found.lines if "left out" in line], [])
+        yield same("%d" % number, [line for line in found.lines if "would have no time" in line], [])
         yield same("%d, pulses that are not as sent" % number, made.unlike(found), (0, 0))
 
 
