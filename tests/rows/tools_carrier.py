@@ -507,7 +507,8 @@ def said_of():
             (["--level"], silent, 1, "if the code is on a carrier, leave out --level; low and high have to be further apart"),
             (["--table"], b"Time [s],A\n0,0\n1,0\n", 1, "the column has no 1; --column names another"),
             (["--format=A"], silent, 2, "too few for a carrier of 10000 Hz: it needs at least 40000"),
-            (["--raw=s16", "--rate=9000000"], b"", 2, "'sox FILE -r 48000 NEW.wav' makes fewer")):
+            (["--raw=s16", "--rate=9000000"], b"\0\0", 2, "'sox FILE -r 48000 NEW.wav' makes fewer"),
+            (["--raw=s16", "--rate=8000"], b"", 2, "standard input: is empty")):
         got, _, said = run("irig_demodulate", [*words, "-"], data)
         results.append((got, text in said) == (status, True))
         results[-1] or print("FAILED irig_demodulate %s: %d %s" % (words, got, said))

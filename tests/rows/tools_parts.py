@@ -709,14 +709,14 @@ def of_contrary():
         found = analysis.examine(listing_of(pulses)).parts[0].faults
         said = sum("contradict" in remark.seen for remark in found.remarks)
         yield same("%d elements of a frame contradict the others" % many, (sorted(found.wanted), said), (wanted, left))
-    for places, wanted, left in (([820], [820], 0), ([820, 821], [], 1)):  # hours: an hour later, and an hour earlier
+    for places, wanted, left in (([820], [], 1), ([820, 821], [], 1), ([832], [832], 0)):  # an hour later, an hour earlier, another day
         pulses = tools.recording(9, expression=2)
         for at in places:
             rise, fall = pulses[at]
             pulses[at][1] = rise + (2000 if fall - rise == 5000 else 5000)
         found = analysis.examine(listing_of(pulses, expression=2)).parts[0].faults
         said = sum("contradict" in remark.seen for remark in found.remarks)
-        yield same("%d elements of the last frame" % len(places), (sorted(found.wanted), said), (wanted, left))
+        yield same("elements %s of the recording" % places, (sorted(found.wanted), said), (wanted, left))
 
 
 def of_set():

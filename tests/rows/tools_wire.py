@@ -114,7 +114,7 @@ ROWS = [
      "$scope module m $end $var wire 1 % a $end $upscope $end $enddefinitions") + "#0 0! 1% #5 1! #7 0! #9", ["a"],
      EDGES, 0, "the wire is ! (path a)"),
     ("no dump", "hello world\n", [], None, 2, "irig_wire: standard input: is no dump: no declaration is found; samples and"),
-    ("an empty file", "", [], None, 2, "is no dump"),
+    ("an empty file", "", [], None, 2, "irig_wire: standard input: is empty"),
     ("declarations alone", "$timescale 1 us $end", [], None, 2, "do not end; the file is cut off"),
     ("digits without end", HEAD + "#" + "9" * 5000 + " #0 0! #5 1! #7 0! #9", [], EDGES, 1, "mean no change"),
     ("an option that is none", HEAD, ["--what"], None, 2, "is no option"),

@@ -23,7 +23,7 @@ from .taken_times import takers, timed
 from .units import ELEMENTS
 
 TAKEN = "the samples at %d and next to it would have no time, or another one"
-MOVED = "a pulse would move in a frame that is fine, and samples next to it would have another time"
+IN_FINE = "a pulse would move in a frame that is fine, and samples next to it would have another time"
 
 
 @dataclass(frozen=True)
@@ -99,7 +99,7 @@ def applied_to(track: Opened, editor: Editor, script: List[Repair], how: How, re
 
 def _without_moves_in_fine(script: Sequence[Repair]) -> List[Repair]:
     """The script without what irig_guard never keeps, with remarks in its place: a frame that is fine keeps each rise."""
-    return [each.left_out(MOVED) if each.is_in_fine else each for each in script]
+    return [each.left_out(IN_FINE) if each.is_in_fine else each for each in script]
 
 
 def _run_without_takers(track: Opened, editor: Editor, script: List[Repair], how: How, repaired: str, listing: Listing) -> Refused:
