@@ -709,7 +709,8 @@ def of_contrary():
         found = analysis.examine(listing_of(pulses)).parts[0].faults
         said = sum("contradict" in remark.seen for remark in found.remarks)
         yield same("%d elements of a frame contradict the others" % many, (sorted(found.wanted), said), (wanted, left))
-    for places, wanted, left in (([820], [], 1), ([820, 821], [], 1), ([832], [832], 0)):  # an hour later, an hour earlier, another day
+    # an hour later, an hour earlier, another day, and that in two elements
+    for places, wanted, left in (([820], [], 1), ([820, 821], [], 1), ([832], [832], 0), ([830, 832], [], 1)):
         pulses = tools.recording(9, expression=2)
         for at in places:
             rise, fall = pulses[at]
