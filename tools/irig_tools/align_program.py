@@ -42,10 +42,10 @@ OF_HEADER = (HEADER, COLUMN_NAME)
 OF_LINES = (TIME_UNIT, LINE_COLUMN, COMMA, FORM, WHY)
 COMMAND = Command("irig_align", ("TRACK",), """\
 Gives each line of standard input its time of day, as irig_time does and by irig_time,
-also if TRACK has more pulses than a track holds. A track that fits is given to
-irig_time as it is. A longer one is read in windows: irig_time is run for each, with
-the lines that are in it, and what it prints is put together in the order of the
-lines.
+in less time and memory if TRACK is long. A dump of up to 128 megabytes is given to
+irig_time as it is. A longer one is read in windows, several at once: irig_time is run
+for each, with the lines that are in it, and what it prints is put together in the
+order of the lines.
 
   irig_align --format G repaired.vcd < samples.csv > timed.csv
 """, (ALIGN_WIRE, ALIGN_FORMAT, ALIGN_EXPRESSION, TIME_UNIT, OFFSET, LINE_COLUMN, COMMA, HEADER, COLUMN_NAME, YEAR, FORM, ALONE, WHY,
@@ -57,6 +57,7 @@ in the command line, 3 if the track was not read, 4 if the run was broken off; a
 if memory ran out or the tool has a defect.
 """)
 BATCH = 1 << 27  # bytes of lines that are aligned together
+WHOLE = 1 << 27  # bytes of a dump that one irig_time reads as fast as several
 NO_FRAME_TIMED = "%s: no frame has a time with this format and expression"
 DOUBTED = "%s: frames that read well and are not believed, so they give no line a time: %d"
 BROKEN_OFF = 4  # a status of irig_time
@@ -72,12 +73,12 @@ def aligner_words(given: Given, *options: Option) -> List[str]:
 def work(given: Given) -> int:
     program, path = find_beside("irig_time", "irig_align runs it"), given.names[0]
     is_file = os.path.isfile(path)
-    if named_size() is None or not is_file:
+    if not is_file or named_size() is None and os.path.getsize(path) <= WHOLE:
         status = aligned_whole([program, *aligner_words(given, *OF_FRAMES, *OF_LINES, *OF_HEADER, OFFSET, YEAR), "--", path])
         if status is not None:
             return status
     if not is_file:
-        raise Problem("%s: has more pulses than a track holds, and can be read only once" % path)
+        raise Problem("%s: has more pulses than irig_time holds, and can be read only once" % path)
     progress = progress_to(sys.stderr)
     with unchanged(path), temporary_folder() as folder:
         jobs = given.number(ALIGN_JOBS) or len(os.sched_getaffinity(0))

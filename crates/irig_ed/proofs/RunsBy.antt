@@ -1,6 +1,7 @@
 -- An edit on the shelf of a file, as one by the settings.
 use Rattle.std.proofs.Common.{◌≡◌, [], ℕ, true, List, Option, Result, Err, subst}
 use Rattle.std.specs.Prelude.{is_some}
+use Rattle.irig_vcd.specs.Extent.{short}
 use Rattle.irig_vcd.specs.{Window.parts_in, declared.fault.VcdFault.VcdFault}
 use Rattle.irig_script.specs.{Obey.Desk.Desk, Obey.Desk.desk_at, Print.Screen.Shown, declared.obey.status.Status.Status}
 use Rattle.irig_script.specs.{declared.obey.dump_run.DumpRunFault.DumpRunFault, declared.obey.dump_run.DumpRunFault.TheVariants.Dump}
@@ -44,7 +45,7 @@ fails_by given chosen source at fault kept spared is = record {
   label = [];
   failures = 0;
   ran = fails_in chosen.window (name_in chosen.wire) chosen.format source at.script _ fault is;
-  short = λ memory. absurd (never_in chosen.window (name_in chosen.wire) source fault is (cc memory));
+  short = λ memory. absurd (never_in (short chosen.window) (name_in chosen.wire) source fault is (cc memory));
   kept = kept;
   stays = λ asked. spared;
 }

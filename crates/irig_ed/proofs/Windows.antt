@@ -9,7 +9,7 @@ use Rattle.irig_files.specs.Reads.{most_bytes}
 use Rattle.irig_recording.specs.{FileText.file_text, Recording.RecordingView}
 use Rattle.irig_script.specs.{Obey.Desk.Desk, Obey.DumpRun.RunsOnDump, declared.obey.status.Status.Status}
 use Rattle.irig_script.specs.{declared.obey.dump_run.DumpRunFault.DumpRunFault, declared.obey.dump_run.DumpRunFault.TheVariants.Dump}
-use Rattle.irig_vcd.specs.{Answer.bytes_of, Parts.dump_parts, Window.parts_in, declared.fault.VcdFault.VcdFault, declared.window.Window.Window}
+use Rattle.irig_vcd.specs.{Answer.bytes_of, Extent.short, Parts.dump_parts, Window.parts_in, declared.fault.VcdFault.VcdFault, declared.window.Window.Window}
 use Rattle.irig_vcd.proofs.{WholeDump.fails_now, Windows.no_window_parts}
 
 module _ (wire : Option (List ℕ)) (f : FormatView) (source : List ℕ) (script left : Option (List ℕ)) (from to : Desk) where
@@ -33,7 +33,7 @@ pub fails_in : (window : Option Window) (wire : Option (List ℕ)) (f : FormatVi
     → parts_in window wire source ≡ Err fault → RunsIn window wire f source script script at at (Err (Dump fault))
 fails_in None wire f source script at fault is = (
   inl (fails_now fault (dump_parts wire source) (sym (no_window_parts wire source) ∙ is)),
-  (λ e h. tells_heading None wire source fault e is h),
+  (λ e h. tells_heading (short None) wire source fault e is h),
   refl,
   refl,
 )

@@ -3,25 +3,26 @@ use Rattle.std.proofs.Common.{◌≡◌, ◌++◌, ◌<◌, ◌∙◌, ℕ, List
 use Rattle.std.proofs.Common.{arith, refl, subst, sym}
 use Rattle.std.specs.{Global.Vec, Io.KnownBytes.Consumes, Io.KnownBytes.IsAtEnd}
 use Rattle.std.specs.Prelude.{◌≢◌, IfOk, IfSome, OnErr}
-use Rattle.irig_vcd.specs.{Declarations.declarations_of, Window.parts_in, declared.window.Window.Window, Words.words_of, declared.fault.VcdFault.VcdFault}
+use Rattle.irig_vcd.specs.{Declarations.declarations_of, Window.extent_parts, declared.extent.Extent.Extent, Words.words_of, declared.fault.VcdFault.VcdFault}
 use Rattle.irig_vcd.specs.{declared.fault.VcdFault.TheVariants.OutOfMemory, declared.progress.Progress.Progress, Answer.Gives}
 use Rattle.irig_recording.specs.Recording.{RecordingView}
-use Rattle.irig_files.specs.Reads.{AreRead, HasBytes, HasTaken, IsReadIn, IsReadOf, Takes, most_bytes, parts_of}
+use Rattle.irig_files.specs.Reads.{AreRead, HasBytes, HasTaken, IsReadBy, IsReadIn, IsReadOf, Takes, extent_bytes, parts_of}
 use Rattle.irig_files.specs.{declared.dump_file.DumpFileFault.DumpFileFault, declared.intake.Intake.Intake}
 use Rattle.irig_vcd.proofs.{WholeDump.no_parts_in, Windows.no_window_parts}
 
 -- a fault is that of the declarations, if they have one
-pub tells_heading : (v : Option Window) (wire : Option (List ℕ)) (bytes : List ℕ) (fault e : VcdFault) → parts_in v wire bytes ≡ Err fault
+pub tells_heading : (v : Extent) (wire : Option (List ℕ)) (bytes : List ℕ) (fault e : VcdFault) → extent_parts v wire bytes ≡ Err fault
     → declarations_of wire (words_of bytes) ≡ Err e → fault ≡ e
 tells_heading v wire bytes fault e is h = let both = sym is ∙ no_parts_in v wire bytes e h in cc
 
 -- a fault is that of the dump, if nothing comes after the bytes that are read
-pub fault_at_end : (v : Option Window) (wire : Option (List ℕ)) (bytes : List ℕ) (dump : Result Progress VcdFault) (e : VcdFault) → dump ≡ Err e → AreRead v wire bytes dump
-    → parts_in v wire bytes ≡ Err e
-fault_at_end v wire bytes dump e is read = ap (parts_in v wire) (sym (append-nil bytes)) ∙ (rw is at read) []
+pub fault_at_end : (v : Extent) (wire : Option (List ℕ)) (bytes : List ℕ) (dump : Result Progress VcdFault) (e : VcdFault) → dump ≡ Err e
+    → AreRead v wire bytes dump
+    → extent_parts v wire bytes ≡ Err e
+fault_at_end v wire bytes dump e is read = ap (extent_parts v wire) (sym (append-nil bytes)) ∙ (rw is at read) []
 
 -- it is that of the declarations, if they have one
-pub fault_of_heading : (v : Option Window) (wire : Option (List ℕ)) (bytes : List ℕ) (dump : Result Progress VcdFault) (fault e : VcdFault) → dump ≡ Err fault
+pub fault_of_heading : (v : Extent) (wire : Option (List ℕ)) (bytes : List ℕ) (dump : Result Progress VcdFault) (fault e : VcdFault) → dump ≡ Err fault
     → AreRead v wire bytes dump → declarations_of wire (words_of bytes) ≡ Err e → fault ≡ e
 fault_of_heading v wire bytes dump fault e is read h = tells_heading v wire bytes fault e (fault_at_end v wire bytes dump fault is read) h
 
@@ -54,22 +55,23 @@ all_used (Some xs) (Some ys) some used end = sym (used ∙ ap (λ l. some ++ l) 
 pub is_read_of : (before after wire : Option (List ℕ)) (some : List ℕ) (at : Intake)
     (result : Result (Result (RecordingView × Option (Vec ℕ)) VcdFault) DumpFileFault)
     → HasTaken wire some at → Consumes before after some → (0 < at.left → IsAtEnd after)
-    → IfOk result (λ read. (w : Option (List ℕ)) (bytes : List ℕ) → HasTaken w bytes at → Gives parts_of read (parts_in at.window w bytes))
-    → IfOk result (HasBytes (most_bytes at.window)) → IfOk result (λ _. 0 < at.left) → IfOk result (IsReadIn at.window before wire)
+    → IfOk result (λ read. (w : Option (List ℕ)) (bytes : List ℕ) → HasTaken w bytes at → Gives parts_of read (extent_parts at.extent w bytes))
+    → IfOk result (HasBytes (extent_bytes at.extent)) → IfOk result (λ _. 0 < at.left) → IfOk result (IsReadBy at.extent before wire)
 is_read_of before after wire some at (Ok read) took used end gives few short =
     record { source = some; whole = all_used before after some used (end short); most = omega (arith, took.left, short); parts = gives wire some took; few = few }
 is_read_of before after wire some at (Err fault) took used end gives few short = tt
 
 -- what has no place left is too long
 pub too_long : (before after wire : Option (List ℕ)) (some : List ℕ) (at : Intake) → HasTaken wire some at → Consumes before after some → at.left ≡ 0
-    → IfSome before (λ all. most_bytes at.window < length all)
+    → IfSome before (λ all. extent_bytes at.extent < length all)
 too_long None after wire some at took used none = tt
 too_long (Some xs) None wire some at took used none = absurd used
 too_long (Some xs) (Some ys) wire some at took used none = omega (arith, took.left, none, ap length used, length-append some ys)
 
 -- a fault stays that of the dump
-pub still_faulty : (v : Option Window) (wire : Option (List ℕ)) (bytes part : List ℕ) (fault : VcdFault) → AreRead v wire bytes (Err fault) → AreRead v wire (bytes ++ part) (Err fault)
-still_faulty v wire bytes part fault read = λ more. ap (parts_in v wire) (append_assoc bytes part more) ∙ read (part ++ more)
+pub still_faulty : (v : Extent) (wire : Option (List ℕ)) (bytes part : List ℕ) (fault : VcdFault) → AreRead v wire bytes (Err fault)
+    → AreRead v wire (bytes ++ part) (Err fault)
+still_faulty v wire bytes part fault read = λ more. ap (extent_parts v wire) (append_assoc bytes part more) ∙ read (part ++ more)
 
 -- what is read of all is read of the dump
 pub is_read_whole : (known wire : Option (List ℕ)) (read : Result (RecordingView × Option (Vec ℕ)) VcdFault) → IsReadIn None known wire read

@@ -1,5 +1,6 @@
 -- The dump that is read.
 pub mod Intakes
+pub mod Few
 pub mod Sound
 -- The texts that are written.
 pub mod Blocks

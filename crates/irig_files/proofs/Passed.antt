@@ -1,10 +1,10 @@
 -- What holds of a call's outcome holds of it without its error.
 use Rattle.std.proofs.Common.{◌≡◌, ◌⊎◌, ℕ, List, Option, Some, None, Result, Ok, Err, inl, inr, arith, refl, ◌≢◌}
 use Rattle.std.specs.Prelude.{IfOk, IfErr, IsErr, IsOk, OnOk, OnErr}
-use Rattle.irig_disk.specs.{Disk.Disk, Disk.IsPlace, Disk.LeavesOnly, Disk.MayLeave, Held.Held, Put.AfterFault, Put.IsKept, Put.IsPutLast, Put.OldOrNewIfThere}
+use Rattle.irig_disk.specs.{Disk.Disk, Disk.LeavesOnly, Disk.MayLeave, Held.Held, Put.AfterFault, Put.IsKept, Put.IsPutLast, Put.OldOrNewIfThere}
 use Rattle.irig_disk.specs.{Put.SeenAfter, Put.SeenSameIfThere, Stays.Stays, Writing.IsUnchanged, declared.fault.PutFault.PutFault}
 use Rattle.irig_disk.specs.declared.fault.PutFault.TheVariants as fault
-use Rattle.irig_files.specs.Once.{FailsToPut, PutsOnce, Replaces}
+use Rattle.irig_files.specs.Once.{PutsOnce, Replaces}
 
 pub value_passed : {T E F : Type 0} (P : T → Type 0) (outcome : Result T E) (result : Result T F) → IfOk result (λ v. outcome ≡ Ok v) → IfOk outcome P
     → IfOk result P

@@ -1,5 +1,5 @@
 -- The texts written at a place, one after another.
-use Rattle.std.proofs.Common.{◌≡◌, ◌⊎◌, ◌++◌, ◌∷◌, [], ℕ, List, Option, Some, None, Bool, true, false, refl, sym, ap, ◌∙◌, cond, inl, inr, Result, Ok, Err}
+use Rattle.std.proofs.Common.{◌≡◌, ◌++◌, ◌∷◌, [], ℕ, List, Option, Some, None, Bool, true, false, refl, sym, ap, ◌∙◌, cond, inl, inr, Result, Ok, Err}
 use Rattle.std.proofs.lemmas.{List.append-nil, Slice.Eq.bytes_eq-Decides}
 use Rattle.std.specs.Prelude.{option_map, is_some, IsTrue}
 use Rattle.std.specs.Str.{bytes_eq}

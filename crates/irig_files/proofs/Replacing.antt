@@ -2,7 +2,7 @@
 use Rattle.std.proofs.Common.{◌≡◌, ◌≢◌, ◌⊎◌, inl, inr, ⊎_elim, refl, sym, ◌∙◌, ap, arith, ℕ, List, [], ◌∷◌, ◌++◌, Option, Some, None, Result, Ok, Err, ◌≤◌}
 use Rattle.std.proofs.lemmas.List.{append-nil}
 use Rattle.irig_disk.specs.Disk.{Disk, IsPlace, seen_under, MayLeave, LeavesOnly}
-use Rattle.irig_disk.specs.Put.{IsKept, IsPut, IsPutLast, OldIfThere, OldOrNewIfThere, SeenSameIfThere, TriesNone, TriesOne}
+use Rattle.irig_disk.specs.Put.{IsKept, IsPut, IsPutLast, OldIfThere, OldOrNewIfThere, SeenSameIfThere, TriesOne}
 use Rattle.irig_disk.specs.{Held.Held, Stays.Stays, Trail.Step, Trail.Moved, Trail.NotMoved, Trail.Synced, Writing.IsUnchanged}
 use Rattle.irig_disk.proofs.Names.{same_or_not}
 use Rattle.irig_files.specs.Once.{FailsToPut, PutsOnce}

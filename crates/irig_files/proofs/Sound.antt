@@ -1,11 +1,11 @@
 -- No dump with its journal has out of memory as its fault.
-use Rattle.std.proofs.Common.{◌≡◌, ◌∷◌, [], ℕ, Bool, true, false, List, Option, Some, None, Result, Ok, Err, IfErr, length, nat_lt, ◌∙◌, ap, if◌then◌else◌}
+use Rattle.std.proofs.Common.{◌≡◌, ◌*◌, ◌∷◌, [], ℕ, Bool, true, false, List, Option, Some, None, Result, Ok, Err, IfErr, length, nat_lt, ◌∙◌, ap, if◌then◌else◌}
 use Rattle.irig_recording.specs.Recording.{RecordingView}
 use Rattle.irig_vcd.specs.Scan.{Open, closed, code_of, comment_of, Scan, left_open, scan_ended, scan_words, start, unless}
 use Rattle.irig_vcd.specs.declared.fault.VcdFault.TheVariants.{OutOfMemory, TooManyPulses}
 use Rattle.irig_vcd.specs.{Answer.◌>>=◌, Answer.pair_of, Declarations.declarations_of, Dump.changes_of, Dump.journals_of, Level.edges_up_to}
 use Rattle.irig_vcd.specs.{Parts.dump_parts, Parts.one_journal, Words.Word, Words.words_of, declared.fault.VcdFault.VcdFault}
-use Rattle.irig_vcd.specs.{Window.dump_in, Window.moved, Window.parts_in, Window.within, declared.window.Window.Window}
+use Rattle.irig_vcd.specs.{Extent.most_pulses, Extent.short, Window.extent_dump, Window.moved, Window.extent_parts, Window.within, declared.extent.Extent.Extent}
 use Rattle.irig_vcd.proofs.{Sound.chain_sound, Sound.heading_sound, Sound.never_memory, Windows.no_window_parts}
 
 -- no fault is out of memory
@@ -41,14 +41,14 @@ journal_sound (j ∷ []) = tt
 journal_sound (j ∷ k ∷ more) = λ is. absurd (cc is)
 
 -- nor has a window of one
-pub never_in : (window : Option Window) (wire : Option (List ℕ)) (bytes : List ℕ) (e : VcdFault) → parts_in window wire bytes ≡ Err e → e ≡ OutOfMemory → ⊥
-unfolding dump_in parts_in
-never_in window wire bytes e h =
+pub never_in : (extent : Extent) (wire : Option (List ℕ)) (bytes : List ℕ) (e : VcdFault) → extent_parts extent wire bytes ≡ Err e → e ≡ OutOfMemory → ⊥
+unfolding extent_dump extent_parts
+never_in extent wire bytes e h =
     let changes = changes_sound (declarations_of wire (words_of bytes)) (heading_sound wire (words_of bytes)) in
     let recording = chain_sound (changes_of wire bytes) _ changes
-    (λ c. few_sound (nat_lt 8388608 (length (edges_up_to (within window c.0) (moved window c.1)))) _) in
-    of_sound (parts_in window wire bytes) e h (chain_sound (dump_in window wire bytes) _ recording
+    (λ c. few_sound (nat_lt (2 * most_pulses extent) (length (edges_up_to (within extent.window c.0) (moved extent.window c.1)))) _) in
+    of_sound (extent_parts extent wire bytes) e h (chain_sound (extent_dump extent wire bytes) _ recording
     (λ r. chain_sound (one_journal (journals_of wire bytes)) _ (journal_sound (journals_of wire bytes)) (λ j. tt)))
 
 pub never_parts : (wire : Option (List ℕ)) (bytes : List ℕ) (e : VcdFault) → dump_parts wire bytes ≡ Err e → e ≡ OutOfMemory → ⊥
-never_parts wire bytes e h = never_in None wire bytes e (no_window_parts wire bytes ∙ h)
+never_parts wire bytes e h = never_in (short None) wire bytes e (no_window_parts wire bytes ∙ h)

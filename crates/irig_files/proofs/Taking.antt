@@ -1,11 +1,11 @@
 -- The mode that a new file takes.
 use Rattle.std.proofs.Common.{◌≡◌, ◌∙◌, sym, ap, refl, subst, ℕ, List, Option, Some, None, Bool, false, option_map}
 use Rattle.std.specs.Prelude.{IsErr, IsOk, MatchOption, OnErr, OnOk, Result}
-use Rattle.irig_disk.specs.{Disk.Disk, Disk.seen_under, Held.Held, Put.held, Put.last_mode}
+use Rattle.irig_disk.specs.{Disk.Disk, Held.Held, Put.held, Put.last_mode}
 use Rattle.irig_files.specs.Once.{PutsOnce, PutsText, Replaces}
 use Rattle.irig_files.proofs.Passed.{puts_once}
 use Rattle.irig_files.specs.Apart.{HasId}
-use Rattle.irig_files.specs.Taken.{IsFileAt, HasFile, IsFree, IsLocked, MayTake, Takes, mode_at, mode_of}
+use Rattle.irig_files.specs.Taken.{HasFile, IsFree, IsLocked, MayTake, Takes, mode_at, mode_of}
 
 no_file : (id_of : ℕ → ℕ × ℕ) (found : Option ℕ) → None ≡ option_map id_of found → found ≡ None
 no_file id_of None is = refl

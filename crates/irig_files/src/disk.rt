@@ -1,23 +1,24 @@
 //! What the program asks of files. Reading has two faults: `DumpFileFault` is of the file, which is
 //! not there, cannot be read or is too long, or memory runs out; `VcdFault` inside is of the dump
 //! in it. `Parts` are the recording of a wire and the text of the journal that the dump carries, if
-//! it has one. A window is a part of the time of a dump. What a path leads to is at the end of its
-//! links. A ghost item is for contracts alone: it is nothing in the program.
+//! it has one. An `Extent` says how much of a dump is kept. What a path leads to is at the end of
+//! its links. A ghost item is for contracts alone: it is nothing in the program.
 
 ghost use Rattle.std.specs.Prelude.{◌≡◌, ◌<◌, ◌≤◌, ◌^◌, Bool, ℕ, List, Option, Some, IfErr, IfOk};
 ghost use Rattle.std.specs.Prelude.{IfSome, IsErr, IsErrOf, IsTrue, false, length, true};
 ghost use Rattle.irig_vcd.specs.Answer.{name_of};
 ghost use Rattle.irig_disk.specs.{Disk.Disk, Disk.MayLeave, Held.Held, Writing.IsUnchanged};
-ghost use Rattle.irig_files.specs.{Once.PutsText, Puts.count_of, Reads.IsReadIn, Reads.IsReadOf};
+ghost use Rattle.irig_files.specs.Reads.{extent_bytes};
+ghost use Rattle.irig_files.specs.{Once.PutsText, Puts.count_of, Reads.IsReadBy, Reads.IsReadOf};
 ghost use Rattle.irig_files.specs.declared.dump_file.DumpFileFault.{DumpFileFault};
 ghost use Rattle.irig_files.specs.{Apart.AreApart, Apart.LeadToOneFile, Taken.HasFile, Taken.StaysBarred};
 
 use crate::dump_file::DumpFileFault;
-use crate::intake::Parts;
+use crate::intake::{LongParts, Parts};
 use crate::room::Room;
 use crate::written::Written;
 use irig_text::{ShelfFault, Text};
-use irig_vcd::{VcdFault, Window};
+use irig_vcd::{Extent, VcdFault};
 use std::alloc::Global;
 
 /// Files by their paths. What a real file holds no contract can say; what is asked of one can.
@@ -54,20 +55,20 @@ pub trait Disk {
             → IfSome (held self.now path.now) (λ all. 2 ^ 28 < length all) }
         ensures unread { IfErr result (unread self.now path.now) };
 
-    /// Reads a window of the dump in the file at a path, of the wire named `wire`, or if none is
-    /// named of the one wire of one bit. At most one more byte than 2^47 is read. If nothing is at
-    /// the path: `CannotBeRead`.
-    fn read_window(
+    /// Reads the dump in the file at a path, of the wire named `wire`, or if none is named of the
+    /// one wire of one bit, and keeps as much of it as `extent` says. At most one more byte is read
+    /// than such a dump may have. If nothing is at the path: `CannotBeRead`.
+    fn read_extent(
         &self,
         alloc: Global,
         path: &str,
         wire: Option<&[u8]>,
-        window: Window,
-    ) -> Result<Result<Parts, VcdFault>, DumpFileFault>
+        extent: Extent,
+    ) -> Result<Result<LongParts, VcdFault>, DumpFileFault>
         ensures read { IfOk result
-            (IsReadIn (Some window) (held self.now path.now) (name_of wire.entry)) }
+            (IsReadBy extent (held self.now path.now) (name_of wire.entry)) }
         ensures long { IsErrOf result DumpFileFault.TooLong
-            → IfSome (held self.now path.now) (λ all. 2 ^ 47 < length all) }
+            → IfSome (held self.now path.now) (λ all. extent_bytes extent < length all) }
         ensures unread { IfErr result (unread self.now path.now) };
 
     /// Writes a text to the file that a path leads to: a regular one, or none yet, is replaced

@@ -1,9 +1,10 @@
 //! Reads the dump in a file, in parts. A read has two faults: the outer one, `DumpFileFault`, is of
 //! the file, the inner one, `VcdFault`, of the dump in it. `Parts` are the recording of a wire and
 //! the text of the journal that the dump carries, if it has one. `wire` is the name of the wire; if
-//! none is named, the dump has to have one wire of one bit. A window is a part of the time of the
-//! dump. An `Intake` (`intake`) takes in the parts and counts their bytes. `rt` is what the program
-//! has of the system. `DUMP_LIMIT` is 2^28 bytes.
+//! none is named, the dump has to have one wire of one bit. An `Extent` says how much of the dump
+//! is kept: a part of its time or all, of at most 2^22 pulses or, if it is long, 2^26. An `Intake`
+//! (`intake`) takes in the parts and counts their bytes. `rt` is what the program has of the
+//! system. `DUMP_LIMIT` is 2^28 bytes.
 
 ghost use Rattle.std.specs.Prelude.{◌≡◌, ◌≢◌, ◌<◌, ◌^◌, ◌↔◌, ℕ, List, Some, None, IfOk, OnOk};
 ghost use Rattle.std.specs.Prelude.{IfErr, IfSome, IsErrOf, IsOk, IsTrue, MatchResult, true, false};
@@ -11,11 +12,11 @@ ghost use Rattle.std.specs.Prelude.{length};
 ghost use Rattle.std.specs.Io.KnownBytes.{Consumes, IsAtEnd};
 ghost use Rattle.std.specs.{IoError.error_kind, Fs.IsFile, Fs.file_type, Fs.metadata_len};
 ghost use Rattle.irig_vcd.specs.Answer.{name_of};
-ghost use Rattle.irig_files.specs.Reads.{IsCounted, IsReadIn, IsReadOf, Takes, most_bytes};
+ghost use Rattle.irig_files.specs.Reads.{IsCounted, IsReadBy, IsReadOf, Takes, extent_bytes};
 ghost use Rattle.irig_files.specs.declared.dump_file.DumpFileFault.TheVariants.{TooLong};
 
-use crate::intake::{DUMP_LIMIT, Intake, Parts};
-use irig_vcd::{VcdFault, Window};
+use crate::intake::{DUMP_LIMIT, Intake, LongParts, Parts, shorter};
+use irig_vcd::{Extent, VcdFault};
 use std::alloc::Global;
 use std::fs::{Metadata, OpenFile};
 use std::io::{ErrorKind, Read};
@@ -32,7 +33,7 @@ pub enum DumpFileFault {
     /// Nothing is at the path, or no file, or there is no permission to read it.
     #[error("cannot be read")]
     CannotBeRead,
-    /// The file has more than 2^28 bytes, or 2^47 if a window is read.
+    /// The file has more than 2^28 bytes, or 2^47 if a window or a long recording is read.
     #[error("too long")]
     TooLong,
     /// Memory ran out.
@@ -101,7 +102,7 @@ fn take_part<R: Read>(
     ensures end { IfOk result (λ is_more. is_more ≡ false → 0 < length part.old
         → 0 < dump.new.left → IsAtEnd (R.remaining reader.new)) }
     ensures counted { OnOk result (IsCounted dump.new) }
-    ensures window { dump.new.window ≡ dump.old.window }
+    ensures extent { dump.new.extent ≡ dump.old.extent }
     ensures read { IfErr result (λ fault. fault ≢ TooLong) }
 {
     let wanted = dump.wanted(part.len());
@@ -129,7 +130,7 @@ fn take_all<R: Read>(
         × Consumes (R.remaining reader.old) (R.remaining reader.new) some) }
     ensures end { OnOk result (0 < dump.new.left → IsAtEnd (R.remaining reader.new)) }
     ensures counted { OnOk result (IsCounted dump.new) }
-    ensures window { dump.new.window ≡ dump.old.window }
+    ensures extent { dump.new.extent ≡ dump.old.extent }
     ensures read { IfErr result (λ fault. fault ≢ TooLong) }
 {
     for _ in 0..u64::MAX {
@@ -154,40 +155,44 @@ pub fn read_whole<R: Read + Drop>(
         → IfSome (R.remaining reader) (λ all. 2 ^ 28 < length all) }
 {
     let mut part = [0; PART];
-    read_by_parts(alloc, &mut reader, &mut part, wire, None)
+    match read_by_parts(alloc, &mut reader, &mut part, wire, Extent::short(None)) {
+        Ok(read) => Ok(shorter(read)),
+        Err(fault) => Err(fault),
+    }
 }
 
-/// Reads a window of a dump from a reader. Of one that is too long, 2^47 + 1 bytes are read.
-pub fn read_window<R: Read + Drop>(
+/// Reads a dump from a reader, and keeps as much of it as `extent` says. Of one that is too long,
+/// one byte more is read than it may have.
+pub fn read_extent<R: Read + Drop>(
     alloc: Global,
     mut reader: R,
     wire: Option<&[u8]>,
-    window: Window,
-) -> Result<Result<Parts, VcdFault>, DumpFileFault>
-    ensures read { IfOk result (IsReadIn (Some window) (R.remaining reader) (name_of wire.entry)) }
+    extent: Extent,
+) -> Result<Result<LongParts, VcdFault>, DumpFileFault>
+    ensures read { IfOk result (IsReadBy extent (R.remaining reader) (name_of wire.entry)) }
     ensures long { IsErrOf result DumpFileFault.TooLong
-        → IfSome (R.remaining reader) (λ all. 2 ^ 47 < length all) }
+        → IfSome (R.remaining reader) (λ all. extent_bytes extent < length all) }
 {
     let mut part = [0; PART];
-    read_by_parts(alloc, &mut reader, &mut part, wire, Some(window))
+    read_by_parts(alloc, &mut reader, &mut part, wire, extent)
 }
 
-/// Reads a dump part by part, or a window of it, and counts all bytes. `part` is the memory for one
-/// part. A new intake fails only if memory runs out. After a fault what was read is freed.
+/// Reads a dump part by part, keeps as much of it as `extent` says, and counts all bytes. `part` is
+/// the memory for one part. A new intake fails only if memory runs out. After a fault what was read is freed.
 fn read_by_parts<R: Read>(
     alloc: Global,
     reader: &mut R,
     part: &mut [u8],
     wire: Option<&[u8]>,
-    window: Option<Window>,
-) -> Result<Result<Parts, VcdFault>, DumpFileFault>
+    extent: Extent,
+) -> Result<Result<LongParts, VcdFault>, DumpFileFault>
     requires { 0 < length part.old }
     ensures read { IfOk result
-        (IsReadIn window (R.remaining reader.old) (name_of wire.entry)) }
+        (IsReadBy extent (R.remaining reader.old) (name_of wire.entry)) }
     ensures long { IsErrOf result DumpFileFault.TooLong
-        → IfSome (R.remaining reader.old) (λ all. most_bytes window < length all) }
+        → IfSome (R.remaining reader.old) (λ all. extent_bytes extent < length all) }
 {
-    let Ok(mut dump) = Intake::new(alloc, wire, window) else {
+    let Ok(mut dump) = Intake::new(alloc, wire, extent) else {
         return Err(DumpFileFault::OutOfMemory);
     };
     match take_all(&mut dump, reader, part) {
@@ -227,18 +232,18 @@ fn read_open<F: OpenFile + Read + Drop>(
     read_whole(alloc, file, wire)
 }
 
-/// Reads a window of the dump in the file at a path. The size of the file is not looked at, as no
-/// file has more than 2^47 bytes: the bytes are counted as they are read. If nothing is at the
-/// path: `CannotBeRead`.
-pub fn read_dump_window<R: Files>(
+/// Reads the dump in the file at a path, and keeps as much of it as `extent` says. The size of the
+/// file is not looked at: the bytes are counted as they are read. If nothing is at the path:
+/// `CannotBeRead`.
+pub fn read_dump_extent<R: Files>(
     rt: &R,
     alloc: Global,
     path: &str,
     wire: Option<&[u8]>,
-    window: Window,
-) -> Result<Result<Parts, VcdFault>, DumpFileFault>
-    ensures { IfOk result (IsReadIn (Some window) None (name_of wire.entry)) }
+    extent: Extent,
+) -> Result<Result<LongParts, VcdFault>, DumpFileFault>
+    ensures { IfOk result (IsReadBy extent None (name_of wire.entry)) }
 {
     let file = fs::open(rt, path)?;
-    read_window(alloc, file, wire, window)
+    read_extent(alloc, file, wire, extent)
 }

@@ -1,7 +1,7 @@
 //! Single calls on paths. Reading has two faults: `DumpFileFault` is of the file, which is not
 //! there, cannot be read or is too long, or memory runs out; `VcdFault` inside is of the dump in
 //! it. `Parts` are the recording of a wire and the text of the journal that the dump carries, if it
-//! has one. A `Fault` is the error of a call. A window is a part of the time of a dump. A ghost
+//! has one. A `Fault` is the error of a call. An `Extent` says how much of a dump is kept. A ghost
 //! item is for contracts alone. `is_told` says whether the contracts know what is there: true of
 //! folders in memory, false of the system.
 
@@ -12,13 +12,13 @@ ghost use Rattle.std.specs.Path.{path_buf_bytes};
 ghost use Rattle.irig_vcd.specs.Answer.{name_of};
 ghost use Rattle.irig_files.specs.declared.dump_file.DumpFileFault.{DumpFileFault};
 ghost use Rattle.irig_files.specs.{Apart.HasId, Paths.IsFolderOf, Paths.followed};
-ghost use Rattle.irig_files.specs.Reads.{IsReadIn, IsReadOf};
+ghost use Rattle.irig_files.specs.Reads.{IsReadBy, IsReadOf, extent_bytes};
 
 use crate::described::Described;
 use crate::dump_file::DumpFileFault;
-use crate::intake::Parts;
+use crate::intake::{LongParts, Parts};
 use crate::plain_calls::PlainCalls;
-use irig_vcd::{VcdFault, Window};
+use irig_vcd::{Extent, VcdFault};
 use std::alloc::Global;
 use std::path::PathBuf;
 
@@ -56,20 +56,20 @@ pub trait FileSystem: PlainCalls {
             → IfSome (held self.now path.now) (λ all. 2 ^ 28 < length all) }
         ensures unread { IfErr result (unread self.now path.now) };
 
-    /// Reads a window of the dump in the file at a path, of the wire named `wire`, or if none is
-    /// named of the one wire of one bit. At most one more byte than 2^47 is read. If nothing is at
-    /// the path: `CannotBeRead`.
-    fn read_window(
+    /// Reads the dump in the file at a path, of the wire named `wire`, or if none is named of the
+    /// one wire of one bit, and keeps as much of it as `extent` says. At most one more byte is read
+    /// than such a dump may have. If nothing is at the path: `CannotBeRead`.
+    fn read_extent(
         &self,
         alloc: Global,
         path: &str,
         wire: Option<&[u8]>,
-        window: Window,
-    ) -> Result<Result<Parts, VcdFault>, DumpFileFault>
+        extent: Extent,
+    ) -> Result<Result<LongParts, VcdFault>, DumpFileFault>
         ensures read { IfOk result
-            (IsReadIn (Some window) (held self.now path.now) (name_of wire.entry)) }
+            (IsReadBy extent (held self.now path.now) (name_of wire.entry)) }
         ensures long { IsErrOf result DumpFileFault.TooLong
-            → IfSome (held self.now path.now) (λ all. 2 ^ 47 < length all) }
+            → IfSome (held self.now path.now) (λ all. extent_bytes extent < length all) }
         ensures unread { IfErr result (unread self.now path.now) };
 
     /// What a path leads to, at the end of its links: whether it is a regular file, its mode and

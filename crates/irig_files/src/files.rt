@@ -7,13 +7,13 @@ ghost use Rattle.irig_files.specs.Taken.{IsLocked};
 use crate::disk::Disk;
 use crate::dump_file::DumpFileFault;
 use crate::file_system::FileSystem;
-use crate::intake::Parts;
+use crate::intake::{LongParts, Parts};
 use crate::put_file::put_file;
 use crate::room::Room;
 use crate::same_file::is_same_file;
 use crate::written::Written;
 use irig_text::{ShelfFault, Text};
-use irig_vcd::{VcdFault, Window};
+use irig_vcd::{Extent, VcdFault};
 use std::alloc::Global;
 
 /// The files of a file system. `docs/FORMATS.md` says how one is written.
@@ -68,15 +68,16 @@ impl<C: FileSystem> Disk for Files<C> {
         self.system.read(alloc, path, wire)
     }
 
-    // Reads a window of the dump in the file at a path. The faults are those of `read`.
-    fn read_window(
+    // Reads the dump in the file at a path, and keeps as much of it as `extent` says. The faults are
+    // those of `read`.
+    fn read_extent(
         &self,
         alloc: Global,
         path: &str,
         wire: Option<&[u8]>,
-        window: Window,
-    ) -> Result<Result<Parts, VcdFault>, DumpFileFault> {
-        self.system.read_window(alloc, path, wire, window)
+        extent: Extent,
+    ) -> Result<Result<LongParts, VcdFault>, DumpFileFault> {
+        self.system.read_extent(alloc, path, wire, extent)
     }
 
     // Writes a text to the file that a path leads to: a regular one, or none yet, is replaced

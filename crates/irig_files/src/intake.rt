@@ -1,41 +1,46 @@
-//! The dump in a file, as far as it is taken in. A `DumpReader` (irig_vcd) reads its parts; a
-//! window is a part of the time of the dump. Reading has two faults: the outer one,
+//! The dump in a file, as far as it is taken in. A `DumpReader` (irig_vcd) reads its parts; an
+//! `Extent` says how much of it is kept: a window, which is a part of the time of the dump, or all;
+//! at most 2^22 pulses, or 2^26 of a long recording. Reading has two faults: the outer one,
 //! `DumpFileFault`, is that memory runs out or the dump is too long, the inner one, `VcdFault`,
 //! that the dump is wrong.
 
 ghost use Rattle.std.specs.Prelude.{◌≡◌, ◌≢◌, ◌≤◌, ◌<◌, ◌⊎◌, [], ℕ, List, Option, None, Ok, Err};
-ghost use Rattle.std.specs.Prelude.{IfOk, IfErr, IsOk, IsErrOf, OnOk, OnErr, length, min};
+ghost use Rattle.std.specs.Prelude.{◌^◌, IfOk, IfErr, IsOk, IsErrOf, OnOk, OnErr, length, min};
 ghost use Rattle.irig_vcd.specs.declared.fault.VcdFault.TheVariants.{OutOfMemory};
 ghost use Rattle.irig_vcd.specs.{Declarations.declarations_of, declared.fault.VcdFault.VcdFault};
-ghost use Rattle.irig_vcd.specs.{Answer.Gives, Answer.name_of, Window.parts_in, Words.words_of};
-ghost use Rattle.irig_files.specs.Reads.{HasBytes, HasTaken, IsCounted, Takes, most_bytes};
+ghost use Rattle.irig_vcd.specs.{Answer.Gives, Answer.name_of, Window.extent_parts, Words.words_of};
+ghost use Rattle.irig_files.specs.Reads.{HasBytes, HasTaken, IsCounted, Takes, extent_bytes};
 ghost use Rattle.irig_files.specs.Reads.{parts_of};
 ghost use Rattle.irig_files.specs.declared.dump_file.DumpFileFault.TheVariants as file;
 
 use crate::dump_file::DumpFileFault;
-use irig_recording::Recording;
-use irig_vcd::{DumpReader, VcdFault, Window};
+use irig_recording::{LongRecording, Recording};
+use irig_vcd::{DumpReader, Extent, VcdFault};
 use std::alloc::{AllocError, Global};
 use std::mem;
 
 /// What a dump says of a wire, and the text of the journal that it carries, if it has one.
 pub type Parts = (Recording, Option<Vec<u8>>);
 
+/// The same, with as many pulses as an `Extent` allows.
+pub type LongParts = (LongRecording, Option<Vec<u8>>);
+
 /// The most bytes of a dump: 2^28, this project's own bound.
 pub const DUMP_LIMIT: usize = 268_435_456;
 
-/// The most bytes of a dump, if a window of it is read: 2^47, this project's own bound. No file has
-/// more, and all counts of bytes stay exact.
+/// The most bytes of a dump, if a window of it is read or a long recording: 2^47, this project's
+/// own bound. No file has more, and all counts of bytes stay exact.
 const LONG_LIMIT: usize = 1 << 47;
 
-/// The most bytes that a dump may have: if all of it is read (`None`), or a window. Only the window
-/// is kept, so that dump may be longer.
-fn most_bytes(window: Option<Window>) -> usize
-    ensures { result ≡ most_bytes window }
+/// The most bytes that a dump may have, by how much of it is kept. Only a window is kept, or the
+/// pulses of a long recording, so such a dump may be longer.
+fn most_bytes(extent: Extent) -> usize
+    ensures { result ≡ extent_bytes extent }
 {
-    match window {
-        None => DUMP_LIMIT,
-        Some(_) => LONG_LIMIT,
+    if extent.is_long || extent.window.is_some() {
+        LONG_LIMIT
+    } else {
+        DUMP_LIMIT
     }
 }
 
@@ -47,27 +52,23 @@ pub struct Intake {
     /// How many bytes are still taken. It begins with one more than a dump may have, so 0 means
     /// that the dump is too long.
     left: usize,
-    /// The window of it that is read, or all.
-    window: Option<Window>,
+    /// How much of it is kept.
+    extent: Extent,
 }
 
 impl Intake {
     /// The intake of a dump of which no byte is taken yet. `wire` is the name of the wire to read;
     /// if none is given, the dump has to have one wire of one bit. It fails only if memory runs
     /// out.
-    pub fn new(
-        alloc: Global,
-        wire: Option<&[u8]>,
-        window: Option<Window>,
-    ) -> Result<Intake, AllocError>
+    pub fn new(alloc: Global, wire: Option<&[u8]>, extent: Extent) -> Result<Intake, AllocError>
         ensures taken { IfOk result (HasTaken (name_of wire.entry) []) }
         ensures counted { IfOk result IsCounted }
-        ensures window { IfOk result (λ intake. intake.window ≡ window) }
+        ensures extent { IfOk result (λ intake. intake.extent ≡ extent) }
     {
         Ok(Intake {
-            dump: Ok(DumpReader::of_window(alloc, wire, window)?),
-            left: most_bytes(window) + 1,
-            window,
+            dump: Ok(DumpReader::of_extent(alloc, wire, extent)?),
+            left: most_bytes(extent) + 1,
+            extent,
         })
     }
 
@@ -87,7 +88,7 @@ impl Intake {
         requires counted { IsCounted self.old }
         ensures taken { OnOk result (Takes part.now self.old self.new) }
         ensures counted { OnOk result (IsCounted self.new) }
-        ensures window { self.new.window ≡ self.old.window }
+        ensures extent { self.new.extent ≡ self.old.extent }
         ensures memory { IfErr result (λ fault. fault ≡ file.OutOfMemory) }
     {
         self.left -= part.len();
@@ -110,12 +111,12 @@ impl Intake {
     /// What the dump says, if nothing comes after its parts. More bytes than a dump may have are a
     /// fault, `TooLong`, before any fault of the dump; memory that runs out is `OutOfMemory`. The
     /// inner fault is of the dump.
-    pub fn end(self) -> Result<Result<Parts, VcdFault>, DumpFileFault>
+    pub fn end(self) -> Result<Result<LongParts, VcdFault>, DumpFileFault>
         requires counted { IsCounted self }
         ensures read { IfOk result (λ read. (wire : Option (List ℕ)) (bytes : List ℕ)
             → HasTaken wire bytes self → Gives parts_of read
-            (parts_in self.window wire bytes)) }
-        ensures within { IfOk result (HasBytes (most_bytes self.window)) }
+            (extent_parts self.extent wire bytes)) }
+        ensures within { IfOk result (HasBytes (extent_bytes self.extent)) }
         ensures short { IfOk result (λ _. 0 < self.left) }
         ensures long { IsErrOf result file.TooLong → self.left ≡ 0 }
         ensures fault { IfErr result (λ fault. ((fault ≡ file.TooLong) × (self.left ≡ 0))
@@ -138,6 +139,17 @@ impl Intake {
 
 /// Frees a reader, or a fault: the value is moved in here, and its end is the end of this call.
 fn let_go(_dump: Result<DumpReader, VcdFault>) {}
+
+/// What is read of a recording, of which the caller knows that it has at most 2^22 pulses.
+pub fn shorter(read: Result<LongParts, VcdFault>) -> Result<Parts, VcdFault>
+    requires few { IfOk read (λ x. length x.0.edges ≤ 2 ^ 23) }
+    ensures { result ≡ read }
+{
+    match read {
+        Ok((recording, journal)) => Ok((recording.into_recording(), journal)),
+        Err(fault) => Err(fault),
+    }
+}
 
 /// Sorts the faults of a read. That memory ran out becomes an outer fault, one of the file; every
 /// other fault stays an inner one, of the dump.

@@ -23,14 +23,14 @@ mod written;
 
 pub use described::Described;
 pub use disk::Disk;
-pub use dump_file::{DumpFileFault, read_whole, read_window};
+pub use dump_file::{DumpFileFault, read_extent, read_whole};
 pub use file_shelf::FileShelf;
 pub use file_system::FileSystem;
 pub use files::Files;
-pub use intake::Parts;
+pub use intake::{LongParts, Parts, shorter};
 pub use opening::system_files;
 pub use plain_calls::PlainCalls;
 pub use put_file::folder_of;
 pub use room::Room;
-pub use track::{TrackFault, read_in_window, read_track};
+pub use track::{TrackFault, read_in_window, read_long_track, read_track};
 pub use written::Written;

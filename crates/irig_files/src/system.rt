@@ -11,12 +11,12 @@ ghost use Rattle.std.specs.{IoError.error_kind};
 ghost use Rattle.std.proofs.Common.{ap};
 
 use crate::described::Described;
-use crate::dump_file::{DumpFileFault, read_dump, read_dump_window};
+use crate::dump_file::{DumpFileFault, read_dump, read_dump_extent};
 use crate::file_system::FileSystem;
-use crate::intake::Parts;
+use crate::intake::{LongParts, Parts};
 use crate::plain_calls::PlainCalls;
 use irig_disk::{SystemDir, SystemFault, SystemFolder};
-use irig_vcd::{VcdFault, Window};
+use irig_vcd::{Extent, VcdFault};
 use std::alloc::Global;
 use std::fs::{Metadata, OpenFile, OpenOptions};
 use std::io::{ErrorKind, Printer};
@@ -100,15 +100,16 @@ impl<R: Files + Print + AllocGlobal> FileSystem for SystemFolder<'_, R> {
         read_dump(self.runtime(), alloc, path, wire)
     }
 
-    // Reads a window of the dump in the file at a path. The faults are those of `read`.
-    fn read_window(
+    // Reads the dump in the file at a path, and keeps as much of it as `extent` says. The faults are
+    // those of `read`.
+    fn read_extent(
         &self,
         alloc: Global,
         path: &str,
         wire: Option<&[u8]>,
-        window: Window,
-    ) -> Result<Result<Parts, VcdFault>, DumpFileFault> {
-        read_dump_window(self.runtime(), alloc, path, wire, window)
+        extent: Extent,
+    ) -> Result<Result<LongParts, VcdFault>, DumpFileFault> {
+        read_dump_extent(self.runtime(), alloc, path, wire, extent)
     }
 
     // What is at the path, at the end of its links: whether it is a regular file, its mode and its

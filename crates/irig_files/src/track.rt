@@ -6,13 +6,14 @@
 ghost use Rattle.std.specs.Prelude.{◌≡◌, IfErr, IfOk};
 ghost use Rattle.irig_vcd.specs.Answer.{name_of};
 ghost use Rattle.irig_files.specs.Reads.{IsReadIn};
-ghost use Rattle.irig_files.specs.Tracks.{IsTrackOf, IsUnread, name_in};
+ghost use Rattle.irig_vcd.specs.Extent.{long};
+ghost use Rattle.irig_files.specs.Tracks.{IsTrackBy, IsTrackOf, IsUnread, name_in};
 
 use crate::disk::Disk;
 use crate::dump_file::DumpFileFault;
-use crate::intake::Parts;
-use irig_recording::Recording;
-use irig_vcd::{VcdFault, Window};
+use crate::intake::{Parts, shorter};
+use irig_recording::{LongRecording, Recording};
+use irig_vcd::{Extent, VcdFault, Window};
 use std::alloc::Global;
 use thiserror::Error;
 
@@ -47,6 +48,26 @@ pub fn read_track<D: Disk>(
     }
 }
 
+/// The track of a wire in the dump at a path, or in a window of it if there is one, as a recording
+/// of up to 2^26 pulses. The dump may have any number of bytes.
+pub fn read_long_track<D: Disk>(
+    alloc: Global,
+    disk: &D,
+    path: &str,
+    wire: Option<&str>,
+    window: Option<Window>,
+) -> Result<LongRecording, TrackFault>
+    ensures { IsTrackBy (long window) (D.held disk.now path.now) (D.unread disk.now path.now)
+        (name_in wire.entry) result }
+{
+    match disk.read_extent(alloc, path, bytes_of(wire), Extent::long(window)) {
+        // The text of the journal is not needed.
+        Ok(Ok((recording, _))) => Ok(recording),
+        Ok(Err(fault)) => Err(TrackFault::Dump(fault)),
+        Err(fault) => Err(TrackFault::File(fault)),
+    }
+}
+
 /// What the dump at a path says of a wire, or says of it in a window if there is one; a journal is
 /// that of the whole dump. `wire` is its name; if none is given, the dump has to have one wire of
 /// one bit.
@@ -64,7 +85,10 @@ pub fn read_in_window<D: Disk>(
 {
     match window {
         None => disk.read(alloc, path, bytes_of(wire)),
-        Some(window) => disk.read_window(alloc, path, bytes_of(wire), window),
+        Some(_) => match disk.read_extent(alloc, path, bytes_of(wire), Extent::short(window)) {
+            Ok(read) => Ok(shorter(read)),
+            Err(fault) => Err(fault),
+        },
     }
 }
 

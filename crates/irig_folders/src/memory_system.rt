@@ -18,9 +18,9 @@ use crate::memory_fault::MemoryFault;
 use crate::seen_file::SeenFile;
 use irig_disk::is_name;
 use irig_files::{
-    Described, DumpFileFault, FileSystem, Parts, PlainCalls, read_whole, read_window,
+    Described, DumpFileFault, FileSystem, LongParts, Parts, PlainCalls, read_extent, read_whole,
 };
-use irig_vcd::{VcdFault, Window};
+use irig_vcd::{Extent, VcdFault};
 use std::alloc::Global;
 use std::io;
 use std::io::{ErrorKind, Write};
@@ -117,22 +117,22 @@ impl FileSystem for Memory {
         read_whole(alloc, bytes.as_slice(), wire)
     }
 
-    // Reads a window of the dump in a file: the part from one microsecond to another. The errors
-    // are those of `read`.
-    fn read_window(
+    // Reads the dump in a file, and keeps as much as `extent` says: a part from one microsecond to
+    // another, or all, and at most that many pulses. The errors are those of `read`.
+    fn read_extent(
         &self,
         alloc: Global,
         path: &str,
         wire: Option<&[u8]>,
-        window: Window,
-    ) -> Result<Result<Parts, VcdFault>, DumpFileFault> {
+        extent: Extent,
+    ) -> Result<Result<LongParts, VcdFault>, DumpFileFault> {
         let Some(file) = file_at(self.calls(), path.as_bytes()) else {
             return Err(DumpFileFault::CannotBeRead);
         };
         let Ok(bytes) = bytes_of(alloc, self.calls(), file) else {
             return Err(DumpFileFault::OutOfMemory);
         };
-        read_window(alloc, bytes.as_slice(), wire, window)
+        read_extent(alloc, bytes.as_slice(), wire, extent)
     }
 
     // What a path leads to; `None` if nothing is there. A path that is no single name is described

@@ -25,9 +25,9 @@ use crate::tree::{Plain, Tree, TreeDir};
 use crate::tree_paths::{end_at, find, link_text, path_of};
 use crate::tree_reads::{bytes_at, read_of};
 use irig_files::{
-    Described, DumpFileFault, FileSystem, Parts, PlainCalls, read_whole, read_window,
+    Described, DumpFileFault, FileSystem, LongParts, Parts, PlainCalls, read_extent, read_whole,
 };
-use irig_vcd::{VcdFault, Window};
+use irig_vcd::{Extent, VcdFault};
 use std::alloc::Global;
 use std::io::{self, Write};
 use std::path::PathBuf;
@@ -188,17 +188,17 @@ impl FileSystem for Tree {
         read_of(read_whole(alloc, bytes.as_slice(), wire))
     }
 
-    // Reads a window of the dump in a file: the part from one microsecond to another. The errors
-    // are those of `read`.
-    fn read_window(
+    // Reads the dump in a file, and keeps as much as `extent` says: a part from one microsecond to
+    // another, or all, and at most that many pulses. The errors are those of `read`.
+    fn read_extent(
         &self,
         alloc: Global,
         path: &str,
         wire: Option<&[u8]>,
-        window: Window,
-    ) -> Result<Result<Parts, VcdFault>, DumpFileFault> {
+        extent: Extent,
+    ) -> Result<Result<LongParts, VcdFault>, DumpFileFault> {
         let bytes = bytes_at(self, alloc, path)?;
-        read_of(read_window(alloc, bytes.as_slice(), wire, window))
+        read_of(read_extent(alloc, bytes.as_slice(), wire, extent))
     }
 
     // What a path leads to; `None` if its folder has no such name. `NoSuchName`: too many links, or

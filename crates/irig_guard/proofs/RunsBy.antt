@@ -2,6 +2,7 @@
 use Rattle.std.proofs.Common.{◌≡◌, [], ℕ, List, Option, Some, None, Result, Err, ap, inl, inr, refl, subst, sym}
 use Rattle.std.specs.Prelude.{is_some, not, if◌then◌else◌}
 use denote.Ref.{Bor}
+use Rattle.irig_vcd.specs.Extent.{short}
 use Rattle.irig_vcd.specs.{Window.parts_in, declared.fault.VcdFault.TheVariants.OutOfMemory, declared.fault.VcdFault.VcdFault}
 use Rattle.irig_script.specs.Obey.Desk.{Desk, desk}
 use Rattle.irig_guarding.specs.{declared.product.GuardFault.GuardFault, declared.product.GuardFault.TheVariants.Dump, declared.product.Kept.Kept}
@@ -55,7 +56,7 @@ fails_by given chosen source at fault kept others shown is = record {
   label = [];
   failures = 0;
   ran = fails_in chosen.window (name_in chosen.wire) chosen.format (terms_in chosen others) source (product_of chosen) at.script _ fault is;
-  short = λ memory. absurd (never_in chosen.window (name_in chosen.wire) source fault is (cc memory));
+  short = λ memory. absurd (never_in (short chosen.window) (name_in chosen.wire) source fault is (cc memory));
   kept = kept;
 }
 

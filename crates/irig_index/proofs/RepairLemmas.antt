@@ -166,7 +166,7 @@ frames_long f ps number g rs filled =
 
 -- an edited track: the records of the window, between those that stay
 module _ (f : FormatView) (at gone come micros : ℕ) (records : List Record) (ps : List Pulse) (were : WereFrames f at gone come records micros ps)
-    (few : length ps ≤ 2 ^ 22) (small : gone < 2 ^ 64) (from count : ℕ)
+    (few : length ps ≤ 2 ^ 26) (small : gone < 2 ^ 64) (from count : ℕ)
     (first : from ≡ at - 1)
     (ends : EndsUpTo from (take count records))
     (begins : BeginsAfter from (drop count records)) where

@@ -187,7 +187,7 @@ fn retell(
 pub fn last_place(lens: &Lens<'_>, edit: Span) -> usize
     requires { edit.at + edit.new ≤ length lens.now.track.pulses }
     ensures least { result ≡ min (length lens.now.track.pulses - 1) (edit.at + edit.new) }
-    ensures few { length lens.now.track.pulses ≤ 2 ^ 22 }
+    ensures few { length lens.now.track.pulses ≤ 2 ^ 26 }
 {
     let last = lens.len().saturating_sub(1);
     last.min(edit.at + edit.new)

@@ -15,7 +15,7 @@ ghost use Rattle.std.specs.Prelude.{length};
 ghost use Rattle.irig_codes.specs.declared.width.Element.TheVariants.{Position, Zero};
 ghost use Rattle.irig_codes.specs.{declared.width.Element.Element, Decoding.decoded, Ones.raised};
 ghost use Rattle.irig_codes.specs.{Reading.counts, Width.HasTwentieths, Width.class_in};
-ghost use Rattle.irig_track.specs.{Looks.after_looks, Looks.lens_view, Track.IsTrack};
+ghost use Rattle.irig_track.specs.{Looks.after_looks, Looks.lens_view, Track.IsLongTrack};
 ghost use Rattle.irig_index.specs.declared.record.Verdict.TheVariants.{Read};
 ghost use Rattle.irig_index.specs.Frames.{frame_at, record_after};
 ghost use Rattle.irig_index.specs.Marker.{class_at, is_digit, is_position};
@@ -39,7 +39,7 @@ pub fn verdict(
     at: usize,
     first: Pulse,
 ) -> Verdict
-    requires track { IsTrack lens.old.track.micros lens.old.track.pulses }
+    requires track { IsLongTrack lens.old.track.micros lens.old.track.pulses }
     requires first { slice_get lens.old.track.pulses at ≡ Some first }
     requires position { class_at format first ≡ Some Position }
     ensures verdict { result ≡ verdict_of format (frame_at lens.old.track.pulses at) }
@@ -68,7 +68,7 @@ pub fn looks_of(verdict: Verdict) -> u64
 /// Each pulse after the marker has to be in step with the one before it, and of a class that may be
 /// there. `Gathering` takes whether each element is One, from element 0 on; the marker is not One.
 fn check(lens: &mut Lens<'_>, format: Format, at: usize, first: Pulse) -> Verdict
-    requires track { IsTrack lens.old.track.micros lens.old.track.pulses }
+    requires track { IsLongTrack lens.old.track.micros lens.old.track.pulses }
     requires first { slice_get lens.old.track.pulses at ≡ Some first }
     requires position { class_at format first ≡ Some Position }
     ensures verdict { result ≡ verdict_of format (frame_at lens.old.track.pulses at) }

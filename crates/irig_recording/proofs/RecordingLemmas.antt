@@ -1,5 +1,5 @@
 -- Edges, one after the other.
-use Rattle.std.proofs.Common.{◌≡◌, ◌<◌, ◌≤◌, ◌%◌, ℕ, zero, suc, Bool, true, false, inl, inr, not, List, [], ◌∷◌, length, nat_eq, refl, ap, sym, ◌∙◌, arith}
+use Rattle.std.proofs.Common.{◌≡◌, ◌<◌, ◌≤◌, ◌%◌, ◌*◌, ℕ, zero, suc, Bool, true, false, inl, inr, not, List, [], ◌∷◌, length, nat_eq, refl, ap, sym, ◌∙◌, arith}
 use Rattle.std.proofs.Common.{lit<}
 use Rattle.std.proofs.lemmas.{Bool.eqb-true, Bool.cases_lt, Nat.mod_below}
 use Rattle.std.proofs.Math.Nat.{suc-mod}
@@ -24,5 +24,5 @@ pub even_length : (xs : List ℕ) → length xs % 2 ≡ 0 → is_even_long xs �
 even_length xs h = even-length xs ∙ rw h refl
 
 -- if not one too many, they are within the limit
-pub not_full : (n : ℕ) (full : Bool) → (8388608 < n → full ≡ true) → full ≡ false → n ≤ 8388608
-not_full n full many apart = elim (cases_lt 8388608 n) [ inl more ↦ absurd (let bad : true ≡ false = sym (many more) ∙ apart in cc) | inr few ↦ few ]
+pub not_full : (most n : ℕ) (full : Bool) → (2 * most < n → full ≡ true) → full ≡ false → n ≤ 2 * most
+not_full most n full many apart = elim (cases_lt (2 * most) n) [ inl more ↦ absurd (let bad : true ≡ false = sym (many more) ∙ apart in cc) | inr few ↦ few ]

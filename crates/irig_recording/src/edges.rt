@@ -1,8 +1,8 @@
 //! Edges of a wire that are read one after another, and kept as pulses.
 //!
 //! Two edges are a pulse: a rise and a fall. If the last edge is a rise, it waits in `rise`, and
-//! `is_open` is true. A recording has at most 2^22 pulses, so 2^23 edges; one edge more is kept, to
-//! know that there are too many. Times are in microseconds.
+//! `is_open` is true. A recording may have a number of pulses, `most`: 2^22, or 2^26 if it is long.
+//! One edge more is kept, to know that there are too many. Times are in microseconds.
 //!
 //! The pulses are in a gap buffer: a list whose free room, the gap, can be anywhere in it. Here it
 //! is always after all pulses, so `gap_at` is how many there are.
@@ -11,6 +11,7 @@ ghost use Rattle.std.specs.Prelude.{◌≡◌, ◌≤◌, ◌<◌, ◌+◌, ◌^
 ghost use Rattle.std.specs.Prelude.{◌*◌, length, IsTrue, OnErr, OnOk};
 ghost use Rattle.irig_recording.specs.{Edges.edges_kept, Pulses.edges_of, Recording.is_even_long};
 
+use crate::long_recording::LONG_PULSES_LIMIT;
 use crate::pulse::Pulse;
 use crate::recording::PULSES_LIMIT;
 use irig_gap::Gap;
@@ -21,7 +22,7 @@ use std::marker::Model;
 const FIRST_ROOM: usize = 1024;
 
 /// The times at which a level rises and falls in turn, in microseconds. At most one more is kept
-/// than a recording may have.
+/// than a long recording may have.
 #[derive(Drop)]
 pub struct Edges {
     pulses: Gap<Pulse>,
@@ -37,7 +38,7 @@ impl Model for Edges {
 
     ghost view = { λ e. kept_edges e.pulses.items e.is_open e.rise };
 
-    ghost invariant = { λ e. (length e.pulses.items ≤ 2 ^ 22)
+    ghost invariant = { λ e. (length e.pulses.items ≤ 2 ^ 26)
         × (e.pulses.place ≡ length e.pulses.items)
         × (e.pulses.capacity ≤ 2 * length e.pulses.items + 1024) };
 }
@@ -61,28 +62,31 @@ impl Edges {
         self.is_open
     }
 
-    /// Whether there is one edge more than a recording may have: a rise that waits after 2^22
-    /// pulses.
-    pub fn is_full(&self) -> bool
-        ensures { IsTrue result ↔ (2 ^ 23 < length self.now) }
+    /// Whether there are more edges than a recording of at most `most` pulses may have.
+    pub fn is_full(&self, most: usize) -> bool
+        ensures { IsTrue result ↔ (2 * most < length self.now) }
     {
-        self.is_open && self.pulses.gap_at() == PULSES_LIMIT
+        if self.is_open {
+            self.pulses.gap_at() >= most
+        } else {
+            self.pulses.gap_at() > most
+        }
     }
 
-    /// Whether two edges more may be added: then at most 2^23 + 1 are kept, one more than a
-    /// recording may have. False from 2^22 pulses on.
+    /// Whether two edges more may be added: then at most one more is kept than a recording of at
+    /// most `most` pulses may have. False from that many pulses on.
     #[inline(always)]
-    pub fn has_room(&self) -> bool
-        ensures { result ≡ true ↔ (length self.now + 2 ≤ edges_kept) }
+    pub fn has_room(&self, most: usize) -> bool
+        ensures { result ≡ true ↔ (length self.now + 2 ≤ edges_kept most) }
     {
-        self.pulses.gap_at() < PULSES_LIMIT
+        self.pulses.gap_at() < most
     }
 
     /// Adds an edge, a time after those of the others: a fall if the last one is a rise, else a
     /// rise. Only a fall takes memory, for the pulse that it ends. It fails only if memory runs
     /// out.
     pub fn push(&mut self, edge: u64) -> Result<(), AllocError>
-        requires { length self.old ≤ 2 ^ 23 }
+        requires { length self.old ≤ 2 ^ 27 }
         ensures { OnOk result (self.new ≡ self.old ++ edge ∷ []) }
     {
         if self.is_open {
@@ -102,7 +106,7 @@ impl Edges {
     #[inline(always)]
     pub fn close_and_open(&mut self, fall: u64, rise: u64) -> Result<(), AllocError>
         requires risen { is_even_long self.old ≡ false }
-        requires room { length self.old + 2 ≤ edges_kept }
+        requires room { length self.old + 2 ≤ edges_kept (2 ^ 26) }
         ensures { OnOk result (self.new ≡ self.old ++ fall ∷ rise ∷ []) }
     {
         let last = self.rise;
@@ -126,7 +130,7 @@ impl Edges {
 /// Adds a pulse after the others. It fails only if memory runs out, and nothing changes then.
 #[inline(always)]
 fn put(pulses: &mut Gap<Pulse>, pulse: Pulse) -> Result<(), AllocError>
-    requires few { length pulses.old.items ≤ 2 ^ 22 }
+    requires few { length pulses.old.items ≤ 2 ^ 26 }
     requires place { pulses.old.place ≡ length pulses.old.items }
     requires room { pulses.old.capacity ≤ 2 * length pulses.old.items + 1024 }
     ensures put { OnOk result (pulses.new.items ≡ pulses.old.items ++ pulse ∷ []) }
@@ -142,17 +146,32 @@ fn put(pulses: &mut Gap<Pulse>, pulse: Pulse) -> Result<(), AllocError>
 }
 
 /// Makes the capacity of a full buffer larger: twice the old one and a first block, so that few
-/// growths come; but never more than for the most pulses, 2^22, and a first block. If memory runs
-/// out, nothing changes.
+/// growths come; but not above `next_limit`. If memory runs out, nothing changes.
 #[inline(never)]
 fn grow(pulses: &mut Gap<Pulse>) -> Result<(), AllocError>
-    requires few { length pulses.old.items ≤ 2 ^ 22 }
+    requires few { length pulses.old.items ≤ 2 ^ 26 }
     requires full { length pulses.old.items ≡ pulses.old.capacity }
     ensures stays { (pulses.new.items ≡ pulses.old.items) × (pulses.new.place ≡ pulses.old.place) }
     ensures grown { OnOk result (length pulses.new.items < pulses.new.capacity) }
     ensures refused { OnErr result (pulses.new ≡ pulses.old) }
     ensures room { pulses.new.capacity ≤ 2 * length pulses.new.items + 1024 }
 {
-    let twice = 2 * pulses.capacity() + FIRST_ROOM;
-    pulses.grow(twice.min(PULSES_LIMIT + FIRST_ROOM))
+    let old = pulses.capacity();
+    let twice = 2 * old + FIRST_ROOM;
+    pulses.grow(twice.min(next_limit(old)))
+}
+
+/// The largest capacity that may come after a full block of a capacity: that for the most pulses of
+/// a recording, 2^22, and a first block; from there on that of a long one, 2^26, and a first block.
+fn next_limit(capacity: usize) -> usize
+    requires few { capacity ≤ 2 ^ 26 }
+    ensures more { capacity < result }
+    ensures limit { result ≤ 2 ^ 26 + 1024 }
+    ensures first { capacity ≤ 2 ^ 22 → result ≤ 2 ^ 22 + 1024 }
+{
+    if capacity <= PULSES_LIMIT {
+        PULSES_LIMIT + FIRST_ROOM
+    } else {
+        LONG_PULSES_LIMIT + FIRST_ROOM
+    }
 }

@@ -4,7 +4,7 @@ use Rattle.std.proofs.lemmas.{Bool.cases_lt, Option.none-some, Option.same_Some}
 use Rattle.std.specs.Prelude.{option_map, if◌then◌else◌}
 use Rattle.irig_codes.specs.Format.{FormatView}
 use Rattle.irig_recording.specs.declared.pulse.Pulse.{Pulse}
-use Rattle.irig_track.specs.Track.{IsTrack}
+use Rattle.irig_track.specs.Track.{IsLongTrack}
 use Rattle.irig_track.specs.Splices.{risen_by}
 use Rattle.irig_times.specs.declared.why.Why.TheVariants.{Before}
 use Rattle.irig_times.specs.{declared.time.Time.Time, declared.why.Why.Why, Counted.IsTimed, Support.believed, Untimed.IsWhy}
@@ -91,7 +91,7 @@ module _ (f : FormatView) (ps : List Pulse) (s : Settings) where
       (λ is. absurd (none-some x is), λ is. absurd (before-before s.early v.negative v.size s.offset add take small k.0 k.1 lt is.0))
 
   -- a time that is too late has none
-  pub time-late : (micros : ℕ) (picos : Picos) (add take : ℕ) → IsTrack micros ps → s.offset ≤ 2 ^ 119 → Spans picos add take → 2 ^ 62 ≤ add - take
+  pub time-late : (micros : ℕ) (picos : Picos) (add take : ℕ) → IsLongTrack micros ps → s.offset ≤ 2 ^ 119 → Spans picos add take → 2 ^ 62 ≤ add - take
       → (v : Picos) → picos ≡ capped v → (x : Time) → (None ≡ Some x) ↔ IsTimeOf f ps s v x
   time-late micros picos add take track small h late v e x =
       let k = spans-capped picos v add take e h in (
@@ -135,7 +135,8 @@ module _ (f : FormatView) (ps : List Pulse) (s : Settings) where
       )
 
   -- the reason later than that
-  pub why-late : (micros : ℕ) (picos : Picos) (add take : ℕ) (why : Why) → IsTrack micros ps → s.offset ≤ 2 ^ 119 → Spans picos add take → 2 ^ 62 ≤ add - take
+  pub why-late : (micros : ℕ) (picos : Picos) (add take : ℕ) (why : Why) → IsLongTrack micros ps → s.offset ≤ 2 ^ 119 → Spans picos add take
+      → 2 ^ 62 ≤ add - take
       → IsWhy f (believed f s.alone ps) s.century ps (risen_by (4611686018427387904 / 1000000) ps) why → (v : Picos) → picos ≡ capped v → IsWhyOf f ps s v why
   why-late micros picos add take why track small h late is v e =
       let k = spans-capped picos v add take e h in

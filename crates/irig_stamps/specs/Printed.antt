@@ -3,7 +3,7 @@
 use Rattle.std.specs.Prelude.{◌≡◌, ◌≢◌, ℕ, ◌+◌, ◌*◌, ◌<◌, ◌≤◌, List, [], ◌∷◌, IfSome}
 use Rattle.irig_codes.specs.Format.{FormatView}
 use Rattle.irig_recording.specs.declared.pulse.Pulse.{Pulse}
-use Rattle.irig_track.specs.Track.{IsTrack}
+use Rattle.irig_track.specs.Track.{IsLongTrack}
 use Rattle.irig_times.specs.{declared.time.Time.Time, Counted.IsTimed}
 use Rattle.irig_stamps.specs.Texts.{calendar_text, ordinal_text, seconds_text}
 use Rattle.irig_stamps.specs.{Dates.year_in, declared.settings.Settings.Settings}
@@ -12,7 +12,7 @@ use Rattle.irig_stamps.specs.{Dates.year_in, declared.settings.Settings.Settings
 pub record AreTimes (f : FormatView) (s : Settings) (x y : Time) : Type 0 where
   pub micros : ℕ
   pub pulses : List Pulse
-  pub track : IsTrack micros pulses
+  pub track : IsLongTrack micros pulses
   pub d : ℕ
   pub some : 0 < d
   pub n : ℕ

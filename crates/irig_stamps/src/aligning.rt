@@ -1,6 +1,7 @@
-//! Lines that are aligned with a track. The recorder's time of a line is the number in one of its
-//! columns. A frame is believed if another one near it supports its time: moments have their times
-//! from believed frames alone. A `Lens` shows the pulses of a track, and a `FrameLens` its frames.
+//! Lines that are aligned with a recording. The recorder's time of a line is the number in one of
+//! its columns. A frame is believed if another one near it supports its time: moments have their
+//! times from believed frames alone. A `Lens` shows the pulses of a recording as those of a track,
+//! and a `FrameLens` its frames.
 
 ghost use Rattle.std.specs.Prelude.{◌≡◌, ◌≤◌, ◌<◌, ◌^◌, ℕ, List, Option, IfOk, IfSome};
 ghost use Rattle.std.specs.Io.KnownBytes.{Consumes};
@@ -17,9 +18,9 @@ use crate::running::run;
 use crate::settings::Settings;
 use irig_codes::Format;
 use irig_index::Index;
-use irig_recording::Recording;
+use irig_recording::LongRecording;
 use irig_times::{FrameLens, held_frames};
-use irig_track::Track;
+use irig_track::Lens;
 use std::alloc::Global;
 use std::io::{Read, Write};
 
@@ -30,7 +31,7 @@ use std::io::{Read, Write};
 /// that name in the header.
 pub fn align<R: Read, W: Write>(
     alloc: Global,
-    recording: Recording,
+    recording: LongRecording,
     lines: &mut R,
     out: &mut W,
     format: Format,
@@ -45,16 +46,16 @@ pub fn align<R: Read, W: Write>(
         (R.remaining lines.new) (W.contents out.old) (W.contents out.new) result }
 {
     let Some(name) = settings.named else {
-        return align_numbered(alloc, recording, lines, out, format, settings);
+        return align_numbered(alloc, &recording, lines, out, format, settings);
     };
-    align_named(alloc, recording, lines, out, format, settings, name)
+    align_named(alloc, &recording, lines, out, format, settings, name)
 }
 
 /// As `align`, if the number of the column, from 0, is known: `settings.column`. No byte of the
 /// lines was read before that, so `align_track` gets none.
 fn align_numbered<R: Read, W: Write>(
     alloc: Global,
-    recording: Recording,
+    recording: &LongRecording,
     lines: &mut R,
     out: &mut W,
     format: Format,
@@ -64,21 +65,19 @@ fn align_numbered<R: Read, W: Write>(
     requires offset { settings.now.offset ≤ 2 ^ 119 }
     requires year { IfSome settings.now.year (λ y. y ≤ 9998) }
     requires header { settings.now.header < 2 ^ 64 }
-    ensures { AlignsNumbered format recording.micros recording.edges settings.now
+    ensures { AlignsNumbered format recording.now.micros recording.now.edges settings.now
         (R.remaining lines.old) (R.remaining lines.new) (W.contents out.old) (W.contents out.new)
         result }
 {
-    let Ok(track) = Track::new(recording) else {
-        return Err(RunFault::OutOfMemory);
-    };
-    align_track(alloc, &track, b"", lines, out, format, settings)
+    let mut pulses = Lens::of(recording);
+    align_track(alloc, &mut pulses, b"", lines, out, format, settings)
 }
 
 /// As `align`, if the column is the one with this name in the last line of the header. What was
 /// read to find it is handed on, since it cannot be read again.
 fn align_named<R: Read, W: Write>(
     alloc: Global,
-    recording: Recording,
+    recording: &LongRecording,
     lines: &mut R,
     out: &mut W,
     format: Format,
@@ -90,7 +89,7 @@ fn align_named<R: Read, W: Write>(
     requires year { IfSome settings.now.year (λ y. y ≤ 9998) }
     requires header { settings.now.header < 2 ^ 64 }
     requires named { 0 < settings.now.header }
-    ensures { AlignsNamed name.now format recording.micros recording.edges settings.now
+    ensures { AlignsNamed name.now format recording.now.micros recording.now.edges settings.now
         (R.remaining lines.old) (R.remaining lines.new) (W.contents out.old) (W.contents out.new)
         result }
 {
@@ -98,24 +97,22 @@ fn align_named<R: Read, W: Write>(
         Ok(found) => found,
         Err(fault) => return Err(fault),
     };
-    let Ok(track) = Track::new(recording) else {
-        return Err(RunFault::OutOfMemory);
-    };
+    let mut pulses = Lens::of(recording);
     let settings = Settings {
         column: found.column,
         ..*settings
     };
     let before = found.bytes.as_slice();
-    align_track(alloc, &track, before, lines, out, format, &settings)
+    align_track(alloc, &mut pulses, before, lines, out, format, &settings)
 }
 
-/// As `align` on a track, if the bytes `before` were read of the lines already. First it finds for
+/// As `align` on a lens, if the bytes `before` were read of the lines already. First it finds for
 /// the whole track its frames (`records`), which of them are believed (`held`), the day of the
 /// first of these, how many others have a time, and what is known of the track's times. Then the
 /// lines are read and printed.
 fn align_track<R: Read, W: Write>(
     alloc: Global,
-    track: &Track,
+    pulses: &mut Lens<'_>,
     before: &[u8],
     lines: &mut R,
     out: &mut W,
@@ -127,18 +124,18 @@ fn align_track<R: Read, W: Write>(
     requires year { IfSome settings.now.year (λ y. y ≤ 9998) }
     requires header { settings.now.header < 2 ^ 64 }
     ensures ends { (start : Option (List ℕ)) → Consumes start (R.remaining lines.old) before.now
-        → Ends format track.now.pulses
-        (with_track format track.now.micros track.now.pulses settings.now) start
+        → Ends format pulses.old.track.pulses
+        (with_track format pulses.old.track.micros pulses.old.track.pulses settings.now) start
         (R.remaining lines.new) (W.contents out.old) (W.contents out.new) (numbers_of result) }
     ensures stands { IfOk result (λ outcome.
-        outcome.standing ≡ standing_of format track.now.pulses settings.now) }
+        outcome.standing ≡ standing_of format pulses.old.track.pulses settings.now) }
 {
-    let mut lens = track.lens();
-    let Ok(index) = Index::build(alloc, &mut lens, format) else {
+    let micros = pulses.length();
+    let Ok(index) = Index::build(alloc, pulses, format) else {
         return Err(RunFault::OutOfMemory);
     };
     let mut records = FrameLens::new(&index);
-    let Ok(held) = held_frames(alloc, &mut lens, &mut records, format, settings.alone) else {
+    let Ok(held) = held_frames(alloc, pulses, &mut records, format, settings.alone) else {
         return Err(RunFault::OutOfMemory);
     };
     let day = first_day(&mut records, &held, format);
@@ -146,15 +143,13 @@ fn align_track<R: Read, W: Write>(
     // If no frame is believed, no line has a time, and nothing asks for the day.
     let settings = Settings {
         first_day: day.unwrap_or(0),
-        micros: track.length(),
+        micros,
         ..*settings
     };
-    let Ok(known) = known_of(alloc, &mut lens, &mut records, &held, format, &settings) else {
+    let Ok(known) = known_of(alloc, pulses, &mut records, &held, format, &settings) else {
         return Err(RunFault::OutOfMemory);
     };
-    match run(
-        alloc, before, lines, out, &mut lens, &known, format, &settings,
-    ) {
+    match run(alloc, before, lines, out, pulses, &known, format, &settings) {
         Ok(numbered) => Ok(Outcome {
             numbered,
             standing: Standing {

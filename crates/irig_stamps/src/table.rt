@@ -19,9 +19,9 @@ use crate::settings::Settings;
 use crate::text::{put_number, put_word};
 use irig_codes::Format;
 use irig_index::Index;
-use irig_recording::Recording;
+use irig_recording::LongRecording;
 use irig_times::{FrameLens, FrameStart, held_frames, start_of};
-use irig_track::{Lens, Track};
+use irig_track::Lens;
 use std::alloc::{AllocError, Global};
 use std::io::Write;
 
@@ -30,7 +30,7 @@ use std::io::Write;
 /// printed if memory runs out (`OutOfMemory`). `PrintFailed` if the output fails.
 pub fn list<W: Write>(
     alloc: Global,
-    recording: Recording,
+    recording: LongRecording,
     out: &mut W,
     format: Format,
     settings: &Settings<'_>,
@@ -40,32 +40,29 @@ pub fn list<W: Write>(
     ensures { ListsRecording format recording.edges settings.now (W.contents out.old)
         (W.contents out.new) result }
 {
-    let Ok(track) = Track::new(recording) else {
-        return Err(RunFault::OutOfMemory);
-    };
-    list_track(alloc, &track, out, format, settings)
+    list_track(alloc, &mut Lens::of(&recording), out, format, settings)
 }
 
-/// As `list`, on a track. First it finds which frames are believed (`held`), the day of the first
-/// of them, which decides their year, and how many others have a time.
+/// As `list`, on a lens. First it finds which frames are believed (`held`), the day of the first of
+/// them, which decides their year, and how many others have a time.
 fn list_track<W: Write>(
     alloc: Global,
-    track: &Track,
+    pulses: &mut Lens<'_>,
     out: &mut W,
     format: Format,
     settings: &Settings<'_>,
 ) -> Result<Standing, RunFault>
     requires century { settings.now.century ≤ 99 }
     requires year { IfSome settings.now.year (λ y. y ≤ 9998) }
-    ensures { Lists format track.now.pulses (with_first_day format track.now.pulses settings.now)
+    ensures { Lists format pulses.old.track.pulses
+        (with_first_day format pulses.old.track.pulses settings.now)
         (W.contents out.old) (W.contents out.new) result }
 {
-    let mut lens = track.lens();
-    let Ok(index) = Index::build(alloc, &mut lens, format) else {
+    let Ok(index) = Index::build(alloc, pulses, format) else {
         return Err(RunFault::OutOfMemory);
     };
     let mut records = FrameLens::new(&index);
-    let Ok(held) = held_frames(alloc, &mut lens, &mut records, format, settings.alone) else {
+    let Ok(held) = held_frames(alloc, pulses, &mut records, format, settings.alone) else {
         return Err(RunFault::OutOfMemory);
     };
     let day = first_day(&mut records, &held, format);
@@ -75,7 +72,7 @@ fn list_track<W: Write>(
         first_day: day.unwrap_or(0),
         ..*settings
     };
-    let Ok(text) = table(alloc, &mut lens, &mut records, &held, format, &settings) else {
+    let Ok(text) = table(alloc, pulses, &mut records, &held, format, &settings) else {
         return Err(RunFault::OutOfMemory);
     };
     match put_all(out, &text) {

@@ -6,9 +6,9 @@ use Rattle.irig_recording.specs.Recording.{RecordingView}
 use Rattle.irig_stamps.specs.{Aligned.Aligns, Aligned.outcome, Aligned.standing, Tables.ListsRecording}
 use Rattle.irig_time.specs.declared.ending.Ending.TheVariants.{Usage, Unread, Aligned}
 use Rattle.irig_time.specs.declared.ending.Ending.TheVariants.{Listed, Timeless, Doubted, Broken}
-use Rattle.irig_files.specs.Tracks.{HasFault, Says, Unreadable, name_in}
-use Rattle.irig_time.specs.Settings.{Reads}
-use Rattle.irig_time.specs.{declared.chosen.Chosen.Chosen, declared.ending.Ending.Ending}
+use Rattle.irig_files.specs.Tracks.{HasFaultBy, SaysBy, Unreadable, name_in}
+use Rattle.irig_vcd.specs.Extent.{long}
+use Rattle.irig_time.specs.{Settings.Reads, declared.chosen.Chosen.Chosen, declared.ending.Ending.Ending}
 
 -- what the files hold, by their paths
 abbrev pub Held : Type 0
@@ -55,18 +55,18 @@ RunsAs true chosen micros edges lines left from to ending =
 RunsAs false chosen micros edges lines left from to ending =
     AlignsAs chosen micros edges lines left from to ending
 
--- the same with the length and the edges of the wire that the file says
+-- the same with the length and the edges of the wire that the file says, of up to 2^26 pulses
 pub record RunsFile (held : Held) (chosen : Chosen) (lines left from to : Option (List ℕ))
     (ending : Ending) : Type 0 where
   pub recording : RecordingView
-  pub of_track : Says chosen.window (held chosen.track.now) (name_in chosen.wire) recording
+  pub of_track : SaysBy (long chosen.window) (held chosen.track.now) (name_in chosen.wire) recording
   pub ran : RunsAs chosen.table chosen recording.micros recording.edges lines left from to ending
 
 -- what is asked for was done with the track; or it was not read, and nothing was read or printed
 abbrev pub Obeys : Held → Unreadable → Chosen → Option (List ℕ) → Option (List ℕ)
     → Option (List ℕ) → Option (List ℕ) → Ending → Type 0
 Obeys held unread chosen lines left from to (Unread path fault) =
-    (path ≡ chosen.track) × (HasFault chosen.window (held chosen.track.now)
+    (path ≡ chosen.track) × (HasFaultBy (long chosen.window) (held chosen.track.now)
     (unread chosen.track.now) (name_in chosen.wire) fault × ((left ≡ lines) × (to ≡ from)))
 Obeys held unread chosen lines left from to (Usage fault) = ⊥
 Obeys held unread chosen lines left from to ending = RunsFile held chosen lines left from to ending

@@ -1,6 +1,7 @@
-//! Lines are aligned with the track of a dump, as the words of a command line ask. A frame is
-//! believed if another one near it supports its time: moments have their times from such frames
-//! alone. `doubted` is how many others have a time, and `timed` whether some frame is believed.
+//! Lines are aligned with the track of a dump, of up to 2^26 pulses, as the words of a command line
+//! ask. A frame is believed if another one near it supports its time: moments have their times from
+//! such frames alone. `doubted` is how many others have a time, and `timed` whether some frame is
+//! believed.
 
 ghost use Rattle.std.specs.Prelude.{map, string_bytes};
 ghost use Rattle.irig_time.specs.Ending.{AlignsAs, EndsBy, ListsAs, Obeys, RunsAs};
@@ -9,8 +10,8 @@ ghost use Rattle.irig_time.specs.Chosen.{IsSound};
 use crate::chosen::Chosen;
 use crate::command_line::chosen;
 use crate::ending::Ending;
-use irig_files::{Disk, read_track};
-use irig_recording::Recording;
+use irig_files::{Disk, read_long_track};
+use irig_recording::LongRecording;
 use irig_stamps::{align, list};
 use std::alloc::Global;
 use std::io::{Read, Write};
@@ -46,7 +47,7 @@ fn run_file<'a, D: Disk, R: Read, W: Write>(
     ensures { Obeys (D.held disk.now) (D.unread disk.now) chosen.now (R.remaining lines.old)
         (R.remaining lines.new) (W.contents out.old) (W.contents out.new) result }
 {
-    match read_track(alloc, disk, chosen.track, chosen.wire, chosen.window) {
+    match read_long_track(alloc, disk, chosen.track, chosen.wire, chosen.window) {
         Ok(recording) => run_track(alloc, chosen, recording, lines, out),
         Err(fault) => Ending::Unread(chosen.track, fault),
     }
@@ -56,7 +57,7 @@ fn run_file<'a, D: Disk, R: Read, W: Write>(
 fn run_track<'a, R: Read, W: Write>(
     alloc: Global,
     chosen: &Chosen<'a>,
-    recording: Recording,
+    recording: LongRecording,
     lines: &mut R,
     out: &mut W,
 ) -> Ending<'a>
@@ -77,7 +78,7 @@ fn run_track<'a, R: Read, W: Write>(
 fn list_track<'a, W: Write>(
     alloc: Global,
     chosen: &Chosen<'a>,
-    recording: Recording,
+    recording: LongRecording,
     out: &mut W,
 ) -> Ending<'a>
     requires sound { IsSound chosen.now.settings }
@@ -97,7 +98,7 @@ fn list_track<'a, W: Write>(
 fn align_track<'a, R: Read, W: Write>(
     alloc: Global,
     chosen: &Chosen<'a>,
-    recording: Recording,
+    recording: LongRecording,
     lines: &mut R,
     out: &mut W,
 ) -> Ending<'a>

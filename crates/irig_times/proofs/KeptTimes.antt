@@ -2,7 +2,7 @@
 use Rattle.std.proofs.Common.{◌≡◌, inl, inr, ◌<◌, ◌≤◌, ◌+◌, ◌-◌, ◌*◌, ℕ, Bool, true, List, Some, None, false, suc, zero, slice_get, refl, ap, ◌∙◌, subst, arith}
 use Rattle.std.specs.Prelude.{is_some}
 use Rattle.std.proofs.lemmas.{Bool.cases_lt}
-use Rattle.irig_track.specs.Track.{IsTrack}
+use Rattle.irig_track.specs.Track.{IsLongTrack}
 use Rattle.irig_times.specs.{Counted.IsTimed, Laws.IsOfCalendar}
 use Rattle.irig_times.proofs.PartTimes.{parts_calendar, parts_minute}
 use Rattle.irig_codes.specs.{Format.FormatView, Format.has_year, Format.interval_of, declared.fields.Fields.Fields}
@@ -115,7 +115,7 @@ pub timed_calendar : (f : FormatView) (alone : Bool) (century micros : ℕ) (ps 
 timed_calendar f alone century micros ps d n x h =
     parts_calendar f century ps (timed_parts f alone century micros ps) (timed_parts_are f alone century micros ps) d n x h
 
-pub timed_minute : (f : FormatView) (alone : Bool) (century micros : ℕ) (ps : List Pulse) → IsTrack micros ps → (d : ℕ) → 0 < d → (n : ℕ) (x : Time)
+pub timed_minute : (f : FormatView) (alone : Bool) (century micros : ℕ) (ps : List Pulse) → IsLongTrack micros ps → (d : ℕ) → 0 < d → (n : ℕ) (x : Time)
     → IsTimed f alone century micros ps d n x → x.micros < 61000000
 timed_minute f alone century micros ps track d some n x h =
     parts_minute f century micros ps (timed_parts f alone century micros ps) (timed_parts_are f alone century micros ps) track d some n x h

@@ -4,7 +4,7 @@ use Rattle.std.proofs.lemmas.{Bool.cases_lt}
 use Rattle.std.proofs.Math.Nat.{mul-le-mul_right}
 use Rattle.irig_codes.specs.{Format.FormatView, Format.frame_period_of, Format.interval_of}
 use Rattle.irig_recording.specs.declared.pulse.Pulse.{Pulse}
-use Rattle.irig_track.specs.Track.{IsTrack}
+use Rattle.irig_track.specs.Track.{IsLongTrack}
 use Rattle.irig_times.specs.{Chains.IsAfter, Chains.minute_of, Elements.share, Follows.is_later, declared.part.Part.Part, declared.time.Time.Time}
 use Rattle.irig_times.specs.Parts.{AreParts, GoesOn, IsPoint, TellsByParts, plus}
 use Rattle.irig_times.specs.PartLaws.{NeverFallsByParts}
@@ -66,7 +66,7 @@ module _ (f : FormatView) (century : ℕ) (n : ℕ) (parts : List Part) (are : A
             after-add century i (k * i) (at t e) (at next.1 0) (at s d) first (rest k number 0 d next.1 s next.2 b goes (walk k))
       ])
 
-module _ (f : FormatView) (century micros : ℕ) (ps : List Pulse) (parts : List Part) (are : AreParts f 0 (length ps) parts) (track : IsTrack micros ps)
+module _ (f : FormatView) (century micros : ℕ) (ps : List Pulse) (parts : List Part) (are : AreParts f 0 (length ps) parts) (track : IsLongTrack micros ps)
     (d : ℕ) (some : 0 < d) (n m : ℕ) (x y : Time) (a : TellsByParts f century ps parts d n x) (b : TellsByParts f century ps parts d m y) (le : n ≤ m) where
   abbrev share-a : ℕ
   share-a = share (interval_of f.kind) (n - d * a.point.rise) (d * (a.next.rise - a.point.rise))

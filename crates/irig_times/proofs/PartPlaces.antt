@@ -125,7 +125,7 @@ known f n parts are j q there None h = tt
 known f n parts are j q there (Some a) h =
     (omega (arith, (part-of f n 0 parts are h.0 a h.2).2.time.minute), parts-apart f n 0 parts are h.0 j a q h.2 there h.1)
 
-pub low : (f : FormatView) (n : ℕ) (parts : List Part) → AreParts f 0 n parts → n ≤ 2 ^ 22 → (j : ℕ)
+pub low : (f : FormatView) (n : ℕ) (parts : List Part) → AreParts f 0 n parts → n ≤ 2 ^ 26 → (j : ℕ)
     → (o : Option Part) → IfSome o (λ (a : Part). (k : ℕ) × (k < j) × (slice_get parts k ≡ Some a))
     → IfSome o (λ (a : Part). (a.time.micros < 2 ^ 59) × (a.number + a.count < 2 ^ 30))
 low f n parts are few j None h = tt
@@ -134,7 +134,7 @@ low f n parts are few j (Some a) h =
     (omega (arith, it.2.time.minute), omega (arith, it.1, few))
 
 -- what is known of a part after another
-pub known-next : (f : FormatView) (n : ℕ) (parts : List Part) → AreParts f 0 n parts → n ≤ 2 ^ 22 → (j : ℕ) (q : Part) → slice_get parts j ≡ Some q
+pub known-next : (f : FormatView) (n : ℕ) (parts : List Part) → AreParts f 0 n parts → n ≤ 2 ^ 26 → (j : ℕ) (q : Part) → slice_get parts j ≡ Some q
     → (o : Option Part) → o ≡ slice_get parts (j + 1)
     → IfSome o (λ (b : Part). (b.time.micros < 2 ^ 59) × (b.number < 2 ^ 30))
 known-next f n parts are few j q here None e = tt
@@ -143,7 +143,7 @@ known-next f n parts are few j q here (Some b) e =
     (omega (arith, it.2.time.minute), omega (arith, it.1, few))
 
 -- and of a part before another, or before the end
-pub known-order : (f : FormatView) (n : ℕ) (parts : List Part) → AreParts f 0 n parts → n ≤ 2 ^ 22 → (j : ℕ) (q : Part) → slice_get parts j ≡ Some q
+pub known-order : (f : FormatView) (n : ℕ) (parts : List Part) → AreParts f 0 n parts → n ≤ 2 ^ 26 → (j : ℕ) (q : Part) → slice_get parts j ≡ Some q
     → (o : Option Part) → o ≡ slice_get parts (j + 1) → MatchOption o (q.number + q.count < 2 ^ 30) (λ (b : Part). q.number + q.count ≤ b.number)
 known-order f n parts are few j q here None e = (let it = part-of f n 0 parts are j q here in omega (arith, it.1, few))
 known-order f n parts are few j q here (Some b) e = parts-apart f n 0 parts are j (j + 1) q b here (sym e) (omega arith)

@@ -5,7 +5,7 @@ use Rattle.std.proofs.lemmas.{Bool.cases_lt, Nat.le-div, Option.same_Some, Optio
 use Rattle.std.proofs.Math.Nat.{mul-div_cancel_left, mul-div-le, mul-le-mul_left, mul-le-mul_right}
 use Rattle.irig_codes.specs.{Format.FormatView, Format.has_year, Format.interval_of}
 use Rattle.irig_recording.specs.declared.pulse.Pulse.{Pulse}
-use Rattle.irig_track.specs.{Splices.risen_by, Track.IsTrack}
+use Rattle.irig_track.specs.{Splices.risen_by, Track.IsLongTrack}
 use Rattle.irig_track.proofs.Searches.{risen_above}
 use Rattle.irig_times.specs.{Elements.share, Laws.NotBefore, declared.part.Part.Part, declared.time.Time.Time}
 use Rattle.irig_times.specs.Parts.{AreParts, GoesOn, IsPoint, TellsByParts, plus}
@@ -17,7 +17,8 @@ use Rattle.irig_times.proofs.Found.{risen-at}
 pub parts_one : OneTimeByParts
 parts_one f century ps parts are d n x y a b = parts-one-time f century ps parts are d n x y a b
 
-module _ (f : FormatView) (century micros : ℕ) (ps : List Pulse) (parts : List Part) (are : AreParts f 0 (length ps) parts) (track : IsTrack micros ps) where
+module _ (f : FormatView) (century micros : ℕ) (ps : List Pulse) (parts : List Part) (are : AreParts f 0 (length ps) parts)
+    (track : IsLongTrack micros ps) where
   exact-at : (d : ℕ) → 0 < d → (number element : ℕ) (t : Time) (p : Pulse) → IsPoint parts number element t → GoesOn f century parts number element t
       → slice_get ps number ≡ Some p → TellsByParts f century ps parts d (d * p.rise) (plus t (element * interval_of f.kind))
   exact-at d some number element t p is goes here =

@@ -5,7 +5,7 @@ use Rattle.irig_codes.specs.Format.{FormatView, frame_period_of, has_year, inter
 use Rattle.irig_codes.specs.declared.fields.Fields.{Fields}
 use Rattle.irig_index.specs.Frames.{frames}
 use Rattle.irig_recording.specs.declared.pulse.Pulse.{Pulse}
-use Rattle.irig_track.specs.Track.{IsTrack}
+use Rattle.irig_track.specs.Track.{IsLongTrack}
 use Rattle.irig_times.specs.{Chains.IsAfter, Laws.IsOfCalendar, Laws.NotBefore, declared.part.Part.Part, declared.time.Time.Time}
 use Rattle.irig_times.specs.{Counted.timed_parts, Follows.is_later, Held.HasTime, Held.IsHeldElement}
 use Rattle.irig_times.specs.{Jumps.is_jump_between, Support.believed, Tens.loses_tens_to}
@@ -22,7 +22,7 @@ OneTimeByParts = (f : FormatView) (century : ℕ) (ps : List Pulse) (parts : Lis
 -- a pulse that has a time has it exactly when it rises, if that goes on
 abbrev pub ExactAtParts : Type 0
 ExactAtParts = (f : FormatView) (century micros : ℕ) (ps : List Pulse) (parts : List Part)
-    → AreParts f 0 (length ps) parts → IsTrack micros ps → (d : ℕ) → 0 < d
+    → AreParts f 0 (length ps) parts → IsLongTrack micros ps → (d : ℕ) → 0 < d
     → (number element : ℕ) (t : Time) (p : Pulse) → IsPoint parts number element t
     → GoesOn f century parts number element t → slice_get ps number ≡ Some p
     → TellsByParts f century ps parts d (d * p.rise) (plus t (element * interval_of f.kind))
@@ -30,14 +30,15 @@ ExactAtParts = (f : FormatView) (century micros : ℕ) (ps : List Pulse) (parts 
 -- in one part the time never falls
 abbrev pub NeverFallsInPart : Type 0
 NeverFallsInPart = (f : FormatView) (century micros : ℕ) (ps : List Pulse) (parts : List Part)
-    → AreParts f 0 (length ps) parts → IsTrack micros ps → (d : ℕ) → 0 < d → (n m : ℕ) (x y : Time)
+    → AreParts f 0 (length ps) parts → IsLongTrack micros ps → (d : ℕ) → 0 < d
+    → (n m : ℕ) (x y : Time)
     → (a : TellsByParts f century ps parts d n x) (b : TellsByParts f century ps parts d m y)
     → n ≤ m → a.is_point.at ≡ b.is_point.at → NotBefore x y
 
 -- it is not before that of the pulse before it, and stays before that of the next one
 abbrev pub BeforeTheNextPoint : Type 0
 BeforeTheNextPoint = (f : FormatView) (century micros : ℕ) (ps : List Pulse) (parts : List Part)
-    → AreParts f 0 (length ps) parts → IsTrack micros ps → (d : ℕ) → 0 < d → (n : ℕ) (x : Time)
+    → AreParts f 0 (length ps) parts → IsLongTrack micros ps → (d : ℕ) → 0 < d → (n : ℕ) (x : Time)
     → (a : TellsByParts f century ps parts d n x)
     → NotBefore (plus a.start (a.element * interval_of f.kind)) x
     × (x.micros < (plus a.start ((a.element + 1) * interval_of f.kind)).micros)
@@ -45,7 +46,7 @@ BeforeTheNextPoint = (f : FormatView) (century micros : ℕ) (ps : List Pulse) (
 -- it is in its minute, of 61 seconds at most
 abbrev pub InMinuteByParts : Type 0
 InMinuteByParts = (f : FormatView) (century micros : ℕ) (ps : List Pulse) (parts : List Part)
-    → AreParts f 0 (length ps) parts → IsTrack micros ps → (d : ℕ) → 0 < d → (n : ℕ) (x : Time)
+    → AreParts f 0 (length ps) parts → IsLongTrack micros ps → (d : ℕ) → 0 < d → (n : ℕ) (x : Time)
     → TellsByParts f century ps parts d n x → x.micros < 61000000
 
 -- it is of a minute of an hour of a day of a year, which is known if frames carry it
@@ -57,7 +58,7 @@ OfCalendarByParts = (f : FormatView) (century : ℕ) (ps : List Pulse) (parts : 
 -- whole picoseconds are fine enough: to round down to them changes no time
 abbrev pub PicosecondsByParts : Type 0
 PicosecondsByParts = (f : FormatView) (century micros : ℕ) (ps : List Pulse) (parts : List Part)
-    → AreParts f 0 (length ps) parts → IsTrack micros ps → (d : ℕ) → 0 < d → (n : ℕ) (x : Time)
+    → AreParts f 0 (length ps) parts → IsLongTrack micros ps → (d : ℕ) → 0 < d → (n : ℕ) (x : Time)
     → TellsByParts f century ps parts d n x
     ↔ TellsByParts f century ps parts 1000000 (n * 1000000 / d) x
 
@@ -100,7 +101,8 @@ KeepsTimes = (f : FormatView) (alone : Bool) (century micros : ℕ) (ps : List P
 -- the calendar, by less than an interval more than there are pulses between them
 abbrev pub NeverFallsByParts : Type 0
 NeverFallsByParts = (f : FormatView) (century micros : ℕ) (ps : List Pulse) (parts : List Part)
-    → AreParts f 0 (length ps) parts → IsTrack micros ps → (d : ℕ) → 0 < d → (n m : ℕ) (x y : Time)
+    → AreParts f 0 (length ps) parts → IsLongTrack micros ps → (d : ℕ) → 0 < d
+    → (n m : ℕ) (x y : Time)
     → (a : TellsByParts f century ps parts d n x) (b : TellsByParts f century ps parts d m y) → n ≤ m
     → ((j e : ℕ) (t : Time) → a.number ≤ j → j < b.number → IsPoint parts j e t
     → GoesOn f century parts j e t)

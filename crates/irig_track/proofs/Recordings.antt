@@ -1,8 +1,8 @@
 -- Tracks and recordings: pulses on the one side, edges on the other.
 use Rattle.std.proofs.Common.{◌≡◌, ℕ, ◌+◌, ◌^◌, ◌<◌, ◌≤◌, true, false, not, List, [], ◌∷◌, length, refl, sym, ap, ◌∙◌, subst, arith, inl, inr}
-use Rattle.irig_recording.specs.{Recording.RisesFrom, Recording.IsRecording, Recording.is_even_long, declared.pulse.Pulse.Pulse}
+use Rattle.irig_recording.specs.{Recording.RisesFrom, Recording.IsLongRecording, Recording.IsRecording, Recording.is_even_long, declared.pulse.Pulse.Pulse}
 use Rattle.std.proofs.Math.Bool.{not-not}
-use Rattle.irig_track.specs.{Edges.edges_of, Edges.has, Edges.is_edge, Toggles.flipped, Toggles.toggled, Toggles.CanToggle, Track.IsTrack}
+use Rattle.irig_track.specs.{Edges.edges_of, Edges.has, Edges.is_edge, Toggles.flipped, Toggles.toggled, Toggles.CanToggle, Track.IsLongTrack, Track.IsTrack}
 use Rattle.irig_recording.proofs.PulseEdges.{length-edges_of, even-edges_of}
 use Rattle.irig_track.proofs.RisingLists.{three, flip_low, flip_same, flip_high, has_here, has_there, has_none, has-flipped_other, RisesFrom-flipped}
 use Rattle.irig_track.proofs.RisingLists.{UpTo-flipped}
@@ -22,6 +22,24 @@ pub track_of : (micros : ℕ) (ps : List Pulse) → IsRecording micros (edges_of
 track_of micros ps h = record {
   short = h.short;
   few = omega (arith, h.few, length-edges_of ps);
+  rises = h.rises;
+  within = h.within;
+}
+
+-- the same of long ones
+pub long_track_of : (micros : ℕ) (ps : List Pulse) → IsLongRecording micros (edges_of ps) → IsLongTrack micros ps
+long_track_of micros ps h = record {
+  short = h.short;
+  few = omega (arith, h.few, length-edges_of ps);
+  rises = h.rises;
+  within = h.within;
+}
+
+-- a track is a long one
+pub long_track : (micros : ℕ) (ps : List Pulse) → IsTrack micros ps → IsLongTrack micros ps
+long_track micros ps h = record {
+  short = h.short;
+  few = omega (arith, h.few);
   rises = h.rises;
   within = h.within;
 }

@@ -13,9 +13,18 @@ pub record TrackView : Type 0 where
 abbrev pub track_view : ℕ → List Pulse → ℕ → TrackView
 track_view n ps s = record { micros = n; pulses = ps; spare = s }
 
--- a length and pulses within the limits, whose edges rise strictly and lie within the length
-pub record IsTrack (micros : ℕ) (pulses : List Pulse) : Type 0 where
+-- a length and pulses within the limits, `most` pulses at most, whose edges rise strictly and lie
+-- within the length
+pub record IsTrackUpTo (most micros : ℕ) (pulses : List Pulse) : Type 0 where
   pub short : micros ≤ 2 ^ 40
-  pub few : length pulses ≤ 2 ^ 22
+  pub few : length pulses ≤ most
   pub rises : RisesFrom 0 (edges_of pulses)
   pub within : UpTo micros (edges_of pulses)
+
+-- the same with at most 2^22 pulses, which can be edited
+abbrev pub IsTrack : ℕ → List Pulse → Type 0
+IsTrack micros pulses = IsTrackUpTo (2 ^ 22) micros pulses
+
+-- the same with at most 2^26 pulses, which are only read
+abbrev pub IsLongTrack : ℕ → List Pulse → Type 0
+IsLongTrack micros pulses = IsTrackUpTo (2 ^ 26) micros pulses

@@ -1,12 +1,14 @@
 //! A track shown through a lens, which counts the looks at its pulses. So contracts can say how
-//! much work a search takes.
+//! much work a search takes. A lens also shows a recording that is longer than a track may be.
 
-ghost use Rattle.std.specs.Prelude.{◌≡◌, ◌<◌, ◌≤◌, ◌^◌, ℕ, length, slice_get, Some};
+ghost use Rattle.std.specs.Prelude.{◌≡◌, ◌-◌, ◌<◌, ◌≤◌, ◌^◌, ℕ, length, slice_get, Some};
 ghost use Rattle.irig_track.specs.Looks.{LookedThrough, lens_view, counted};
-ghost use Rattle.irig_track.specs.{Splices.risen_by, Track.IsTrack};
+ghost use Rattle.irig_track.specs.{Edges.edges_of, Splices.risen_by, Track.IsLongTrack};
+ghost use Rattle.irig_track.specs.Track.{track_view};
 
 use crate::track::Track;
-use irig_recording::Pulse;
+use irig_gap::Gap;
+use irig_recording::{LongRecording, Pulse};
 use std::marker::Model;
 
 impl Track {
@@ -14,48 +16,75 @@ impl Track {
     pub fn lens(&self) -> Lens<'_>
         ensures { result ≡ lens_view self.now 0 }
     {
-        Lens {
-            track: self,
-            left: u64::MAX,
-        }
+        Lens::on(self.micros, &self.pulses)
     }
 }
 
-/// Shows a track, and counts how often a pulse was looked at.
+/// Shows a track, and counts how often a pulse was looked at. It copies no pulse.
+///
+/// The limits are a length of 2^40 microseconds and 2^26 pulses.
 ///
 /// Who is handed a lens reaches the pulses through `pulse` and `find` alone, so its looks bound its
 /// work.
 #[derive(Drop)]
 pub struct Lens<'a> {
-    track: &'a Track,
+    micros: u64,
+    pulses: &'a Gap<Pulse>,
     // How many more looks can be counted. To count down to 0 is cheaper than up to 2^64 - 1.
     left: u64,
 }
 
 impl<'a> Model for Lens<'a> {
-    ghost use Rattle.std.specs.Prelude.{◌-◌, ◌^◌};
+    ghost use Rattle.std.specs.Prelude.{◌-◌, ◌^◌, length};
     ghost use Rattle.irig_track.specs.Looks.{LensView, lens_view};
+    ghost use Rattle.irig_track.specs.Track.{IsLongTrack, track_view};
 
     ghost Value = { LensView };
 
-    ghost view = { λ l. lens_view l.track.now (2 ^ 64 - 1 - l.left) };
+    ghost view = { λ l. lens_view (track_view l.micros l.pulses.now.items
+        (l.pulses.now.capacity - length l.pulses.now.items)) (2 ^ 64 - 1 - l.left) };
+
+    ghost invariant = { λ l. IsLongTrack l.micros l.pulses.now.items };
 }
 
 impl<'a> Lens<'a> {
+    /// A lens on a recording, which has counted no look: it shows the recording's length and pulses
+    /// as those of a track.
+    pub fn of(recording: &'a LongRecording) -> Lens<'a>
+        ensures length { result.track.micros ≡ recording.now.micros }
+        ensures edges { edges_of result.track.pulses ≡ recording.now.edges }
+        ensures looks { result.looks ≡ 0 }
+    {
+        Lens::on(recording.length(), recording.pulses())
+    }
+
+    /// A lens on a length and pulses, in microseconds, which has counted no look.
+    fn on(micros: u64, pulses: &'a Gap<Pulse>) -> Lens<'a>
+        requires { IsLongTrack micros pulses.now.items }
+        ensures { result ≡ lens_view (track_view micros pulses.now.items
+            (pulses.now.capacity - length pulses.now.items)) 0 }
+    {
+        Lens {
+            micros,
+            pulses,
+            left: u64::MAX,
+        }
+    }
+
     /// How many pulses the track has.
     pub fn len(&self) -> usize
         ensures len { result ≡ length self.now.track.pulses }
-        ensures track { IsTrack self.now.track.micros self.now.track.pulses }
+        ensures track { IsLongTrack self.now.track.micros self.now.track.pulses }
     {
-        self.track.len()
+        self.pulses.len()
     }
 
     /// How long the track is, in microseconds.
     pub fn length(&self) -> u64
         ensures length { result ≡ self.now.track.micros }
-        ensures track { IsTrack self.now.track.micros self.now.track.pulses }
+        ensures track { IsLongTrack self.now.track.micros self.now.track.pulses }
     {
-        self.track.length()
+        self.micros
     }
 
     /// The pulse at `index`, from 0. It is counted as a look.
@@ -63,11 +92,11 @@ impl<'a> Lens<'a> {
         requires { index < length self.old.track.pulses }
         ensures value { slice_get self.old.track.pulses index ≡ Some result }
         ensures order { (result.rise < result.fall) × (result.fall ≤ self.old.track.micros) }
-        ensures track { IsTrack self.old.track.micros self.old.track.pulses }
+        ensures track { IsLongTrack self.old.track.micros self.old.track.pulses }
         ensures counted { self.new ≡ lens_view self.old.track (counted self.old.looks 1) }
     {
         self.left = self.left.saturating_sub(1);
-        self.track.pulse(index)
+        self.pulses.get(index)
     }
 
     /// How many pulses rise at or before `time`, in microseconds: a search that halves the rest at
@@ -76,7 +105,7 @@ impl<'a> Lens<'a> {
     pub fn find(&mut self, time: u64) -> usize
         ensures count { result ≡ risen_by time self.old.track.pulses }
         ensures within { result ≤ length self.old.track.pulses }
-        ensures track { IsTrack self.old.track.micros self.old.track.pulses }
+        ensures track { IsLongTrack self.old.track.micros self.old.track.pulses }
         ensures looked { (digits : ℕ) → length self.old.track.pulses < 2 ^ digits →
             LookedThrough self.old self.new digits }
     {

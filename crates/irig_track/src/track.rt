@@ -160,6 +160,8 @@ impl Track {
         ensures within { result ≤ length self.now.pulses }
         ensures track { IsTrack self.now.micros self.now.pulses }
     {
+        // Read for the law of its type alone.
+        let _micros = self.micros;
         self.lens().find(time)
     }
 

@@ -1,5 +1,5 @@
 -- The edges of changes give their level by parity.
-use Rattle.std.proofs.Common.{◌≡◌, ◌<◌, ℕ, zero, suc, Bool, true, false, not, List, [], ◌∷◌, ◌++◌, cond, nat_le, nat_lt, length, Option, Result, Ok, Err, refl}
+use Rattle.std.proofs.Common.{◌≡◌, ◌<◌, ◌*◌, ℕ, zero, suc, Bool, true, false, not, List, [], ◌∷◌, ◌++◌, cond, nat_le, nat_lt, length, Option, Result, Ok, Err, refl}
 use Rattle.std.proofs.Common.{ap, subst, ◌∙◌, inl, inr, arith}
 use Rattle.std.specs.List.{filter}
 use Rattle.std.proofs.lemmas.{List.append-nil, List.Elements.filter-append, Bool.cases_lt, Bool.le-leb, Bool.Decides.nat_tests}
@@ -54,7 +54,7 @@ levels_of : (wire : Option (List ℕ)) (bytes : List ℕ) (r : RecordingView) (r
     → (read >>= λ x. recorded x.0 x.1) ≡ Ok r → TellsLevels wire bytes r
 levels_of wire bytes r (Err e) is h = absurd (cc h)
 levels_of wire bytes r (Ok x) is h =
-    let k = few_level (nat_lt 8388608 (length (edges_up_to x.0 x.1))) x.0 x.1 r h in
+    let k = few_level (nat_lt (2 * 4194304) (length (edges_up_to x.0 x.1))) x.0 x.1 r h in
     (x.0, is ∙ ap (λ n. Ok (x.0, n)) k.0, k.1)
 
 pub levels_told : (wire : Option (List ℕ)) (bytes : List ℕ) (r : RecordingView) → dump wire bytes ≡ Ok r → TellsLevels wire bytes r

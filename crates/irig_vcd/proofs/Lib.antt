@@ -33,6 +33,7 @@ pub mod Lawful
 pub mod LevelLaw
 pub mod Windows
 mod WindowLaws
+mod LongRecordings
 -- The whole of a dump.
 pub mod WholeDump
 pub mod Gathered

@@ -14,7 +14,7 @@ use Rattle.irig_vcd.specs.{Words.words_of, declared.progress.Progress.Progress, 
 use Rattle.irig_vcd.specs.declared.fault.VcdFault.TheVariants as fault
 use Rattle.irig_vcd.proofs.{Gathered.more_gathered, Gathered.so_far_is, Joins.ends_inside-append, Joins.words_from-apart, MoreWords.declared_more}
 use Rattle.irig_vcd.proofs.{ScanSteps.edges_on, Scans.after, Scans.scan-append, WholeDump.fails_now, WholeDump.no_dump_in}
-use Rattle.irig_vcd.specs.{Window.dump_in, Window.parts_in, Window.recorded_in, declared.window.Window.Window}
+use Rattle.irig_vcd.specs.{Window.extent_dump, Window.extent_parts, Window.recorded_in, declared.extent.Extent.Extent}
 
 -- a part comes after the words that are read
 pub scans_next : (wire : Option (List ℕ)) (words part : List Word) (unit : ℕ) (code : List ℕ) (r : Reading) (h : HasReadWords wire words unit code r)
@@ -133,23 +133,24 @@ unfolding dump
 dump_scanned wire bytes unit code end h = ap (λ r. (r >>= λ x. scan_ended x.0 x.1) >>= λ x. recorded x.0 x.1) (scan_so wire bytes unit code end h)
 
 -- the same of a window
-pub window_scanned : (w : Option Window) (wire : Option (List ℕ)) (bytes : List ℕ) (unit : ℕ) (code : List ℕ) (end : Scan × Option VcdFault)
-    → ScansTo wire (words_of bytes) unit code end → dump_in w wire bytes ≡ (scan_ended unit end >>= λ x. recorded_in w x.0 x.1)
-unfolding dump_in
+pub window_scanned : (w : Extent) (wire : Option (List ℕ)) (bytes : List ℕ) (unit : ℕ) (code : List ℕ) (end : Scan × Option VcdFault)
+    → ScansTo wire (words_of bytes) unit code end → extent_dump w wire bytes ≡ (scan_ended unit end >>= λ x. recorded_in w x.0 x.1)
+unfolding extent_dump
 window_scanned w wire bytes unit code end h =
     ap (λ r. (r >>= λ x. scan_ended x.0 x.1) >>= λ x. recorded_in w x.0 x.1) (scan_so wire bytes unit code end h)
 
 -- what stops is a fault of the dump, whatever comes
-pub stops_dump : (v : Option Window) (wire : Option (List ℕ)) (bytes : List ℕ) (words more : List Word) (e : VcdFault) → words_of bytes ≡ words ++ more
-    → StopsIn wire words e → IsFaultOf e (parts_in v wire bytes)
+pub stops_dump : (v : Extent) (wire : Option (List ℕ)) (bytes : List ℕ) (words more : List Word) (e : VcdFault) → words_of bytes ≡ words ++ more
+    → StopsIn wire words e → IsFaultOf e (extent_parts v wire bytes)
 stops_dump v wire bytes words more fault.OutOfMemory is h = tt
 stops_dump v wire bytes words more e is h =
     let all = scans_all wire bytes words more h.0 h.1 h.2 is h.3 in
-    no_dump_in v wire bytes e (fails_now e (dump_in v wire bytes) (window_scanned v wire bytes h.0 h.1 _ all
+    no_dump_in v wire bytes e (fails_now e (extent_dump v wire bytes) (window_scanned v wire bytes h.0 h.1 _ all
     ∙ ap (λ r. r >>= λ x. recorded_in v x.0 x.1) (ends_so h.0 _ e (more_stops h.1 h.0 h.2 more e h.4))))
 
-pub stops_at : (v : Option Window) (known : Option ℕ) (kept : Vec ℕ) (wire : Option (List ℕ)) (bytes : List ℕ) (words more : List Word) (e : VcdFault) → words_of bytes ≡ words ++ more
-    → StopsAt known kept wire words e → IsFaultOf e (parts_in v wire bytes)
+pub stops_at : (v : Extent) (known : Option ℕ) (kept : Vec ℕ) (wire : Option (List ℕ)) (bytes : List ℕ) (words more : List Word) (e : VcdFault)
+    → words_of bytes ≡ words ++ more
+    → StopsAt known kept wire words e → IsFaultOf e (extent_parts v wire bytes)
 stops_at v (Some unit) kept wire bytes words more e is h = stops_dump v wire bytes words more e is h
 stops_at v None kept wire bytes words more e is (inl h) = stops_dump v wire bytes words more e is h
 stops_at v None kept wire bytes words more e is (inr h) = rw h.0 tt
@@ -286,16 +287,18 @@ put_read wire bytes old mid new n unit within cut mheld mgone mwire nheld ngone 
     }
 
 -- what the dump is, after all words are read
-pub dump_kept : (v : Option Window) (wire : Option (List ℕ)) (bytes : List ℕ) (unit : ℕ) (code : List ℕ) (r : Reading) (changes : List Change) (end : ℕ)
-    → (h : HasReadWords wire (words_of bytes) unit code r) → scan_ended unit (h.0, None) ≡ Ok (changes, end) → dump_in v wire bytes ≡ recorded_in v changes end
+pub dump_kept : (v : Extent) (wire : Option (List ℕ)) (bytes : List ℕ) (unit : ℕ) (code : List ℕ) (r : Reading) (changes : List Change) (end : ℕ)
+    → (h : HasReadWords wire (words_of bytes) unit code r) → scan_ended unit (h.0, None) ≡ Ok (changes, end)
+    → extent_dump v wire bytes ≡ recorded_in v changes end
 dump_kept v wire bytes unit code r changes end h is =
     window_scanned v wire bytes unit code (h.0, None) h.1 ∙ ap (λ r. r >>= λ x. recorded_in v x.0 x.1) is
 
-pub end_fault : (v : Option Window) (wire : Option (List ℕ)) (bytes : List ℕ) (unit : ℕ) (code : List ℕ) (r : Reading) (e : VcdFault)
-    → (h : HasReadWords wire (words_of bytes) unit code r) → IsFaultOf e (scan_ended unit (h.0, None)) → IsFaultOf e (parts_in v wire bytes)
+pub end_fault : (v : Extent) (wire : Option (List ℕ)) (bytes : List ℕ) (unit : ℕ) (code : List ℕ) (r : Reading) (e : VcdFault)
+    → (h : HasReadWords wire (words_of bytes) unit code r) → IsFaultOf e (scan_ended unit (h.0, None)) → IsFaultOf e (extent_parts v wire bytes)
 end_fault v wire bytes unit code r fault.OutOfMemory h is = tt
 end_fault v wire bytes unit code r e h is =
-    no_dump_in v wire bytes e (fails_now e (dump_in v wire bytes) (window_scanned v wire bytes unit code (h.0, None) h.1 ∙ ap (λ r. r >>= λ x. recorded_in v x.0 x.1) is))
+    no_dump_in v wire bytes e (fails_now e (extent_dump v wire bytes) (window_scanned v wire bytes unit code (h.0, None) h.1
+    ∙ ap (λ r. r >>= λ x. recorded_in v x.0 x.1) is))
 
 -- the journals of the dump, after all words are read
 pub told_in : (wire : Option (List ℕ)) (bytes : List ℕ) (unit : ℕ) (code : List ℕ) (r : Reading) → (h : HasReadWords wire (words_of bytes) unit code r)

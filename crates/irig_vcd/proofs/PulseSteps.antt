@@ -7,32 +7,33 @@ use Rattle.irig_vcd.specs.Code.Along.{TakesEdge, at_micros}
 use Rattle.irig_vcd.specs.Words.{Word, words_from, before_space, is_space, is_code, kind_of_byte, hash, scalar, rest_of}
 use Rattle.irig_vcd.specs.{Answer.◌>>=◌, Code.Part.moved, Code.Scanned.IsTraced, Code.Scanned.Passes, Code.Time.units_of, Code.Time.IsTime, Code.Trace.Follows, Code.Trace.Traces}
 use Rattle.irig_vcd.specs.{Digits.is_digit, Digits.number_from, Level.Change, Level.change, Scan.Scan, Scan.closed, Scan.given, Scan.scan_words}
-use Rattle.irig_vcd.specs.{Times.micros_of, declared.pulses.Edge.Edge, declared.time.Clock.Clock, declared.trace.Trace.Trace}
+use Rattle.irig_vcd.specs.{Extent.most_pulses, Times.micros_of, declared.pulses.Edge.Edge, declared.time.Clock.Clock, declared.trace.Trace.Trace}
 use Rattle.irig_recording.specs.Edges.{edges_kept}
 use Rattle.irig_vcd.proofs.TimeLemmas.{units_cut, shown_time, fine_time, rest_low, later_read}
 use Rattle.irig_vcd.proofs.{Clocks.micros_fine, CodeRuns.bit_level, CodeRuns.bit_word, DigitRuns.hash_word, Levels.advanced, Levels.changed, Levels.kept_more}
 use Rattle.irig_vcd.proofs.{ScanSteps.one_word, ScanSteps.own, Runs.opened, Runs.newline, Runs.behind_newline}
 
 -- a trace after a fall takes a pulse
-pub pulse_put : (cs : List Change) (old new : Trace) (rise fall : ℕ) → old.before ≡ true → old.now ≡ false → length old.edges + 2 ≤ edges_kept
+pub pulse_put : (cs : List Change) (old new : Trace) → new.extent ≡ old.extent → (rise fall : ℕ) → old.before ≡ true → old.now ≡ false
+    → length old.edges + 2 ≤ edges_kept (most_pulses old.extent)
     → old.time < rise → rise < fall → new.edges ≡ old.edges ++ old.time ∷ rise ∷ []
     → new.time ≡ fall → new.before ≡ true → new.now ≡ false → Traces cs old
     → Traces (cs ++ record { time = rise; high = true } ∷ record { time = fall; high = false } ∷ []) new
-pulse_put cs old new rise fall was fallen room first second added time before now h =
+pulse_put cs old new extent rise fall was fallen room first second added time before now h =
     let up : Change = record { time = rise; high = true } in
     let down : Change = record { time = fall; high = false } in
     let one : List ℕ = old.edges ++ old.time ∷ [] in
-    let low : Trace = record { window = old.window; time = rise; before = false; now = false; edges = one } in
-    let risen : Trace = record { window = old.window; time = rise; before = false; now = true; edges = one } in
-    let high : Trace = record { window = old.window; time = fall; before = true; now = true; edges = new.edges } in
+    let low : Trace = record { extent = old.extent; time = rise; before = false; now = false; edges = one } in
+    let risen : Trace = record { extent = old.extent; time = rise; before = false; now = true; edges = one } in
+    let high : Trace = record { extent = old.extent; time = fall; before = true; now = true; edges = new.edges } in
     let long : length one ≡ length old.edges + 1 = length-append old.edges (old.time ∷ []) in
-    let a : Traces cs low = advanced cs old low first (sym fallen) (sym fallen)
-    (λ all is. rw (fallen, was) (kept_more edges_kept old.time old.edges all is (omega arith))) h in
-    let b : Traces (cs ++ up ∷ []) risen = changed cs up low risen refl refl refl refl refl a in
+    let a : Traces cs low = advanced cs old low refl first (sym fallen) (sym fallen)
+    (λ all is. rw (fallen, was) (kept_more (edges_kept (most_pulses old.extent)) old.time old.edges all is (omega arith))) h in
+    let b : Traces (cs ++ up ∷ []) risen = changed cs up low risen refl refl refl refl refl refl a in
     let again : new.edges ≡ one ++ rise ∷ [] = added ∙ sym (append_assoc old.edges (old.time ∷ []) (rise ∷ [])) in
-    let d : Traces (cs ++ up ∷ []) high = advanced (cs ++ up ∷ []) risen high second refl refl
-    (λ all is. again ∙ kept_more edges_kept rise one all is (omega arith)) b in
-    let e : Traces ((cs ++ up ∷ []) ++ down ∷ []) new = changed (cs ++ up ∷ []) down high new refl time now before refl d in
+    let d : Traces (cs ++ up ∷ []) high = advanced (cs ++ up ∷ []) risen high refl second refl refl
+    (λ all is. again ∙ kept_more (edges_kept (most_pulses old.extent)) rise one all is (omega arith)) b in
+    let e : Traces ((cs ++ up ∷ []) ++ down ∷ []) new = changed (cs ++ up ∷ []) down high new extent refl time now before refl d in
     rw (sym (append_assoc cs (up ∷ []) (down ∷ []))) e
 
 -- the words of a text at a place, at their places in the dump

@@ -1,5 +1,5 @@
 -- What is written is read back.
-use Rattle.std.proofs.Common.{◌≡◌, ◌≤◌, ◌+◌, ◌++◌, ◌∷◌, ◌==◌, [], ℕ, Bool, true, false, not, List, length, codes, None, Ok, refl, ap, sym, ◌∙◌, arith, inl, inr}
+use Rattle.std.proofs.Common.{◌≡◌, ◌≤◌, ◌+◌, ◌*◌, ◌++◌, ◌∷◌, ◌==◌, [], ℕ, Bool, true, false, not, List, length, codes, None, Ok, refl, ap, sym, ◌∙◌, arith, inl, inr}
 use Rattle.std.proofs.Common.{subst, length-append}
 use Rattle.std.specs.List.{list_any}
 use Rattle.std.proofs.lemmas.{Bool.le-ltb, Bool.cases_eq, Bool.eq-eqb, Bool.ne_eqb, List.append-nil}
@@ -59,9 +59,9 @@ played_back high later top edges rest r u low there =
     ∙ ending (last_or 0 later) (125 + length (edge_lines (not high) later)) top edges (one ++ turns (not high) later) [] rest
     (last_up later 0 top (omega arith) u) low there))
 
-few_recorded : (cs : List Change) (top : ℕ) (edges : List ℕ) → edges_up_to cs top ≡ edges → length edges ≤ 8388608
+few_recorded : (cs : List Change) (top : ℕ) (edges : List ℕ) → edges_up_to cs top ≡ edges → length edges ≤ 2 * 4194304
     → recorded cs top ≡ Ok (recording_view top edges)
-few_recorded cs top edges is few = rw (is, le-ltb 8388608 (length edges) few) refl
+few_recorded cs top edges is few = rw (is, le-ltb (2 * 4194304) (length edges) few) refl
 
 text_back : (high : Bool) (later : List ℕ) (top : ℕ) (edges rest : List ℕ) → begins_high edges ≡ high → later_edges edges ≡ later
     → RisesFrom 1 later → UpTo top later → IsRecording top edges

@@ -1,25 +1,25 @@
 -- Laws of the recordings of windows.
-use Rattle.std.proofs.Common.{◌≡◌, ◌<◌, ◌≤◌, ◌+◌, ◌-◌, ℕ, List, Option, Some, Result, Ok, Err, length, nat_lt, min, ap, sym, ◌∙◌, arith}
+use Rattle.std.proofs.Common.{◌≡◌, ◌<◌, ◌≤◌, ◌+◌, ◌-◌, ◌*◌, ℕ, List, Option, Some, Result, Ok, Err, length, nat_lt, min, refl, ap, sym, ◌∙◌, arith}
 use Rattle.irig_vcd.specs.Level.{Change, level_by_changes, edges_up_to}
-use Rattle.irig_vcd.specs.Window.{AreJoined, TellsWindow, dump_in, moved, recorded_in, window_of}
+use Rattle.irig_vcd.specs.Window.{AreJoined, TellsWindow, extent_dump, moved, recorded_in, window_of}
 use Rattle.irig_vcd.specs.{Answer.◌>>=◌, Dump.changes_of, Dump.dump, Dump.if_few, Dump.recorded, declared.fault.VcdFault.VcdFault}
-use Rattle.irig_vcd.specs.declared.window.Window.{Window}
+use Rattle.irig_vcd.specs.{Extent.short, declared.window.Window.Window}
 use Rattle.irig_recording.specs.Recording.{RecordingView, level_by_edges}
 use Rattle.irig_vcd.proofs.{LevelLaw.few_level, Windows.window_told, Windows.window_whole}
 
 -- a window of all changes gives their recording
 all_recorded : (w : Window) (read : Result (List Change × ℕ) VcdFault) (r : RecordingView) → w.from ≡ 0 → r.micros ≤ w.to
-    → (read >>= λ x. recorded x.0 x.1) ≡ Ok r → (read >>= λ x. recorded_in (Some w) x.0 x.1) ≡ Ok r
+    → (read >>= λ x. recorded x.0 x.1) ≡ Ok r → (read >>= λ x. recorded_in (short (Some w)) x.0 x.1) ≡ Ok r
 all_recorded w (Err e) r low high h = absurd (cc h)
 all_recorded w (Ok x) r low high h =
-    let k = few_level (nat_lt 8388608 (length (edges_up_to x.0 x.1))) x.0 x.1 r h in
+    let k = few_level (nat_lt (2 * 4194304) (length (edges_up_to x.0 x.1))) x.0 x.1 r h in
     let end : x.1 ≤ w.to = omega (arith, k.0, high) in
     let all : moved (Some w) x.1 ≡ x.1 = omega (arith, low, end) in
-    ap (if_few (moved (Some w) x.1)) (window_whole w x.0 x.1 low end) ∙ (ap (λ (n : ℕ). if_few n (edges_up_to x.0 x.1)) all ∙ h)
+    ap (if_few 4194304 (moved (Some w) x.1)) (window_whole w x.0 x.1 low end) ∙ (ap (λ (n : ℕ). if_few 4194304 n (edges_up_to x.0 x.1)) all ∙ h)
 
 pub window_of_all : (w : Window) (wire : Option (List ℕ)) (bytes : List ℕ) (r : RecordingView) → w.from ≡ 0 → r.micros ≤ w.to
-    → dump wire bytes ≡ Ok r → dump_in (Some w) wire bytes ≡ Ok r
-unfolding dump dump_in
+    → dump wire bytes ≡ Ok r → extent_dump (short (Some w)) wire bytes ≡ Ok r
+unfolding dump extent_dump
 window_of_all w wire bytes r low high h = all_recorded w (changes_of wire bytes) r low high h
 
 -- levels and lengths of windows that meet
@@ -62,10 +62,10 @@ told_joined wire bytes from middle to first second both le also one two three =
 
 -- recordings of windows that meet
 pub windows_joined : (wire : Option (List ℕ)) (bytes : List ℕ) (from middle to : ℕ) (first second both : RecordingView) → from ≤ middle → middle ≤ to
-    → dump_in (Some (window_of from middle)) wire bytes ≡ Ok first → dump_in (Some (window_of middle to)) wire bytes ≡ Ok second
-    → dump_in (Some (window_of from to)) wire bytes ≡ Ok both → AreJoined first second both
+    → extent_dump (short (Some (window_of from middle))) wire bytes ≡ Ok first → extent_dump (short (Some (window_of middle to))) wire bytes ≡ Ok second
+    → extent_dump (short (Some (window_of from to))) wire bytes ≡ Ok both → AreJoined first second both
 windows_joined wire bytes from middle to first second both le also one two three =
     told_joined wire bytes from middle to first second both le also
-    (window_told (window_of from middle) wire bytes first one)
-    (window_told (window_of middle to) wire bytes second two)
-    (window_told (window_of from to) wire bytes both three)
+    (window_told (short (Some (window_of from middle))) (window_of from middle) wire bytes first refl one)
+    (window_told (short (Some (window_of middle to))) (window_of middle to) wire bytes second refl two)
+    (window_told (short (Some (window_of from to))) (window_of from to) wire bytes both refl three)

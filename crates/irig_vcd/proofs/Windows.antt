@@ -1,18 +1,19 @@
 -- The level of a window is that of the dump, and windows that meet make the whole.
-use Rattle.std.proofs.Common.{◌≡◌, ◌<◌, ◌≤◌, ◌+◌, ◌-◌, ℕ, zero, suc, true, false, List, [], ◌∷◌, ◌++◌, Option, Some, None, Result, Ok, Err, length, nat_le, nat_lt, min}
-use Rattle.std.proofs.Common.{refl, ap, sym, ◌∙◌, arith, inl, inr}
+use Rattle.std.proofs.Common.{◌≡◌, ◌<◌, ◌≤◌, ◌+◌, ◌-◌, ◌*◌, ℕ, zero, suc, true, false, List, [], ◌∷◌, ◌++◌, Option, Some, None, Result, Ok, Err, length, nat_le, nat_lt, min}
+use Rattle.std.proofs.Common.{refl, ap, subst, sym, ◌∙◌, arith, inl, inr}
 use Rattle.std.specs.List.{AllByRecursion, filter}
 use Rattle.std.proofs.lemmas.{Bool.cases_lt, Bool.Decides.nat_tests}
 use Rattle.irig_vcd.specs.Level.{Change, change, last_level, level_by_changes, level_before, edges_below, edges_up_to}
-use Rattle.irig_vcd.specs.Window.{moved, within, recorded_in, dump_in, parts_in, TellsWindow}
+use Rattle.irig_vcd.specs.Window.{moved, within, extent_dump, extent_parts, TellsWindow}
+use Rattle.irig_vcd.specs.Extent.{most_pulses, short}
 use Rattle.irig_vcd.specs.{Answer.◌>>=◌, Dump.changes_of, declared.fault.VcdFault.VcdFault}
-use Rattle.irig_vcd.specs.{Code.Trace.EdgeBefore, Dump.dump, Parts.dump_parts, declared.window.Window.Window}
+use Rattle.irig_vcd.specs.{Code.Trace.EdgeBefore, Dump.dump, Dump.recorded_up_to, declared.extent.Extent.Extent, Parts.dump_parts, declared.window.Window.Window}
 use Rattle.irig_recording.specs.Recording.{RecordingView, level_by_edges}
 use Rattle.irig_vcd.proofs.LevelLaw.{few_level, level_up_to}
 
 -- without a window it is the dump
-pub no_window : (wire : Option (List ℕ)) (bytes : List ℕ) → dump_in None wire bytes ≡ dump wire bytes
-unfolding dump_in dump
+pub no_window : (wire : Option (List ℕ)) (bytes : List ℕ) → extent_dump (short None) wire bytes ≡ dump wire bytes
+unfolding extent_dump dump
 no_window wire bytes = refl
 
 -- a change at its microsecond of a window
@@ -102,8 +103,8 @@ edge_within (Some w) time cs e = record {
   high = sym (level_within w cs e.at (omega (arith, e.before))) ∙ e.high;
 }
 
-pub no_window_parts : (wire : Option (List ℕ)) (bytes : List ℕ) → parts_in None wire bytes ≡ dump_parts wire bytes
-unfolding parts_in dump_parts dump_in dump
+pub no_window_parts : (wire : Option (List ℕ)) (bytes : List ℕ) → extent_parts (short None) wire bytes ≡ dump_parts wire bytes
+unfolding extent_parts dump_parts extent_dump dump
 no_window_parts wire bytes = refl
 
 -- two windows that meet at a time, one after the other, have the level of the whole recording
@@ -118,15 +119,18 @@ windows_meet a end t cs le lt = (
 )
 
 -- the law of the level of a window
-window_levels : (w : Window) (wire : Option (List ℕ)) (bytes : List ℕ) (r : RecordingView) (read : Result (List Change × ℕ) VcdFault)
-    → changes_of wire bytes ≡ read → (read >>= λ x. recorded_in (Some w) x.0 x.1) ≡ Ok r → TellsWindow w wire bytes r
-window_levels w wire bytes r (Err e) is h = absurd (cc h)
-window_levels w wire bytes r (Ok x) is h =
+window_levels : (most : ℕ) (w : Window) (wire : Option (List ℕ)) (bytes : List ℕ) (r : RecordingView) (read : Result (List Change × ℕ) VcdFault)
+    → changes_of wire bytes ≡ read → (read >>= λ x. recorded_up_to most (within (Some w) x.0) (moved (Some w) x.1)) ≡ Ok r → TellsWindow w wire bytes r
+window_levels most w wire bytes r (Err e) is h = absurd (cc h)
+window_levels most w wire bytes r (Ok x) is h =
     let end = moved (Some w) x.1 in
     let cs = within (Some w) x.0 in
-    let k = few_level (nat_lt 8388608 (length (edges_up_to cs end))) cs end r h in
+    let k = few_level (nat_lt (2 * most) (length (edges_up_to cs end))) cs end r h in
     (x.0, x.1, is, sym k.0, λ u lt. k.1 u lt ∙ level_within w x.0 u (omega (arith, lt, k.0)))
 
-pub window_told : (w : Window) (wire : Option (List ℕ)) (bytes : List ℕ) (r : RecordingView) → dump_in (Some w) wire bytes ≡ Ok r → TellsWindow w wire bytes r
-unfolding dump_in
-window_told w wire bytes r h = window_levels w wire bytes r (changes_of wire bytes) refl h
+pub window_told : (extent : Extent) (w : Window) (wire : Option (List ℕ)) (bytes : List ℕ) (r : RecordingView) → extent.window ≡ Some w
+    → extent_dump extent wire bytes ≡ Ok r → TellsWindow w wire bytes r
+unfolding extent_dump
+window_told extent w wire bytes r is h =
+    window_levels (most_pulses extent) w wire bytes r (changes_of wire bytes) refl
+    (subst (λ (v : Option Window). (changes_of wire bytes >>= λ x. recorded_up_to (most_pulses extent) (within v x.0) (moved v x.1)) ≡ Ok r) is h)

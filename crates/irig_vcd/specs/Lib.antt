@@ -14,5 +14,6 @@ pub mod Journals
 pub mod Scan
 pub mod Dump
 pub mod Parts
+pub mod Extent
 pub mod Window
 pub mod Code

@@ -1,8 +1,9 @@
 -- A window of a dump: the part of it between two times, in microseconds. This project's own.
 use Rattle.std.specs.Prelude.{◌≡◌, ◌<◌, ◌+◌, ◌-◌, ℕ, List, Option, Some, None, Result, Ok, map, min}
 use Rattle.irig_vcd.specs.{Answer.◌>>=◌, Answer.pair_of, Dump.changes_of, Dump.journals_of}
-use Rattle.irig_vcd.specs.{Dump.recorded, Level.Change, Level.change, Level.level_by_changes}
-use Rattle.irig_vcd.specs.{Parts.one_journal}
+use Rattle.irig_vcd.specs.{Dump.recorded_up_to, Extent.most_pulses, Extent.short, Level.Change}
+use Rattle.irig_vcd.specs.{Level.change, Level.level_by_changes, Parts.one_journal}
+use Rattle.irig_vcd.specs.declared.extent.Extent.{Extent}
 use Rattle.irig_vcd.specs.{declared.fault.VcdFault.VcdFault, declared.window.Window.Window}
 use Rattle.irig_recording.specs.Recording.{RecordingView, level_by_edges}
 
@@ -17,15 +18,16 @@ abbrev pub within : Option Window → List Change → List Change
 within None changes = changes
 within (Some w) changes = map (λ c. change (min c.time w.to - w.from) c.high) changes
 
--- the recording of a window of a dump that makes these changes up to a last time
-abbrev pub recorded_in : Option Window → List Change → ℕ → Result RecordingView VcdFault
-recorded_in window changes end = recorded (within window changes) (moved window end)
+-- the recording of what is kept of a dump that makes these changes up to a last time
+abbrev pub recorded_in : Extent → List Change → ℕ → Result RecordingView VcdFault
+recorded_in extent changes end =
+    recorded_up_to (most_pulses extent) (within extent.window changes) (moved extent.window end)
 
--- the recording of a window of a dump, of the wire that a name means, or of the one wire, or the
--- first fault of the whole dump
-unfoldable pub dump_in : Option Window → Option (List ℕ) → List ℕ → Result RecordingView VcdFault
-dump_in window wire bytes =
-    changes_of wire bytes >>= λ changes. recorded_in window changes.0 changes.1
+-- the recording of what is kept of a dump, of the wire that a name means, or of the one wire, or
+-- the first fault of the whole dump
+unfoldable pub extent_dump : Extent → Option (List ℕ) → List ℕ → Result RecordingView VcdFault
+extent_dump extent wire bytes =
+    changes_of wire bytes >>= λ changes. recorded_in extent changes.0 changes.1
 
 -- the edges of a recording of a window give, at each microsecond below its length, the level that
 -- the whole dump has there, and it is as long as the window or as far as the dump goes
@@ -49,9 +51,17 @@ AreJoined first second both =
     → level_by_edges u second.edges ≡ level_by_edges (first.micros + u) both.edges)
 
 -- that recording, and the text of the journal of the whole dump
-unfoldable pub parts_in : Option Window → Option (List ℕ) → List ℕ
+unfoldable pub extent_parts : Extent → Option (List ℕ) → List ℕ
     → Result (RecordingView × Option (List ℕ)) VcdFault
-parts_in window wire bytes = do
-  recording ← dump_in window wire bytes
+extent_parts extent wire bytes = do
+  recording ← extent_dump extent wire bytes
   journal ← one_journal (journals_of wire bytes)
   pair_of recording journal
+
+-- the same of a window of a dump, or of all of it, with at most 2^22 pulses
+abbrev pub dump_in : Option Window → Option (List ℕ) → List ℕ → Result RecordingView VcdFault
+dump_in window wire bytes = extent_dump (short window) wire bytes
+
+abbrev pub parts_in : Option Window → Option (List ℕ) → List ℕ
+    → Result (RecordingView × Option (List ℕ)) VcdFault
+parts_in window wire bytes = extent_parts (short window) wire bytes

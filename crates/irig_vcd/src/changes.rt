@@ -16,8 +16,10 @@ ghost use Rattle.irig_vcd.specs.declared.fault.VcdFault.{VcdFault};
 ghost use Rattle.irig_vcd.specs.declared.fault.VcdFault.TheVariants.{OutOfMemory};
 ghost use Rattle.irig_vcd.specs.{Level.HasEdge, Words.rest_of, Code.Event.is_hash};
 ghost use Rattle.irig_vcd.specs.{Code.Trace.KeepsEdges, Code.Reached.IsOn, Code.Journals.Holds};
+ghost use Rattle.irig_vcd.specs.Extent.{short};
 
 use crate::event::{take_level, take_open};
+use crate::extent::Extent;
 use crate::fault::VcdFault;
 use crate::journals::Journals;
 use crate::pending::Pending;
@@ -69,7 +71,7 @@ fn take(
         → Scans unit end result
         (λ now. Leads code.now unit end trace.new now journals.new pending.new tokens.new) }
     ensures fewer { length tokens.new ≤ length tokens.old }
-    ensures window { trace.new.window ≡ trace.old.window }
+    ensures extent { trace.new.extent ≡ trace.old.extent }
 {
     if is_hash(token.kind) {
         return time(unit, clock, digits_of(token.slice), token.offset);
@@ -99,7 +101,7 @@ fn resume(
         (λ _. Leads code.now unit (scan_words code.now unit s tokens.old) trace.new clock
         journals.new pending.new tokens.new) }
     ensures fewer { length tokens.new ≤ length tokens.old }
-    ensures window { trace.new.window ≡ trace.old.window }
+    ensures extent { trace.new.extent ≡ trace.old.extent }
 {
     if let Some(high) = take_open(code, tokens, journals, pending)? {
         trace.put(micros(unit, clock), high)?;
@@ -134,7 +136,7 @@ pub fn follow(
         → Scans unit (scan_words code.now unit s tokens.old) result
         (λ now. Leads code.now unit (scan_words code.now unit s tokens.old) trace.new now
         journals.new pending.new []) }
-    ensures window { trace.new.window ≡ trace.old.window }
+    ensures extent { trace.new.extent ≡ trace.old.extent }
 {
     match resume(tokens, unit, code, from, trace, journals, pending) {
         Ok(()) => follow_on(tokens, unit, code, from, trace, journals, pending),
@@ -162,7 +164,7 @@ fn follow_on(
         → Leads code.now unit end trace.old from journals.old pending.old tokens.old
         → Scans unit end result
         (λ now. Leads code.now unit end trace.new now journals.new pending.new []) }
-    ensures window { trace.new.window ≡ trace.old.window }
+    ensures extent { trace.new.extent ≡ trace.old.extent }
 {
     let is_plain = is_plain(code);
     let is_quick = is_quick(is_plain, unit, code);
@@ -183,14 +185,15 @@ fn follow_on(
 }
 
 /// Reads what is after the declarations, up to the end of the dump: the last time, the edges of the
-/// wire, and the places of the journals. There is no window (`None`), so all edges are kept.
+/// wire, and the places of the journals. There is no window (`None`), so the edges of all of it are
+/// kept, up to those of 2^22 pulses.
 pub fn changes(
     alloc: Global,
     tokens: &mut Tokens,
     unit: Unit,
     code: &[u8],
 ) -> Result<Body, VcdFault>
-    ensures exact { KeepsEdges None result
+    ensures exact { KeepsEdges (short None) result
         (scan_ended unit (scan_words code.now unit start tokens.old)) }
     ensures journals { IfOk result
         (λ x. Holds (scan_words code.now unit start tokens.old).0.journals x.journals) }
@@ -199,7 +202,7 @@ pub fn changes(
     ensures memory { result ≡ Err OutOfMemory
         → HasEdge (scan_words code.now unit start tokens.old).0.changes }
 {
-    let mut reading = Reading::new(alloc, None);
+    let mut reading = Reading::new(alloc, Extent::short(None));
     match reading.read(tokens, unit, code) {
         Ok(()) => reading.finish(unit),
         Err(fault) => Err(fault),

@@ -1,9 +1,10 @@
 //! A dump that comes in parts.
 //!
-//! A window is the part of the dump, in microseconds, that is kept. Bytes are held until they are
-//! read: until at least `wanted` of them are there, so that the same bytes are not read again for
-//! each small part. `gone` counts those that were read and let go. The unit is that of the dump's
-//! times. An error is a fault of the dump, `OutOfMemory` among them.
+//! An extent says how much of the dump is kept: a window of it, a part between two microseconds, or
+//! all; and how many pulses. Bytes are held until they are read: until at least `wanted` of them
+//! are there, so that the same bytes are not read again for each small part. `gone` counts those
+//! that were read and let go. The unit is that of the dump's times. An error is a fault of the
+//! dump, `OutOfMemory` among them.
 //!
 //! Where `match` hands an error on, `?` would do the same; the proof of it takes longer.
 
@@ -16,17 +17,17 @@ ghost use Rattle.irig_vcd.specs.Code.NextPart.{HasReadEnough, IsReadUp, TakesMem
 ghost use Rattle.irig_vcd.specs.declared.fault.VcdFault.TheVariants.{OutOfMemory};
 ghost use Rattle.irig_vcd.specs.{Declarations.declarations_of, declared.fault.VcdFault.VcdFault};
 ghost use Rattle.irig_vcd.specs.{Code.Gathered.gathered, Code.Reached.IsOn, Dump.changes_before};
-ghost use Rattle.irig_vcd.specs.{Level.HasEdge, Window.parts_in, Words.words_of};
+ghost use Rattle.irig_vcd.specs.{Extent.short, Level.HasEdge, Window.extent_parts, Words.words_of};
 
 use crate::changes::Body;
+use crate::extent::Extent;
 use crate::fault::VcdFault;
 use crate::part::whole_len;
 use crate::progress::Progress;
 use crate::reader::kept;
 use crate::reading::Reading;
 use crate::unit::Unit;
-use crate::window::Window;
-use irig_recording::Recording;
+use irig_recording::LongRecording;
 use std::alloc::{AllocError, Global};
 use std::marker::Model;
 
@@ -54,21 +55,21 @@ impl DumpReader {
     /// one wire of one bit. It fails only if memory runs out.
     pub fn new(alloc: Global, wire: Option<&[u8]>) -> Result<DumpReader, AllocError>
         ensures read { IfOk result (HasRead (name_of wire.entry) []) }
-        ensures whole { IfOk result (λ r. r.reading.trace.window ≡ None) }
+        ensures whole { IfOk result (λ r. r.reading.trace.extent ≡ short None) }
         ensures length { IfOk result (λ r. bytes_read r ≡ 0) }
     {
-        DumpReader::of_window(alloc, wire, None)
+        DumpReader::of_extent(alloc, wire, Extent::short(None))
     }
 
-    /// A reader that has read nothing of a dump, and keeps only a window of it; without one it
-    /// keeps all. It fails only if memory runs out.
-    pub fn of_window(
+    /// A reader that has read nothing of a dump, and keeps as much of it as `extent` says. It fails
+    /// only if memory runs out.
+    pub fn of_extent(
         alloc: Global,
         wire: Option<&[u8]>,
-        window: Option<Window>,
+        extent: Extent,
     ) -> Result<DumpReader, AllocError>
         ensures read { IfOk result (HasRead (name_of wire.entry) []) }
-        ensures window { IfOk result (λ r. r.reading.trace.window ≡ window) }
+        ensures extent { IfOk result (λ r. r.reading.trace.extent ≡ extent) }
         ensures length { IfOk result (λ r. bytes_read r ≡ 0) }
     {
         let wire = copied(alloc, wire)?;
@@ -77,7 +78,7 @@ impl DumpReader {
                 wire,
                 unit: None,
                 code: Vec::new(alloc),
-                reading: Reading::new(alloc, window),
+                reading: Reading::new(alloc, extent),
                 gone: 0,
                 held: Vec::new(alloc),
                 wanted: 0,
@@ -109,14 +110,14 @@ impl DumpReader {
         ensures length { IfOk result (λ r. bytes_read r ≡ bytes_read self + length part.now) }
         ensures fault { IfErr result (λ e. (wire : Option (List ℕ)) (bytes more : List ℕ)
             → HasRead wire bytes self
-            → IsFaultOf e (parts_in self.reading.trace.window wire
+            → IsFaultOf e (extent_parts self.reading.trace.extent wire
             ((bytes ++ part.now) ++ more))) }
         ensures memory { result ≡ Err OutOfMemory
             → (wire : Option (List ℕ)) (bytes : List ℕ) → HasRead wire bytes self
             → (vec_capacity self.held < vec_len self.held + length part.now)
             ⊎ TakesMemory wire self.unit self.code self.journal (bytes ++ part.now) }
         ensures enough { IfOk result (HasReadEnough self.wanted) }
-        ensures window { IfOk result (λ r. r.reading.trace.window ≡ self.reading.trace.window) }
+        ensures extent { IfOk result (λ r. r.reading.trace.extent ≡ self.reading.trace.extent) }
     {
         let mut progress = self.progress;
         match put_part(&mut progress, part) {
@@ -127,13 +128,13 @@ impl DumpReader {
 
     /// What the dump says, if nothing comes after its parts: the recording, and the text of its
     /// journal, from its first word up to its `$end`.
-    pub fn end(self) -> Result<(Recording, Option<Vec<u8>>), VcdFault>
+    pub fn end(self) -> Result<(LongRecording, Option<Vec<u8>>), VcdFault>
         ensures read { IfOk result (λ x. (wire : Option (List ℕ)) (bytes : List ℕ)
             → HasRead wire bytes self
-            → parts_in self.reading.trace.window wire bytes ≡ Ok (x.0, bytes_of x.1)) }
+            → extent_parts self.reading.trace.extent wire bytes ≡ Ok (x.0, bytes_of x.1)) }
         ensures fault { IfErr result (λ e. (wire : Option (List ℕ)) (bytes : List ℕ)
             → HasRead wire bytes self
-            → IsFaultOf e (parts_in self.reading.trace.window wire bytes)) }
+            → IsFaultOf e (extent_parts self.reading.trace.extent wire bytes)) }
         ensures heading { (wire : Option (List ℕ)) (bytes : List ℕ) (e : VcdFault)
             → HasRead wire bytes self → self.unit ≡ None
             → declarations_of wire (words_of bytes) ≡ Err e → result ≡ Err e }
@@ -162,7 +163,7 @@ fn put_part(progress: &mut Progress, part: &[u8]) -> Result<(), VcdFault>
         (bytes_read progress.new ≡ bytes_read progress.old + length part.now) }
     ensures fault { IfErr result (λ e. (wire : Option (List ℕ)) (bytes more : List ℕ)
         → HasRead wire bytes progress.old
-        → IsFaultOf e (parts_in progress.old.reading.trace.window wire
+        → IsFaultOf e (extent_parts progress.old.reading.trace.extent wire
         ((bytes ++ part.now) ++ more))) }
     ensures memory { result ≡ Err OutOfMemory
         → (wire : Option (List ℕ)) (bytes : List ℕ) → HasRead wire bytes progress.old
@@ -170,7 +171,7 @@ fn put_part(progress: &mut Progress, part: &[u8]) -> Result<(), VcdFault>
         ⊎ TakesMemory wire progress.old.unit progress.old.code progress.old.journal
         (bytes ++ part.now) }
     ensures enough { OnOk result (HasReadEnough progress.old.wanted progress.new) }
-    ensures window { progress.new.reading.trace.window ≡ progress.old.reading.trace.window }
+    ensures extent { progress.new.reading.trace.extent ≡ progress.old.reading.trace.extent }
 {
     progress.held.extend_from_slice(part)?;
     if progress.held.len() < progress.wanted {
@@ -190,11 +191,11 @@ fn read_held(progress: &mut Progress) -> Result<(), VcdFault>
         → HasRead wire bytes progress.old → HasRead wire bytes progress.new) }
     ensures length { OnOk result (bytes_read progress.new ≡ bytes_read progress.old) }
     ensures held { OnOk result (IsReadUp progress.new.unit progress.new) }
-    ensures window { progress.new.reading.trace.window ≡ progress.old.reading.trace.window }
+    ensures extent { progress.new.reading.trace.extent ≡ progress.old.reading.trace.extent }
     ensures wanted { OnOk result (progress.new.wanted ≡ 2 * vec_len progress.new.held) }
     ensures fault { IfErr result (λ e. (wire : Option (List ℕ)) (bytes more : List ℕ)
         → HasRead wire bytes progress.old
-        → IsFaultOf e (parts_in progress.old.reading.trace.window wire (bytes ++ more))) }
+        → IsFaultOf e (extent_parts progress.old.reading.trace.extent wire (bytes ++ more))) }
     ensures memory { result ≡ Err OutOfMemory
         → (wire : Option (List ℕ)) (bytes : List ℕ) → HasRead wire bytes progress.old
         → TakesMemory wire progress.old.unit progress.old.code progress.old.journal bytes }
@@ -218,7 +219,7 @@ fn read_held(progress: &mut Progress) -> Result<(), VcdFault>
 /// fault of the declarations, the inner error of `read_to`, is one of the dump.
 fn read_rest(progress: &mut Progress) -> Result<Unit, VcdFault>
     requires reader { IsReader progress.old }
-    ensures window { progress.new.reading.trace.window ≡ progress.old.reading.trace.window }
+    ensures extent { progress.new.reading.trace.extent ≡ progress.old.reading.trace.extent }
     ensures time { IfOk result
         (λ unit. IsOn unit progress.new.reading.trace progress.new.reading.clock) }
     ensures read { IfOk result (λ unit. (wire : Option (List ℕ)) (bytes : List ℕ)
@@ -227,7 +228,7 @@ fn read_rest(progress: &mut Progress) -> Result<Unit, VcdFault>
         × (progress.new.journal.items ≡ gathered progress.new.reading bytes)) }
     ensures fault { IfErr result (λ e. (wire : Option (List ℕ)) (bytes : List ℕ)
         → HasRead wire bytes progress.old
-        → IsFaultOf e (parts_in progress.old.reading.trace.window wire bytes)) }
+        → IsFaultOf e (extent_parts progress.old.reading.trace.extent wire bytes)) }
     ensures heading { (wire : Option (List ℕ)) (bytes : List ℕ) (e : VcdFault)
         → HasRead wire bytes progress.old → progress.old.unit ≡ None
         → declarations_of wire (words_of bytes) ≡ Err e → result ≡ Err e }
@@ -254,28 +255,29 @@ fn finish(
     reading: Reading,
     journal: Vec<u8>,
     unit: Unit,
-) -> Result<(Recording, Option<Vec<u8>>), VcdFault>
+) -> Result<(LongRecording, Option<Vec<u8>>), VcdFault>
     requires time { IsOn unit reading.trace reading.clock }
     ensures read { IfOk result (λ x. (wire : Option (List ℕ)) (bytes code : List ℕ)
         → HasReadWords wire (words_of bytes) unit code reading
         → journal.items ≡ gathered reading bytes
-        → parts_in reading.trace.window wire bytes ≡ Ok (x.0, bytes_of x.1)) }
+        → extent_parts reading.trace.extent wire bytes ≡ Ok (x.0, bytes_of x.1)) }
     ensures fault { IfErr result (λ e. (wire : Option (List ℕ)) (bytes code : List ℕ)
         → HasReadWords wire (words_of bytes) unit code reading
         → journal.items ≡ gathered reading bytes
-        → IsFaultOf e (parts_in reading.trace.window wire bytes)) }
+        → IsFaultOf e (extent_parts reading.trace.extent wire bytes)) }
     ensures within { IfOk result
         (λ x. IfSome x.1 (λ kept. vec_len kept ≤ vec_len journal)) }
     ensures memory { result ≡ Err OutOfMemory → (wire : Option (List ℕ)) (bytes code : List ℕ)
         → HasReadWords wire (words_of bytes) unit code reading
         → HasEdge (changes_before wire bytes) }
 {
+    let most = reading.trace.extent.most_pulses();
     let Body {
         end,
         edges,
         journals,
     } = reading.finish(unit)?;
-    let recording = match kept(end, edges) {
+    let recording = match kept(end, edges, most) {
         Ok(recording) => recording,
         Err(fault) => return Err(fault),
     };

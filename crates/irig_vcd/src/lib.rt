@@ -6,6 +6,7 @@ mod changes;
 mod decimal;
 mod dump_reader;
 mod event;
+mod extent;
 mod fault;
 mod header;
 mod journals;
@@ -29,9 +30,12 @@ mod variable;
 mod window;
 
 pub use dump_reader::DumpReader;
+pub use extent::Extent;
 pub use fault::VcdFault;
 pub use irig_recording::{Pulse, Recording, TextWriter, text};
-pub use law::{edges_tell_levels, read_back, read_back_parts, windows_tell_levels};
+pub use law::{
+    edges_tell_levels, long_recordings_tell_levels, read_back, read_back_parts, windows_tell_levels,
+};
 pub use reader::{read, read_parts};
 pub use token::{Kind, Token, Tokens};
 pub use window::Window;

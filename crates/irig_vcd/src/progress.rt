@@ -53,7 +53,7 @@ impl Progress {
             × (self.new.gone ≡ self.old.gone) × (self.new.wire ≡ self.old.wire)
             × (self.new.journal ≡ self.old.journal) × (self.new.wanted ≡ self.old.wanted)
             × IsReady self.new.unit self.new.reading) }
-        ensures window { self.new.reading.trace.window ≡ self.old.reading.trace.window }
+        ensures extent { self.new.reading.trace.extent ≡ self.old.reading.trace.extent }
         ensures time { IfOk result (λ read. IfOk read
             (λ unit. IsOn unit self.new.reading.trace self.new.reading.clock)) }
         ensures unit { IfOk result (λ read. IfOk read (λ unit. self.new.unit ≡ Some unit)) }
@@ -188,7 +188,7 @@ fn begin(
     ensures read { IfOk result (λ read. IfOk read (λ unit. code.old.items ≡ [] → IsNew reading.old
         → HasReadWords (name_of wire.entry) (words_of part.now) unit code.new.items
         reading.new)) }
-    ensures window { reading.new.trace.window ≡ reading.old.trace.window }
+    ensures extent { reading.new.trace.extent ≡ reading.old.trace.extent }
     ensures time { IfOk result (λ read. IfOk read
         (λ unit. IsOn unit reading.new.trace reading.new.clock)) }
     ensures early { IfOk result (λ read. IfErr read (λ e.
@@ -222,7 +222,7 @@ fn go_on(
 ) -> Result<(), VcdFault>
     requires time { IsOn unit reading.old.trace reading.old.clock }
     requires short { gone + length part.now ≤ 2 ^ 48 }
-    ensures window { reading.new.trace.window ≡ reading.old.trace.window }
+    ensures extent { reading.new.trace.extent ≡ reading.old.trace.extent }
     ensures time { OnOk result (IsOn unit reading.new.trace reading.new.clock) }
     ensures read { OnOk result ((wire : Option (List ℕ)) (words : List Word)
         → HasReadWords wire words unit code.now reading.old

@@ -134,7 +134,7 @@ fn pulses_in(
         → IsTraced unit s trace.old from
         → Passes (code ∷ []) unit s tokens.old trace.new now tokens.new) }
     ensures fewer { length tokens.new ≤ length tokens.old }
-    ensures window { trace.new.window ≡ trace.old.window }
+    ensures extent { trace.new.extent ≡ trace.old.extent }
     ensures kept { OnErr result (stretch.is_kept ≡ true) }
 {
     let source = tokens.source;
@@ -149,7 +149,7 @@ fn pulses_in(
         let Some((rise, fall)) = pulse_at(source, at, code, unit, clock.whole, stretch.limit) else {
             break;
         };
-        if stretch.is_kept && !trace.has_room() {
+        if stretch.is_kept && !trace.has_room(stretch) {
             break;
         }
         trace.put_pulse(rise.time.whole, fall.time.whole, stretch)?;
@@ -178,7 +178,7 @@ fn pulses_in_micros(
         → IsTraced 9 s trace.old (at_micros from)
         → Passes (code ∷ []) 9 s tokens.old trace.new (at_micros time) tokens.new) }
     ensures fewer { length tokens.new ≤ length tokens.old }
-    ensures window { trace.new.window ≡ trace.old.window }
+    ensures extent { trace.new.extent ≡ trace.old.extent }
     ensures kept { OnErr result (stretch.is_kept ≡ true) }
 {
     let from = Clock {
@@ -211,7 +211,7 @@ pub fn pulses(
         → IsTraced unit s trace.old from
         → Passes (code ∷ []) unit s tokens.old trace.new now tokens.new) }
     ensures fewer { length tokens.new ≤ length tokens.old }
-    ensures window { trace.new.window ≡ trace.old.window }
+    ensures extent { trace.new.extent ≡ trace.old.extent }
     ensures kept { OnErr result (stretch.is_kept ≡ true) }
 {
     if unit.is_microsecond() {

@@ -9,10 +9,12 @@
 ghost use Rattle.std.specs.Prelude.{◌≡◌, ◌≤◌, ◌^◌, ℕ, List, None, Err, IfOk, OnOk};
 ghost use Rattle.irig_vcd.specs.{Code.Journals.Holds, Code.Reached.IsOn, Code.Scanned.HasScanned};
 ghost use Rattle.irig_vcd.specs.{Code.Scanned.StandsAt, Code.Trace.IsKept, Code.Trace.KeepsEdges};
-ghost use Rattle.irig_vcd.specs.{Level.HasEdge, Level.Change, Scan.Scan, Scan.scan_ended};
+ghost use Rattle.irig_vcd.specs.{Extent.most_pulses, Level.HasEdge, Level.Change, Scan.Scan};
+ghost use Rattle.irig_vcd.specs.Scan.{scan_ended};
 ghost use Rattle.irig_vcd.specs.{Scan.start, declared.fault.VcdFault.TheVariants.OutOfMemory};
 
 use crate::changes::{Body, follow};
+use crate::extent::Extent;
 use crate::fault::VcdFault;
 use crate::journals::Journals;
 use crate::pending::{Pending, closed};
@@ -20,7 +22,7 @@ use crate::time::{Clock, micros};
 use crate::token::Tokens;
 use crate::trace::Trace;
 use crate::unit::Unit;
-use crate::window::{Window, moved};
+use crate::window::moved;
 use std::alloc::Global;
 
 /// What was read after the declarations: the last time, the edges and the journals so far, and what
@@ -35,14 +37,14 @@ pub struct Reading {
 
 impl Reading {
     /// Nothing is read yet; only the edges in the window will be kept, or all without one.
-    pub fn new(alloc: Global, window: Option<Window>) -> Reading
+    pub fn new(alloc: Global, extent: Extent) -> Reading
         ensures start { (unit : ℕ) → StandsAt unit start result }
         ensures time { (unit : ℕ) → IsOn unit result.trace result.clock }
-        ensures window { result.trace.window ≡ window }
+        ensures extent { result.trace.extent ≡ extent }
     {
         Reading {
             clock: Clock { whole: 0, rest: 0 },
-            trace: Trace::new(alloc, window),
+            trace: Trace::new(alloc, extent),
             journals: Journals::new(),
             pending: Pending::Nothing,
         }
@@ -55,7 +57,7 @@ impl Reading {
         ensures time { OnOk result (IsOn unit self.new.trace self.new.clock) }
         ensures scans { (s : Scan) → StandsAt unit s self.old
             → HasScanned code.now unit s tokens.old result self.new }
-        ensures window { self.new.trace.window ≡ self.old.trace.window }
+        ensures extent { self.new.trace.extent ≡ self.old.trace.extent }
     {
         self.clock = follow(
             tokens,
@@ -75,11 +77,11 @@ impl Reading {
     pub fn finish(self, unit: Unit) -> Result<Body, VcdFault>
         requires time { IsOn unit self.trace self.clock }
         ensures exact { (s : Scan) → StandsAt unit s self
-            → KeepsEdges self.trace.window result (scan_ended unit (s, None)) }
+            → KeepsEdges self.trace.extent result (scan_ended unit (s, None)) }
         ensures journals { IfOk result (λ x. (s : Scan) → StandsAt unit s self
             → Holds s.journals x.journals) }
         ensures kept { IfOk result (λ x. (changes : List Change)
-            × IsKept changes x.end x.edges) }
+            × IsKept (most_pulses self.trace.extent) changes x.end x.edges) }
         ensures short { IfOk result (λ x. x.end ≤ 2 ^ 40) }
         ensures same { IfOk result (λ x. x.journals ≡ self.journals) }
         ensures memory { result ≡ Err OutOfMemory → (s : Scan)
@@ -91,7 +93,7 @@ impl Reading {
         }
         let last = micros(unit, self.clock);
         let journals = self.journals;
-        let end = moved(self.trace.window, last);
+        let end = moved(self.trace.extent.window, last);
         let edges = self.trace.finish(last)?;
         Ok(Body {
             end,

@@ -72,7 +72,7 @@ pub fn follow_short(
         → Scans unit end result
         (λ now. Leads code.now unit end trace.new now journals pending tokens.new) }
     ensures fewer { length tokens.new ≤ length tokens.old }
-    ensures window { trace.new.window ≡ trace.old.window }
+    ensures extent { trace.new.extent ≡ trace.old.extent }
 {
     let mut clock = from;
     'tokens: loop {
@@ -120,7 +120,7 @@ fn ahead(
         → IsTraced unit s trace.old clock
         → Passes code.now unit s tokens.old trace.new now tokens.new) }
     ensures fewer { length tokens.new ≤ length tokens.old }
-    ensures window { trace.new.window ≡ trace.old.window }
+    ensures extent { trace.new.extent ≡ trace.old.extent }
     ensures memory { OnErr result ((changes : List Change) → Follows changes trace.old
         → EdgeBefore (micros_of unit (units_of unit clock)) changes) }
 {
@@ -158,7 +158,7 @@ fn take_bit(
         → Puts unit end result
         (λ now. Leads code.now unit end trace.new now journals pending tokens.new) }
     ensures fewer { length tokens.new ≤ length tokens.old }
-    ensures window { trace.new.window ≡ trace.old.window }
+    ensures extent { trace.new.extent ≡ trace.old.extent }
 {
     match trace.put(micros(unit, clock), high) {
         Ok(()) => ahead(is_quick, tokens, unit, code, clock, trace),

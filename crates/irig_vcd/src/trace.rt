@@ -5,15 +5,17 @@
 //! comes: if the level then differs from that of the microsecond before. `LENGTH_LIMIT` is the
 //! latest time that a dump may have.
 
-ghost use Rattle.std.specs.Prelude.{◌≡◌, ◌≤◌, ◌<◌, ◌+◌, ◌^◌, true, false, ◌∷◌, [], ◌++◌, ℕ, List};
+ghost use Rattle.std.specs.Prelude.{◌≡◌, ◌≤◌, ◌<◌, ◌+◌, ◌*◌, ◌^◌, true, false, ◌∷◌, [], ◌++◌, ℕ, List};
 ghost use Rattle.std.specs.Prelude.{◌↔◌, OnOk, OnErr, IfOk, IfSome, length, take};
 ghost use Rattle.std.specs.Prelude.{if◌then◌else◌};
 ghost use Rattle.irig_vcd.specs.Level.{Change, change, differs};
 ghost use Rattle.irig_vcd.specs.{Code.Along.LiesOn, Code.Trace.EdgeBefore, Code.Trace.Follows};
-ghost use Rattle.irig_vcd.specs.{Code.Trace.IsKept, Window.moved, Window.within};
+ghost use Rattle.irig_vcd.specs.{Code.Trace.IsKept, Extent.most_pulses, Window.moved};
+ghost use Rattle.irig_vcd.specs.Window.{within};
 ghost use Rattle.irig_recording.specs.Edges.{edges_kept};
 
-use crate::window::{Window, moved};
+use crate::extent::Extent;
+use crate::window::moved;
 use irig_recording::{Edges, LENGTH_LIMIT};
 use std::alloc::{AllocError, Global};
 
@@ -22,7 +24,7 @@ use std::alloc::{AllocError, Global};
 /// those of a window of the dump.
 #[derive(Drop)]
 pub struct Trace {
-    pub window: Option<Window>,
+    pub extent: Extent,
     time: u64,
     before: bool,
     now: bool,
@@ -30,24 +32,25 @@ pub struct Trace {
 }
 
 /// What becomes of the next edges of a level that is low, up to a limit in microseconds of the
-/// dump: they are kept, each at its time less `from`, that of the begin of the window, or none of
-/// them is in the window.
+/// dump: they are kept, each at its time less `from`, that of the begin of the window, while they
+/// are of at most `most` pulses; or none of them is in the window.
 #[derive(Clone, Copy)]
 pub struct Stretch {
     pub from: u64,
     pub limit: u64,
+    pub most: usize,
     pub is_kept: bool,
 }
 
 impl Trace {
     /// A trace that has followed no change: the level is low from time 0 on.
-    pub fn new(alloc: Global, window: Option<Window>) -> Trace
+    pub fn new(alloc: Global, extent: Extent) -> Trace
         ensures start { result.time ≡ 0 }
         ensures follows { Follows [] result }
-        ensures window { result.window ≡ window }
+        ensures extent { result.extent ≡ extent }
     {
         Trace {
-            window,
+            extent,
             time: 0,
             before: false,
             now: false,
@@ -63,17 +66,20 @@ impl Trace {
         ensures ok { OnOk result
             ((changes : List Change) → Follows changes self.old → Follows changes self.new) }
         ensures time { OnOk result (self.new.time ≡ time) }
-        ensures window { self.new.window ≡ self.old.window }
-        ensures refused { OnErr result (length self.old.edges ≤ 2 ^ 23) }
+        ensures extent { self.new.extent ≡ self.old.extent }
+        ensures refused { OnErr result
+            (length self.old.edges ≤ 2 * most_pulses self.old.extent) }
         ensures memory { OnErr result
             ((changes : List Change) → Follows changes self.old → EdgeBefore time changes) }
     {
-        let place = moved(self.window, self.time);
-        if moved(self.window, time) <= place {
+        let window = self.extent.window;
+        let place = moved(window, self.time);
+        if moved(window, time) <= place {
             self.time = time;
             return Ok(());
         }
-        keep(&mut self.edges, differ(self.now, self.before), place)?;
+        let most = self.extent.most_pulses();
+        keep(&mut self.edges, most, differ(self.now, self.before), place)?;
         self.before = self.now;
         self.time = time;
         Ok(())
@@ -87,8 +93,9 @@ impl Trace {
             ((changes : List Change) → Follows changes self.old
             → Follows (changes ++ change time high ∷ []) self.new) }
         ensures time { OnOk result (self.new.time ≡ time) }
-        ensures window { self.new.window ≡ self.old.window }
-        ensures refused { OnErr result (length self.old.edges ≤ 2 ^ 23) }
+        ensures extent { self.new.extent ≡ self.old.extent }
+        ensures refused { OnErr result
+            (length self.old.edges ≤ 2 * most_pulses self.old.extent) }
         ensures memory { OnErr result
             ((changes : List Change) → Follows changes self.old → EdgeBefore time changes) }
     {
@@ -114,33 +121,35 @@ impl Trace {
         requires { self.now.now ≡ false }
         ensures { IfSome result (λ s. LiesOn s self.entry.now) }
     {
-        let (from, to) = match self.window {
+        let (from, to) = match self.extent.window {
             None => (0, LENGTH_LIMIT),
             Some(window) => (window.from, window.to.min(LENGTH_LIMIT)),
         };
+        let most = self.extent.most_pulses();
         if self.time < from {
-            return Some(apart(from.min(LENGTH_LIMIT)));
+            return Some(apart(from.min(LENGTH_LIMIT), most));
         }
         if self.time >= to {
-            return Some(apart(LENGTH_LIMIT));
+            return Some(apart(LENGTH_LIMIT, most));
         }
         // High before and low now: a fall is at the last time. `is_open`: a rise waits for it.
         if self.before && self.edges.is_open() {
             return Some(Stretch {
                 from,
                 limit: to,
+                most,
                 is_kept: true,
             });
         }
         None
     }
 
-    /// Whether two edges more can be kept.
+    /// Whether two edges more can be kept on a stretch.
     #[inline(always)]
-    pub fn has_room(&self) -> bool
-        ensures { result ≡ true ↔ (length self.entry.now.edges + 2 ≤ edges_kept) }
+    pub fn has_room(&self, stretch: Stretch) -> bool
+        ensures { result ≡ true ↔ (length self.entry.now.edges + 2 ≤ edges_kept stretch.most) }
     {
-        self.edges.has_room()
+        self.edges.has_room(stretch.most)
     }
 
     /// Takes a rise and a fall on a stretch, at times in microseconds. If edges are kept, it keeps
@@ -150,7 +159,8 @@ impl Trace {
     #[inline(always)]
     pub fn put_pulse(&mut self, rise: u64, fall: u64, stretch: Stretch) -> Result<(), AllocError>
         requires here { LiesOn stretch self.old }
-        requires room { stretch.is_kept ≡ true → length self.old.edges + 2 ≤ edges_kept }
+        requires room { stretch.is_kept ≡ true
+            → length self.old.edges + 2 ≤ edges_kept stretch.most }
         requires first { self.old.time < rise }
         requires second { rise < fall }
         requires within { fall ≤ stretch.limit }
@@ -159,7 +169,7 @@ impl Trace {
             → Follows (changes ++ change rise true ∷ change fall false ∷ []) self.new) }
         ensures time { OnOk result (self.new.time ≡ fall) }
         ensures here { OnOk result (LiesOn stretch self.new) }
-        ensures window { self.new.window ≡ self.old.window }
+        ensures extent { self.new.extent ≡ self.old.extent }
         ensures kept { OnErr result (stretch.is_kept ≡ true) }
     {
         if !stretch.is_kept {
@@ -178,24 +188,29 @@ impl Trace {
         requires { self.time ≤ end }
         ensures edges { IfOk result
             (λ edges. (changes : List Change) → Follows changes self
-            → IsKept (within self.window changes) (moved self.window end) edges) }
+            → IsKept (most_pulses self.extent) (within self.extent.window changes)
+            (moved self.extent.window end) edges) }
         ensures memory { OnErr result
             ((changes : List Change) → Follows changes self → EdgeBefore end changes) }
     {
         self.advance(end)?;
-        keep(&mut self.edges, self.before, moved(self.window, end))?;
+        let most = self.extent.most_pulses();
+        let place = moved(self.extent.window, end);
+        keep(&mut self.edges, most, self.before, place)?;
         Ok(self.edges)
     }
 }
 
 /// The stretch up to a limit in which no edge is in the window, so that none is kept.
-fn apart(limit: u64) -> Stretch
+fn apart(limit: u64, most: usize) -> Stretch
     ensures limit { result.limit ≡ limit }
+    ensures most { result.most ≡ most }
     ensures apart { result.is_kept ≡ false }
 {
     Stretch {
         from: 0,
         limit,
+        most,
         is_kept: false,
     }
 }
@@ -208,18 +223,19 @@ pub fn differ(level: bool, other: bool) -> bool
 }
 
 /// Adds an edge, a microsecond of the window, after the others, if `is_edge` says that there is
-/// one. If they are more than a recording may have already, it adds none and asks for no memory. It
-/// fails only if memory runs out.
-fn keep(edges: &mut Edges, is_edge: bool, edge: u64) -> Result<(), AllocError>
+/// one. If they are more than those of `most` pulses already, it adds none and asks for no memory.
+/// It fails only if memory runs out.
+fn keep(edges: &mut Edges, most: usize, is_edge: bool, edge: u64) -> Result<(), AllocError>
+    requires limit { most ≤ 2 ^ 26 }
     ensures ok { OnOk result
-        ((all : List ℕ) → edges.old ≡ take edges_kept all
-        → edges.new ≡ take edges_kept (all ++ (if is_edge then edge ∷ [] else []))) }
-    ensures refused { OnErr result ((is_edge ≡ true) × (length edges.old ≤ 2 ^ 23)) }
+        ((all : List ℕ) → edges.old ≡ take (edges_kept most) all
+        → edges.new ≡ take (edges_kept most) (all ++ (if is_edge then edge ∷ [] else []))) }
+    ensures refused { OnErr result ((is_edge ≡ true) × (length edges.old ≤ 2 * most)) }
 {
     if !is_edge {
         return Ok(());
     }
-    if edges.is_full() {
+    if edges.is_full(most) {
         return Ok(());
     }
     edges.push(edge)

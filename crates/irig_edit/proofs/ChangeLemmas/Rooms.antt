@@ -4,7 +4,7 @@ use Rattle.irig_index.specs.{Frames.frames, Index.WereFrames}
 use Rattle.irig_index.proofs.FewFrames.{frames_few, frames_few_after, frames_moved}
 use Rattle.irig_recording.specs.declared.pulse.Pulse.{Pulse}
 use Rattle.irig_track.specs.{Shifts.count_to, Shifts.moved, Splices.IsSpan, Splices.ended_before, Splices.piece, Splices.risen_by, Splices.spliced}
-use Rattle.irig_track.proofs.{Carried.length-spliced, Laws.parts, ToggleSpans.span_of_toggle}
+use Rattle.irig_track.proofs.{Carried.length-spliced, Laws.parts, Recordings.long_track, ToggleSpans.span_of_toggle}
 use Rattle.irig_edit.specs.{Changes.Ample.IsAmpleFor, Changes.Ample.PutsIn, Changes.Ample.records_for, State.Places.HoldsState, State.Places.IsWithin}
 use Rattle.irig_edit.specs.{State.Places.KeepsPlaces, State.Places.Places, State.Places.places_in, Changes.Held.single_of, Changes.Laws.Edges.edges_of-toggled}
 use Rattle.irig_edit.specs.{Changes.Laws.Room.holds_wider, Changes.Laws.Single.turned_single-turned, Changes.Laws.State.IsState-turned_single}
@@ -20,7 +20,7 @@ spanned_few : (s : State) (at gone come : ℕ) (ps : List Pulse) → IsState s �
     → length (frames s.format ps) ≤ length (frames_of s) + (come + 2)
 spanned_few s at gone come ps is span =
     let were : WereFrames s.format at gone come (frames_of s) s.micros ps =
-    record { former = s.pulses; track = is.track; frames = refl; span = span } in
+    record { former = s.pulses; track = long_track s.micros s.pulses is.track; frames = refl; span = span } in
     frames_few_after s.format at gone come s.micros (frames_of s) ps were
 
 -- other pulses instead of some bring at most two records more than those of both, as if they stood alone

@@ -4,7 +4,7 @@ use Rattle.std.specs.Prelude.{drop, if◌then◌else◌}
 use Rattle.irig_vcd.specs.Words.{Word, words_from, rest_of, hash, scalar}
 use Rattle.irig_vcd.specs.{Digits.is_number, Digits.number_from, declared.trace.Trace.Trace}
 use Rattle.irig_vcd.specs.{Code.Time.units_of, declared.pulses.Edge.Edge, declared.time.Clock.Clock}
-use Rattle.irig_vcd.specs.{Window.moved, declared.trace.Stretch.Stretch}
+use Rattle.irig_vcd.specs.{Extent.most_pulses, Window.moved, declared.trace.Stretch.Stretch}
 use Rattle.irig_recording.specs.Recording.{is_even_long}
 
 -- a time in whole microseconds
@@ -17,14 +17,16 @@ pub record HasRisen (t : Trace) : Type 0 where
   pub risen : is_even_long t.edges ≡ false
 
 -- the level is low; up to the limit of a stretch its edges are kept, each at its time less that of
--- the begin of the window, or no microsecond of the window is there
+-- the begin of the window, while there are no more than of the most pulses; or no microsecond of
+-- the window is there
 pub record LiesOn (s : Stretch) (t : Trace) : Type 0 where
   pub low : t.now ≡ false
   pub short : s.limit ≤ 2 ^ 40
+  pub most : s.most ≡ most_pulses t.extent
   pub kept : s.is_kept ≡ true → HasRisen t × (s.from ≤ t.time)
-      × ((u : ℕ) → t.time ≤ u → u ≤ s.limit → moved t.window u ≡ u - s.from)
+      × ((u : ℕ) → t.time ≤ u → u ≤ s.limit → moved t.extent.window u ≡ u - s.from)
   pub apart : s.is_kept ≡ false
-      → (u : ℕ) → t.time ≤ u → u ≤ s.limit → moved t.window u ≡ moved t.window t.time
+      → (u : ℕ) → t.time ≤ u → u ≤ s.limit → moved t.extent.window u ≡ moved t.extent.window t.time
 
 -- the next words are a time and a value on a code of one byte
 pub record TakesEdge (s : List ℕ) (at : ℕ) (high : Bool) (code unit : ℕ) (e : Edge) : Type 0 where

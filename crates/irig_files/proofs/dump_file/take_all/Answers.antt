@@ -17,5 +17,5 @@ loop-preserved g c =
       part = c.in-Ok-true.ensures.part ∙ c.loop.invariant.part;
       taken = (inv.0 ++ done.0, takes_both inv.0 done.0 _ _ _ inv.1 done.1, Consumes-trans _ _ _ inv.0 _ inv.2 done.2);
       counted = c.in-Ok-true.ensures.counted;
-      window = c.take_part.ensures.window ∙ c.loop.invariant.window;
+      extent = c.take_part.ensures.extent ∙ c.loop.invariant.extent;
     }

@@ -9,5 +9,5 @@ invariant-loop g l = record {
   part : length l.part ≡ length l.fn.part;
   taken : (some : List ℕ) × Takes some l.fn.dump l.dump × Consumes (g.R.Read.remaining l.fn.reader) (g.R.Read.remaining l.reader) some;
   counted : IsCounted l.dump;
-  window : l.dump.window ≡ l.fn.dump.window;
+  extent : l.dump.extent ≡ l.fn.dump.extent;
 }

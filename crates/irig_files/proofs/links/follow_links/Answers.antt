@@ -1,4 +1,4 @@
-use Rattle.std.proofs.Common.{rules, ◌≡◌, ◌∙◌, ℕ, List, [], ap, refl, subst, sym, ⊎_elim, inl, inr}
+use Rattle.std.proofs.Common.{rules, ◌≡◌, ℕ, List, [], ap, subst, ⊎_elim}
 use Rattle.std.proofs.lemmas.{Paths.path_join_absolute, Paths.path_join_relative, Bool.cases_eq}
 use Rattle.std.specs.Path.{path_buf_bytes, path_join, slash}
 use Rattle.std.specs.Prelude.{slice_index}

@@ -2,9 +2,17 @@ use Rattle.std.proofs.Common.{Option, None, subst, sym}
 use Rattle.std.proofs.lemmas.Result.{IfOk-weaker}
 use Rattle.std.specs.Prelude.{IfOk}
 use Rattle.irig_files.specs.{Reads.IsReadIn, Tracks.name_in}
-use Rattle.irig_files.proofs.Intakes.{whole_is_read}
+use Rattle.irig_vcd.specs.Extent.{short}
+use Rattle.irig_files.proofs.{Few.few_read, Intakes.whole_is_read}
 use Rattle.irig_vcd.specs.declared.window.Window.{Window}
 use Rattle.irig_files.proofs.track.read_in_window.Goals as goal
+
+pub shorter-requires : goal.shorter-requires
+shorter-requires g c =
+    record {
+      few = few_read (short c.args.window) (g.D.Disk.held c.args.disk.now c.args.path.now) (name_in c.args.wire) c.in-Ok.read
+          (rw (c.short.ensures, c.bytes_of-in-Some.ensures) at c.in-Ok.ensures.read);
+    }
 
 pub returns-in-None-clause-read : goal.returns-in-None-clause-read
 returns-in-None-clause-read g c =

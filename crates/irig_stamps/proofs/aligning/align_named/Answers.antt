@@ -15,13 +15,13 @@ returns g c =
       c.in-Ok.found.bytes.items,
       found,
       record {
-        pulses = c.in-Ok-new.track.pulses;
-        are = c.in-Ok-new.ensures.edges;
-        ends = subst (λ (micros : ℕ). Ends c.args.format c.in-Ok-new.track.pulses
-            (with_track c.args.format micros c.in-Ok-new.track.pulses (with_column c.args.settings.now c.in-Ok.found.column))
+        pulses = c.of-pulses.result.track.pulses;
+        are = c.of-pulses.ensures.edges;
+        ends = subst (λ (micros : ℕ). Ends c.args.format c.of-pulses.result.track.pulses
+            (with_track c.args.format micros c.of-pulses.result.track.pulses (with_column c.args.settings.now c.in-Ok.found.column))
             from (g.R.Read.remaining c.align_track.new.lines) (g.W.Write.contents c.args.out.now) (g.W.Write.contents c.align_track.new.out)
             (numbers_of c.align_track.result))
-            c.in-Ok-new.ensures.length (c.align_track.ensures.ends from read);
+            c.of-pulses.ensures.length (c.align_track.ensures.ends from read);
         stands = c.align_track.ensures.stands;
       },
     )

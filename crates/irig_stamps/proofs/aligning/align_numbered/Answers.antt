@@ -5,11 +5,12 @@ use Rattle.irig_stamps.proofs.aligning.align_numbered.Goals as goal
 
 pub returns : goal.returns
 returns g c = inl (record {
-  pulses = c.in-Ok.track.pulses;
-  are = c.in-Ok.ensures.edges;
-  ends = subst (λ (micros : ℕ). Ends c.args.format c.in-Ok.track.pulses (with_track c.args.format micros c.in-Ok.track.pulses c.args.settings.now)
+  pulses = c.of-pulses.result.track.pulses;
+  are = c.of-pulses.ensures.edges;
+  ends = subst (λ (micros : ℕ). Ends c.args.format c.of-pulses.result.track.pulses
+      (with_track c.args.format micros c.of-pulses.result.track.pulses c.args.settings.now)
       (g.R.Read.remaining c.args.lines.now) (g.R.Read.remaining c.align_track.new.lines) (g.W.Write.contents c.args.out.now)
       (g.W.Write.contents c.align_track.new.out) (numbers_of c.align_track.result))
-      c.in-Ok.ensures.length (c.align_track.ensures.ends (g.R.Read.remaining c.args.lines.now) (Consumes-nil _));
+      c.of-pulses.ensures.length (c.align_track.ensures.ends (g.R.Read.remaining c.args.lines.now) (Consumes-nil _));
   stands = c.align_track.ensures.stands;
 })

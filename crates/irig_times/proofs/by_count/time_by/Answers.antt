@@ -7,20 +7,20 @@ use Rattle.irig_times.proofs.by_count.time_by.Goals as goal
 
 pub returns-then-risen-eq0-clause-pulses : goal.returns-then-risen-eq0-clause-pulses
 returns-then-risen-eq0-clause-pulses c =
-    let small : length c.args.pulses.now.track.pulses < 2 ^ 23 = omega (arith, c.find-risen.ensures.track.few) in
-    let track = ap (λ v. v.track) (c.find-risen.ensures.looked 23 small).lens in
+    let small : length c.args.pulses.now.track.pulses < 2 ^ 27 = omega (arith, c.find-risen.ensures.track.few) in
+    let track = ap (λ v. v.track) (c.find-risen.ensures.looked 27 small).lens in
     track
 
 pub returns-in_default-clause-pulses : goal.returns-in_default-clause-pulses
 returns-in_default-clause-pulses c =
-    let small : length c.args.pulses.now.track.pulses < 2 ^ 23 = omega (arith, c.find-risen.ensures.track.few) in
-    let track = ap (λ v. v.track) (c.find-risen.ensures.looked 23 small).lens in
+    let small : length c.args.pulses.now.track.pulses < 2 ^ 27 = omega (arith, c.find-risen.ensures.track.few) in
+    let track = ap (λ v. v.track) (c.find-risen.ensures.looked 27 small).lens in
     track
 
 pub returns-then-not-goes_on-clause-pulses : goal.returns-then-not-goes_on-clause-pulses
 returns-then-not-goes_on-clause-pulses c =
-    let small : length c.args.pulses.now.track.pulses < 2 ^ 23 = omega (arith, c.find-risen.ensures.track.few) in
-    let track = ap (λ v. v.track) (c.find-risen.ensures.looked 23 small).lens in
+    let small : length c.args.pulses.now.track.pulses < 2 ^ 27 = omega (arith, c.find-risen.ensures.track.few) in
+    let track = ap (λ v. v.track) (c.find-risen.ensures.looked 27 small).lens in
     track
 
 pub returns-in_default-clause-exact : goal.returns-in_default-clause-exact
@@ -46,8 +46,8 @@ returns-then-not-goes_on-clause-exact c x =
 
 pub pulse-from-requires : goal.pulse-from-requires
 pulse-from-requires c =
-    let small : length c.args.pulses.now.track.pulses < 2 ^ 23 = omega (arith, c.find-risen.ensures.track.few) in
-    let track = ap (λ v. v.track) (c.find-risen.ensures.looked 23 small).lens in
+    let small : length c.args.pulses.now.track.pulses < 2 ^ 27 = omega (arith, c.find-risen.ensures.track.few) in
+    let track = ap (λ v. v.track) (c.find-risen.ensures.looked 27 small).lens in
     let ps = c.args.pulses.now.track.pulses in
     let number = c.find-risen.result - 1 in
     let there = goes-there c.args.format c.args.century ps c.args.parts.now c.requires.parts number c.in-Some.place.element c.in-Some.place.time
@@ -56,8 +56,8 @@ pulse-from-requires c =
 
 pub pulse-to-requires : goal.pulse-to-requires
 pulse-to-requires c =
-    let small : length c.args.pulses.now.track.pulses < 2 ^ 23 = omega (arith, c.find-risen.ensures.track.few) in
-    let track = ap (λ v. v.track) (c.find-risen.ensures.looked 23 small).lens in
+    let small : length c.args.pulses.now.track.pulses < 2 ^ 27 = omega (arith, c.find-risen.ensures.track.few) in
+    let track = ap (λ v. v.track) (c.find-risen.ensures.looked 27 small).lens in
     let ps = c.args.pulses.now.track.pulses in
     let number = c.find-risen.result - 1 in
     let there = goes-there c.args.format c.args.century ps c.args.parts.now c.requires.parts number c.in-Some.place.element c.in-Some.place.time
@@ -66,8 +66,8 @@ pulse-to-requires c =
 
 pub overflow_sub-picos : goal.overflow_sub-picos
 overflow_sub-picos c =
-    let small : length c.args.pulses.now.track.pulses < 2 ^ 23 = omega (arith, c.find-risen.ensures.track.few) in
-    let track = ap (λ v. v.track) (c.find-risen.ensures.looked 23 small).lens in
+    let small : length c.args.pulses.now.track.pulses < 2 ^ 27 = omega (arith, c.find-risen.ensures.track.few) in
+    let track = ap (λ v. v.track) (c.find-risen.ensures.looked 27 small).lens in
     let count : risen_by (c.args.picos / 1000000) c.args.pulses.now.track.pulses ≡ c.find-risen.result - 1 + 1 =
     omega (arith, c.find-risen.ensures.count, c.if-risen-eq0.false) in
     let ps = c.args.pulses.now.track.pulses in
@@ -81,8 +81,8 @@ overflow_sub-picos c =
 
 pub overflow_sub-to : goal.overflow_sub-to
 overflow_sub-to c =
-    let small : length c.args.pulses.now.track.pulses < 2 ^ 23 = omega (arith, c.find-risen.ensures.track.few) in
-    let track = ap (λ v. v.track) (c.find-risen.ensures.looked 23 small).lens in
+    let small : length c.args.pulses.now.track.pulses < 2 ^ 27 = omega (arith, c.find-risen.ensures.track.few) in
+    let track = ap (λ v. v.track) (c.find-risen.ensures.looked 27 small).lens in
     let count : risen_by (c.args.picos / 1000000) c.args.pulses.now.track.pulses ≡ c.find-risen.result - 1 + 1 =
     omega (arith, c.find-risen.ensures.count, c.if-risen-eq0.false) in
     let ps = c.args.pulses.now.track.pulses in
@@ -96,8 +96,8 @@ overflow_sub-to c =
 
 pub shared-requires-clause-order : goal.shared-requires-clause-order
 shared-requires-clause-order c =
-    let small : length c.args.pulses.now.track.pulses < 2 ^ 23 = omega (arith, c.find-risen.ensures.track.few) in
-    let track = ap (λ v. v.track) (c.find-risen.ensures.looked 23 small).lens in
+    let small : length c.args.pulses.now.track.pulses < 2 ^ 27 = omega (arith, c.find-risen.ensures.track.few) in
+    let track = ap (λ v. v.track) (c.find-risen.ensures.looked 27 small).lens in
     let count : risen_by (c.args.picos / 1000000) c.args.pulses.now.track.pulses ≡ c.find-risen.result - 1 + 1 =
     omega (arith, c.find-risen.ensures.count, c.if-risen-eq0.false) in
     let ps = c.args.pulses.now.track.pulses in
@@ -125,8 +125,8 @@ shared-requires-clause-minute c =
 
 pub returns-clause-exact : goal.returns-clause-exact
 returns-clause-exact c x =
-    let small : length c.args.pulses.now.track.pulses < 2 ^ 23 = omega (arith, c.find-risen.ensures.track.few) in
-    let track = ap (λ v. v.track) (c.find-risen.ensures.looked 23 small).lens in
+    let small : length c.args.pulses.now.track.pulses < 2 ^ 27 = omega (arith, c.find-risen.ensures.track.few) in
+    let track = ap (λ v. v.track) (c.find-risen.ensures.looked 27 small).lens in
     let count : risen_by (c.args.picos / 1000000) c.args.pulses.now.track.pulses ≡ c.find-risen.result - 1 + 1 =
     omega (arith, c.find-risen.ensures.count, c.if-risen-eq0.false) in
     let ps = c.args.pulses.now.track.pulses in
@@ -155,8 +155,8 @@ returns-clause-exact c x =
 
 pub returns-clause-pulses : goal.returns-clause-pulses
 returns-clause-pulses c =
-    let small : length c.args.pulses.now.track.pulses < 2 ^ 23 = omega (arith, c.find-risen.ensures.track.few) in
-    let track = ap (λ v. v.track) (c.find-risen.ensures.looked 23 small).lens in
+    let small : length c.args.pulses.now.track.pulses < 2 ^ 27 = omega (arith, c.find-risen.ensures.track.few) in
+    let track = ap (λ v. v.track) (c.find-risen.ensures.looked 27 small).lens in
     ap (λ v. v.track) c.pulse-to.ensures.counted ∙ (ap (λ v. v.track) c.pulse-from.ensures.counted ∙ track)
 
 pub returns-clause-looked : goal.returns-clause-looked

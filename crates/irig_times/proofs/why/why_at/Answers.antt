@@ -5,13 +5,13 @@ use Rattle.irig_times.proofs.why.why_at.Goals as goal
 
 pub returns-then-risen-eq0-clause-pulses : goal.returns-then-risen-eq0-clause-pulses
 returns-then-risen-eq0-clause-pulses c =
-    let small : length c.args.pulses.now.track.pulses < 2 ^ 23 = omega (arith, c.find-risen.ensures.track.few) in
-    ap (λ v. v.track) (c.find-risen.ensures.looked 23 small).lens
+    let small : length c.args.pulses.now.track.pulses < 2 ^ 27 = omega (arith, c.find-risen.ensures.track.few) in
+    ap (λ v. v.track) (c.find-risen.ensures.looked 27 small).lens
 
 pub returns-clause-pulses : goal.returns-clause-pulses
 returns-clause-pulses c =
-    let small : length c.args.pulses.now.track.pulses < 2 ^ 23 = omega (arith, c.find-risen.ensures.track.few) in
-    ap (λ v. v.track) (c.find-risen.ensures.looked 23 small).lens
+    let small : length c.args.pulses.now.track.pulses < 2 ^ 27 = omega (arith, c.find-risen.ensures.track.few) in
+    ap (λ v. v.track) (c.find-risen.ensures.looked 27 small).lens
 
 pub returns-clause-why : goal.returns-clause-why
 returns-clause-why c held century known =

@@ -1,7 +1,7 @@
 use Rattle.std.proofs.Common.{◌≡◌, ◌∙◌, None, ap, sym, subst}
 use Rattle.std.proofs.lemmas.Result.{IfOk-weaker}
 use Rattle.irig_vcd.specs.declared.fault.VcdFault.TheVariants.{OutOfMemory}
-use Rattle.irig_vcd.specs.{Code.Scanned.Stops, Code.Journals.Holds, Code.Trace.KeepsEdges, Level.HasEdge, Scan.scan_ended, Scan.scan_words, Scan.start}
+use Rattle.irig_vcd.specs.{Code.Scanned.Stops, Code.Journals.Holds, Code.Trace.KeepsEdges, Extent.short, Level.HasEdge, Scan.scan_ended, Scan.scan_words, Scan.start}
 use Rattle.irig_vcd.proofs.ScanSteps.{stopped_so}
 use Rattle.irig_vcd.proofs.changes.changes.Goals as goal
 
@@ -14,7 +14,8 @@ returns-in-Ok c =
     let f = c.finish.ensures in
     let end = sym r.1 in
     record {
-      exact = subst (λ x. KeepsEdges None c.finish.result (scan_ended c.args.unit x)) end (subst (λ w. KeepsEdges w c.finish.result (scan_ended c.args.unit (r.0, None))) (c.read.ensures.window ∙ c.new-reading.ensures.window) (f.exact r.0 r.2));
+      exact = subst (λ x. KeepsEdges (short None) c.finish.result (scan_ended c.args.unit x)) end (subst (λ w. KeepsEdges w c.finish.result
+          (scan_ended c.args.unit (r.0, None))) (c.read.ensures.extent ∙ (c.new-reading.ensures.extent ∙ c.short.ensures)) (f.exact r.0 r.2));
       journals = IfOk-weaker c.finish.result _ _ (λ x holds. subst (λ y. Holds y.0.journals x.journals) end (holds r.0 r.2)) f.journals;
       whole = IfOk-weaker c.finish.result _ _ (λ x short. ap (λ y. y.1) r.1) f.short;
       short = f.short;

@@ -25,7 +25,7 @@ returns-in_default-clause-scans c = λ end l.
 pub tokens-preserved : goal.tokens-preserved
 tokens-preserved c = record {
   time = c.in-Ok-take.ensures.time;
-  window = c.take.ensures.window ∙ (c.follow_short.ensures.window ∙ c.tokens.invariant.window);
+  extent = c.take.ensures.extent ∙ (c.follow_short.ensures.extent ∙ c.tokens.invariant.extent);
   leads = λ end l. c.in-Ok-take.ensures.scans end (at_token (goal.at.tokens-preserved c).After-take end l);
 }
 

@@ -5,7 +5,7 @@ use Rattle.irig_vcd.proofs.changes.follow_on.Given as goal
 abbrev pub invariant-tokens : goal.invariant-tokens
 invariant-tokens l = record {
   time : IsOn l.unit l.trace l.clock;
-  window : l.trace.window ≡ l.fn.trace.window;
+  extent : l.trace.extent ≡ l.fn.trace.extent;
   leads : (end : Scan × Option VcdFault) → Leads l.code l.unit end l.fn.trace l.fn.from l.fn.journals l.fn.pending l.fn.tokens
       → Leads l.code l.unit end l.trace l.clock l.journals l.pending l.tokens;
 }

@@ -2,7 +2,7 @@ use Rattle.std.proofs.Common.{◌≡◌, ◌≤◌, ◌++◌, ◌+◌, ◌∙◌
 use Rattle.irig_vcd.specs.Code.DumpReader.{HasRead, HasReadWords, Stage, StopsAt}
 use Rattle.irig_vcd.specs.declared.fault.VcdFault.TheVariants.{OutOfMemory}
 use Rattle.irig_vcd.specs.{Answer.IsFaultOf, Code.Gathered.gathered, Code.Gathered.so_far, Code.Joins.ends_inside, Code.Journals.place_view}
-use Rattle.irig_vcd.specs.{Code.NextPart.IsDark, Code.NextPart.IsReadUp, Window.parts_in, Words.Word, Words.words_from, Words.words_of}
+use Rattle.irig_vcd.specs.{Code.NextPart.IsDark, Code.NextPart.IsReadUp, Window.extent_parts, Words.Word, Words.words_from, Words.words_of}
 use Rattle.irig_vcd.proofs.PartSteps.{gathers_next, gathers_same, memory_at, memory_journal, next_bytes, no_room, part_words, put_read, stops_at}
 use Rattle.irig_vcd.proofs.dump_reader.read_held.Goals.{After-whole_len-whole, In-Err}
 use Rattle.irig_vcd.proofs.dump_reader.read_held.Goals as goal
@@ -26,8 +26,9 @@ returns-in-Err-clause-fault c = λ wire bytes more r.
     let s = c.args.progress.now in
     let n = c.whole_len-whole.result in
     let cut = outside (goal.at.returns-in-Err-clause-fault c).After-whole_len-whole in
-    subst (λ (l : List ℕ). IsFaultOf c.in-Err.fault (parts_in s.reading.trace.window wire (l ++ more))) (sym r.whole)
-    (stops_at s.reading.trace.window s.unit s.code wire ((r.front ++ s.held.items) ++ more) _ _ c.in-Err.fault (part_words r.front s.held.items more n s.gone r.place r.closed cut)
+    subst (λ (l : List ℕ). IsFaultOf c.in-Err.fault (extent_parts s.reading.trace.extent wire (l ++ more))) (sym r.whole)
+    (stops_at s.reading.trace.extent s.unit s.code wire ((r.front ++ s.held.items) ++ more) _ _ c.in-Err.fault
+    (part_words r.front s.held.items more n s.gone r.place r.closed cut)
     (stops (goal.at.returns-in-Err-clause-fault c).In-Err wire bytes r))
 
 pub returns-in_ok-gather-in-Ok-Ok-clause-read : goal.returns-in_ok-gather-in-Ok-Ok-clause-read

@@ -13,7 +13,7 @@ all_held c = let s = c.args.progress.now in take_all c.len-all.result s.held.ite
 pub returns-in-Err-clause-fault : goal.returns-in-Err-clause-fault
 returns-in-Err-clause-fault c = λ wire bytes r.
     let s = c.args.progress.now in
-    stops_at s.reading.trace.window s.unit s.code wire bytes (words_of bytes) [] c.in-Err.fault (sym (append-nil (words_of bytes)))
+    stops_at s.reading.trace.extent s.unit s.code wire bytes (words_of bytes) [] c.in-Err.fault (sym (append-nil (words_of bytes)))
     (last_fault wire bytes s c.len-all.result c.in-Err.fault (all_held (goal.at.returns-in-Err-clause-fault c).After-len-all) c.in-Err.ensures.fault r)
 
 pub returns-in-Err-clause-memory : goal.returns-in-Err-clause-memory
@@ -28,7 +28,7 @@ pub returns-in-Ok-Err-clause-fault : goal.returns-in-Ok-Err-clause-fault
 returns-in-Ok-Err-clause-fault c = λ wire bytes r.
     let s = c.args.progress.now in
     let early = rw c.in-Ok-Err.field-0-is at c.in-Ok-Err.ensures.early in
-    fails_now c.in-Ok-Err.fault _ (no_parts_in s.reading.trace.window wire bytes c.in-Ok-Err.fault (last_early wire bytes s c.len-all.result c.in-Ok-Err.fault
+    fails_now c.in-Ok-Err.fault _ (no_parts_in s.reading.trace.extent wire bytes c.in-Ok-Err.fault (last_early wire bytes s c.len-all.result c.in-Ok-Err.fault
     (all_held (goal.at.returns-in-Ok-Err-clause-fault c).After-len-all) early.0 early.1 r))
 
 pub returns-in-Ok-Err-clause-memory : goal.returns-in-Ok-Err-clause-memory

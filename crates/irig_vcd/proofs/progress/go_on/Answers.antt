@@ -10,7 +10,7 @@ returns c =
     λ s at. subst (λ (l : List Word). HasScanned c.args.code.now c.args.unit s l c.read.result c.read.new.self) c.after-tokens.ensures
     (c.read.ensures.scans s at) in
     record {
-      window = c.read.ensures.window;
+      extent = c.read.ensures.extent;
       time = c.read.ensures.time;
       read = goes_on c.read.result c.args.unit c.args.code.now ws c.args.reading.now c.read.new.self scans;
       fault = goes_wrong c.read.result c.args.unit c.args.code.now ws c.args.reading.now c.read.new.self scans;

@@ -8,7 +8,7 @@ invariant-loop-at l = record {
   back : 16 ≤ l.at;
   within : l.at ≤ length l.source;
   here : LiesOn l.stretch l.trace;
-  window : l.trace.window ≡ l.fn.trace.window;
+  extent : l.trace.extent ≡ l.fn.trace.extent;
   late : l.trace.time ≤ l.clock.whole;
   fewer : length (words_here l.base l.source l.at) ≤ length l.fn.tokens;
   passes : (s : Scan) → s.opened ≡ closed → IsTraced l.unit s l.fn.trace l.fn.from

@@ -31,7 +31,7 @@ tokens-preserved-in-Ok c =
     record {
       time = on_later c.args.unit c.tokens.trace c.tokens.clock at i.time c.in-Ok.ensures.time c.in-Ok.ensures.forward;
       fewer = omega (arith, i.fewer, ap length n.left);
-      window = i.window;
+      extent = i.extent;
       leads = λ end j p l.
           leads_time (Ok at) c.args.code.now c.args.unit end c.tokens.trace c.tokens.clock j p n.word c.next_short.new.self n.kind read
           c.in-Ok.ensures.time c.in-Ok.ensures.forward
@@ -46,7 +46,7 @@ tokens-preserved-in-Ok-take_bit c =
     record {
       time = bit.time;
       fewer = omega (arith, i.fewer, ap length b.left, bit.fewer);
-      window = bit.window ∙ i.window;
+      extent = bit.extent ∙ i.extent;
       leads = λ end j p l. bit.scans c.tokens.tokens end j p b (i.leads end j p l);
     }
 
@@ -60,7 +60,7 @@ tokens-preserved c =
     record {
       time = i.time;
       fewer = omega (arith, i.fewer, fewer_left c.tokens.tokens c.next_short.new.self c.args.code.now c.args.is_plain short.Apart c.in-Apart.ensures);
-      window = i.window;
+      extent = i.extent;
       leads = λ end j p l. leads_apart c.args.code.now c.args.unit end c.tokens.trace c.tokens.clock j p
           c.tokens.tokens c.next_short.new.self c.in-Apart.ensures (i.leads end j p l);
     }

@@ -7,7 +7,7 @@ abbrev pub invariant-tokens : goal.invariant-tokens
 invariant-tokens l = record {
   time : IsOn l.unit l.trace l.clock;
   fewer : length l.tokens ≤ length l.fn.tokens;
-  window : l.trace.window ≡ l.fn.trace.window;
+  extent : l.trace.extent ≡ l.fn.trace.extent;
   leads : (end : Scan × Option VcdFault) (journals : Journals) (pending : Pending)
       → Leads l.code l.unit end l.fn.trace l.fn.from journals pending l.fn.tokens
       → Leads l.code l.unit end l.trace l.clock journals pending l.tokens;

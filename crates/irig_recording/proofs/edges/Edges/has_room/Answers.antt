@@ -11,5 +11,5 @@ returns c =
     let few = most e.pulses.items e.is_open e.rise c.args.self.now c.self.view_is in
     let many = least e.pulses.items e.is_open e.rise c.args.self.now c.self.view_is in (
       λ room. grind (arith, nat_tests, few, room, c.gap_at.ensures.place, c.self.invariant.1),
-      λ fits. lt-ltb c.gap_at.result 4194304 (omega (arith, many, fits, c.gap_at.ensures.place, c.self.invariant.1)),
+      λ fits. lt-ltb c.gap_at.result c.args.most (omega (arith, many, fits, c.gap_at.ensures.place, c.self.invariant.1)),
     )

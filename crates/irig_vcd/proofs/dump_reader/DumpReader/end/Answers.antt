@@ -6,12 +6,14 @@ use Rattle.irig_vcd.proofs.dump_reader.DumpReader.end.Goals as goal
 
 pub returns-in-Ok-clause-read : goal.returns-in-Ok-clause-read
 returns-in-Ok-clause-read c = IfOk-weaker c.finish.result _ _ (λ x says wire bytes r.
-    rw (← (c.read_rest.ensures.window ∙ ap (λ (d : Progress). d.reading.trace.window) c.self.view_is)) (let h = c.in-Ok.ensures.read wire bytes (subst (λ d. HasRead wire bytes d) (sym c.self.view_is) r) in
+    rw (← (c.read_rest.ensures.extent ∙ ap (λ (d : Progress). d.reading.trace.extent) c.self.view_is)) (let h = c.in-Ok.ensures.read wire bytes (subst
+    (λ d. HasRead wire bytes d) (sym c.self.view_is) r) in
     says wire bytes c.read_rest.new.progress.code.items h.0 h.1)) c.finish.ensures.read
 
 pub returns-in-Ok-clause-fault : goal.returns-in-Ok-clause-fault
 returns-in-Ok-clause-fault c = if_err c.finish.result (λ e says wire bytes r.
-    rw (← (c.read_rest.ensures.window ∙ ap (λ (d : Progress). d.reading.trace.window) c.self.view_is)) (let h = c.in-Ok.ensures.read wire bytes (subst (λ d. HasRead wire bytes d) (sym c.self.view_is) r) in
+    rw (← (c.read_rest.ensures.extent ∙ ap (λ (d : Progress). d.reading.trace.extent) c.self.view_is)) (let h = c.in-Ok.ensures.read wire bytes (subst
+    (λ d. HasRead wire bytes d) (sym c.self.view_is) r) in
     says wire bytes c.read_rest.new.progress.code.items h.0 h.1)) c.finish.ensures.fault
 
 pub returns-in-Ok-clause-memory : goal.returns-in-Ok-clause-memory

@@ -5,8 +5,8 @@ use Rattle.irig_vcd.proofs.trace.Trace.finish.Goals as goal
 
 pub returns-clause-edges : goal.returns-clause-edges
 returns-clause-edges c = λ changes h.
-    rw (← c.advance.ensures.window) (ended_in changes c.args.end c.advance.new.self _ c.in_ok-advance.ensures.time
-    (λ all is. rw (← c.moved.ensures) (c.in_ok-keep.ensures.ok all is)) (c.in_ok-advance.ensures.ok changes h))
+    rw (← c.advance.ensures.extent) (ended_in changes c.args.end c.advance.new.self _ c.in_ok-advance.ensures.time
+    (λ all is. rw (← c.moved-place.ensures) ((rw c.most_pulses-most.ensures.value at (c.in_ok-keep.ensures.ok all)) is)) (c.in_ok-advance.ensures.ok changes h))
 
 pub returns-in_err-keep-clause-memory : goal.returns-in_err-keep-clause-memory
 returns-in_err-keep-clause-memory c =
