@@ -1,6 +1,7 @@
 //! The frames that differ between two recordings. The place of a frame is when its marker rises, in
-//! microseconds. What is at a place are its two sides: the frame before and the frame after, as far
-//! as they are there.
+//! microseconds. A place has two sides: the frame there of the recording before, and that of the
+//! recording after. They differ if only one of them is there, or if other fields, another note or
+//! another fault is reported of the one than of the other.
 
 ghost use Rattle.std.specs.Prelude.{◌≡◌, [], ◌∷◌, ◌<◌, ◌^◌, MatchOption, length};
 ghost use Rattle.irig_comments.specs.Framed.{shown_frames};
@@ -32,7 +33,7 @@ impl<'a> Changes<'a> {
     /// The frames that differ between the recordings `before` and `after`.
     pub fn between(before: &'a Framed, after: &'a Framed) -> Changes<'a>
         ensures exact { result ≡ changes before.now after.now }
-        // At each place what differs there, and no other.
+        // One item for each place at which the sides differ, and for no other place.
         ensures places { AreChanges (shown_frames before.now) (shown_frames after.now) result }
         ensures few { length result < 2 ^ 32 }
     {

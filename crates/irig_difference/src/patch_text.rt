@@ -35,10 +35,11 @@ impl<'a> Model for PatchText<'a> {
 }
 
 impl<'a> PatchText<'a> {
-    /// The patch that makes the recording `after` of the recording `before`.
+    /// The patch that turns the recording `before` into the recording `after`. No line is made yet:
+    /// `fill` writes them.
     pub fn between(before: &'a Recording, after: &'a Recording) -> PatchText<'a>
         ensures text { result ≡ patch_text before.now after.now }
-        // Nothing is written of two recordings that are the same, and of no others.
+        // The text is empty if the two recordings are the same, and only then.
         ensures same { result ≡ [] ↔ before.now ≡ after.now }
     {
         PatchText {

@@ -177,8 +177,9 @@ pub fn read_extent<R: Read + Drop>(
     read_by_parts(alloc, &mut reader, &mut part, wire, extent)
 }
 
-/// Reads a dump part by part, keeps as much of it as `extent` says, and counts all bytes. `part` is
-/// the memory for one part. A new intake fails only if memory runs out. After a fault what was read is freed.
+/// Reads a dump part by part, keeps as much of it as `extent` says, and counts all bytes. `part`
+/// is the memory for one part. A new intake fails only if memory runs out. After a fault what was
+/// read is freed.
 fn read_by_parts<R: Read>(
     alloc: Global,
     reader: &mut R,

@@ -68,8 +68,8 @@ impl<C: FileSystem> Disk for Files<C> {
         self.system.read(alloc, path, wire)
     }
 
-    // Reads the dump in the file at a path, and keeps as much of it as `extent` says. The faults are
-    // those of `read`.
+    // Reads the dump in the file at a path, and keeps as much of it as `extent` says. The faults
+    // are those of `read`.
     fn read_extent(
         &self,
         alloc: Global,

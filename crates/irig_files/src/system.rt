@@ -100,8 +100,8 @@ impl<R: Files + Print + AllocGlobal> FileSystem for SystemFolder<'_, R> {
         read_dump(self.runtime(), alloc, path, wire)
     }
 
-    // Reads the dump in the file at a path, and keeps as much of it as `extent` says. The faults are
-    // those of `read`.
+    // Reads the dump in the file at a path, and keeps as much of it as `extent` says. The faults
+    // are those of `read`.
     fn read_extent(
         &self,
         alloc: Global,

@@ -2,7 +2,9 @@
 //! range, an address or nothing, and `arguments` is the text after it. A word that takes a range
 //! or an address means the cursor's pulse if `front` is empty; the cursor is the pulse at which a
 //! script is. `BadLine`, the only error of a line, says that `front` or `arguments` is not valid
-//! for the word. Times are in microseconds, and pulses count from 1.
+//! for the word. A time is a number of microseconds, or that of a mark, which is a time with a
+//! letter as its name. Pulses count from 1. Only the form of a line is tested here, not whether its
+//! pulses are there, its marks are set or its times are in order.
 //!
 //! Where `let Ok(..) else` returns `BadLine`, `?` would do the same; the proof of it takes longer.
 
@@ -85,8 +87,7 @@ pub fn force(front: &[u8], arguments: &[u8]) -> Result<Command, BadLine>
     Ok(Command::Force(address_or_cursor(front)?, element(name)?))
 }
 
-/// What the arguments of `insert` ask for, if there is no range: a pulse from time `a` to time `b`,
-/// in microseconds.
+/// What the arguments of `insert` ask for, if there is no range: a pulse from time `a` to time `b`.
 pub fn insert(front: &[u8], arguments: &[u8]) -> Result<Command, BadLine>
     ensures { Finds (Asks Keyword.Insert front.now (words_of arguments.now)) result }
 {
@@ -100,7 +101,7 @@ pub fn insert(front: &[u8], arguments: &[u8]) -> Result<Command, BadLine>
 }
 
 /// What the arguments of `invert` ask for, if there is no range: to invert the level from time `a`
-/// to time `b`, in microseconds.
+/// to time `b`.
 pub fn invert(front: &[u8], arguments: &[u8]) -> Result<Command, BadLine>
     ensures { Finds (Asks Keyword.Invert front.now (words_of arguments.now)) result }
 {

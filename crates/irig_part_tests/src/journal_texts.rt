@@ -1,5 +1,6 @@
-//! The worked journal: of two pulses the first was deleted, and a mark was set and undone. And
-//! texts with a wrong line. What writes returns false if memory runs out. Lines count from 1.
+//! Saved journals: histories of a session as text (`docs/FORMATS.md`). The worked one, `WORKED`, is
+//! read and written: of two pulses the first was deleted, and a mark was set and undone. Texts with
+//! a wrong line are read. What writes returns false if memory runs out. Lines count from 1.
 
 ghost use Rattle.std.specs.Prelude.{◌<◌, ◌^◌, length};
 
@@ -22,7 +23,8 @@ const DELETED: Pulse = Pulse {
     fall: 120,
 };
 
-/// The number of the wrong line; 0 if there is none, and 1000, which no row has, without memory.
+/// The number of the first wrong line of a text, from 1; 0 if it has none. If memory runs out it is
+/// 1000, which no row has.
 fn fault(alloc: Global, text: &[u8]) -> usize
     requires { length text.now < 2 ^ 63 }
 {

@@ -120,8 +120,9 @@ fn put_parts(row: &mut Row, fields: &Fields)
     }
 }
 
-/// Writes what is reported of a frame: the element, from 0, at which it is broken and why, or its
-/// time with what is noted of it.
+/// Writes what is reported of a frame (`Verdict`): the element, from 0, at which it is broken and
+/// why, as `broken 19 class`; or of one that could be read its time, the parts that its expression
+/// carries and what is noted of it, as `061 12:34:56 year 24 sbs 45296 control 0 fine`.
 pub fn put_verdict(row: &mut Row, verdict: &Verdict)
     requires room { length row.old ≤ 80 }
     ensures text { row.new ≡ row.old ++ verdict_text verdict.now }

@@ -81,10 +81,11 @@ fn is_off(format: Format, one: &Shown, other: &Shown) -> bool
     is_later(format, one, other) && 25 * stray(format, one, other) <= 2 * whole
 }
 
-/// Whether `from` and `to` show the clock that `one` and `other` show, to half an interval. Neither
-/// clock is off by more than 8 in 100. `from` and `to` are no more than a hundred times as far
-/// apart as `one` and `other`: the rises of these are off by a tenth of an interval each at most,
-/// so up to there the clock says how many frames it is.
+/// Whether `from` and `to` show the clock that `one` and `other` show: by that clock `to` begins
+/// when it should after `from`, to half an interval. Neither clock is off by more than 8 in 100.
+/// `from` and `to` are no more than a hundred times as far apart as `one` and `other`. The rises of
+/// these are off by a tenth of an interval each at most, which makes 20 intervals over a hundred
+/// times their distance: less than half a frame, so the clock says how many frames it is.
 fn is_same_clock(format: Format, one: &Shown, other: &Shown, from: &Shown, to: &Shown) -> bool
     ensures { result ≡ is_same_clock format one.now other.now from.now to.now }
 {

@@ -64,7 +64,7 @@ impl Shelf for MemoryShelf {
 
     // Keeps a copy of the text and returns how many bytes it has. An error, `ShelfFault`, keeps
     // nothing: memory ran out, or this is the write that is to fail. Each write is counted, and
-    // each that failed.
+    // each that failed. `whole` makes the copy; 0 is the room that it begins with, in bytes.
     fn put<T: Text>(&mut self, text: &mut T) -> Result<u64, ShelfFault>
         ensures count { IfOk result (λ count. count ≡ length (T.rest text.old)) }
         ensures ok { OnOk result

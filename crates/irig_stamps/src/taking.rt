@@ -1,5 +1,8 @@
-//! Bytes of lines, as they come. `text` is what comes out for the lines that have ended. `pulses`
-//! is the track's pulses, and `known` which of them have a time.
+//! Bytes of lines, as they come. A line has a recorder's time in one of its columns. What comes out
+//! for it is the time of day at that moment, by the frames of the track, and the line as it was.
+//! `lines` is how far lines were read, and `text` what comes out for those that have ended.
+//! `pulses` is the track's pulses, and `known` which of them have a time. `settings` say which
+//! column it is, and how a time is written.
 
 ghost use Rattle.std.specs.Prelude.{◌≡◌, ◌≢◌, ◌≤◌, ◌<◌, ◌^◌, ◌∷◌, [], OnOk, IfSome};
 ghost use Rattle.irig_stamps.specs.Reasons.{IsKnownOf};
@@ -17,8 +20,9 @@ use std::alloc::AllocError;
 /// The most bytes of a line, its newline not counted: 1 MiB.
 const LINE_LIMIT: usize = 1_048_576;
 
-/// Takes a byte: a newline ends the line so far, and what comes out for it is added to the text,
-/// which can only run out of memory. Another byte is added to the line.
+/// Takes a byte. A newline ends the line so far: what comes out for it is added to the text, and
+/// the only error is `OutOfMemory`. Any other byte is added to the line: `TooLong` if the line has
+/// 1 MiB already, `OutOfMemory` if memory runs out.
 fn take_byte(
     lines: &mut Lines,
     text: &mut Vec<u8>,

@@ -1,7 +1,8 @@
-//! The pulses at the two ends of a track that have a time. A pulse says an element by its width:
-//! its class is 0, 1 or a position identifier, or none. Pulses and elements count from 0. `wanted`
-//! is the elements that a frame should have. A frame is believed if another one near it supports
-//! its time; one that is not is a part without pulses. At each end a hundred pulses in step are
+//! The pulses at the two ends of a track that have a time. A part is pulses that follow one
+//! another, as elements of one frame whose time is known. A frame is believed if another one near
+//! it supports its time; one that is not is a part without pulses. A pulse says an element by its
+//! width: its class is 0, 1 or a position identifier, or none. Pulses and elements count from 0.
+//! `wanted` is the elements that a frame should have. At each end a hundred pulses in step are
 //! counted at most, which is a frame: further on a slip of one interval would go unseen.
 
 ghost use Rattle.std.specs.Prelude.{◌≡◌, ◌≤◌, ◌<◌, ◌+◌, ◌-◌, ◌^◌, IfSome, length, min, slice_get};
@@ -162,9 +163,9 @@ pub fn telling(pulses: &Lens<'_>, part: &Part) -> usize
 }
 
 /// Whether a part can have its time: a frame of that time ends with its minute at the latest
-/// (`is_whole`), the format can carry that time (`fits`), and no pulse of the part that can say
-/// another time contradicts it. One that does is enough: a clock that is set by an hour changes no
-/// more.
+/// (`is_whole`), the format can carry that time (`fits`), and no pulse of the part contradicts it,
+/// of those that can say another time (`telling`). A single pulse that does is enough: a clock that
+/// is set by an hour can change just one element.
 fn is_borne_out(pulses: &mut Lens<'_>, format: Format, part: &Part) -> bool
     requires few { part.now.element + part.now.count ≤ 100 }
     requires small { (part.now.number < 2 ^ 32) × (part.now.time.micros < 2 ^ 60) }
@@ -222,10 +223,10 @@ pub fn end_after(pulses: &mut Lens<'_>, format: Format, from: Option<Part>) -> O
     alone(pulses, format, head_of(&from, count, time))
 }
 
-/// The pulses before the first frame that have a time, up to a hundred in step (`behind`), as the
-/// frame one period earlier. `None` if the first frame is not believed or begins the day
-/// (`time_before`: nothing is counted over midnight), or they cannot have that time
-/// (`is_borne_out`).
+/// The pulses before the first frame (`to`) that have a time: up to a hundred in step, as `behind`
+/// counts them, as the last elements of a frame one period earlier. An empty part comes after them
+/// (`alone`). `None` if the first frame is not believed or begins the day (`time_before`: nothing
+/// is counted over midnight), or they cannot have that time (`is_borne_out`).
 pub fn end_before(pulses: &mut Lens<'_>, format: Format, to: &Part) -> Option<(Part, Part)>
     requires { (to.now.time.micros < 2 ^ 59) × (to.now.number < 2 ^ 30) }
     ensures end { result ≡ end_before format pulses.old.track.pulses to.now }

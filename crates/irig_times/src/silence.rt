@@ -122,7 +122,8 @@ fn before_silence(
     }
 }
 
-/// What is counted before the first frame, if it counts.
+/// The pulses before the first frame that have a time (`sides`, as `end_before` gives them), if
+/// they count: `None` if they do not (`counts_before`), or there are none.
 fn heard_before(
     pulses: &mut Lens<'_>,
     format: Format,

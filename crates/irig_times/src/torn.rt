@@ -1,6 +1,7 @@
 //! Whether intervals are lost between two frames (the stretch is torn), and what pulses say of the
-//! elements there. `from` and `to` are two frames, as parts. Tenths are of an interval. An element
-//! is said by a pulse's width: its class is 0, 1 or a position identifier.
+//! elements there. `from` and `to` are two frames, as parts: a part is pulses that follow one
+//! another, as elements of one frame whose time is known. Tenths are of an interval. An element is
+//! said by a pulse's width: its class is 0, 1 or a position identifier.
 
 ghost use Rattle.std.specs.Prelude.{◌≡◌, ◌≤◌, ◌<◌, ◌+◌, ◌*◌, ◌^◌, Some, slice_get};
 ghost use Rattle.irig_codes.specs.Format.{frame_period_of};
@@ -225,8 +226,9 @@ fn is_position(class: Option<Element>) -> bool
     }
 }
 
-/// Whether pulse `place` of a side is there and is a position identifier, and the frame there
-/// should have one; `wanted` is the elements of that frame.
+/// Whether pulse `place` of a side, 0 for the nearest, is there and is a position identifier by its
+/// width, and the frame that it belongs to should have one there. `wanted` is the elements that
+/// this frame should have.
 pub fn confirms(
     pulses: &mut Lens<'_>,
     format: Format,

@@ -123,8 +123,7 @@ fn why_next_to(
     why_steady(pulses, format, century, from, to)
 }
 
-/// Why pulses between two frames, before the first one or after the last one have no time, if the
-/// time does not jump there. `Before` also if no frame has a time.
+/// As `why_next_to`, if the time does not jump there. `Before` also if no frame has a time.
 fn why_steady(
     pulses: &mut Lens<'_>,
     format: Format,
@@ -166,7 +165,8 @@ fn why_between(pulses: &mut Lens<'_>, format: Format, century: u32, from: &Part,
     }
 }
 
-/// Whether the times of two frames are as many periods apart as their markers, or one is not there.
+/// Whether the times of two frames are as many frame periods apart as their markers' rises, to the
+/// nearest period. Also true if a marker's pulse (`from.number`, `to.number`) is not there.
 fn are_apart_by(pulses: &mut Lens<'_>, format: Format, century: u32, from: &Part, to: &Part) -> bool
     requires century { century ≤ 99 }
     requires times { (from.now.time.micros < 2 ^ 59) × (to.now.time.micros < 2 ^ 59) }

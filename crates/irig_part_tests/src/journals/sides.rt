@@ -1,6 +1,10 @@
 //! The steps that a journal shows, those of a gathered group, and what becomes of them when it is
 //! turned round: its steps back become its steps forward. `past_steps` shows the steps back, the
 //! oldest first; `future_steps` those forward, the next one first.
+//!
+//! A journal keeps the changes of a state, here a stack of bytes, so that they can be undone and
+//! redone. A step is what one undo or redo does: one change, or a group of them. A cursor is a
+//! number that the caller keeps with the state; a step has that of the state it leads to.
 
 ghost use Rattle.std.specs.Prelude.{◌≡◌, None, vec_capacity};
 ghost use Rattle.irig_journal.specs.Journal.{AreReady};
@@ -91,8 +95,8 @@ fn is_gathered(journal: &Journal<Stack>) -> bool {
     journal.steps_back() == 1 && is_group_of(journal.past_steps().next(), &POPS, 5)
 }
 
-/// Whether an undo leads to cursor 5 and an empty stack, and leaves the group as the next step
-/// forward, with the cursor 9 that was there before the undo.
+/// Whether an undo of the group succeeds, and leads to its cursor, 5, and an empty stack. The group
+/// is then the next step forward, with the cursor that was there before the undo, 9.
 fn is_undone(journal: &mut Journal<Stack>, stack: &mut Stack, cursor: &mut usize) -> bool
     requires ready { AreReady CanEdit edited (λ d. d) (HasPlaceFor (vec_capacity stack.old.items))
         stack.old.items.items journal.old }

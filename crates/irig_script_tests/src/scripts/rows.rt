@@ -8,8 +8,9 @@ use irig_script::{MemoryShelf, NoWitness, Screen, Status, run_on_dump};
 use std::alloc::{AllocError, Global};
 use std::process::Abort;
 
-/// Whether a script prints and ends as its row says, run on the dump of two pulses. A `write`
-/// prints the bytes of the dump, 163 with two pulses and 147 with one. False if memory runs out.
+/// Whether a script prints and ends as its row says, run on a dump of two pulses that is read as
+/// kind G, expression 2. A `write` prints how many bytes the dump has: 163 with two pulses, 147
+/// with one. False if memory runs out.
 fn is_right(alloc: Global, row: &Row<'_>, shelf: &mut MemoryShelf) -> bool {
     let Ok(format) = Format::new(Kind::G, 2) else {
         return false;

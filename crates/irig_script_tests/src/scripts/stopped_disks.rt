@@ -90,7 +90,7 @@ fn is_run(alloc: Global, session: &mut Session, fails: u64, printed: &[u8]) -> b
         && is_whole_at_each_stop(alloc, files.system().calls())
 }
 
-/// Whether `is_run` is true on a session of its own; false if memory runs out.
+/// Whether `is_run` is true on a new session of two pulses; false if memory runs out.
 fn is_run_once(alloc: Global, fails: u64, printed: &[u8]) -> bool {
     match two_pulses(alloc) {
         Some(mut session) => is_run(alloc, &mut session, fails, printed),

@@ -60,7 +60,8 @@ static REFUSED: [Row; 9] = [
     (Call::Abort, None, [2, 0, 0], (0, 0)),
 ];
 
-// No end or abort without a group, no second group, no undo without a step.
+// Refused are an end and an abort if no group is open, a begin if one is, and an undo if no step is
+// left. A refused call leaves pulses and steps as they were.
 #[test]
 fn calls_of_groups_are_refused_in_their_order(rt: HostRuntime) {
     check(&rt, rt.alloc(), &REFUSED);
