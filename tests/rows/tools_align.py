@@ -28,7 +28,7 @@ import os, re, sys
 words = dict(re.findall("--(from|to)=([0-9]+)", " ".join(sys.argv)))
 rises = map(int, re.findall("#([0-9]+) 1!", open(sys.argv[-1]).read()))
 if sum(int(words.get("from", 0)) <= rise < int(words.get("to", 1 << 62)) for rise in rises) > int(os.environ["HELD"]):
-    sys.exit(print("irig_time: %%s: V12 TooManyPulses" %% sys.argv[-1], file=sys.stderr) or 3)
+    sys.exit(print("irig_time: %%s: %%s" %% (sys.argv[-1], os.environ["SAYS"]), file=sys.stderr) or 3)
 if "--table" not in sys.argv and int(words.get("from", 0)) > int(os.environ["FAILS"]):
     sys.exit(print("irig_time: input failed", file=sys.stderr) or 4)
 os.execv("%s", ["irig_time", *sys.argv[1:]])
@@ -47,14 +47,14 @@ def aligned(size, words, lines):
         return run("irig_align", list(words), lines)
 
 
-def aligned_by_few(held, fails, words, lines):
+def aligned_by_few(held, fails, words, lines, says="V12 TooManyPulses"):
     """The same, if irig_time holds that many pulses, and fails from a time on; 20 frames more are read on each side for a table."""
     os.makedirs("bin", exist_ok=True)
     for name, text in (("irig_ed", "#!/bin/sh\n"), ("irig_time", FEW % (sys.executable, TIME))):
         with open("bin/" + name, "w", encoding="ascii") as file:
             file.write(text)
         os.chmod("bin/" + name, stat.S_IRWXU)
-    settings = {"IRIG_ED": os.path.abspath("bin/irig_ed"), "HELD": str(held), "FAILS": str(fails)}
+    settings = {"IRIG_ED": os.path.abspath("bin/irig_ed"), "HELD": str(held), "FAILS": str(fails), "SAYS": says}
     with mock.patch.dict(os.environ, settings), mock.patch.object(align_frames, "SUPPORT", 20):
         return run("irig_align", list(words), lines)
 
@@ -134,6 +134,8 @@ def by_halves():
         for held in (60000, 30000, 12000):
             words = [*CODE, "--column=2", "--why", "track.vcd"]
             yield same("%d are held" % held, aligned_by_few(held, LENGTH, words, plain(2000)), whole(words, plain(2000)))
+        found = aligned_by_few(30000, LENGTH, words, plain(2000), "V14 OutOfMemory")
+        yield same("there is memory for a part", found, whole(words, plain(2000)))
         status, printed, said = aligned_by_few(30000, LENGTH // 2, words, plain(2000))
         yield same("a window fails", (status, printed, said), (4, b"", "irig_time: input failed\n"))
         yield same("files", sorted(os.listdir(".")), ["bin", "track.vcd"])

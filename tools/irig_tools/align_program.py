@@ -42,9 +42,9 @@ OF_HEADER = (HEADER, COLUMN_NAME)
 OF_LINES = (TIME_UNIT, LINE_COLUMN, COMMA, FORM, WHY)
 COMMAND = Command("irig_align", ("TRACK",), """\
 Gives each line of standard input its time of day, as irig_time does and by irig_time,
-in less time and memory if TRACK is long. A dump of up to 128 megabytes is given to
-irig_time as it is. A longer one is read in windows, several at once: irig_time is run
-for each, with the lines that are in it, and what it prints is put together in the
+also if TRACK has more pulses than irig_time holds, or than there is memory for. A track
+that fits is given to irig_time as it is. Another one is read in windows: irig_time is
+run for each, with the lines that are in it, and what it prints is put together in the
 order of the lines.
 
   irig_align --format G repaired.vcd < samples.csv > timed.csv
@@ -57,7 +57,6 @@ in the command line, 3 if the track was not read, 4 if the run was broken off; a
 if memory ran out or the tool has a defect.
 """)
 BATCH = 1 << 27  # bytes of lines that are aligned together
-WHOLE = 1 << 27  # bytes of a dump that one irig_time reads as fast as several
 NO_FRAME_TIMED = "%s: no frame has a time with this format and expression"
 DOUBTED = "%s: frames that read well and are not believed, so they give no line a time: %d"
 BROKEN_OFF = 4  # a status of irig_time
@@ -73,7 +72,7 @@ def aligner_words(given: Given, *options: Option) -> List[str]:
 def work(given: Given) -> int:
     program, path = find_beside("irig_time", "irig_align runs it"), given.names[0]
     is_file = os.path.isfile(path)
-    if not is_file or named_size() is None and os.path.getsize(path) <= WHOLE:
+    if not is_file or named_size() is None:
         status = aligned_whole([program, *aligner_words(given, *OF_FRAMES, *OF_LINES, *OF_HEADER, OFFSET, YEAR), "--", path])
         if status is not None:
             return status
@@ -90,7 +89,7 @@ def work(given: Given) -> int:
 
 
 def aligned_whole(command: List[str]) -> Optional[int]:
-    """The status of a run on the whole track, which reads the lines and prints; none if the track is too long, and no line was read."""
+    """The status of a run on the whole track, which reads the lines and prints; none if it does not hold the track, and no line was read."""
     sys.stdout.flush()
     try:
         process = subprocess.Popen(command, stderr=subprocess.PIPE)

@@ -13,7 +13,7 @@ from .processes import LOOK_AGAIN, end_all
 from .temporary import named_if_no_room
 
 TRACK_UNREAD = 3  # a status of irig_time
-TOO_MANY = "V12 TooManyPulses"
+TOO_MANY, NO_MEMORY = "V12 TooManyPulses", "V14 OutOfMemory"
 TOO_LARGE = "too long"  # as irig_time has it of a file that it does not read without a window
 
 
@@ -34,8 +34,8 @@ class AlignerRun:
     path: str  # of what it has printed
 
     def is_too_long(self) -> bool:
-        """Whether the track had more pulses than irig_time holds; then no line was read."""
-        return self.status == TRACK_UNREAD and self.said.rstrip().endswith((TOO_MANY, TOO_LARGE))
+        """Whether the track had more pulses than irig_time holds, or has memory for; then no line was read."""
+        return self.status == TRACK_UNREAD and self.said.rstrip().endswith((TOO_MANY, TOO_LARGE, NO_MEMORY))
 
     def checked(self) -> AlignerRun:
         if self.status not in (ALL_RIGHT, FOUND):
