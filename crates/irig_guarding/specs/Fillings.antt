@@ -3,7 +3,7 @@ use Rattle.std.specs.Prelude.{◌≡◌, ◌<◌, ◌⊎◌, ◌+◌, ℕ, suc, 
 use Rattle.std.specs.Prelude.{◌∷◌, MatchOption, slice_get}
 use Rattle.irig_codes.specs.Format.{control_count_of}
 use Rattle.irig_edit.specs.State.State.{State}
-use Rattle.irig_safety.specs.{Controls.function_element, Original.IsRecorded, Original.OriginalView}
+use Rattle.irig_safety.specs.{Functions.function_element, Original.IsRecorded, Original.OriginalView}
 use Rattle.irig_safety.specs.declared.shown.Shown.{Shown}
 use Rattle.irig_guarding.specs.{Reading.seen_frames, declared.seen.Seen.Seen}
 

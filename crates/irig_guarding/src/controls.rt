@@ -9,7 +9,7 @@
 ghost use Rattle.std.specs.Prelude.{◌≡◌, ◌↔◌, ◌⊎◌, ◌+◌, ◌<◌, ◌≤◌, ◌∷◌, List, IsTrue, None, Option};
 ghost use Rattle.std.specs.Prelude.{Some};
 ghost use Rattle.std.specs.Prelude.{IfErr, IfOk, MatchOption, OnErr, OnOk, length, slice_get};
-ghost use Rattle.irig_safety.specs.Controls.{IsFunctionBorne, function_element};
+ghost use Rattle.irig_safety.specs.{Controls.IsFunctionBorne, Functions.function_element};
 ghost use Rattle.irig_safety.specs.Original.{IsLost, IsRecorded, with_frames};
 ghost use Rattle.irig_safety.specs.declared.fault.Fault.{Fault as SomeFault};
 ghost use Rattle.irig_guarding.specs.Controls.{AreBorneFrom, ControlsAt, IsBorne, IsUnborneFrom};

@@ -6,4 +6,5 @@ pub mod MovedLemmas
 pub mod OtherLemmas
 pub mod RecordedLemmas
 pub mod RiseLemmas
+pub mod WorkedParity
 pub mod WorkedValues

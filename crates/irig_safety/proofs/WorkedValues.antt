@@ -11,8 +11,8 @@ use Rattle.irig_recording.specs.declared.pulse.Pulse.{Pulse}
 use Rattle.irig_safety.specs.{Anchors.is_anchor, Curves.is_bent, Lines.is_nominal, Rises.rise_in, Straight.is_straight}
 use Rattle.irig_safety.specs.{declared.curves.Sides.Sides, declared.lines.Anchor.Anchor}
 use Rattle.irig_safety.specs.{Heard.is_overruled, Witnesses.is_led}
-use Rattle.irig_safety.specs.Mended.{HasControlOfBoth, with_control}
-use Rattle.irig_safety.specs.{Controls.function_element, Witnesses.is_borne, declared.shown.Shown.Shown}
+use Rattle.irig_safety.specs.MendedFunctions.{HasControlOfBoth, with_control}
+use Rattle.irig_safety.specs.{Functions.function_element, Witnesses.is_borne, declared.shown.Shown.Shown}
 
 abbrev b4 : FormatView
 b4 = record { kind = B; expression = 4 }

@@ -1,31 +1,13 @@
 -- When the control functions of a frame are borne out, which its time does not decide. This
 -- project's own.
-use Rattle.std.specs.Prelude.{◌≡◌, ◌<◌, ◌⊎◌, ◌+◌, ◌/◌, ◌==◌, ◌&&◌, ℕ, Bool, true, false, List}
-use Rattle.std.specs.Prelude.{Option, Some, None, MatchOption, if◌then◌else◌, slice_get}
-use Rattle.irig_codes.specs.Format.{FormatView, control_count_of, has_year}
-use Rattle.irig_codes.specs.declared.format.Kind.TheVariants.{A, B, E, G}
-use Rattle.irig_codes.specs.{declared.format.Kind.Kind}
+use Rattle.std.specs.Prelude.{◌≡◌, ◌<◌, ◌⊎◌, ◌+◌, ◌&&◌, ℕ, Bool, true, List}
+use Rattle.std.specs.Prelude.{Option, Some, None, MatchOption, slice_get}
+use Rattle.irig_codes.specs.Format.{FormatView, control_count_of}
 use Rattle.irig_recording.specs.declared.pulse.Pulse.{Pulse}
+use Rattle.irig_safety.specs.Functions.{function_element, shares}
 use Rattle.irig_safety.specs.{Original.IsLost, Original.IsRecorded, Original.OriginalView}
-use Rattle.irig_safety.specs.{Others.function_of, Others.is_told, declared.shown.Shown.Shown}
+use Rattle.irig_safety.specs.{Others.is_told, declared.shown.Shown.Shown}
 use Rattle.irig_safety.specs.declared.witnesses.Witnesses.{Witnesses}
-
--- the element with the first control function, with the year and without it
-abbrev pub first_function : Kind → Bool → ℕ
-first_function A y = if y then 60 else 50
-first_function B y = if y then 60 else 50
-first_function E y = if y then 60 else 50
-first_function G y = if y then 70 else 60
-
--- the element with a control function, both from 0: they are in nines, and a position identifier
--- follows each nine
-abbrev pub function_element : FormatView → ℕ → ℕ
-function_element f k = first_function f.kind (has_year f.expression) + k + k / 9
-
--- another frame is there, and has the control function as the frame has it
-abbrev pub shares : ℕ → Option Shown → Shown → Bool
-shares k None y = false
-shares k (Some x) y = function_of k x == function_of k y
 
 -- the two nearest frames have it so: one on each side, or the two of one side if the other has none
 abbrev pub is_shared : ℕ → Witnesses → Shown → Bool

@@ -4,14 +4,17 @@ pub mod Clocks
 pub mod Controls
 pub mod Curves
 pub mod Faults
+pub mod Functions
 pub mod Heard
 pub mod Lines
 pub mod Meaning
 pub mod Mended
+pub mod MendedFunctions
 pub mod Moved
 pub mod Original
 pub mod Others
 pub mod OwnClock
+pub mod Parity
 pub mod Rises
 pub mod Safety
 pub mod Straight

@@ -30,7 +30,8 @@ pub record IsBorneOut (f : FormatView) (old : List Shown) (y : Shown) : Type 0 w
 
 -- a former frame is another one at the same time: both next to it contradict it, and bear out the
 -- other; or it is at an end, and other recordings speak for the other; or the other has other
--- control functions alone, which both next to it have, all of them or with other recordings
+-- control functions alone, all of which both next to it have; or which other recordings have, and
+-- both next to it or the parity
 pub record IsMended (f : FormatView) (others old : List Shown) (o n : Shown) : Type 0 where
   pub before : List Shown
   pub after : List Shown

@@ -1,9 +1,8 @@
 -- When a frame that read well is another one after an edit, and that mends it. This project's own.
-use Rattle.std.specs.Prelude.{◌≡◌, ◌<◌, ◌==◌, ◌⊎◌, ◌&&◌, ◌||◌, ℕ, Bool, true, false, not, List}
-use Rattle.std.specs.Prelude.{Option, Some, None}
-use Rattle.irig_codes.specs.Format.{FormatView, control_count_of}
-use Rattle.irig_safety.specs.{Bearing.allows, Witnesses.is_borne}
-use Rattle.irig_safety.specs.Others.{function_of, is_among, is_told}
+use Rattle.std.specs.Prelude.{◌≡◌, ◌⊎◌, ◌&&◌, ◌||◌, Bool, true, false, not, List, Option, Some, None}
+use Rattle.irig_codes.specs.Format.{FormatView}
+use Rattle.irig_safety.specs.{Bearing.allows, Others.is_among, Witnesses.is_borne}
+use Rattle.irig_safety.specs.MendedFunctions.{HasControlOfBoth, HasControlOfMost}
 use Rattle.irig_safety.specs.declared.shown.Shown.{Shown}
 
 -- The time of the frame between two others was wrong: both contradict it, and they bear out what it
@@ -45,39 +44,6 @@ abbrev pub is_time_mended : FormatView → List Shown → Option Shown → Optio
     → Option Shown → Option Shown → Shown → Bool
 is_time_mended f others a2 a o b b2 n =
     is_mended f a2 a o b b2 n || is_mended_at_end f others a2 a o b b2 n
-
--- the frame with these control functions instead of its own
-abbrev pub with_control : Option ℕ → Shown → Shown
-with_control control x = record x { fields = record x.fields { control = control } }
-
--- The frame between two others has other control functions now, and nothing else of it is another:
--- both have those that it has now.
-abbrev pub HasControlOfBoth : Option Shown → Shown → Option Shown → Shown → Type 0
-HasControlOfBoth (Some a) o (Some b) n =
-    (with_control n.fields.control o ≡ n)
-    × (a.fields.control ≡ n.fields.control)
-    × (b.fields.control ≡ n.fields.control)
-HasControlOfBoth a o b n = ⊥
-
--- A control function of the frame between two others is as it was; or both have it as it is now,
--- and so have most frames of its time in other recordings.
-abbrev pub is_function_mended : List Shown → Shown → Shown → Shown → Shown → ℕ → Bool
-is_function_mended others a o b n k =
-    (function_of k o == function_of k n)
-    || ((function_of k a == function_of k n) && (function_of k b == function_of k n)
-    && is_told k others n)
-
-abbrev pub AreFunctionsMended : FormatView → List Shown → Shown → Shown → Shown → Shown → Type 0
-AreFunctionsMended f others a o b n =
-    (k : ℕ) → k < control_count_of f → is_function_mended others a o b n k ≡ true
-
--- The frame between two others has other control functions now, and nothing else of it is another:
--- each of these is mended.
-abbrev pub HasControlOfMost : FormatView → List Shown → Option Shown → Shown → Option Shown → Shown
-    → Type 0
-HasControlOfMost f others (Some a) o (Some b) n =
-    (with_control n.fields.control o ≡ n) × AreFunctionsMended f others a o b n
-HasControlOfMost f others a o b n = ⊥
 
 -- its time is mended, or its control functions alone are
 abbrev pub Mends : FormatView → List Shown → Option Shown → Option Shown → Shown → Option Shown

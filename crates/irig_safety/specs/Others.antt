@@ -1,10 +1,10 @@
 -- What other recordings of the same code say of a frame. This project's own.
-use Rattle.std.specs.Prelude.{◌==◌, ◌&&◌, ◌||◌, ◌++◌, ◌+◌, ◌/◌, ◌%◌, ◌^◌, ℕ, Bool, true, false}
+use Rattle.std.specs.Prelude.{◌==◌, ◌&&◌, ◌||◌, ◌++◌, ◌+◌, ℕ, Bool, true, false}
 use Rattle.std.specs.Prelude.{List, [], ◌∷◌, Option, Some, None, if◌then◌else◌, nat_lt, not, slice_get}
 use Rattle.std.specs.Prelude.{unwrap_or}
 use Rattle.irig_codes.specs.Format.{FormatView}
 use Rattle.irig_codes.specs.declared.fields.Fields.{Fields}
-use Rattle.irig_safety.specs.{Bearing.agrees, declared.shown.Shown.Shown}
+use Rattle.irig_safety.specs.{Bearing.agrees, Functions.function_of, declared.shown.Shown.Shown}
 
 -- two frames have the same time of day, day and year
 abbrev pub is_of_time : Fields → Fields → Bool
@@ -13,10 +13,6 @@ is_of_time g h =
     && (g.seconds == h.seconds)
     && (unwrap_or g.hundredths 0 == unwrap_or h.hundredths 0)
     && (unwrap_or g.year 100 == unwrap_or h.year 100)
-
--- a control function of a frame: 1 or 0
-abbrev pub function_of : ℕ → Shown → ℕ
-function_of k x = unwrap_or x.fields.control 0 / 2 ^ k % 2
 
 -- another frame has the time of a frame, and a control function as the frame has it, or otherwise
 abbrev pub is_vote : Bool → ℕ → Shown → Shown → Bool

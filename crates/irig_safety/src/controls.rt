@@ -5,8 +5,8 @@
 
 ghost use Rattle.std.specs.Prelude.{◌≡◌, ◌<◌, ◌≤◌};
 ghost use Rattle.irig_codes.specs.Format.{control_count_of, has_year};
-ghost use Rattle.irig_safety.specs.Controls.{first_function, function_element, is_shared, shares};
-ghost use Rattle.irig_safety.specs.Others.{function_of};
+ghost use Rattle.irig_safety.specs.Controls.{is_shared};
+ghost use Rattle.irig_safety.specs.Functions.{first_function, function_element, function_of, shares};
 
 use crate::shown::Shown;
 use crate::witnesses::Witnesses;
@@ -54,7 +54,7 @@ pub fn function_of(frame: &Shown, function: u32) -> u64
 }
 
 /// Whether `other` is there, and has a control function as `frame` has it.
-fn shares(other: Option<Shown>, frame: &Shown, function: u32) -> bool
+pub fn shares(other: Option<Shown>, frame: &Shown, function: u32) -> bool
     requires { function < 64 }
     ensures { result ≡ shares function other frame.now }
 {

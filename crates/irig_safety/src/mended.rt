@@ -5,20 +5,16 @@
 //! apart as their rises (`allows` is false). Frames bear out another one if they have its time
 //! there (`is_borne`).
 
-ghost use Rattle.std.specs.Prelude.{◌≡◌, ◌↔◌, ◌<◌, ◌⊎◌, IsTrue, ℕ, not, ◌&&◌};
-ghost use Rattle.irig_codes.specs.Format.{control_count_of};
-ghost use Rattle.irig_safety.specs.Mended.{AreFunctionsMended, HasControlOfBoth, HasControlOfMost};
-ghost use Rattle.irig_safety.specs.Mended.{Mends, contradicts_from, contradicts_to};
-ghost use Rattle.irig_safety.specs.Mended.{is_function_mended, is_mended, is_mended_at_end};
-ghost use Rattle.irig_safety.specs.Mended.{is_refuted, is_time_mended, with_control};
-ghost use Rattle.irig_safety.specs.Others.{is_among};
+ghost use Rattle.std.specs.Prelude.{◌≡◌, ◌↔◌, IsTrue};
+ghost use Rattle.irig_safety.specs.Mended.{Mends, contradicts_from, contradicts_to, is_mended};
+ghost use Rattle.irig_safety.specs.Mended.{is_mended_at_end, is_refuted, is_time_mended};
 
 use crate::bearing::allows;
-use crate::controls::{function_of, functions};
-use crate::others::{is_among, is_told};
-use crate::shown::{Shown, is_same};
+use crate::mended_functions::is_control_mended;
+use crate::others::is_among;
+use crate::shown::Shown;
 use crate::witnesses::{Witnesses, is_borne};
-use irig_codes::{Fields, Format};
+use irig_codes::Format;
 
 /// Whether the time of a frame is mended, or its control functions alone are, also by frames of
 /// other recordings.
@@ -49,22 +45,6 @@ fn is_time_mended(
         near.now.after near.now.after2 frame.now }
 {
     is_mended(format, near, former, frame) || is_mended_at_end(format, others, near, former, frame)
-}
-
-/// Whether the control functions of a frame alone are mended: both frames next to it have all of
-/// them, or both have each that changed, and so have most frames of its time in other recordings.
-fn is_control_mended(
-    format: Format,
-    others: &[Shown],
-    near: &Witnesses,
-    former: &Shown,
-    frame: &Shown,
-) -> bool
-    ensures { IsTrue result ↔ (HasControlOfBoth near.now.before former.now near.now.after frame.now
-        ⊎ HasControlOfMost format others.now near.now.before former.now near.now.after frame.now) }
-{
-    has_control_of_both(near, former, frame)
-        || has_control_of_most(format, others, near, former, frame)
 }
 
 /// Whether the time of a frame was wrong and is mended: the frames on both sides contradict what it
@@ -138,105 +118,5 @@ fn contradicts_to(format: Format, frame: &Shown, after: Option<Shown>) -> bool
     match after {
         Some(after) => !allows(format, frame, &after),
         None => false,
-    }
-}
-
-/// Whether a frame is the former one but for its control functions, and has those that both frames
-/// next to it have. It does not matter whether they differ from the former ones. False if one side
-/// has no frame.
-fn has_control_of_both(near: &Witnesses, former: &Shown, frame: &Shown) -> bool
-    ensures { IsTrue result
-        ↔ HasControlOfBoth near.now.before former.now near.now.after frame.now }
-{
-    match (near.before, near.after) {
-        (Some(before), Some(after)) => {
-            is_same(&with_control(former, frame.fields.control), frame)
-                && both_have(&before, &after, frame.fields.control)
-        }
-        _ => false,
-    }
-}
-
-/// Whether two frames both have just these control functions; with `None`, that neither has any.
-fn both_have(one: &Shown, other: &Shown, control: Option<u64>) -> bool
-    ensures { IsTrue result
-        ↔ (one.now.fields.control ≡ control) × (other.now.fields.control ≡ control) }
-{
-    one.fields.control == control && other.fields.control == control
-}
-
-/// Whether a frame is the former one but for some control functions. Each of these has to be now as
-/// both frames next to it have it, and as most frames of its time in other recordings do. False if
-/// one side has no frame.
-fn has_control_of_most(
-    format: Format,
-    others: &[Shown],
-    near: &Witnesses,
-    former: &Shown,
-    frame: &Shown,
-) -> bool
-    ensures { IsTrue result ↔ HasControlOfMost format others.now near.now.before former.now
-        near.now.after frame.now }
-{
-    match (near.before, near.after) {
-        (Some(before), Some(after)) => {
-            is_same(&with_control(former, frame.fields.control), frame)
-                && are_functions_mended(format, others, &before, former, &after, frame)
-        }
-        _ => false,
-    }
-}
-
-/// Whether each control function of a frame is as it was, or mended.
-fn are_functions_mended(
-    format: Format,
-    others: &[Shown],
-    before: &Shown,
-    former: &Shown,
-    after: &Shown,
-    frame: &Shown,
-) -> bool
-    ensures { IsTrue result
-        ↔ AreFunctionsMended format others.now before.now former.now after.now frame.now }
-{
-    for function in 0..functions(format) {
-        if !is_function_mended(others, before, former, after, frame, function) {
-            return false;
-        }
-    }
-    true
-}
-
-/// Whether a control function is as it was; or both frames next to it have it as it is now, and so
-/// have most frames of its time in other recordings (`is_told`).
-fn is_function_mended(
-    others: &[Shown],
-    before: &Shown,
-    former: &Shown,
-    after: &Shown,
-    frame: &Shown,
-    function: u32,
-) -> bool
-    requires { function < 64 }
-    ensures { result ≡ is_function_mended others.now before.now former.now after.now frame.now
-        function }
-{
-    let now = function_of(frame, function);
-    function_of(former, function) == now
-        || function_of(before, function) == now
-            && function_of(after, function) == now
-            && is_told(others, frame, function)
-}
-
-/// A frame with these control functions instead of its own.
-fn with_control(frame: &Shown, control: Option<u64>) -> Shown
-    ensures { result ≡ with_control control frame.now }
-{
-    Shown {
-        rise: frame.rise,
-        fields: Fields {
-            control,
-            ..frame.fields
-        },
     }
 }

@@ -1,5 +1,5 @@
 use Rattle.std.proofs.Common.{◌+◌, ◌<◌, ℕ, slice_get}
-use Rattle.irig_safety.specs.Controls.{IsFunctionBorne, function_element}
+use Rattle.irig_safety.specs.{Controls.IsFunctionBorne, Functions.function_element}
 use Rattle.irig_guarding.proofs.controls.is_borne.Given as goal
 
 abbrev pub invariant-loop-function : goal.invariant-loop-function

@@ -1,11 +1,12 @@
 use Rattle.std.proofs.Common.{◌≡◌, ◌∙◌, ℕ, arith, false, sym, true}
-use Rattle.irig_safety.specs.Mended.{is_function_mended}
+use Rattle.irig_safety.specs.MendedFunctions.{is_function_mended}
 use Rattle.irig_safety.proofs.ControlLemmas.{to_next}
-use Rattle.irig_safety.proofs.mended.are_functions_mended.Goals as goal
+use Rattle.irig_safety.proofs.mended_functions.are_functions_mended.Goals as goal
 
 pub loop-function-preserved : goal.loop-function-preserved
 loop-function-preserved c =
-    to_next (λ (k : ℕ). is_function_mended c.args.others.now c.args.before.now c.args.former.now c.args.after.now c.args.frame.now k ≡ true)
+    let near = c.args.near.now in
+    to_next (λ (k : ℕ). is_function_mended c.args.format c.args.others.now near.before c.args.former.now near.after c.args.frame.now k ≡ true)
     c.loop-function.function c.loop-function.invariant (sym c.is_function_mended.ensures ∙ c.if-not-is_function_mended.false)
 
 pub returns-then-not-is_function_mended : goal.returns-then-not-is_function_mended

@@ -1,0 +1,140 @@
+//! Whether the control functions of a frame that read well, which are others now, are mended by
+//! that. `former` is the frame as it was, `frame` as it is now, `near` the former frames next to it
+//! (`before` and `after` are the nearer ones), and `others` frames of other recordings of the same
+//! code. Control functions count from 0.
+
+ghost use Rattle.std.specs.Prelude.{◌≡◌, ◌↔◌, ◌<◌, ◌⊎◌, IsTrue};
+ghost use Rattle.irig_safety.specs.MendedFunctions.{AreFunctionsMended, HasControlOfBoth};
+ghost use Rattle.irig_safety.specs.MendedFunctions.{HasControlOfMost, is_by_parity};
+ghost use Rattle.irig_safety.specs.MendedFunctions.{is_function_mended, with_control};
+
+use crate::controls::{function_of, functions, shares};
+use crate::others::is_told;
+use crate::parity::is_parity_mended;
+use crate::shown::{Shown, is_same};
+use crate::witnesses::{Witnesses, allows_from, allows_to};
+use irig_codes::{Fields, Format};
+
+/// Whether the control functions of a frame alone are mended: both frames next to it have all of
+/// them, or each that changed is mended.
+pub fn is_control_mended(
+    format: Format,
+    others: &[Shown],
+    near: &Witnesses,
+    former: &Shown,
+    frame: &Shown,
+) -> bool
+    ensures { IsTrue result ↔ (HasControlOfBoth near.now.before former.now near.now.after frame.now
+        ⊎ HasControlOfMost format others.now near.now.before former.now near.now.after frame.now) }
+{
+    has_control_of_both(near, former, frame)
+        || has_control_of_most(format, others, near, former, frame)
+}
+
+/// Whether a frame is the former one but for its control functions, and has those that both frames
+/// next to it have. It does not matter whether they differ from the former ones. False if one side
+/// has no frame.
+fn has_control_of_both(near: &Witnesses, former: &Shown, frame: &Shown) -> bool
+    ensures { IsTrue result
+        ↔ HasControlOfBoth near.now.before former.now near.now.after frame.now }
+{
+    match (near.before, near.after) {
+        (Some(before), Some(after)) => {
+            is_same(&with_control(former, frame.fields.control), frame)
+                && both_have(&before, &after, frame.fields.control)
+        }
+        _ => false,
+    }
+}
+
+/// Whether two frames both have just these control functions; with `None`, that neither has any.
+fn both_have(one: &Shown, other: &Shown, control: Option<u64>) -> bool
+    ensures { IsTrue result
+        ↔ (one.now.fields.control ≡ control) × (other.now.fields.control ≡ control) }
+{
+    one.fields.control == control && other.fields.control == control
+}
+
+/// Whether a frame is the former one but for some control functions, and each of these is mended.
+fn has_control_of_most(
+    format: Format,
+    others: &[Shown],
+    near: &Witnesses,
+    former: &Shown,
+    frame: &Shown,
+) -> bool
+    ensures { IsTrue result ↔ HasControlOfMost format others.now near.now.before former.now
+        near.now.after frame.now }
+{
+    is_same(&with_control(former, frame.fields.control), frame)
+        && are_functions_mended(format, others, near, former, frame)
+}
+
+/// Whether each control function of a frame is as it was, or mended.
+fn are_functions_mended(
+    format: Format,
+    others: &[Shown],
+    near: &Witnesses,
+    former: &Shown,
+    frame: &Shown,
+) -> bool
+    ensures { IsTrue result ↔ AreFunctionsMended format others.now near.now.before former.now
+        near.now.after frame.now }
+{
+    for function in 0..functions(format) {
+        if !is_function_mended(format, others, near, former, frame, function) {
+            return false;
+        }
+    }
+    true
+}
+
+/// Whether a control function is as it was; or most frames of its time in other recordings have it
+/// as it is now (`is_told`), and so have both frames next to it, or the parity says so.
+fn is_function_mended(
+    format: Format,
+    others: &[Shown],
+    near: &Witnesses,
+    former: &Shown,
+    frame: &Shown,
+    function: u32,
+) -> bool
+    requires { function < 64 }
+    ensures { result ≡ is_function_mended format others.now near.now.before former.now
+        near.now.after frame.now function }
+{
+    function_of(former, function) == function_of(frame, function)
+        || is_told(others, frame, function)
+            && (shares(near.before, frame, function) && shares(near.after, frame, function)
+                || is_by_parity(format, others, near, former, frame))
+}
+
+/// Whether one control function changed alone, by that the frame has the parity that the others
+/// have, and no frame next to it contradicts its time.
+fn is_by_parity(
+    format: Format,
+    others: &[Shown],
+    near: &Witnesses,
+    former: &Shown,
+    frame: &Shown,
+) -> bool
+    ensures { result ≡ is_by_parity format others.now near.now.before former.now near.now.after
+        frame.now }
+{
+    allows_from(format, near.before, frame)
+        && allows_to(format, frame, near.after)
+        && is_parity_mended(format, others, former, frame)
+}
+
+/// A frame with these control functions instead of its own.
+fn with_control(frame: &Shown, control: Option<u64>) -> Shown
+    ensures { result ≡ with_control control frame.now }
+{
+    Shown {
+        rise: frame.rise,
+        fields: Fields {
+            control,
+            ..frame.fields
+        },
+    }
+}
