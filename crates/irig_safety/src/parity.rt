@@ -29,13 +29,13 @@ pub fn is_parity_mended(format: Format, others: &[Shown], former: &Shown, frame:
 fn changes(format: Format, one: &Shown, other: &Shown) -> u32
     ensures { result ≡ changes (control_count_of format) one.now other.now }
 {
-    let mut many = 0;
+    let mut changed = 0;
     for function in 0..functions(format) {
         if function_of(one, function) != function_of(other, function) {
-            many += 1;
+            changed += 1;
         }
     }
-    many
+    changed
 }
 
 /// Whether frames have a parity: at least eight have it, and five more for each that has not.
