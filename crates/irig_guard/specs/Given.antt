@@ -3,7 +3,7 @@ use Rattle.std.specs.Prelude.{◌≡◌, ◌⊎◌, ℕ, Bool, List, Option, IsT
 use Rattle.std.specs.Prelude.{option_map, true, unwrap_or}
 use Rattle.irig_disk.specs.Disk.{Disk}
 use Rattle.irig_files.specs.Apart.{AreApart, LeadToOneFile, Spares}
-use Rattle.irig_files.specs.{Tracks.Unreadable, Writes.GoesTo, Writes.Write}
+use Rattle.irig_files.specs.{Tracks.Unreadable, Writes.LeavesTo, Writes.Write}
 use Rattle.irig_guarding.specs.declared.product.Product.{Product}
 use Rattle.irig_guarding.specs.declared.product.Product.TheVariants as product
 use Rattle.irig_guard.specs.{Others.IsOther, declared.chosen.Settings.Settings}
@@ -31,13 +31,14 @@ pub record Files : Type 1 where
   pub spared : List ℕ → Type 0
 
 -- the files that hold these, from one state of a disk to another, if the contracts give them
-abbrev pub files : (List ℕ → Option (List ℕ)) → Unreadable → Bool → Disk → Disk → Files
-files held unread told old new = record {
+abbrev pub files : (List ℕ → Option (List ℕ)) → Unreadable → Bool → (ℕ → Type 0) → (ℕ → Type 0)
+    → Disk → Disk → Files
+files held unread told barred barred_new old new = record {
   held = held;
   unread = unread;
   paths = old.paths;
   same = λ one other. IsTrue told → LeadToOneFile old one other;
-  kept = GoesTo told old new;
+  kept = LeavesTo told barred barred_new old new;
   spared = Spares told old new;
 }
 

@@ -38,7 +38,8 @@ pub fn obey_words<'a, D: Disk, R: Read, W: Write>(
     out: &mut W,
 ) -> Ending<'a>
     ensures { EndsBy (map string_bytes words.entry.now)
-        (files (D.held disk.old) (D.unread disk.old) D.is_told (D.disk disk.old) (D.disk disk.new))
+        (files (D.held disk.old) (D.unread disk.old) D.is_told
+        (D.is_barred disk.old) (D.is_barred disk.new) (D.disk disk.old) (D.disk disk.new))
         (ends (W.contents out.old) (writes_on D.is_told (D.disk disk.old)) (R.remaining script.old))
         (ends (W.contents out.new) (writes_on D.is_told (D.disk disk.new)) (R.remaining script.new)) result }
 {
@@ -58,7 +59,7 @@ fn run_on_track<'a, D: Disk, R: Read, W: Write>(
     out: &mut W,
 ) -> Ending<'a>
     ensures obeyed { Obeys (files (D.held disk.old) (D.unread disk.old) D.is_told
-        (D.disk disk.old) (D.disk disk.new))
+        (D.is_barred disk.old) (D.is_barred disk.new) (D.disk disk.old) (D.disk disk.new))
         (ends (W.contents out.old) (writes_on D.is_told (D.disk disk.old)) (R.remaining script.old))
         (ends (W.contents out.new) (writes_on D.is_told (D.disk disk.new)) (R.remaining script.new))
         chosen.now result }
@@ -81,7 +82,7 @@ fn run_with_room<'a, D: Disk, R: Read, W: Write>(
     out: &mut W,
 ) -> Ending<'a>
     ensures obeyed { Obeys (files (D.held disk.old) (D.unread disk.old) D.is_told
-        (D.disk disk.old) (D.disk disk.new))
+        (D.is_barred disk.old) (D.is_barred disk.new) (D.disk disk.old) (D.disk disk.new))
         (ends (W.contents out.old) (writes_on D.is_told (D.disk disk.old)) (R.remaining script.old))
         (ends (W.contents out.new) (writes_on D.is_told (D.disk disk.new)) (R.remaining script.new))
         chosen.now result }
@@ -109,7 +110,7 @@ fn run_apart<'a, D: Disk, R: Read, W: Write>(
         → Gives parts_of read (parts_in chosen.now.window (name_in chosen.now.wire) source)
         → IfSome (D.held disk.old chosen.now.track.now) (λ all. source ≡ all)
         → Obeys (files (D.held disk.old) (D.unread disk.old) D.is_told
-        (D.disk disk.old) (D.disk disk.new))
+        (D.is_barred disk.old) (D.is_barred disk.new) (D.disk disk.old) (D.disk disk.new))
         (ends (W.contents out.old) (writes_on D.is_told (D.disk disk.old)) (R.remaining script.old))
         (ends (W.contents out.new) (writes_on D.is_told (D.disk disk.new)) (R.remaining script.new))
         chosen.now result }
@@ -140,7 +141,7 @@ fn run_beside<'a, D: Disk, R: Read, W: Write>(
         → Gives parts_of read (parts_in chosen.now.window (name_in chosen.now.wire) source)
         → IfSome (D.held disk.old chosen.now.track.now) (λ all. source ≡ all)
         → Obeys (files (D.held disk.old) (D.unread disk.old) D.is_told
-        (D.disk disk.old) (D.disk disk.new))
+        (D.is_barred disk.old) (D.is_barred disk.new) (D.disk disk.old) (D.disk disk.new))
         (ends (W.contents out.old) (writes_on D.is_told (D.disk disk.old)) (R.remaining script.old))
         (ends (W.contents out.new) (writes_on D.is_told (D.disk disk.new)) (R.remaining script.new))
         chosen.now result }
@@ -195,7 +196,7 @@ fn run_on_read<D: Disk, R: Read, W: Write>(
     ensures ran { (source : List ℕ)
         → Gives parts_of read (parts_in chosen.now.window (name_in chosen.now.wire) source)
         → RunsBy (files (D.held disk.old) (D.unread disk.old) D.is_told
-        (D.disk disk.old) (D.disk disk.new))
+        (D.is_barred disk.old) (D.is_barred disk.new) (D.disk disk.old) (D.disk disk.new))
         chosen.now source
         (ends (W.contents out.old) (writes_on D.is_told (D.disk disk.old)) (R.remaining script.old))
         (ends (W.contents out.new) (writes_on D.is_told (D.disk disk.new)) (R.remaining script.new)) result }

@@ -17,7 +17,7 @@ ghost use Rattle.std.specs.Prelude.{map, string_bytes};
 ghost use Rattle.std.specs.Process.{exit_status};
 ghost use Rattle.irig_guard.specs.Ending.{Serves};
 ghost use Rattle.irig_guard.specs.Given.{ends, files};
-ghost use Rattle.irig_files.specs.Puts.{writes_on};
+ghost use Rattle.irig_files.specs.{Puts.writes_on, Taken.IsLocked};
 
 use command_line::command;
 use file_run::obey_words;
@@ -74,6 +74,7 @@ fn start<P: Eprint + AllocGlobal, C: FileSystem, R: Read, W: Write, H: Write>(
     // to print.
     ensures { Serves (map string_bytes words.now)
         (files (C.held disk.old.system) (C.unread disk.old.system) C.is_told
+        (IsLocked (C.may_write disk.old.system)) (IsLocked (C.may_write disk.new.system))
         (C.disk disk.old.system) (C.disk disk.new.system))
         (ends (W.contents out.old) (writes_on C.is_told (C.disk disk.old.system))
         (R.remaining script.old))

@@ -5,7 +5,7 @@ use Rattle.irig_guard.specs.Given.{Ends, Files, IsRead}
 use Rattle.irig_guard.specs.declared.ending.Ending.TheVariants.{Usage, Unread, Over, OverOther, Unheard, Unknown, Ran}
 use Rattle.irig_guard.specs.{Settings.Reads, declared.chosen.Settings.Settings, declared.ending.Ending.Ending}
 use Rattle.std.proofs.Common.{refl}
-use Rattle.irig_files.specs.Going.{goes_nowhere}
+use Rattle.irig_files.specs.Going.{leaves_nowhere}
 use Rattle.irig_guard.proofs.file_run.obey_words.Goals as goal
 
 ends_by : (words : List Text) (given : Files) (old new : Ends) (chosen : Settings) (ending : Ending) → Reads words (Ok chosen)
@@ -22,4 +22,4 @@ pub returns-in-Ok : goal.returns-in-Ok
 returns-in-Ok g c = ends_by _ _ _ _ c.in-Ok.chosen c.run_on_track.result c.in-Ok.ensures c.run_on_track.ensures.obeyed c.run_on_track.ensures.spared
 
 pub returns-in-Err : goal.returns-in-Err
-returns-in-Err g c = (c.in-Err.ensures, (refl, (λ to told. goes_nowhere _ _ (g.met.D.Disk.only_now _))))
+returns-in-Err g c = (c.in-Err.ensures, (refl, (λ to. leaves_nowhere _ _ _ _ (g.met.D.Disk.only_now _))))

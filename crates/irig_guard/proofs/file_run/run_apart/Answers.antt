@@ -1,5 +1,5 @@
 use Rattle.std.proofs.Common.{refl, rules}
-use Rattle.irig_files.specs.Going.{goes_nowhere}
+use Rattle.irig_files.specs.Going.{leaves_nowhere}
 use Rattle.irig_files.proofs.Apart.{stays_here}
 use Rattle.irig_guard.proofs.file_run.run_apart.Goals as goal
 
@@ -8,13 +8,13 @@ returns-in-Ok-false-clause-obeyed g c = λ source is whole. c.run_beside.ensures
 
 pub returns-in-Ok-true-clause-obeyed : goal.returns-in-Ok-true-clause-obeyed
 returns-in-Ok-true-clause-obeyed g c = λ source is whole.
-    ((refl, (λ to told. goes_nowhere _ _ (g.met.D.Disk.only_now _))), search rules, search rules)
+    ((refl, (λ to. leaves_nowhere _ _ _ _ (g.met.D.Disk.only_now _))), search rules, search rules)
 
 pub returns-in-Ok-true-clause-spared : goal.returns-in-Ok-true-clause-spared
 returns-in-Ok-true-clause-spared g c = λ path read told. stays_here (g.D.Disk.disk c.args.disk.now) path (g.met.D.Disk.only_now c.args.disk.now)
 
 pub returns-in-Err-clause-obeyed : goal.returns-in-Err-clause-obeyed
-returns-in-Err-clause-obeyed g c = λ source is whole. (refl, (λ to told. goes_nowhere _ _ (g.met.D.Disk.only_now _)))
+returns-in-Err-clause-obeyed g c = λ source is whole. (refl, (λ to. leaves_nowhere _ _ _ _ (g.met.D.Disk.only_now _)))
 
 pub returns-in-Err-clause-spared : goal.returns-in-Err-clause-spared
 returns-in-Err-clause-spared g c = λ path read told. stays_here (g.D.Disk.disk c.args.disk.now) path (g.met.D.Disk.only_now c.args.disk.now)

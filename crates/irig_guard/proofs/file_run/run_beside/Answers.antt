@@ -1,17 +1,17 @@
 use Rattle.std.proofs.Common.{refl, rules}
 use Rattle.irig_files.proofs.Apart.{stays_here}
-use Rattle.irig_files.specs.Going.{goes_nowhere}
+use Rattle.irig_files.specs.Going.{leaves_nowhere}
 use Rattle.irig_guard.proofs.file_run.run_beside.Goals as goal
 
 pub returns-in-Ok-Some-clause-obeyed : goal.returns-in-Ok-Some-clause-obeyed
 returns-in-Ok-Some-clause-obeyed g c = λ source is whole.
-    ((refl, (λ to told. goes_nowhere _ _ (g.met.D.Disk.only_now _))), search rules, search rules, search rules)
+    ((refl, (λ to. leaves_nowhere _ _ _ _ (g.met.D.Disk.only_now _))), search rules, search rules, search rules)
 
 pub returns-in-Ok-Some-clause-spared : goal.returns-in-Ok-Some-clause-spared
 returns-in-Ok-Some-clause-spared g c = λ path read told. stays_here (g.D.Disk.disk c.args.disk.now) path (g.met.D.Disk.only_now c.args.disk.now)
 
 pub returns-in-Err-clause-obeyed : goal.returns-in-Err-clause-obeyed
-returns-in-Err-clause-obeyed g c = λ source is whole. (refl, (λ to told. goes_nowhere _ _ (g.met.D.Disk.only_now _)))
+returns-in-Err-clause-obeyed g c = λ source is whole. (refl, (λ to. leaves_nowhere _ _ _ _ (g.met.D.Disk.only_now _)))
 
 pub returns-in-Err-clause-spared : goal.returns-in-Err-clause-spared
 returns-in-Err-clause-spared g c = λ path read told. stays_here (g.D.Disk.disk c.args.disk.now) path (g.met.D.Disk.only_now c.args.disk.now)
@@ -24,7 +24,7 @@ returns-in-Ok-clause-obeyed g c = λ source is whole. (refl, (source, whole, c.r
 
 pub returns-in-Err-frames_of_others-clause-obeyed : goal.returns-in-Err-frames_of_others-clause-obeyed
 returns-in-Err-frames_of_others-clause-obeyed g c = λ source is whole.
-    ((refl, (λ to told. goes_nowhere _ _ (g.met.D.Disk.only_now _))), search rules, search rules)
+    ((refl, (λ to. leaves_nowhere _ _ _ _ (g.met.D.Disk.only_now _))), search rules, search rules)
 
 pub returns-in-Err-frames_of_others-clause-spared : goal.returns-in-Err-frames_of_others-clause-spared
 returns-in-Err-frames_of_others-clause-spared g c = λ path read told.

@@ -3,14 +3,15 @@ use Rattle.irig_vcd.specs.{Answer.bytes_of, Window.parts_in}
 use Rattle.irig_files.specs.Tracks.{name_in}
 use Rattle.irig_files.proofs.Apart.{stays_here}
 use Rattle.irig_files.proofs.PutsAt.{texts_where}
-use Rattle.irig_files.specs.{Going.goes_nowhere, Puts.texts_at, Puts.writes_on, Writes.GoesTo}
+use Rattle.std.specs.Prelude.{IsTrue}
+use Rattle.irig_files.specs.{Going.leaves_nowhere, Puts.texts_at, Puts.writes_on, Taken.StaysBarred, Writes.GoesTo}
 use Rattle.irig_guard.specs.Given.{AreSpared, files, place_of, product_of}
 use Rattle.irig_guard.proofs.{RunsBy.apart_from, RunsBy.fails_by, RunsBy.path_stays, RunsBy.runs_by, Windows.guards_in, Windows.runs_short}
 use Rattle.irig_guarding.specs.declared.product.Product.TheVariants as product
 use Rattle.irig_guard.proofs.file_run.run_on_read.Goals as goal
 
 pub returns-in-Err-clause-ran : goal.returns-in-Err-clause-ran
-returns-in-Err-clause-ran g c = λ source is. fails_by _ c.args.chosen.now source _ c.in-Err.fault (λ told. goes_nowhere _ _ (g.met.D.Disk.only_now _))
+returns-in-Err-clause-ran g c = λ source is. fails_by _ c.args.chosen.now source _ c.in-Err.fault (leaves_nowhere _ _ _ _ (g.met.D.Disk.only_now _))
     c.args.others.items c.requires.shown (rw c.in-Err.is at is)
 
 pub returns-in-Err-clause-spared : goal.returns-in-Err-clause-spared
@@ -27,10 +28,14 @@ returns-clause-ran g c = λ source is.
     let same_path = ap (λ (l : List ℕ). drop 1 l) c.guard_on_parts.ensures.label ∙ (c.new-shelf.ensures.path ∙ c.place_of.ensures) in
     let kept : GoesTo told (disk c.args.disk.now) (disk new.disk.now) (place_of chosen) =
     rw (c.new-shelf.ensures.disk, path) at c.guard_on_parts.ensures.since.1 in
+    let is_barred = g.D.Disk.is_barred in
+    let barred : IsTrue told → StaysBarred (is_barred c.args.disk.now) (is_barred new.disk.now) (disk c.args.disk.now) (disk new.disk.now)
+    (place_of chosen) = rw (c.new-shelf.ensures.disk, path) at c.guard_on_parts.ensures.since.0.1 in
     let recording = c.in-Ok.parts.0 in
     let journal = bytes_of c.in-Ok.parts.1 in
     let read : parts_in chosen.window (name_in chosen.wire) source ≡ Ok (recording, journal) = rw c.in-Ok.is at is in
-    let done = runs_by (files (g.D.Disk.held c.args.disk.now) (g.D.Disk.unread c.args.disk.now) told (disk c.args.disk.now) (disk new.disk.now))
+    let done = runs_by (files (g.D.Disk.held c.args.disk.now) (g.D.Disk.unread c.args.disk.now) told
+    (is_barred c.args.disk.now) (is_barred new.disk.now) (disk c.args.disk.now) (disk new.disk.now))
     chosen source (g.W.Write.contents c.args.out.now) (g.W.Write.contents c.guard_on_parts.new.out)
     (g.R.Read.remaining c.args.script.now) (g.R.Read.remaining c.guard_on_parts.new.script)
     (texts_at ((disk old.disk.now).paths old.path.now) (writes_on told (disk old.disk.now)))
@@ -40,7 +45,7 @@ returns-clause-ran g c = λ source is.
     c.guard_on_parts.result c.guard_on_parts.ensures.label
     (λ j. texts_at ((disk (c.new-shelf.ensures.disk j)).paths (path j)) (writes_on told (disk (c.new-shelf.ensures.disk j))))
     (texts_where told (disk c.args.disk.now) (disk new.disk.now) (place_of chosen) new.path.now same_path (λ is_told. (kept is_told).paths))
-    c.new-shelf.ensures.none_failed kept
+    c.new-shelf.ensures.none_failed (kept, barred)
     (λ memory. runs_short chosen.window (name_in chosen.wire) source _ _ read (rw c.heeded-journal.ensures.heeded at c.guard_on_parts.ensures.memory memory))
     c.args.others.items c.requires.shown
     (guards_in (name_in chosen.wire) chosen.format _ source (product_of chosen) _ _ _ _ chosen.window recording journal

@@ -1,5 +1,5 @@
 use Rattle.std.proofs.Common.{refl, inr}
-use Rattle.irig_files.specs.Going.{goes_nowhere}
+use Rattle.irig_files.specs.Going.{leaves_nowhere}
 use Rattle.irig_files.proofs.Apart.{stays_here}
 use Rattle.irig_guard.proofs.file_run.run_with_room.Goals as goal
 
@@ -9,7 +9,7 @@ returns-in-Ok-clause-obeyed g c =
     c.run_apart.ensures.obeyed read.source read.parts read.whole
 
 pub returns-in-Err-clause-obeyed : goal.returns-in-Err-clause-obeyed
-returns-in-Err-clause-obeyed g c = (refl, (refl, (λ to told. goes_nowhere _ _ (g.met.D.Disk.only_now _))), inr c.in-Err.ensures.unread)
+returns-in-Err-clause-obeyed g c = (refl, (refl, (λ to. leaves_nowhere _ _ _ _ (g.met.D.Disk.only_now _))), inr c.in-Err.ensures.unread)
 
 pub returns-in-Err-clause-spared : goal.returns-in-Err-clause-spared
 returns-in-Err-clause-spared g c = λ path read told. stays_here (g.D.Disk.disk c.args.disk.now) path (g.met.D.Disk.only_now c.args.disk.now)
