@@ -3,7 +3,9 @@
 //! An element is a position identifier, a One or a Zero. `Ones` says which elements of a frame are
 //! One; that is all that a frame carries. `digits` has the fifteen numbers that a frame carries in
 //! binary, one for each `Digit`: decimal digits, the straight binary seconds (the second of the day
-//! as one number) and the control functions.
+//! as one number) and the control functions (bits for any use). A note says the first thing that is
+//! wrong with a frame, or that it is fine. `read_digits` reads the numbers, and `fields_from` makes
+//! the fields of them.
 
 ghost use Rattle.std.specs.Prelude.{◌≡◌, List, length, ◌||◌, ◌==◌, nat_lt};
 ghost use Rattle.irig_codes.specs.declared.layout.Digit.TheVariants.{DaysUnits, DaysTens};
@@ -61,7 +63,8 @@ fn note(wrong: Option<Name>, disagrees: bool, stray: Option<u8>) -> Note
     }
 }
 
-/// Whether the decimal digit `number` is above 9: it has up to four bits, so up to 15.
+/// Whether the decimal digit with the name `number` is above 9: it has up to four bits, so up to
+/// 15.
 fn is_over(digits: &[u64; 15], number: Digit) -> bool
     ensures { result ≡ over digits.now number }
 {

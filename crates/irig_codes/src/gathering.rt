@@ -1,4 +1,4 @@
-//! The elements of a frame that are One, gathered one by one.
+//! The elements of a frame that are One, gathered one by one. `Ones` are those of a whole frame.
 
 ghost use Rattle.std.specs.Prelude.{◌≡◌, ◌<◌, ◌++◌, ◌∷◌, [], List, length};
 ghost use Rattle.irig_codes.specs.declared.width.Element.{Element};

@@ -3,7 +3,9 @@
 //!
 //! `ones.bits(from, count)` is the number of `count` elements from element `from` on, the first as
 //! the lowest bit. Elements 9, 19, 29 and so on are position identifiers, so a longer number is
-//! read in runs of nine. What a format does not have is 0.
+//! read in runs of nine. Straight binary seconds are the second of the day as one number, and
+//! control functions are bits for any use, in the control elements. What a format does not have is
+//! 0.
 
 ghost use Rattle.std.specs.Prelude.{◌≡◌, ◌<◌, ◌+◌, ◌*◌, ◌^◌, [], ◌∷◌, false};
 ghost use Rattle.irig_codes.specs.OnesDigits.{control_number, digit_in, sbs_in, control_in};
@@ -44,8 +46,8 @@ fn seconds_units(kind: Kind, ones: Ones) -> u64
     }
 }
 
-/// The units of the year, if the format has one (`year`). In G the hundredths are where the other
-/// kinds have the year, so the year is ten elements later.
+/// The units of the year, elements 50 to 53, if the format has one (`year`). In G these carry
+/// hundredths, so the year is ten elements later.
 fn year_units(kind: Kind, year: bool, ones: Ones) -> u64
     ensures { result ≡ digit_in ones 1 (runs kind year Year) }
 {
@@ -56,8 +58,8 @@ fn year_units(kind: Kind, year: bool, ones: Ones) -> u64
     }
 }
 
-/// The tens of the year, if the format has one (`year`). In G they are ten elements later, as the
-/// units are.
+/// The tens of the year, elements 55 to 58, if the format has one (`year`). In G they are ten
+/// elements later, as the units are.
 fn year_tens(kind: Kind, year: bool, ones: Ones) -> u64
     ensures { result ≡ digit_in ones 10 (runs kind year Year) }
 {
@@ -68,8 +70,8 @@ fn year_tens(kind: Kind, year: bool, ones: Ones) -> u64
     }
 }
 
-/// The straight binary seconds of the day, if they are `there`: 17 bits, in two runs. The first run
-/// has nine bits, so the second counts 2^9 = 512.
+/// The straight binary seconds, if they are `there`: 17 bits, in the elements 80 to 88 and 90 to
+/// 97. The first run has nine bits, so the second counts 2^9 = 512.
 fn sbs(there: bool, ones: Ones) -> u64
     ensures { result ≡ sbs_in there ones }
 {

@@ -1,4 +1,5 @@
-//! The elements of a format that carry a bit of a field, as masks: by kind and coded expression.
+//! The elements of a format that carry a bit of a field, as masks: by kind and coded expression, 0
+//! to 7, which says what a frame carries with the time of year.
 
 ghost use Rattle.std.specs.Prelude.{◌≡◌};
 ghost use Rattle.irig_codes.specs.{Slots.slots_at, Used.masks_of, Used.used_of};

@@ -17,7 +17,8 @@ pub enum Element {
     Position,
 }
 
-/// What a pulse of this width in microseconds means; `None` if the width is bad.
+/// What a pulse of this width in microseconds means; `None` if the width is bad, far from that of
+/// each element.
 ///
 /// The standard gives only nominal widths: 0.2, 0.5 and 0.8 of the interval. The bands meet halfway
 /// between them, which is this project's own choice.

@@ -1,5 +1,7 @@
 //! The patch between two recordings with comments, as a text in parts. A stretch is where the two
-//! differ. The place of a frame is when its marker rises, in microseconds.
+//! differ. The place of a frame is when its marker rises, in microseconds. If the lengths of the
+//! two differ, a note before all lines has both: it is a comment, too. A block is where parts are
+//! collected until it has enough bytes.
 
 ghost use Rattle.std.specs.Prelude.{◌≡◌, ◌↔◌, ◌≤◌, ◌<◌, ◌++◌, [], true, false, IfOk, OnOk};
 ghost use Rattle.std.specs.Prelude.{vec_len};
@@ -20,7 +22,7 @@ use std::marker::Model;
 /// place of its frame, or after all of these if none does. The last line has the numbers of frames.
 #[derive(Drop)]
 pub struct CommentedPatch<'a> {
-    // Whether the note with the two lengths was written.
+    // Whether the note with the two lengths was written, if there is one.
     is_told: bool,
     // The lengths of the two recordings, in microseconds.
     before: u64,

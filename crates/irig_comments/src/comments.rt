@@ -11,7 +11,8 @@ use irig_print::put_verdict_text;
 use std::alloc::AllocError;
 
 /// Writes the comment on the frames at one place: a number sign, the frame before, `, then ` and
-/// the frame after.
+/// the frame after, as in `# frame 2 at 2000000: broken 19 class, then none`. It fails only if
+/// memory runs out.
 pub(crate) fn put_comment(block: &mut Vec<u8>, sides: &Sides) -> Result<(), AllocError>
     ensures { OnOk result (block.new.items ≡ block.old.items ++ comment_text sides.now) }
 {

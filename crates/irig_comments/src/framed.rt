@@ -1,4 +1,5 @@
-//! A recording and its frames.
+//! A recording and its frames. Of each frame the index has a record: its marker, which is the pulse
+//! with which it begins, and what is reported of it.
 
 ghost use Rattle.std.specs.Prelude.{◌≡◌, ◌<◌, ◌^◌, IfOk, IfSome, length, slice_get};
 ghost use Rattle.irig_comments.specs.Counts.{fine_frames, is_fine};

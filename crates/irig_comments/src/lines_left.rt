@@ -1,4 +1,7 @@
-//! The lines of a patch with comments that are still to come.
+//! The lines of a patch with comments that are still to come. A patch is a script that makes one
+//! recording of another. A stretch is a time in which their levels differ, from `rise` to `fall` in
+//! microseconds: a line inverts the level there. A change is a frame that differs, by its place,
+//! which is when its marker rises. The last line has the numbers of frames.
 
 ghost use Rattle.std.specs.Prelude.{◌≡◌, ◌<◌, ◌++◌, [], true, false, IfOk, OnOk};
 ghost use Rattle.std.specs.Prelude.{vec_len};

@@ -1,5 +1,6 @@
 //! The frames of two recordings at one place. A place is when the marker of a frame rises, in
-//! microseconds.
+//! microseconds. What is reported of a frame, its verdict, is at which element it is broken and
+//! why, or its fields and what is noted of them.
 
 ghost use Rattle.std.specs.Prelude.{◌≡◌, ◌↔◌, ◌==◌, IsTrue};
 ghost use Rattle.irig_comments.specs.Same.{cause_number, name_number, same_fields, same_note};

@@ -1,7 +1,9 @@
-//! The tracks of two dumps are compared, as the words of a command line ask. The patch is printed
-//! by a block, in which its parts wait: it is made before the tracks are read. The ending says
-//! whether the two tracks are the same. If memory runs out, that is reported as a fault of a file,
-//! `File`; `Dump` is a fault of the dump in it.
+//! The tracks of two dumps are compared, as the words of a command line ask. The patch is a script
+//! that makes the track after of the track before: it has no byte if they are the same. It is
+//! printed by a block, in which its parts wait, and which is made before the tracks are read. The
+//! ending says whether the two tracks are the same. A window is the part of both that is read. If
+//! memory runs out, that is reported as a fault of a file, `File`; `Dump` is a fault of the dump in
+//! it.
 
 ghost use Rattle.std.specs.Prelude.{◌≡◌, map, option_map, string_bytes};
 ghost use Rattle.irig_comments.specs.{Framed.framed, Parts.commented_text};
@@ -38,8 +40,8 @@ pub fn compare_words<'a, D: Disk, W: Write>(
     }
 }
 
-/// Prints the patch between the tracks of the settings. The memory for it is taken before they are
-/// read. If there is none, the track before is reported as not read.
+/// Prints the patch between the tracks of the settings. The memory for its block is taken before
+/// they are read. If there is none, the track before is reported as not read.
 fn compare_files<'a, D: Disk, W: Write>(
     alloc: Global,
     chosen: &Settings<'a>,
@@ -55,8 +57,8 @@ fn compare_files<'a, D: Disk, W: Write>(
     compare_with_block(alloc, chosen, disk, out, &mut block)
 }
 
-/// Compares two files as the words ask: each is read in the same window. The track before is read
-/// first, and its fault is reported alone.
+/// Prints the patch between the tracks of the settings, by this block: both are read in the same
+/// window. The track before is read first, and its fault is reported alone.
 fn compare_with_block<'a, D: Disk, W: Write>(
     alloc: Global,
     chosen: &Settings<'a>,

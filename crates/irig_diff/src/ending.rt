@@ -1,4 +1,4 @@
-//! How the program ends.
+//! How the program ends. A patch is the script that makes the track after of the track before.
 
 use crate::chosen::OptionFault;
 use irig_files::TrackFault;

@@ -1,4 +1,5 @@
-//! What differs between two recorded time tracks, as a script that makes the one of the other.
+//! What differs between two recorded time tracks, as a script that makes the one of the other: the
+//! patch.
 #![tactic(auto)]
 
 mod asked;

@@ -1,4 +1,5 @@
-//! What the values of a command line mean.
+//! What the values of a command line mean. The window is the part of both dumps that is read,
+//! between the times of `--from` and `--to`.
 
 ghost use Rattle.std.specs.Prelude.{◌≡◌, IfErr, IfOk};
 ghost use Rattle.irig_diff.specs.Chosen.{AreFrames, HasFault, IsChosen, names_format};

@@ -1,4 +1,5 @@
-//! A text in parts is printed.
+//! A text in parts is printed, block by block: a block is memory for at least 64 KiB, in which
+//! parts wait.
 
 ghost use Rattle.std.specs.Prelude.{◌≡◌, ◌≤◌, ◌↔◌, ◌+◌, ◌++◌, ℕ, List, [], false, true, length};
 ghost use Rattle.std.specs.Prelude.{IfOk, OnOk, OnErr};

@@ -1,4 +1,5 @@
-//! The stretches in which two recordings differ.
+//! The stretches in which two recordings differ: the times in which one is high and the other low,
+//! in microseconds. An edge is where a recording rises or falls.
 
 ghost use Rattle.std.specs.Prelude.{◌≡◌, ◌≤◌, ◌+◌, ◌↔◌, [], ◌∷◌, ℕ, List, MatchOption, length, max};
 ghost use Rattle.irig_recording.specs.Recording.{RisesFrom, UpTo, level_by_edges};

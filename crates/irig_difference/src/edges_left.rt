@@ -1,4 +1,6 @@
-//! The edges of pulses, one after the other.
+//! The edges of pulses, one after the other: an edge is where one rises or falls. A pulse rises
+//! before it falls, so the edges are the rise and the fall of the first, then those of the second,
+//! and so on.
 
 ghost use Rattle.std.specs.Prelude.{◌≡◌, ◌+◌, ◌^◌, ◌<◌, ◌≤◌, length, slice_get, drop, take, true};
 ghost use Rattle.irig_track.specs.Edges.{edges_of};

@@ -1,4 +1,5 @@
-//! The patch between two recordings, as a text in parts.
+//! The patch between two recordings, as a text in parts. A stretch is a time in which one of the
+//! two is high and the other low. A block is where parts are collected until it has enough bytes.
 
 ghost use Rattle.std.specs.Prelude.{◌≡◌, ◌↔◌, ◌≤◌, ◌++◌, ◌∷◌, [], true, false, IfOk, OnOk, decimal};
 ghost use Rattle.std.specs.Prelude.{drop, length, vec_len};
@@ -67,7 +68,7 @@ impl Text for PatchText<'_> {
 }
 
 /// Writes the comment with two lengths in microseconds, `before` and `after`, unless they are the
-/// same.
+/// same: `# length 1000 3000`.
 pub fn put_note(block: &mut Vec<u8>, before: u64, after: u64) -> Result<(), AllocError>
     ensures { OnOk result (block.new.items ≡ block.old.items ++ length_note before after) }
 {

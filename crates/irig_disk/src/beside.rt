@@ -1,9 +1,9 @@
 //! A new file next to its target, under a name that is free.
 //!
 //! The target is the name that the text is to have. A stem is what the name of a new file begins
-//! with; a number is after it, from 0. `dir` is the open folder in which all these names are. A
-//! hidden file is its owner's alone. An error is `NamesTaken`, the fault of a call (`Failed`), or
-//! that memory ran out (`Memory`).
+//! with; a number is after it, from 0. `dir` is the open folder in which all these names are, and
+//! `name` the memory for the name that is tried. A hidden file is its owner's alone. An error
+//! (`PutFault`) is `NamesTaken`, the fault of a call (`Failed`), or that memory ran out (`Memory`).
 //!
 //! Where `match` hands an error on, `?` would do the same; the proof of it takes longer.
 

@@ -27,15 +27,16 @@ pub enum PutFault<X> {
 impl<X> From<AllocError> for PutFault<X> {
     ghost from_gives = { λ _ e. e ≡ Memory };
 
-    // Memory ran out before a call was made.
+    // Memory ran out: no call failed, and nothing has changed.
     fn from(_: AllocError) -> Self {
         PutFault::Memory
     }
 }
 
 /// What a write leaves after a fault, when it has tried to remove its new file. `fault` is that of
-/// the call that failed, or `None` if memory ran out; `removal` is what the removal gave. A removal
-/// that failed is an error of its own: the new file is still there.
+/// the call that failed, or `None` if none did: memory ran out, or the text was too long, which
+/// counts as the same. `removal` is what the removal gave. A removal that failed is an error of its
+/// own: the new file is still there.
 pub(crate) fn fault_after<T: Drop, X>(fault: Option<X>, removal: Result<T, X>) -> PutFault<X>
     ensures { result ≡ left_by fault removal }
 {

@@ -1,7 +1,8 @@
 //! Single system calls on the names of open folders.
 //!
 //! A ghost item is for contracts alone: it is nothing in the program. To keep something is to have
-//! it survive a crash.
+//! it survive a crash. The mode of a file says who may read and write it. `Err` is the fault of the
+//! call.
 
 ghost use Rattle.std.specs.Prelude.{◌≡◌, ◌≤◌, ◌⊎◌, ℕ, List, Option, OnOk, OnErr, MatchResult, Bool};
 ghost use Rattle.std.specs.Prelude.{IsTrue, MatchOption};
@@ -60,8 +61,8 @@ pub trait Folder {
     /// The number of an open file.
     ghost number: { Self.File → ℕ };
 
-    /// Makes a new file under a name if it is free; a hidden one can be read and written by its
-    /// owner alone. `None`: the name is taken.
+    /// Makes a new file under a name if it is free, and opens it; a hidden one can be read and
+    /// written by its owner alone. `None`: the name is taken.
     fn make(
         &mut self,
         dir: &Self::Dir,
@@ -76,7 +77,7 @@ pub trait Folder {
             (λ _. Stays (disk self.old) (disk self.new)) }
         ensures time { IsTrue is_told → Elapses (disk self.old) (disk self.new) };
 
-    /// Writes to the end of the file. A call that fails may have written a part.
+    /// Writes bytes to the end of the file. A call that fails may have written a part of them.
     fn append(&mut self, file: &mut Self::File, bytes: &[u8]) -> Result<Self::Appended, Self::Fault>
         ensures ok { IsTrue is_told → OnOk result
             (Wrote (disk self.old) (disk self.new) (number file.old) bytes.now) }

@@ -3,7 +3,9 @@
 //!
 //! The target is the name that the text is to have. A stem is what the name of a new file begins
 //! with; a number is after it. A hidden file is its owner's alone. The new file is `beside` the
-//! target until it takes that name. To sync is to ask the system to keep something over a crash.
+//! target, under a name of its own in the same folder, until it takes the target's name. To sync is
+//! to ask the system to keep something over a crash. `folder` makes the calls, and `F::Fault` is
+//! the error of one; a `PutFault` says what a write that failed leaves.
 //!
 //! Where `match` hands an error on, `?` would do the same; the proof of it takes longer.
 
@@ -45,7 +47,8 @@ pub struct NewText<'n, F: Folder> {
 impl<'n, F: Folder> NewText<'n, F> {
     /// Makes the new file, under the first name that is free: the stem and a number from 0. The
     /// name is written to `name`. If the file is to take a mode, it is hidden until then, since
-    /// that mode may keep others out. The errors are those of `make_beside`: no file is made then.
+    /// that mode may keep others out. After an error no file is made: all names are taken, a call
+    /// failed, or memory ran out.
     pub fn begin(
         folder: &mut F,
         dir: &'n F::Dir,
@@ -109,7 +112,8 @@ impl<'n, F: Folder> NewText<'n, F> {
     }
 
     /// Gives the text its mode and its name, and keeps both over a crash. If it fails before the
-    /// text has the name, the new file is removed; after that the error is `NotKept`.
+    /// text has the name, the new file is removed, if that can be done; after that the error is
+    /// `NotKept`.
     pub fn finish(self, folder: &mut F) -> Result<Kept, PutFault<F::Fault>>
         requires { IsName self.target.now }
         ensures ok { IsTrue F.is_told → WhileWriting F.disk folder.old (F.place self.entry.dir.now self.entry.beside.now)

@@ -3,7 +3,8 @@
 //! A new file (`NewText`) gets the text; then it takes the target's name, that of the file to be
 //! replaced. A block is memory in which parts of the text wait to be written together. `None`
 //! instead of the fault of a call says that memory ran out, or that the text has more than 2^64 - 1
-//! bytes. `PutFault` says what a write that did not succeed leaves.
+//! bytes. `PutFault` says what a write that did not succeed leaves, and `Kept` that the text was
+//! written and each crash from then on leaves it.
 //!
 //! Where `match` hands an error on, `?` would do the same; the proof of it takes longer.
 
@@ -85,7 +86,7 @@ fn put_begun<F: Folder, T: Text>(
 }
 
 /// Ends a write: gives the new file the target's name if the text was written to it, else removes
-/// the file. A fault of `None` in `written` is that of no call.
+/// the file. `written` says how the write went; a fault of `None` in it is that of no call.
 fn finish_or_give_up<F: Folder>(
     folder: &mut F,
     new: NewText<'_, F>,

@@ -189,7 +189,7 @@ impl<R: Files> Folder for SystemFolder<'_, R> {
     }
 
     // Gives the file of the name `from` in a folder the name `to`, instead of the file that had it,
-    // in one step.
+    // in one step. It fails if no file has the name `from`.
     fn rename(
         &mut self,
         dir: &SystemDir<R::File>,
@@ -204,7 +204,7 @@ impl<R: Files> Folder for SystemFolder<'_, R> {
         }
     }
 
-    // Frees a name in a folder: no file has it then.
+    // Frees a name in a folder: no file has it then. It fails if none had it.
     fn remove(&mut self, dir: &SystemDir<R::File>, name: &str) -> Result<NameRemoved, SystemFault> {
         put_path(&mut self.one, dir.path.as_str(), name)?;
         match fs::remove_file(self.runtime, self.one.as_str()) {

@@ -35,7 +35,8 @@ impl<T: Text> Text for Failing<T> {
     }
 }
 
-/// Writes these bytes at the name `t`, as a text whose part `fails_at`, from 0, finds no memory.
+/// Writes these bytes at the name `t`, as a text whose part `fails_at`, from 0, finds no memory;
+/// with `None` each finds some.
 fn write(
     alloc: Global,
     folder: &mut Memory,
@@ -153,7 +154,8 @@ static STOPS: [(usize, bool); 8] = [
 /// fail.
 type Fault = (u64, u64, Option<u64>, &'static str, bool, bool);
 
-/// Writes with what fails, and what each leaves.
+/// Writes with what fails, and what each leaves. No row has `NamesTaken`: no name of a new file is
+/// in use.
 static FAULTS: [Fault; 15] = [
     // One call fails, and the removal of the new file succeeds; if make fails, there is none.
     (0, 1, None, "Failed", false, false),
@@ -177,7 +179,8 @@ static FAULTS: [Fault; 15] = [
     (7, 8, None, "Kept", true, false),
 ];
 
-/// The name of an answer, as the rows of `FAULTS` have it.
+/// The name of an answer, as the rows of `FAULTS` have it: `Kept` if the text was written, else the
+/// fault.
 fn name_of(answer: &Result<Kept, PutFault<MemoryFault>>) -> &'static str {
     match answer {
         Ok(_) => "Kept",

@@ -13,7 +13,7 @@ use std::alloc::Global;
 /// test meets that of the program.
 const LIMIT: u64 = 64;
 
-/// The mode of each regular file.
+/// The mode of each regular file that may be written.
 pub const MODE: u32 = 0o640;
 
 /// The paths of folders, and what their places begin with.
@@ -103,7 +103,7 @@ pub fn write(alloc: Global, files: &mut Files<Tree>, path: &str) -> Result<Writt
     files.put(path, &mut Bytes::new(b"new"), &mut room)
 }
 
-/// The files of a tree of folders, with a place for the folder that a write opens.
+/// The files of a tree of folders. They need a place in memory for the folder that a write opens.
 pub fn files_of(alloc: Global, tree: Tree) -> Files<Tree> {
     Files::new(
         tree,

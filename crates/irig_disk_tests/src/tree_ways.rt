@@ -1,9 +1,10 @@
 //! Tests of irig_files: what is not written, what is written in place, and how many links are
 //! followed.
 //!
-//! Each write is of the text `new` to a path in the folders of `tree_folders`. `blind` is the call
-//! that fails, of those that change nothing. The log of a tree has the calls that changed
-//! something.
+//! Each write is of the text `new` to a path in the folders of `tree_folders`: `chain`, `loop`,
+//! `piped` and `a/answered` are links there, `pipe` is a pipe, and `answers` the standard output.
+//! `blind` is the call that fails, of those that change nothing. The log of a tree has the calls
+//! that changed something.
 
 use crate::tree_folders::{files_of, folders, row_of, write};
 use crate::tree_stops::is_written;

@@ -1,4 +1,4 @@
-//! How the program ends.
+//! How the program ends. A window is the part of a dump that is read, if not all is.
 
 use irig_files::DumpFileFault;
 use irig_script::{DumpRunFault, Status};
@@ -12,13 +12,15 @@ pub enum Ending<'a> {
     Usage(UsageFault<OptionFault>),
     /// The file at this path is no dump that can be read.
     Unread(&'a str, DumpFileFault),
-    /// What is written of a window would be written to the dump.
+    /// A window is asked for, and the path to write leads to the dump: a part would replace the
+    /// whole.
     Over,
-    /// It cannot be found out whether it would.
+    /// A window is asked for, and it cannot be found out whether the path to write leads to the
+    /// dump.
     Unknown,
     /// A window is asked for of the dump at this path, which holds a saved session.
     Saved(&'a str),
-    /// The script ran on the dump at this path, and so the run ended; also if the dump is no
-    /// recording, which is the fault `Dump` then.
+    /// The script ran on the dump at this path, and so the run ended. Also if the dump is no
+    /// recording: then the fault is `Dump`.
     Ran(&'a str, Result<Status, DumpRunFault>),
 }

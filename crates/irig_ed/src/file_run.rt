@@ -1,7 +1,8 @@
-//! A script run on the file of a dump, as the words of a command line ask. The room is the memory
-//! that writes use: it is taken before the dump is read, so none runs out of it. A read has two
-//! faults: the outer one is of the file, the inner one, `VcdFault`, of the dump in it. `Parts` are
-//! the recording of a wire and the text of the journal, if there is one.
+//! A script run on the file of a dump, as the words of a command line ask. A window is the part of
+//! the dump that is read, if not all is. The room is the memory that writes use: it is taken before
+//! the dump is read, so no write runs out of memory. A read has two faults: the outer one is of the
+//! file, the inner one, `VcdFault`, of the dump in it. `Parts` are the recording of a wire and the
+//! text of the journal, if there is one. A dump with a journal is a saved session.
 
 ghost use Rattle.std.specs.Prelude.{◌≡◌, ◌&&◌, ◌≤◌, ◌^◌, ℕ, List, IfErr, IfOk, IfSome, IsTrue, Ok};
 ghost use Rattle.std.specs.Prelude.{false, is_some, length, map, string_bytes, true};

@@ -16,8 +16,8 @@ use irig_script::{NoWitness, Screen};
 use std::alloc::Global;
 use std::process::ExitCode;
 
-/// Edits the track that the words name, in folders in memory. It is `start`; its contract says what
-/// that promises of these folders.
+/// Edits the track that the words name, in folders in memory, and returns the exit status. It calls
+/// `start` alone; its contract says what that promises of these folders.
 fn start_in_memory<P: Eprint + AllocGlobal>(
     rt: &P,
     words: &[String],

@@ -50,7 +50,8 @@ fn arguments<R: Runtime + AllocGlobal>(rt: &R) -> io::Result<Vec<String>> {
 }
 
 /// Edits the track that the words name, if there are words; else says why there are none. The
-/// answer is the exit status, with which `main` ends.
+/// answer is the exit status, with which `main` ends. The screen is the output for answers, `help`
+/// that for the help.
 fn serve<P: Eprint + AllocGlobal, C: FileSystem, R: Read, W: Write, N: Witness, H: Write>(
     rt: &P,
     words: io::Result<Vec<String>>,
@@ -77,8 +78,9 @@ fn serve<P: Eprint + AllocGlobal, C: FileSystem, R: Read, W: Write, N: Witness, 
     }
 }
 
-/// Edits the track that the words name, by the files of this system, this script and this screen,
-/// and reports how that ended: the answer is the exit status.
+/// Edits the track that the words name, by the files of this system (`disk`), this script and this
+/// screen, which is the output for answers, and reports how that ended: the answer is the exit
+/// status. `help` is the output for the help.
 fn start<P: Eprint + AllocGlobal, C: FileSystem, R: Read, W: Write, N: Witness, H: Write>(
     rt: &P,
     words: &[String],

@@ -1,6 +1,8 @@
 //! The statuses of the program as a process, and what it says of faults. 0 is that no line was
 //! refused, 1 that some line was, 2 a mistake in the command line, 3 a dump that cannot be used,
-//! and 4 that the run was broken off, or that the system does not say where a path leads.
+//! and 4 that the run was broken off, or that the system does not say where a path leads. `tell`
+//! and `tell_of` print a fault on the standard error, the latter with a path, and return the status
+//! that they get. `explain` prints the help with status 0, or with 2 what is wrong with the words.
 
 ghost use Rattle.std.specs.Prelude.{◌≡◌};
 ghost use Rattle.std.specs.Process.{exit_status};
@@ -28,7 +30,8 @@ pub fn report<R: Eprint, H: Write>(rt: &R, ending: &Ending<'_>, help: &mut H) ->
     }
 }
 
-/// What the program says of a track that it did not read, after the path.
+/// What the program says of a track that it did not read, after the path. Out of memory has the
+/// number that it has as a fault of a dump.
 fn unread_text<'a>(fault: DumpFileFault) -> &'a str
     ensures { result.now ≡ unread_text fault }
 {

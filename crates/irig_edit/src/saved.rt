@@ -1,5 +1,6 @@
 //! The text of a session with its journal: the history that can be undone and redone, as lines in a
-//! comment of the dump.
+//! comment of the dump. A step is what one undo reverses; a group is several edits that become one
+//! step when it is closed.
 
 ghost use Rattle.std.specs.Prelude.{◌≡◌, IfOk};
 ghost use Rattle.irig_edit.specs.{Saved.SavedSession.saved_text, Session.Session.work_in};

@@ -1,8 +1,9 @@
 //! What the program asks of files. Reading has two faults: `DumpFileFault` is of the file, which is
 //! not there, cannot be read or is too long, or memory runs out; `VcdFault` inside is of the dump
 //! in it. `Parts` are the recording of a wire and the text of the journal that the dump carries, if
-//! it has one. An `Extent` says how much of a dump is kept. What a path leads to is at the end of
-//! its links. A ghost item is for contracts alone: it is nothing in the program.
+//! it has one, and `LongParts` the same of up to 2^26 pulses. An `Extent` says how much of a dump
+//! is kept. What a path leads to is at the end of its links. A ghost item is for contracts alone:
+//! it is nothing in the program.
 
 ghost use Rattle.std.specs.Prelude.{◌≡◌, ◌<◌, ◌≤◌, ◌^◌, Bool, ℕ, List, Option, Some, IfErr, IfOk};
 ghost use Rattle.std.specs.Prelude.{IfSome, IsErr, IsErrOf, IsTrue, false, length, true};

@@ -44,7 +44,7 @@ pub enum DumpFileFault {
 impl From<io::Error> for DumpFileFault {
     ghost from_gives = { λ _ e. e ≢ TooLong };
 
-    // The error of a call of the system, as a fault of the file.
+    // The error of a call as a fault: `OutOfMemory` if memory ran out, else `CannotBeRead`.
     fn from(error: io::Error) -> DumpFileFault {
         match error.kind() {
             ErrorKind::OutOfMemory => DumpFileFault::OutOfMemory,
@@ -144,7 +144,8 @@ fn take_all<R: Read>(
     Err(DumpFileFault::CannotBeRead)
 }
 
-/// Reads a dump from a reader. Of one that is too long, 2^28 + 1 bytes are read.
+/// Reads all of a dump, of at most 2^22 pulses. Of one that is too long, 2^28 + 1 bytes are read.
+/// `shorter` gives what is read the type that holds no more pulses.
 pub fn read_whole<R: Read + Drop>(
     alloc: Global,
     mut reader: R,
@@ -177,9 +178,8 @@ pub fn read_extent<R: Read + Drop>(
     read_by_parts(alloc, &mut reader, &mut part, wire, extent)
 }
 
-/// Reads a dump part by part, keeps as much of it as `extent` says, and counts all bytes. `part`
-/// is the memory for one part. A new intake fails only if memory runs out. After a fault what was
-/// read is freed.
+/// Reads a dump part by part, keeps as much of it as `extent` says, and counts all bytes. `part` is
+/// the memory for one part. After a fault of the file, what was read is freed (`let_go`).
 fn read_by_parts<R: Read>(
     alloc: Global,
     reader: &mut R,
@@ -219,7 +219,7 @@ pub fn read_dump<R: Files>(
     read_open(alloc, file, wire)
 }
 
-/// Reads a dump from a file that is open. If its size shows more than 2^28 bytes, nothing is read.
+/// Reads a dump from an open file. If its size shows more than 2^28 bytes, nothing is read.
 fn read_open<F: OpenFile + Read + Drop>(
     alloc: Global,
     file: F,

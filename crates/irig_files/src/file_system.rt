@@ -1,9 +1,9 @@
 //! Single calls on paths. Reading has two faults: `DumpFileFault` is of the file, which is not
 //! there, cannot be read or is too long, or memory runs out; `VcdFault` inside is of the dump in
 //! it. `Parts` are the recording of a wire and the text of the journal that the dump carries, if it
-//! has one. A `Fault` is the error of a call. An `Extent` says how much of a dump is kept. A ghost
-//! item is for contracts alone. `is_told` says whether the contracts know what is there: true of
-//! folders in memory, false of the system.
+//! has one, and `LongParts` the same of up to 2^26 pulses. A `Fault` is the error of a call. An
+//! `Extent` says how much of a dump is kept. A ghost item is for contracts alone. `is_told` says
+//! whether the contracts know what is there: true of folders in memory, false of the system.
 
 ghost use Rattle.std.specs.Prelude.{◌≡◌, ◌≢◌, ◌<◌, ◌^◌, ℕ, List, Option, None, Some, IfErr, IfOk};
 ghost use Rattle.std.specs.Prelude.{IfSome, IsErrOf, IsTrue, MatchOption, OnOk, codes, false, length};

@@ -1,5 +1,10 @@
-//! The files of a file system as a `Disk`: each method is one call of it, or some. What the methods
-//! do is said with the trait, in `disk`. A window is a part of the time of a dump.
+//! The files of a file system as a `Disk`, which is what a program asks of files: each method is
+//! one call of it, or some. Reading has two faults: `DumpFileFault` is of the file, which is not
+//! there, cannot be read or is too long, or memory runs out; `VcdFault` inside is of the dump in
+//! it. `Parts` are the recording of a wire and the text of the journal that the dump carries, if it
+//! has one, and `LongParts` the same of up to 2^26 pulses. An `Extent` says how much of a dump is
+//! kept: a window, which is a part of its time, or all. A ghost item is for contracts alone: it is
+//! nothing in the program.
 
 ghost use Rattle.std.specs.Prelude.{◌≡◌};
 ghost use Rattle.irig_files.specs.Taken.{IsLocked};
@@ -25,14 +30,15 @@ pub struct Files<C: FileSystem> {
 }
 
 impl<C: FileSystem> Files<C> {
-    /// The files of a system. `dir` is the place for the folder that a write opens.
+    /// The files of a system. `dir` is the place for the folder that a write opens; none has to be
+    /// open yet.
     pub fn new(system: C, dir: C::Dir) -> Files<C>
         ensures { result.system ≡ system }
     {
         Files { system, dir }
     }
 
-    /// The system.
+    /// The file system whose files these are.
     pub fn system(&self) -> &C
         ensures { result.now ≡ self.now.system }
     {
@@ -81,7 +87,8 @@ impl<C: FileSystem> Disk for Files<C> {
     }
 
     // Writes a text to the file that a path leads to: a regular one, or none yet, is replaced
-    // whole; any other is written in place. `room` is the memory of the write.
+    // whole; any other is written in place. `room` is the memory of the write. `Written` says how
+    // it was written; a `ShelfFault` says only that it was not written whole.
     fn put<T: Text>(
         &mut self,
         path: &str,

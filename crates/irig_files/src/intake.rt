@@ -80,9 +80,9 @@ impl Intake {
         self.left.min(room)
     }
 
-    /// Takes the next part of the dump, which has at most `wanted` bytes, so `left` does not go
-    /// below 0. A fault of the dump is kept for `end`. It fails only if memory runs out, and then
-    /// nothing is left of what was read.
+    /// Takes the next part of the dump, which must have at most `wanted` bytes, so `left` does not
+    /// go below 0. A fault of the dump is kept for `end`. It fails only if memory runs out, and
+    /// then nothing is left of what was read.
     pub fn put(&mut self, part: &[u8]) -> Result<(), DumpFileFault>
         requires wanted { length part.now ≤ self.old.left }
         requires counted { IsCounted self.old }
@@ -108,9 +108,9 @@ impl Intake {
         let_go(self.dump);
     }
 
-    /// What the dump says, if nothing comes after its parts. More bytes than a dump may have are a
-    /// fault, `TooLong`, before any fault of the dump; memory that runs out is `OutOfMemory`. The
-    /// inner fault is of the dump.
+    /// What the dump says, if nothing comes after its parts. `TooLong` if it has more bytes than a
+    /// dump may have, whatever else is wrong with it; `OutOfMemory` if memory runs out. The inner
+    /// fault is of the dump.
     pub fn end(self) -> Result<Result<LongParts, VcdFault>, DumpFileFault>
         requires counted { IsCounted self }
         ensures read { IfOk result (λ read. (wire : Option (List ℕ)) (bytes : List ℕ)
@@ -140,7 +140,8 @@ impl Intake {
 /// Frees a reader, or a fault: the value is moved in here, and its end is the end of this call.
 fn let_go(_dump: Result<DumpReader, VcdFault>) {}
 
-/// What is read of a recording, of which the caller knows that it has at most 2^22 pulses.
+/// What is read of a recording, of which the caller knows that it has at most 2^22 pulses: as a
+/// `Recording`, which holds no more. A fault stays as it is.
 pub fn shorter(read: Result<LongParts, VcdFault>) -> Result<Parts, VcdFault>
     requires few { IfOk read (λ x. length x.0.edges ≤ 2 ^ 23) }
     ensures { result ≡ read }
@@ -151,8 +152,8 @@ pub fn shorter(read: Result<LongParts, VcdFault>) -> Result<Parts, VcdFault>
     }
 }
 
-/// Sorts the faults of a read. That memory ran out becomes an outer fault, one of the file; every
-/// other fault stays an inner one, of the dump.
+/// Sorts the faults of a read. That memory ran out (is short) becomes an outer fault, one of the
+/// file; every other fault stays an inner one, of the dump.
 fn unless_short<T: Drop>(read: Result<T, VcdFault>) -> Result<Result<T, VcdFault>, DumpFileFault>
     ensures same { IfOk result (λ given. (given ≡ read) × (given ≢ Err OutOfMemory)) }
     ensures memory { IfErr result (λ fault. fault ≡ file.OutOfMemory) }

@@ -1,5 +1,5 @@
 //! Where a chain of symbolic links leads. A `ShelfFault` says only that a call failed, memory ran
-//! out, or there were too many links.
+//! out, or there were too many links. `system` makes the single calls on paths.
 
 ghost use Rattle.std.specs.Prelude.{◌≡◌, None, Some, true, false, IfOk, IsTrue, OnOk};
 ghost use Rattle.std.specs.Path.{path_buf_bytes};

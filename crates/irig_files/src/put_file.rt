@@ -1,8 +1,9 @@
 //! Writes a text to what a path leads to. The room is the memory of a write: the block holds the
 //! parts of the text, and the target the path of the file that is replaced. A text is written to a
 //! new file first, which then takes the target's name; its stem is its name without the number at
-//! the end. A `ShelfFault` says only that a text was not written, so the errors of calls are not
-//! handed on.
+//! the end. `Written` says how a text was written, `Kept` that each crash from then on leaves it. A
+//! `ShelfFault` says only that a text was not written, so the errors of calls are not handed on.
+//! `system` makes the single calls on paths.
 
 ghost use Rattle.std.specs.Prelude.{◌≡◌, ℕ, List, length, None, Some, IfOk, IsTrue, ◌≢◌, IsErr};
 ghost use Rattle.std.specs.Prelude.{IsOk, OnErr, OnOk, false, true};

@@ -1,4 +1,5 @@
-//! Whether two paths lead to one regular file.
+//! Whether two paths lead to one regular file. `system` makes the single calls on paths. A
+//! `ShelfFault` says only that one of them failed.
 
 ghost use Rattle.std.specs.Prelude.{◌≡◌, IfOk, IsTrue, false, true};
 ghost use Rattle.irig_files.specs.Apart.{AreApart, HasId, LeadToOneFile};

@@ -1,8 +1,10 @@
 //! The files of the system: each method is one call. Contracts know nothing of them. What each one
 //! does is said with the traits, in `plain_calls` and `file_system`. `runtime` is what the program
 //! has of the system. Reading has two faults: `DumpFileFault` is of the file, which is not there,
-//! cannot be read or is too long, or memory runs out; `VcdFault` inside is of the dump in it. A
-//! `SystemFault` is the error of the call. A window is a part of the time of a dump.
+//! cannot be read or is too long, or memory runs out; `VcdFault` inside is of the dump in it.
+//! `Parts` are the recording of a wire and the text of the dump's journal, if it has one, and
+//! `LongParts` the same of up to 2^26 pulses. A `SystemFault` is the error of the call. An `Extent`
+//! says how much of a dump is kept: a window, which is a part of its time, or all.
 
 ghost use Rattle.std.specs.Prelude.{◌≡◌, ◌≢◌, ◌↔◌, IfErr, IfOk, IsOk, IsTrue, None, Ok, OnErr, OnOk};
 ghost use Rattle.std.specs.Prelude.{Some, false, ⊤};

@@ -1,7 +1,8 @@
 //! Reads the track of a wire from the dump at a path. A read of the disk has two faults: the outer
 //! one is of the file, the inner one of the dump in it. `Parts` are the recording of the wire and
 //! the text of the journal that the dump carries, if it has one. A window is a part of a dump's
-//! time.
+//! time, and an `Extent` says how much is kept: a window or all, of at most 2^22 pulses (`short`)
+//! or 2^26 (`long`).
 
 ghost use Rattle.std.specs.Prelude.{◌≡◌, IfErr, IfOk};
 ghost use Rattle.irig_vcd.specs.Answer.{name_of};
@@ -28,8 +29,9 @@ pub enum TrackFault {
     Dump(VcdFault),
 }
 
-/// The track of a wire in the dump at a path, or in a window of it if there is one. `wire` is its
-/// name; if none is given, the dump has to have one wire of one bit.
+/// The track of a wire in the dump at a path, or in a window of it if there is one, as a recording
+/// of up to 2^22 pulses. `wire` is its name; if none is given, the dump has to have one wire of one
+/// bit.
 pub fn read_track<D: Disk>(
     alloc: Global,
     disk: &D,
@@ -49,7 +51,8 @@ pub fn read_track<D: Disk>(
 }
 
 /// The track of a wire in the dump at a path, or in a window of it if there is one, as a recording
-/// of up to 2^26 pulses. The dump may have any number of bytes.
+/// of up to 2^26 pulses. The dump may have up to 2^47 bytes, which no file exceeds. `wire` is its
+/// name; if none is given, the dump has to have one wire of one bit.
 pub fn read_long_track<D: Disk>(
     alloc: Global,
     disk: &D,
@@ -92,7 +95,7 @@ pub fn read_in_window<D: Disk>(
     }
 }
 
-/// The bytes of a wire's name, if one is given.
+/// The bytes of a wire's name; `None` if none is given.
 fn bytes_of<'a>(wire: Option<&'a str>) -> Option<&'a [u8]>
     ensures { name_of result ≡ name_in wire.entry }
 {

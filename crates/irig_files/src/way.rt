@@ -1,5 +1,6 @@
 //! How a text is written to what a path leads to: a regular file is replaced whole by a new one,
 //! anything else is written in place. A `ShelfFault` says only that the text cannot be written.
+//! `system` makes the single calls on paths; a `Described` is what it says of a file.
 
 ghost use Rattle.std.specs.Prelude.{◌≡◌, ◌≢◌, None, Some, IfOk, IsTrue, MatchOption, false, true};
 ghost use Rattle.std.specs.Path.{path_buf_bytes};

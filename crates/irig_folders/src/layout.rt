@@ -1,8 +1,9 @@
 //! Which folders in memory there are, and which files in them are no regular ones.
 //!
-//! A place is what a name leads to: the front of its folder, and the name after it. The number of a
-//! file is how many calls were done before it was made. Each list is looked through from its first
-//! item on, so the first item that fits counts.
+//! A place is what a name leads to: the front of its folder, and the name after it. So in a folder
+//! with the front `b/` the name `t` has the place `b/t`. The number of a file is how many calls
+//! were done before it was made. Each list is looked through from its first item on, so the first
+//! item that fits counts.
 
 ghost use Rattle.std.specs.Prelude.{◌≡◌, is_none, option_copied};
 ghost use Rattle.irig_folders.specs.{Tree.front_in, Tree.other_in, TreeFiles.output_in};

@@ -12,9 +12,9 @@ ghost use Rattle.irig_folders.specs.Log.{holds_in, may_hold_in};
 use crate::call::Call;
 use std::alloc::{AllocError, Global};
 
-/// The bytes that a file holds: all that calls added to it since it was made; none if there is no
-/// such file. The search goes back from the newest call to the one that made the file. It fails
-/// only if memory runs out.
+/// The bytes that the file of this number holds: all that calls added to it since it was made; none
+/// if there is no such file. The search goes back from the newest call to the one that made the
+/// file. It fails only if memory runs out.
 pub fn bytes_of(alloc: Global, calls: &[Call], number: usize) -> Result<Vec<u8>, AllocError>
     ensures { IfOk result (λ bytes. bytes.items ≡ (holds_in calls.now number).bytes) }
 {
@@ -39,7 +39,7 @@ fn with_part(mut bytes: Vec<u8>, part: &[u8]) -> Result<Vec<u8>, AllocError>
     Ok(bytes)
 }
 
-/// The mode of a file: the last one that it was given. 0 if there is no such file.
+/// The mode of the file of this number: the last one that it was given. 0 if there is no such file.
 pub fn mode_of(calls: &[Call], number: usize) -> u32
     ensures { result ≡ (holds_in calls.now number).mode }
 {
@@ -53,9 +53,9 @@ pub fn mode_of(calls: &[Call], number: usize) -> u32
     }
 }
 
-/// Whether each crash leaves a file as it is seen: it was not made or changed since its last sync.
-/// Only the newest call on the file counts: after a sync all is kept, after any other call not.
-/// True if there is no such file.
+/// Whether each crash leaves the file of this number as it is seen: it was not made or changed
+/// since its last sync. Only the newest call on the file counts: after a sync all is kept, after
+/// any other call not. True if there is no such file.
 pub fn is_kept(calls: &[Call], number: usize) -> bool
     ensures kept { IsTrue result → (h : Held) → may_hold_in calls.now number h
         → h ≡ holds_in calls.now number }

@@ -69,7 +69,7 @@ fn is_made(call: &Call, name: &[u8]) -> bool
 
 /// The name that led, before this call, to the file to which `name` leads after it. The call is not
 /// the one that makes the file. After a rename to `name` that is the old name; `None` if the call
-/// took `name` away; else `name` itself.
+/// took `name` away, so that no file has it; else `name` itself.
 fn name_before<'n>(call: &'n Call, name: &'n [u8]) -> Option<&'n [u8]>
     ensures { (older : List Call) → makes call.now name.now ≡ false → MatchOption result
         (leads_in (call.now ∷ older) name.now ≡ None)
@@ -167,7 +167,7 @@ impl Memory {
 
 impl Memory {
     /// Makes a new file under a name if that is free. A hidden one can be read and written by its
-    /// owner alone; any other has the mode `USUAL`. `None`: the name is taken.
+    /// owner alone (mode 600, octal); any other has the mode `USUAL`. `None`: the name is taken.
     pub fn make_new(&mut self, name: &str, hidden: bool) -> Result<Option<MemoryFile>, MemoryFault>
         ensures done { MatchResult result (λ made. MatchOption made
             (IsTaken (disk_of self.old.calls.items) (disk_of self.new.calls.items) name.now)

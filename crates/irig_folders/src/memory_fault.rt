@@ -19,7 +19,7 @@ pub enum MemoryFault {
 impl From<AllocError> for MemoryFault {
     ghost from_gives = { λ _ fault. fault ≡ NoMemory };
 
-    // Memory runs out as a fault of the folder.
+    // A call that ran out of memory fails with `NoMemory`.
     fn from(_: AllocError) -> Self {
         MemoryFault::NoMemory
     }
@@ -28,8 +28,8 @@ impl From<AllocError> for MemoryFault {
 impl<T: Drop> From<AllocFailed<T>> for MemoryFault {
     ghost from_gives = { λ _ fault. fault ≡ NoMemory };
 
-    // Memory runs out as a fault of the folder, in a call that gives back what it could not store;
-    // that is dropped.
+    // A call that ran out of memory and gives back what it could not store fails with `NoMemory`,
+    // too; what it gives back is dropped.
     fn from(_: AllocFailed<T>) -> Self {
         MemoryFault::NoMemory
     }

@@ -1,11 +1,13 @@
 //! The files of one folder in memory, for tests. It is the folder `.`, and has no links. What each
 //! method does is said with the traits, `PlainCalls` and `FileSystem` of irig_files. `calls` is the
 //! log of the calls that were done; `file_at`, `bytes_of` and `mode_of` find in it a file by its
-//! name, its bytes and its mode.
+//! name, its bytes and its mode. The mode of a file says who may read and write it.
 //!
 //! A file is known by its number, which is how many calls were done before it was made; its id is 0
 //! and that number. The answers of the program go to no file here. `Parts` are the recording of a
-//! dump and its journal. No call here is planned to fail.
+//! dump and its journal, and `LongParts` the same of up to 2^26 pulses. Reading has two faults:
+//! `DumpFileFault` is of the file, and `VcdFault` inside of the dump in it. No call here is planned
+//! to fail.
 
 ghost use Rattle.std.specs.Prelude.{◌≡◌, None, ⊤};
 ghost use Rattle.std.proofs.Common.{ap};
@@ -118,7 +120,7 @@ impl FileSystem for Memory {
     }
 
     // Reads the dump in a file, and keeps as much as `extent` says: a part from one microsecond to
-    // another, or all, and at most that many pulses. The errors are those of `read`.
+    // another or all, and up to a count of pulses. The errors are those of `read`.
     fn read_extent(
         &self,
         alloc: Global,

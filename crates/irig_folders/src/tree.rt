@@ -5,7 +5,8 @@
 //! file is how many calls were done before it was made. `memory` is one folder in memory whose
 //! names are these places, so a call on a tree is a call there, and can be planned to fail with
 //! `memory.fail`; such a call answers `Planned`; each call can also fail as memory runs out, which
-//! is `NoMemory`. `NoSuchName` says that no file has the name, unless its call says more.
+//! is `NoMemory`. `NoSuchName` says that no file has the name, unless its call says more. A
+//! `MemoryFault` is the error of a call.
 
 ghost use Rattle.std.specs.Prelude.{◌++◌, string_bytes, true};
 ghost use Rattle.std.proofs.lemmas.List.{append_cancel_left};
@@ -159,9 +160,10 @@ impl Folder for Tree {
 
     ghost only_now = { λ t. log_only_now t.memory.calls.items };
 
-    // Makes a new file under a name in a folder if that is free; `None`: it is taken. The new file
-    // gets the number of calls so far. It fails with `NoSuchName` if `others` has that number,
-    // since the file would not be regular then.
+    // Makes a new file under a name in a folder if that is free, a hidden one for its owner alone;
+    // `None`: it is taken. The new file gets the number of calls so far. It fails with `NoSuchName`
+    // if `others` (the files that are no regular ones) has that number, since the file would not be
+    // regular then.
     fn make(
         &mut self,
         dir: &TreeDir,
@@ -175,7 +177,8 @@ impl Folder for Tree {
         self.memory.make_new(place.as_str(), hidden)
     }
 
-    // Adds bytes at the end of a file.
+    // Adds bytes at the end of a file. If the call is planned to fail, half of them are written,
+    // rounded down.
     fn append(&mut self, file: &mut MemoryFile, bytes: &[u8]) -> Result<(), MemoryFault> {
         self.memory.append(file, bytes)
     }

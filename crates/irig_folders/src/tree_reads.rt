@@ -14,9 +14,9 @@ use crate::tree_paths::find;
 use irig_files::DumpFileFault;
 use std::alloc::Global;
 
-/// The bytes of the file that a path leads to. `CannotBeRead` if no file is there; `find` answers
-/// `NoSuchName` if the path leads over too many links or to no folder. The only other fault is that
-/// memory ran out.
+/// The bytes of the file that a path leads to. `CannotBeRead` if no file is there, or the path
+/// leads over too many links or to no folder, for which `find` answers `NoSuchName`. The only other
+/// fault is that memory ran out.
 pub fn bytes_at(tree: &Tree, alloc: Global, path: &str) -> Result<Vec<u8>, DumpFileFault>
     ensures held { IfOk result (λ bytes. held_at tree.now.layout
         tree.now.memory.calls.items path.now ≡ Some bytes.items) }

@@ -5,8 +5,7 @@
 //! A file is known by its number, which is how many calls were done before it was made; its id is 0
 //! and that number. `blind` names a call that is planned to fail, with `Planned`. The answers are
 //! those of the program, on its standard output. `Parts` are the recording of a dump and its
-//! journal. `NoMemory` says that memory ran out.
-//!
+//! journal, and `LongParts` the same of up to 2^26 pulses. `NoMemory` says that memory ran out.
 //! Where `match` hands an error on, `?` would do the same; the proof of it takes longer.
 
 ghost use Rattle.std.specs.Prelude.{◌≡◌, ◌≢◌, ◌↔◌, IfOk, IsTrue, None, Some, false, true};
@@ -64,7 +63,7 @@ impl PlainCalls for Tree {
         Pipe
     }
 
-    // What is no regular file, open to be written.
+    // Opens what is no regular file to be written, unless the test planned that this fails.
     fn open_other(&self, _: &str) -> Result<Pipe, MemoryFault> {
         match self.blind {
             Some(Plain::OpenOther) => Err(MemoryFault::Planned),
@@ -72,8 +71,9 @@ impl PlainCalls for Tree {
         }
     }
 
-    // Opens the file at a path as if to write to it. `NoSuchName`: none is there, or it must not be
-    // written, or `find` has a fault, whichever: who calls this asks only whether it failed.
+    // Opens the file at a path as if to write to it, which shows whether it may be written.
+    // `NoSuchName`: none is there, or it must not be written, or `find` has a fault, whichever: who
+    // calls this asks only whether it failed.
     fn open_seen(&self, path: &str) -> Result<SeenFile, MemoryFault> {
         if self.blind == Some(Plain::OpenSeen) {
             return Err(MemoryFault::Planned);
@@ -132,7 +132,7 @@ fn shown(tree: &Tree, file: usize) -> Described
     seen
 }
 
-/// The id of the file that the answers go to, if they go to one.
+/// The id of the file that the answers go to; `None` if they go to none.
 fn output_id(tree: &Tree) -> Option<(u64, u64)>
     ensures { result ≡ option_map (λ file. (0, file)) (output_in tree.now.layout.others.items) }
 {
@@ -189,7 +189,7 @@ impl FileSystem for Tree {
     }
 
     // Reads the dump in a file, and keeps as much as `extent` says: a part from one microsecond to
-    // another, or all, and at most that many pulses. The errors are those of `read`.
+    // another or all, and up to a count of pulses. The errors are those of `read`.
     fn read_extent(
         &self,
         alloc: Global,

@@ -43,7 +43,7 @@ impl<T, A: Allocator> Model for Deed<T, A> {
     ghost also_owns = { λ d. deed_owns T.row (A.dealloc_token d.alloc) d.at d.len };
 }
 
-/// A block of `len` empty places. `AllocError` if memory runs out.
+/// A block of `len` empty places, and its deed. `AllocError` if memory runs out.
 pub(crate) fn allocate<T, A: Allocator>(
     alloc: &A,
     len: usize,
@@ -77,8 +77,8 @@ pub(crate) fn deallocate<T, A: Allocator>(alloc: &A, len: usize, cells: Cells<T>
 }
 
 /// Makes a block of `old` places one of `len`, which keeps the items in its first `full` places,
-/// and no other item. The allocator can leave it where it is. If memory runs out, the error has the
-/// block as it was.
+/// and no other item. The allocator can leave it where it is. Returns its places and its deed; if
+/// memory runs out, the error has those of the block as it was.
 pub(crate) fn enlarge<T, A: Allocator>(
     alloc: &A,
     full: usize,
@@ -104,8 +104,8 @@ pub(crate) fn enlarge<T, A: Allocator>(
     }
 }
 
-/// Places that take no memory: none, or of items of size zero. They have no block, and `near` lends
-/// them an address.
+/// Places that take no memory: none, or of items of size zero. They have no block; `near` lends
+/// them an address, since a pointer has to have one, and no byte is read or written there.
 pub(crate) fn nowhere<T>(near: &u8, len: usize) -> Cells<T>
     requires { len * type_size T.row ≡ 0 }
     ensures { result.slots ≡ replicate len None }
@@ -125,7 +125,8 @@ impl<T> Cells<T> {
         unsafe { &*self.start.add(index) }
     }
 
-    /// Writes an item to the place `index`. What the place held is forgotten, not dropped.
+    /// Writes an item to the place `index`, which has to be there, full or empty. What the place
+    /// held is forgotten, not dropped.
     pub(crate) fn write(&mut self, index: usize, item: T)
         requires { index < length self.old.slots }
         ensures slots { self.new.slots ≡ slice_set self.old.slots index (Some item) }
@@ -134,8 +135,8 @@ impl<T> Cells<T> {
         unsafe { self.start.add(index).write(item) }
     }
 
-    /// Moves the `count` items from the place `from` on to the place `to` and those after it. The
-    /// two runs must not overlap. The places from `from` on are empty then.
+    /// Moves the `count` items from the place `from` on, which must be full, to the place `to` and
+    /// those after it. The two runs must not overlap. The places from `from` on are empty then.
     pub(crate) fn move_run(&mut self, from: usize, to: usize, count: usize)
         requires inside { (from + count ≤ length self.old.slots)
             × (to + count ≤ length self.old.slots) }

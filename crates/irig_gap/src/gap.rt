@@ -5,7 +5,8 @@
 //!
 //! *The place* of the list is where items come and go; *places* of the block hold one item each.
 //! `capacity` is how many of these the block has. The deed is the right to give the block back;
-//! there is none if the places take no memory.
+//! there is none if the places take no memory. `Cells` are the places of the block, and `nowhere`
+//! gives places that take no memory.
 
 ghost use Rattle.std.specs.Prelude.{◌≡◌, ◌+◌, ◌-◌, ◌^◌, ◌<◌, ◌≤◌, ◌⊎◌, true, false, length, []};
 ghost use Rattle.std.specs.Prelude.{slice_get, slice_set, insert, remove, Some};
@@ -47,7 +48,7 @@ impl<T: Copy> Model for Gap<T> {
 }
 
 impl<T: Copy> Gap<T> {
-    /// A buffer with no items and no capacity.
+    /// A buffer with no items and no capacity. It has no block yet, so it takes no memory.
     pub fn new(alloc: Global) -> Self
         ensures { result ≡ gap_view [] 0 0 }
     {
@@ -69,7 +70,7 @@ impl<T: Copy> Gap<T> {
         self.gap + (self.capacity - self.after)
     }
 
-    /// Whether there is no room: a further item needs a growth first.
+    /// Whether there is no room: a further item needs a growth of the block first.
     pub fn is_full(&self) -> bool
         ensures full { result ≡ true → length self.now.items ≡ self.now.capacity }
         ensures room { result ≡ false → length self.now.items < self.now.capacity }
@@ -77,7 +78,7 @@ impl<T: Copy> Gap<T> {
         self.gap == self.after
     }
 
-    /// How many items there may be in all without a growth.
+    /// How many items there may be in all without a growth of the block.
     pub fn capacity(&self) -> usize
         ensures { result ≡ self.now.capacity }
     {
@@ -85,7 +86,7 @@ impl<T: Copy> Gap<T> {
         capacity
     }
 
-    /// The place: how many items are left of it.
+    /// The place of the list, from 0: how many items are left of it.
     pub fn gap_at(&self) -> usize
         ensures place { result ≡ self.now.place }
         ensures within { result ≤ length self.now.items }
@@ -94,7 +95,7 @@ impl<T: Copy> Gap<T> {
         place
     }
 
-    /// The item at `index`, from 0, on either side of the place. There has to be one.
+    /// The item at `index`, from 0, on either side of the place. There has to be one at `index`.
     pub fn get(&self, index: usize) -> T
         requires { index < length self.now.items }
         ensures { slice_get self.now.items index ≡ Some result }
@@ -122,8 +123,8 @@ impl<T: Copy> Gap<T> {
         self.cells.write(slot, item);
     }
 
-    /// Inserts `item` at the place, which is right of it then. There has to be room: this takes no
-    /// memory.
+    /// Inserts `item` at the place of the list, which is right of it then. There has to be room, so
+    /// this takes no memory.
     pub fn put(&mut self, item: T)
         requires { length self.old.items < self.old.capacity }
         ensures { self.new ≡
@@ -212,8 +213,8 @@ impl<T: Copy> Drop for Gap<T> {
     }
 }
 
-/// The place in the block of the item at `index`, both from 0. `gap` items are left of the place,
-/// and the others begin at `after` in the block.
+/// The place in the block of the item at `index` of the list, both from 0. `gap` items are left of
+/// the place of the list, and the others begin at `after` in the block.
 fn slot_of(index: usize, gap: usize, after: usize) -> usize
     requires { gap ≤ index → after + (index - gap) < 2 ^ 64 }
     ensures left { index < gap → result ≡ index }

@@ -10,7 +10,8 @@ ghost use Rattle.irig_gap.specs.Items.{gap_view};
 use crate::gap::Gap;
 
 impl<T: Copy> Gap<T> {
-    /// Moves the place over the item left of it. There has to be one.
+    /// Moves the place over the item left of it, which is copied over the gap to the right side.
+    /// There has to be one.
     pub fn step_left(&mut self)
         requires { 0 < self.old.place }
         ensures { self.new ≡ gap_view self.old.items (self.old.place - 1) self.old.capacity }
@@ -21,7 +22,8 @@ impl<T: Copy> Gap<T> {
         self.cells.write(self.after, item);
     }
 
-    /// Moves the place over the item right of it. There has to be one.
+    /// Moves the place over the item right of it, which is copied over the gap to the left side.
+    /// There has to be one.
     pub fn step_right(&mut self)
         requires { self.old.place < length self.old.items }
         ensures { self.new ≡ gap_view self.old.items (self.old.place + 1) self.old.capacity }
@@ -48,6 +50,7 @@ impl<T: Copy> Gap<T> {
 
     /// Moves the place left over as many items as the gap is wide, or down to `place` items on its
     /// left if that is nearer. So the items are copied to places that do not overlap their own.
+    /// More than `place` items must be left of the place.
     fn leap_left(&mut self, place: usize)
         requires { place < self.old.place }
         ensures view { self.new ≡ gap_view self.old.items self.new.place self.old.capacity }
@@ -68,6 +71,7 @@ impl<T: Copy> Gap<T> {
 
     /// Moves the place right over as many items as the gap is wide, or up to `place` items on its
     /// left if that is nearer. So the items are copied to places that do not overlap their own.
+    /// Fewer than `place` items must be left of the place, and there must be as many in all.
     fn leap_right(&mut self, place: usize)
         requires { (self.old.place < place) × (place ≤ length self.old.items) }
         ensures view { self.new ≡ gap_view self.old.items self.new.place self.old.capacity }

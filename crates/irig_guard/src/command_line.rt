@@ -123,7 +123,8 @@ fn reading<'a>(alloc: Global) -> Result<Command<'a>, AllocError>
     taking(alloc)?.arg(format)?.arg(expression)
 }
 
-/// The command with the options that say which part of which wire is read.
+/// The command with the options that say which part of which wire is read: `--wire`, and `--from`
+/// and `--to` of `windowed`.
 fn taking<'a>(alloc: Global) -> Result<Command<'a>, AllocError>
     ensures { IfOk result (λ c. IsTaking (app_of c)) }
 {

@@ -21,7 +21,7 @@ pub enum Ending<'a> {
     OverOther(&'a str),
     /// The other recording at this path cannot be used.
     Unheard(&'a str, Unheard),
-    /// The script ran under guard on the dump at this path, and so the run ended; also if the dump
-    /// is no recording, which is the fault `Dump` then.
+    /// The script ran under guard on the dump at this path, and so the run ended. Also if the dump
+    /// is no recording: then the fault is `Dump`.
     Ran(&'a str, Result<Kept, GuardFault>),
 }

@@ -1,7 +1,8 @@
-//! A script run under guard on the file of a dump, as the words of a command line ask. The room is
-//! the memory of writes, taken before a dump is read. The outer fault of a read is of the file, the
-//! inner one, `VcdFault`, of the dump in it. `Parts` are the recording of a wire and the text of
-//! the journal, if there is one. A `ShelfFault`: it cannot be found out where a path leads.
+//! A script run under guard on the file of a dump, as the words of a command line ask. Under guard
+//! each repair is tried, and undone if it would make a frame wrong. The room is the memory of
+//! writes, taken before a dump is read. The outer fault of a read is of the file, the inner one,
+//! `VcdFault`, of the dump in it. `Parts` are the recording of a wire and the text of the journal,
+//! if there is one. A `ShelfFault`: it cannot be found out where a path leads.
 
 ghost use Rattle.std.specs.Prelude.{◌≡◌, ℕ, [], IfOk, IfSome, IsTrue, List, false, is_some, map};
 ghost use Rattle.std.specs.Prelude.{string_bytes, true};
@@ -224,7 +225,8 @@ fn run_on_read<D: Disk, R: Read, W: Write>(
     )
 }
 
-/// The path of what is written; that of the dump if nothing is written, since the shelf needs one.
+/// The path at which the product is written. If nothing is written it is that of the dump, since
+/// the shelf needs a path.
 fn place_of<'a>(chosen: &Settings<'a>) -> &'a str
     ensures { result.now ≡ place_of chosen.now }
 {

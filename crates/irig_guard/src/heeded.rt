@@ -1,4 +1,5 @@
-//! The journal that a session is opened with.
+//! The journal that a session is opened with: the history of its edits, which a dump can have. A
+//! window is the part of a dump that is read.
 
 ghost use Rattle.std.specs.Prelude.{◌≡◌, ◌≤◌, ◌^◌, IfSome, length};
 ghost use Rattle.irig_files.specs.Reads.{most_bytes};

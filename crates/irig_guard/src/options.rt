@@ -7,8 +7,8 @@ use crate::asked::Asked;
 use crate::chosen::{OptionFault, Settings};
 use irig_words::{format_named, window_named};
 
-/// What the values of a command line ask for. A fault: there is no such format, `--out` is the
-/// track, or `--save` is given without `--out`.
+/// What the values of a command line ask for. A fault: a time of the window or the format has a
+/// value that it cannot have, `--out` is the track, or `--save` is given without `--out`.
 pub fn settings_of<'a>(asked: Asked<'a>) -> Result<Settings<'a>, OptionFault>
     ensures chosen { IfOk result (IsChosen asked.entry) }
     ensures fault { IfErr result (HasFault asked.entry) }

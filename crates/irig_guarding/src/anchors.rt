@@ -1,9 +1,10 @@
-//! Whether the pulses of a frame are where the recording (`opened`) has them. A pulse is an anchor
-//! if it rises where the recording has a pulse, or is a gap of it turned over. An `Anchor` is such
-//! a pulse, or a marker, as it is seen from an element: how many elements away it is (`steps`), and
-//! when it rises, in microseconds. Markers and elements count from 0. `near` is the frames of the
-//! recording next to a frame, two on each side, and `place` the pulse of the recording that is
-//! looked at first: no answer depends on it. On a line all elements take equally long, nearly.
+//! Whether the pulses of a frame, one for each of its 100 elements, are where the recording
+//! (`opened`) has them. A pulse is an anchor if it rises where the recording has one, or is a gap
+//! of it turned over: it rises when one falls and falls when one rises. An `Anchor` is such a
+//! pulse, or a marker, as seen from an element: how many elements away (`steps`), and when it
+//! rises, in microseconds. Markers and elements count from 0. `near` is the frames of the recording
+//! next to a frame, two on each side, and `place` the pulse of the recording that is looked at
+//! first: no answer depends on it. On a line all elements take equally long, nearly.
 
 ghost use Rattle.std.specs.Prelude.{◌≡◌, ◌↔◌, ◌-◌, ◌≤◌, ◌<◌, ◌^◌, IfSome, IsTrue, Some};
 ghost use Rattle.irig_safety.specs.Anchors.{anchors_among, held_after, held_before, is_anchored};
@@ -20,7 +21,8 @@ use crate::seen::Seen;
 use irig_edit::Session;
 use irig_safety::{Anchor, Original, Witnesses, is_on_line, marker_after, marker_before};
 
-/// The markers of the frames next to a frame, as they are seen from its own.
+/// The markers of the frames next to a frame, as they are seen from its own: `None` if there is no
+/// such frame, or its distance does not say how many elements it is.
 #[derive(Clone, Copy)]
 struct Ends {
     before: Option<Anchor>,
@@ -43,8 +45,8 @@ fn ends_of(session: &Session, near: &Witnesses, frame: &Seen) -> Ends
     }
 }
 
-/// Whether each pulse of a frame is an anchor, or on the line between those next to it. `last` and
-/// `next` are the elements of the anchors before an element and from it on.
+/// Whether each pulse of a frame is an anchor, or on the line between those next to it. `last` is
+/// the element of the nearest anchor before an element, and `next` that of the nearest from it on.
 pub fn are_placed(session: &Session, opened: &Original, near: &Witnesses, frame: &Seen) -> bool
     ensures { IsTrue result ↔ Stands opened.now session.now.state near.now frame.now }
 {
@@ -158,10 +160,9 @@ fn is_held(
     )
 }
 
-/// What holds an element from before, as it is seen from the element: the last anchor of its frame,
-/// at element `last`, or else the marker of the frame before. `before` is that marker as it is seen
-/// from the frame's own, so the element's number is added. `None` if there is neither. `near` is
-/// for the contract alone.
+/// What holds an element from before, seen from it: the last anchor of its frame (element `last`),
+/// or else the marker of the frame before. `before` is that marker seen from the frame's own, so
+/// the element's number is added. `None` if there is neither; `near` is for the contract.
 fn held_before(
     session: &Session,
     near: &Witnesses,
@@ -187,10 +188,9 @@ fn held_before(
     }
 }
 
-/// What holds an element from after it, as it is seen from the element: the next anchor of its
-/// frame, at element `next`, or else the marker of the frame after. `after` is that marker as it is
-/// seen from the frame's own, so the element's number is taken off. `None` if there is neither.
-/// `near` is for the contract alone.
+/// What holds an element from after, seen from it: the next anchor of its frame (element `next`),
+/// or else the marker of the frame after. `after` is that marker seen from the frame's own, so the
+/// element's number is taken off. `None` if there is neither; `near` is for the contract.
 fn held_after(
     session: &Session,
     near: &Witnesses,

@@ -1,10 +1,12 @@
 //! Whether the control functions of the frames are borne out. One is borne out if the frames
 //! nearest to its own have it, too, if the recording has its pulse or lost it, or if most other
-//! recordings have it. `old` is the frames of the recording that read well (the former ones), and
-//! `near` those of them next to a frame. Markers, elements and functions count from 0. A former
-//! frame is passed if the frames that were looked at have one that begins when it does. The faults:
-//! `Lost` if none does, `Unrecorded` of a frame with a function that is not borne out. `near_in`
-//! gives the two frames of a list before a place, and the two from another place on.
+//! recordings have it. A frame reads well if nothing is wrong in it. `old` is the frames of the
+//! recording that read well (the former ones), and `near` those of them next to a frame. Markers,
+//! elements and functions count from 0. The class of a pulse is what its width means, if it means
+//! anything. A former frame is passed if the frames that were looked at have one that begins when
+//! it does. The faults: `Lost` if none does, `Unrecorded` of a frame with a function that is not
+//! borne out. `near_in` gives the two frames of a list before a place, and the two from another
+//! place on.
 
 ghost use Rattle.std.specs.Prelude.{◌≡◌, ◌↔◌, ◌⊎◌, ◌+◌, ◌<◌, ◌≤◌, ◌∷◌, List, IsTrue, None, Option};
 ghost use Rattle.std.specs.Prelude.{Some};
@@ -24,9 +26,10 @@ use irig_safety::{
     near_in,
 };
 
-/// Whether each frame that reads well did so before, at the old places, or its control functions
-/// are borne out. If not, the first fault. Both lists are in rising order, so they are passed
-/// together. Former frames after the last frame are not looked for: `check_safe` did that before.
+/// Whether each of `frames`, those that read well now, is the former one that begins when it does,
+/// or all its control functions are borne out. If not, the first fault. Both lists are in rising
+/// order, so they are passed together. Former frames after the last of `frames` are not looked for:
+/// `check_safe` did that before.
 pub fn check_controls(
     session: &Session,
     opened: &Original,
@@ -55,10 +58,10 @@ pub fn check_controls(
 }
 
 /// How many of the former frames are passed after one more frame, if `passed` are before it; or why
-/// it is at fault. It is between former frames if the next of these begins later or there is none,
-/// so `passed` stays. `Lost` if the next one begins earlier. If it begins when the next one does
-/// and is the same, its functions are not looked at. If it is another one, it has the frames on
-/// both sides of that one as its nearest.
+/// it is at fault. If the next former one begins later or there is none, the frame is between
+/// former ones, so `passed` stays. `Lost` if the next one begins earlier. If it begins when the
+/// frame does and is the same, no function is looked at. If it is another one, the frame has the
+/// frames on both sides of that one as its nearest.
 fn pass(
     session: &Session,
     opened: &Original,
@@ -155,8 +158,8 @@ fn is_function_borne(
         || opened.is_told(&frame.shown, function)
 }
 
-/// Whether the pulse of a control function is there, and as recorded, or what was recorded of it
-/// was lost.
+/// Whether the pulse of a control function is there, and is as recorded, or what was recorded of it
+/// was lost (`is_recorded_or_lost`).
 fn may_be(session: &Session, opened: &Original, pulse: Option<Pulse>) -> bool
     ensures { IsTrue result ↔ MatchOption pulse ⊥ (λ q.
         IsRecorded session.now.state.format opened.now.pulses q
@@ -168,7 +171,8 @@ fn may_be(session: &Session, opened: &Original, pulse: Option<Pulse>) -> bool
     }
 }
 
-/// Whether the pulse of a control function of the frame of a marker is recorded at its place.
+/// Whether a control function of the frame of a marker has a pulse, and the recording has one of
+/// the same class that rises within a tenth of an interval of it.
 pub fn is_recorded_at(session: &Session, opened: &Original, marker: usize, function: u32) -> bool
     requires { function < 64 }
     ensures { IsTrue result ↔ MatchOption (slice_get session.now.state.pulses
@@ -182,8 +186,9 @@ pub fn is_recorded_at(session: &Session, opened: &Original, marker: usize, funct
     }
 }
 
-/// Whether a pulse is as recorded, or what was recorded of it was lost: no pulse with a class was
-/// near it, so the recording says nothing against it.
+/// Whether a pulse is as recorded: one of its class was, within a tenth of an interval; or what was
+/// recorded of it was lost: no pulse with a class was within half an interval of it, so the
+/// recording says nothing against it.
 fn is_recorded_or_lost(format: Format, opened: &Original, pulse: Pulse) -> bool
     ensures { IsTrue result ↔ (IsRecorded format opened.now.pulses pulse
         ⊎ IsLost format opened.now.pulses pulse) }

@@ -1,5 +1,5 @@
-//! The frames with control functions that are not in the recording. `opened` is what is known of
-//! the recording. Markers count from 0.
+//! The frames with control functions that are not in the recording. A frame reads well if nothing
+//! is wrong in it. `opened` is what is known of the recording. Markers count from 0.
 
 ghost use Rattle.std.specs.Prelude.{◌≡◌, ◌↔◌, IsTrue};
 ghost use Rattle.irig_guarding.specs.Fillings.{AreFilled, Fills, IsWhole};

@@ -1,7 +1,9 @@
-//! A proposed script, run repair by repair. `known` has for each frame of the recording that read
-//! well the marker at which its pulses are known to rise as they did, so that they are not compared
-//! again. `last` is the frames that read well before a repair, and `opened` is what is known of the
-//! recording.
+//! A proposed script, run repair by repair. A group is the lines from a `begin` to its `end` or
+//! `abort`. A frame reads well if nothing is wrong in it. A repair is safe if no such frame is lost
+//! or becomes wrong by it, and the frames next to each one that it makes support what that one
+//! says. `known` has for each frame of the recording that read well the marker at which its pulses
+//! are known to rise as they did, so that they are not compared again. `last` is the frames that
+//! read well before a repair, and `opened` is what is known of the recording.
 
 ghost use Rattle.std.specs.Prelude.{◌≡◌, ◌<◌, ◌≤◌, ◌-◌, [], IfOk, None, OnOk, Some, drop};
 ghost use Rattle.std.specs.Prelude.{is_none, length, take, if◌then◌else◌};
@@ -33,9 +35,10 @@ use std::alloc::{AllocError, Global};
 /// Runs a proposed script on a session, in which no group is open, repair by repair: an edit, or
 /// the lines from a `begin` to the next `end` or `abort`. A repair that is accepted and safe is
 /// kept and printed, as comments are; any other line is printed as a comment, after the reason. If
-/// no frame of the recording reads well, a comment says so first. `terms` are by what repairs are
-/// judged besides the recording. Returns what is printed, whether all was kept, and how many frames
-/// have a control function then that is not in the recording. `Err` means that memory ran out.
+/// no frame of the recording reads well, a comment says so first. `terms` are frames of other
+/// recordings, which can support a frame, too, and whether frames may move. Returns what is
+/// printed, whether all was kept, and how many frames have a control function then that is not in
+/// the recording. `Err` means that memory ran out.
 pub fn guard(
     alloc: Global,
     session: &mut Session,
@@ -98,7 +101,8 @@ fn guard_lines(
     Ok(status)
 }
 
-/// The status after one more repair, which was dropped if there is a reason.
+/// The status after one more repair: as it was if that was kept, `SomeRefused` if it was dropped,
+/// for a reason.
 fn status_with(status: Status, dropped: Option<Reason>) -> Status
     ensures { result ≡ if is_none dropped then status else SomeRefused }
 {
@@ -128,7 +132,7 @@ fn repair_end(lines: &[Line], at: usize) -> usize
     lines.len()
 }
 
-/// Tries one repair, and prints it. Returns why it was dropped, if it was.
+/// Tries one repair, and prints it. Returns why it was dropped; `None` if it was kept.
 fn guard_repair(
     alloc: Global,
     session: &mut Session,
@@ -157,9 +161,9 @@ fn guard_repair(
     Ok(dropped)
 }
 
-/// Tries one repair; a comment is none, and is kept as it is. Returns why it was dropped, if it
-/// was: then nothing has changed but what can be redone, since a dropped edit is undone. `known` is
-/// copied first, since a repair that is dropped leaves it wrong.
+/// Tries one repair; a comment is none, and is kept as it is. Returns why it was dropped, `None` if
+/// it was kept. If it was dropped nothing has changed but what can be redone, since a dropped edit
+/// is undone. `known` is copied first, since a repair that is dropped leaves it wrong.
 fn try_repair(
     alloc: Global,
     session: &mut Session,

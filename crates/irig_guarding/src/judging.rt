@@ -1,8 +1,11 @@
-//! Whether what a repair leads to may stay. `opened` is what is known of the recording, and `old`
-//! its frames that read well, at the places where they are now if frames may move. `known` has for
-//! each of them the marker at which its pulses are known to rise as they did. `before` is the
-//! frames that read well before the repair, and `last` those at the places where they are now;
-//! `now` and `seen` are those that read well now, the latter with their markers.
+//! Whether what a repair leads to may stay. A frame reads well if nothing is wrong in it. A state
+//! is safe if no frame of the recording that read well is lost or became wrong, and the frames next
+//! to each one that is new support what it says. `opened` is what is known of the recording, and
+//! `old` its frames that read well (the former ones), at the places where they are now if frames
+//! may move. `known` has for each of them the marker at which its pulses are known to rise as they
+//! did. `before` is the frames that read well before the repair, and `last` those at the places
+//! where they are now; `now` and `seen` are those that read well now, the latter with their
+//! markers.
 
 ghost use Rattle.std.specs.Prelude.{◌≡◌, IfErr, IfOk, OnErr, OnOk, false, true};
 ghost use Rattle.irig_safety.specs.Original.{with_frames};
@@ -160,9 +163,9 @@ fn check_frames(
     check_unspoiled(last, now)
 }
 
-/// Whether the control functions of the frames are borne out, which `controls.rt` says, if some
-/// frame of the recording reads well; without one nothing bears them out, so they may be any. If
-/// not, the first fault.
+/// Whether the control functions of the frames are borne out: by the frames nearest to each, by the
+/// recording, or by most other recordings. If no frame of the recording reads well nothing bears
+/// them out, so they may be any. If not, the first fault.
 fn check_borne(
     session: &Session,
     opened: &Original,

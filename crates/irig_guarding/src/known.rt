@@ -1,8 +1,8 @@
 //! The former frames whose pulses are known to rise as they did, so that they are not compared
-//! again after each repair. Former frames are those of the recording that read well when it was
-//! opened (`opened`). `known` has for each of them the marker of the frame at which its pulses rise
-//! as they did, or `None` if that is not known. A marker is the place of a frame's first pulse,
-//! from 0.
+//! again after each repair. Former frames are those of the recording that read well, with nothing
+//! wrong in them, when it was opened (`opened`). `known` has for each of them the marker of the
+//! frame at which its pulses rise as they did, or `None` if that is not known. A marker is the
+//! place of a frame's first pulse, from 0.
 
 ghost use Rattle.std.specs.Prelude.{◌≡◌, List, None, IfOk, IfSome, IsTrue, Some, get_or, length};
 ghost use Rattle.irig_guarding.specs.Known.{AreKnown, Became, Follows};
@@ -110,8 +110,9 @@ pub fn follow(known: &mut Vec<Option<usize>>, place: Option<Place>, before: usiz
     }
 }
 
-/// The marker that is known after pulses became others, if one is: `known` is the one before.
-/// Nothing is known if `place` is `None`. The rest is as in `follow`.
+/// The marker that is known after the pulses at `place` became others; `None` if none is known, or
+/// `place` is `None`. `known` is the one that was known before. `before` and `after` are how many
+/// pulses there were and are.
 fn followed(
     known: Option<usize>,
     place: Option<Place>,

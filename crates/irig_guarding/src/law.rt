@@ -1,4 +1,5 @@
-//! What holds of states that are safe, and of the script that is printed.
+//! What holds of states that are safe, and of the script that is printed. A state is the pulses of
+//! a session, and the frames in them. A frame reads well if nothing is wrong in it.
 
 ghost use Rattle.irig_guarding.specs.{Guarded.PrintedIsObeyed, Meaning.SafeStatesMean};
 

@@ -8,7 +8,8 @@ ghost use Rattle.irig_script.specs.Obey.Run.{IsPlain};
 use crate::line::Line;
 use std::alloc::{AllocError, Global};
 
-/// The lines of a script, without their newlines. Bytes after the last newline are a line, too.
+/// The lines of a script, without their newlines. Bytes after the last newline are a line, too. It
+/// fails only if memory runs out.
 pub fn lines_of(alloc: Global, script: &[u8]) -> Result<Vec<Line>, AllocError>
     ensures { IfOk result (λ lines. texts lines.items ≡ lines_of script.now) }
 {

@@ -1,8 +1,10 @@
-//! Repairs that are tried, and kept if they are safe. `known` has for each frame of the recording
-//! that read well the marker at which its pulses are known to rise as they did; after an error it
-//! is not used. `before` is the frames that read well before the repair. A `Reason` is why a repair
-//! is not kept: `NoRepair` if it is no edit and no group of edits, `Refused` if the editor refuses
-//! a line, `NotSafe` with the first fault of the frames that it leads to, or `OutOfMemory`.
+//! Repairs that are tried, and kept if they are safe: no frame that read well is lost or becomes
+//! wrong, and each new one is supported by the frames next to it. A repair is an edit, or a group
+//! of edits from `begin` to `end`. `known` has for each frame of the recording that read well the
+//! marker at which its pulses are known to rise as they did; after an error it is not used.
+//! `before` is the frames that read well before the repair. A `Reason` is why a repair is not kept:
+//! `NoRepair` if it is no edit and no group of edits, `Refused` if the editor refuses a line,
+//! `NotSafe` with the first fault of the frames that it leads to, or `OutOfMemory`.
 
 ghost use Rattle.std.specs.Prelude.{◌≡◌, ◌≢◌, ◌∷◌, ◌++◌, [], ℕ, List, None, IfErr, IfOk, OnErr, OnOk};
 ghost use Rattle.irig_edit.specs.{Session.Calls.Call, Session.Session.work_in};

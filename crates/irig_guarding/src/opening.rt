@@ -1,5 +1,5 @@
-//! What is known of a recording as it was opened: its frames that read well, with their markers,
-//! and its pulses.
+//! What is known of a recording as it was opened: its frames that read well, with nothing wrong in
+//! them, their markers, and its pulses. A marker is the pulse with which a frame begins.
 
 ghost use Rattle.std.specs.Prelude.{◌≡◌, IfOk, map};
 ghost use Rattle.std.specs.List.Sorted.{IsNonDecreasingBy};
@@ -12,8 +12,8 @@ use irig_edit::{Pulse, Session};
 use irig_safety::{Original, Terms};
 use std::alloc::{AllocError, Global};
 
-/// What is known of a recording by the session that was opened on it, before any repair, and by
-/// what repairs are judged besides (`terms`).
+/// What is known of a recording by the session that was opened on it, before any repair. `terms`
+/// are by what else repairs are judged: frames of other recordings, and whether frames may move.
 pub fn original_of(alloc: Global, session: &Session, terms: Terms) -> Result<Original, AllocError>
     ensures { IfOk result (λ opened. opened ≡ original_of terms session.now.state) }
 {

@@ -1,4 +1,5 @@
-//! The script that is printed: what is kept, and the rest as comments. All is added to `out`.
+//! The script that is printed: what is kept, and the rest as comments. All is added to `out`. A
+//! frame reads well if nothing is wrong in it. Each function fails only if memory runs out.
 
 ghost use Rattle.std.specs.Prelude.{◌≡◌, ◌++◌, ◌∷◌, [], ℕ, List, OnOk};
 ghost use Rattle.std.specs.List.{AllByRecursion};

@@ -1,4 +1,4 @@
-//! What a run under guard writes, and why it is broken off.
+//! What a run under guard writes, and why it is broken off. A journal is the history of a session.
 
 use irig_script::Status;
 use irig_vcd::VcdFault;

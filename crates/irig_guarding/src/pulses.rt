@@ -25,10 +25,11 @@ use crate::seen::{Seen, is_as_before};
 use irig_edit::Session;
 use irig_safety::{Fault, Original, Shown, Witnesses, frame_at, near_in, rise_or};
 
-/// Whether the pulses of each frame that reads well are where they may be, by the frames at the old
-/// places. If not, the first that is at fault. Those of known frames are not looked at. Both lists
-/// are in rising order, so they are passed together. Former frames after the last frame are not
-/// looked for: `check_safe` did that before.
+/// Whether the pulses of each of `frames`, those that read well now, are where they may be: of one
+/// that begins when a former one does, where they were, and of any other where the recording
+/// supports them (`come`). If not, the first fault. A frame whose pulses are known to be where they
+/// were is not looked at. Both lists are in rising order, so they are passed together. Former
+/// frames after the last of `frames` are not looked for: `check_safe` did that before.
 pub fn check_stand(
     session: &Session,
     opened: &Original,

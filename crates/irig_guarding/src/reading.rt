@@ -1,4 +1,4 @@
-//! The frames of a session that read well.
+//! The frames of a session that read well: they are read, and nothing is wrong in them.
 
 ghost use Rattle.std.specs.Prelude.{◌≡◌, ◌≤◌, ◌-◌, ◌++◌, length, slice_get, Some, IfOk, OnOk};
 ghost use Rattle.irig_index.specs.declared.record.Record.{Record};

@@ -1,4 +1,5 @@
-//! Why a repair is not kept, as a comment that is added to `out`.
+//! Why a repair is not kept, as a comment that is added to `out`. Each function fails only if
+//! memory runs out.
 
 ghost use Rattle.std.specs.Prelude.{◌≡◌, ◌++◌, ◌∷◌, [], OnOk};
 ghost use Rattle.irig_guarding.specs.Reasons.{fault_text, frame_text, reason_line};

@@ -1,8 +1,9 @@
 //! A run under guard on a dump, from the bytes that come in to those that go out. Under guard,
 //! commands that are not safe by `terms` are left out: these have frames of other recordings of the
 //! same code, and say whether frames of the recording may move. The shelf is where the text of the
-//! track is written, as a file. `Kept` is how a run ended: whether all of the script was accepted,
-//! and how many frames have control functions that are not in the recording.
+//! track is written, as a file. A journal is the history of a session, which a dump can have.
+//! `Kept` is how a run ended: whether all of the script was accepted, and how many frames have
+//! control functions that are not in the recording.
 
 ghost use Rattle.std.specs.Prelude.{◌≡◌, ◌≤◌, ◌^◌, ℕ, Err, List, None, Option, length, Ok, IfErr, IfOk};
 ghost use Rattle.std.specs.Prelude.{IfSome, OnErr, OnOk, [], ◌∷◌};

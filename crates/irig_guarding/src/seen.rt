@@ -1,4 +1,5 @@
-//! The frames of a session that read well, with their markers.
+//! The frames of a session that read well, with their markers: they are read, and nothing is wrong
+//! in them. A marker is the pulse with which a frame begins.
 
 ghost use Rattle.std.specs.Prelude.{◌≡◌, ◌≤◌, ◌-◌, ◌++◌, length, map, slice_get, Some, IfOk, IsTrue};
 ghost use Rattle.std.specs.Prelude.{OnOk};
@@ -57,7 +58,7 @@ pub fn shown_of(alloc: Global, session: &Session, seen: &[Seen]) -> Result<Vec<S
     Ok(shown)
 }
 
-/// What some frames show.
+/// What some frames show, in their order, without their markers.
 fn shown_among(alloc: Global, seen: &[Seen]) -> Result<Vec<Shown>, AllocError>
     ensures { IfOk result (λ shown. shown.items ≡ map (λ y. y.shown) seen.now) }
 {

@@ -32,7 +32,8 @@ use irig_gap::Gap;
 use irig_track::{Lens, Span};
 use std::alloc::AllocError;
 
-/// How many markers the lens's track has in this format. Adds the looks that it takes to `looks`.
+/// How many markers the lens's track has in this format: one for each frame, broken or not. Adds
+/// the looks that it takes to `looks`.
 pub fn count_markers(lens: &mut Lens<'_>, looks: &mut u64, format: Format) -> usize
     ensures count { result ≡ length (frames format lens.old.track.pulses) }
     ensures looked { Looked lens.old lens.new looks.old looks.new
@@ -49,8 +50,8 @@ pub fn count_markers(lens: &mut Lens<'_>, looks: &mut u64, format: Format) -> us
 }
 
 /// Puts the records of the markers after the places `from` to `to`, `to` not included, left of the
-/// gap, in order. If there is room for them the buffer does not grow; else it fails if memory runs
-/// out.
+/// gap, in order. If there is room for them the buffer does not grow, and nothing fails; else it
+/// fails only if memory runs out.
 pub fn fill(
     records: &mut Gap<Stored>,
     lens: &mut Lens<'_>,
@@ -193,7 +194,8 @@ pub fn last_place(lens: &Lens<'_>, edit: Span) -> usize
     last.min(edit.at + edit.new)
 }
 
-/// The first place from `from` on, below `to`, with a marker after it; `to` if there is none.
+/// The first place from `from` on, below `to`, with a marker after it; `to` if there is none. Adds
+/// the looks that it takes to `looks`.
 pub fn next_marked(
     lens: &mut Lens<'_>,
     looks: &mut u64,

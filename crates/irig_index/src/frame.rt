@@ -104,7 +104,7 @@ fn check(lens: &mut Lens<'_>, format: Format, at: usize, first: Pulse) -> Verdic
 }
 
 /// The verdict on a frame in which no pulse fails: its fields and their note. `gathered` says of
-/// all 100 elements whether they are One.
+/// all 100 elements, from element 0 on, whether they are One.
 fn read(format: Format, gathered: Gathering) -> Verdict
     ensures verdict { (frame : List Element) → length frame ≡ 100 → raised frame ≡ gathered
         → result ≡ Read (decoded format frame).0 (decoded format frame).1 }

@@ -1,5 +1,6 @@
 //! Records by their place among all, from 0, on whichever side of the gap they are. They are in a
-//! gap buffer: a list with a gap, at which records come and go.
+//! gap buffer: a list with a gap, at which records come and go. A record has a marker, the pulse
+//! with which a frame begins, and the verdict on that frame.
 //!
 //! Records are in rising order of their markers, which are numbers of pulses from 0. Those left of
 //! the gap count from the front of the track; those right of it count from its back, so `pulses`,
@@ -70,8 +71,9 @@ pub fn is_up_to(records: &Gap<Stored>, pulses: usize, k: usize, last: usize) -> 
     k < records.len() && record_at(records, pulses, k).marker() <= last
 }
 
-/// Writes a record over the one at place `k`, from 0. Right of the gap a marker is kept by how many
-/// pulses are from it to the end, so its number is turned there.
+/// Writes a record over the one at place `k`, from 0. The marker of `found` counts from the front.
+/// Right of the gap a marker is kept by how many pulses are from it to the end, so its number is
+/// turned there.
 pub fn set_record(records: &mut Gap<Stored>, pulses: usize, k: usize, found: Stored)
     requires { k < length records.old.items }
     ensures shown { shown pulses records.new ≡ slice_set (shown pulses records.old) k found }

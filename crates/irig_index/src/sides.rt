@@ -1,5 +1,6 @@
 //! The records on both sides of a gap. They are in a gap buffer: a list with a gap, at which
-//! records come and go.
+//! records come and go. A record has a marker, the pulse with which a frame begins, and the verdict
+//! on that frame.
 //!
 //! Records are in rising order of their markers, which are numbers of pulses from 0. Those left of
 //! the gap count from the front of the track; those right of it count from its back, so that an
@@ -177,8 +178,8 @@ fn step_right(records: &mut Gap<Stored>, pulses: usize)
     records.step_right();
 }
 
-/// Inserts a record left of the gap, its marker counted from the front. If there is room the buffer
-/// does not grow; else it fails if memory runs out.
+/// Inserts a record just left of the gap, its marker counted from the front. If there is room the
+/// buffer does not grow, and nothing fails; else it fails only if memory runs out.
 pub fn put(records: &mut Gap<Stored>, found: Stored) -> Result<(), AllocError>
     ensures left { OnOk result (left_of records.new ≡ left_of records.old ++ (found ∷ [])) }
     ensures right { OnOk result (kept_right records.new ≡ kept_right records.old) }

@@ -124,7 +124,7 @@ fn keep(verdict: Verdict) -> Kept
     }
 }
 
-/// The verdict in full, from what is kept of it.
+/// The verdict in full, from what is kept of it: the inverse of `keep`.
 fn verdict(kept: Kept) -> Verdict
     ensures { result ≡ verdict_kept kept }
 {

@@ -1,8 +1,8 @@
 //! What is kept of a step next to its changes.
 //!
-//! A step is one change, or a group of them. A list of steps begins with the farthest from the
-//! present and ends with the nearest, which is undone or redone next. A cursor is a number that the
-//! caller keeps with the state.
+//! A step is what one undo reverses: one change, or a group of them. A list of steps begins with
+//! the farthest from the present and ends with the nearest, which is undone or redone next. A
+//! cursor is a number that the caller keeps with the state.
 
 ghost use Rattle.std.specs.Prelude.{◌≡◌, ◌+◌, ◌<◌, ◌≤◌, ◌^◌, drop, vec_capacity, vec_len};
 ghost use Rattle.irig_journal.specs.Sizes.{counts_of, joined_as};
@@ -31,8 +31,8 @@ pub(crate) fn count_all(entries: &[Entry]) -> usize
 
 /// Makes one group of the steps after the first `at` of the list, which are the nearest ones: it
 /// has all their changes and leads to `cursor`. Only the entries are joined: the changes are in
-/// another list and stay there. It takes no memory: the list has a place (the caller makes one if
-/// no step goes), so `unwrap` finds no error.
+/// another list and stay there. It takes no memory: the list has a place (if no step is joined, the
+/// caller has made one), so `unwrap` finds no error.
 pub(crate) fn join_beyond(entries: &mut Vec<Entry>, at: usize, cursor: usize)
     requires within { at ≤ vec_len entries.old }
     requires place { at < vec_capacity entries.old }

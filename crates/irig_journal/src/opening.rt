@@ -1,4 +1,5 @@
-//! The begin of a group of steps. A cursor is a number that the caller keeps with the state.
+//! The begin of a group of steps, which become one step. A cursor is a number that the caller keeps
+//! with the state. The floor is the begin of the open group: an undo does not go below it.
 
 ghost use Rattle.std.specs.Prelude.{◌↔◌, IsTrue};
 ghost use Rattle.irig_journal.specs.Openings.{AtFloor};
@@ -11,7 +12,7 @@ pub struct Opening {
 }
 
 /// Whether none of the steps of the past, `long` of them, may be undone, since all of them were
-/// made before the open group was begun. It is false if no group is open.
+/// made before the open group was begun. It is false if no group is open (`None`).
 pub(crate) fn is_at_floor(floor: Option<Opening>, long: usize) -> bool
     ensures { IsTrue result ↔ AtFloor floor long }
 {

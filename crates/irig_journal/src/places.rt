@@ -2,8 +2,8 @@
 //!
 //! The past has the steps that can be undone, the future those that can be redone. A place is room
 //! in a list for one item. A side has a list of changes and one of entries, one entry for a step.
-//! Each side has a place for every step of both, as a step can move to the other side. An error is
-//! that memory ran out.
+//! Each side has a place for every step of both, as a step can move to the other side. `prepare`
+//! makes the room in the state. An error is that memory ran out.
 //!
 //! Where `let .. else` hands an error on, `?` would do the same; the proof of it takes longer.
 

@@ -1,5 +1,5 @@
 //! The steps on one side of the present: those that can be undone, or those that can be redone. The
-//! nearest is undone or redone next.
+//! nearest is undone or redone next. A cursor is a number that the caller keeps with the state.
 
 ghost use Rattle.std.specs.Prelude.{◌≡◌, ◌+◌, ◌<◌, ◌≤◌, ◌∷◌, [], vec_capacity, vec_len};
 ghost use Rattle.irig_journal.specs.{Held.Alone, Held.held, Sides.IsWhole, Sides.steps_on};

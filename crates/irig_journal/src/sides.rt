@@ -1,6 +1,6 @@
-//! The steps on both sides of the present, one after another, and past and future changed over. The
-//! past has the steps that can be undone, the future those that can be redone. Each has a list that
-//! ends with the step nearest to the present.
+//! The steps on both sides of the present, one after another, and past and future swapped. The past
+//! has the steps that can be undone, the future those that can be redone. Each has a list that ends
+//! with the step nearest to the present.
 
 ghost use Rattle.std.specs.Prelude.{◌≡◌, ℕ, None, reverse};
 ghost use Rattle.irig_journal.specs.Journal.{AreReady, future_of, machine_of, past_of};
@@ -36,8 +36,8 @@ impl<R: Reversible> Journal<R> {
 
     /// Swaps past and future: what could be undone can be redone, and the other way round. The
     /// oldest step becomes the last one to redo. A session that is opened from a saved journal
-    /// needs it: the steps back are made as edits, undone, and then changed over. This takes no
-    /// memory.
+    /// needs it: the steps back are made as edits, undone, and then swapped. No group may be open.
+    /// This takes no memory.
     pub fn turn_round(&mut self)
         requires no_group { self.old.floor ≡ None }
         ensures past { past_of R.delta self.new ≡ future_of R.delta self.old }

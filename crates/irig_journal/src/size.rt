@@ -1,4 +1,4 @@
-//! How many changes a step has.
+//! How many changes a step has. A step is what one undo reverses, one change or a group of them.
 
 ghost use Rattle.std.specs.Prelude.{◌≡◌};
 ghost use Rattle.irig_journal.specs.Sizes.{count_of, is_group};

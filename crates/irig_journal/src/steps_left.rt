@@ -1,7 +1,8 @@
 //! The steps of one side of a journal, one after another.
 //!
-//! The lists of a side end with the nearest step. The changes of its steps are in one list, and in
-//! another each step has their number and its cursor (`Entry`).
+//! A side is the steps that can be undone, or those that can be redone; the nearest is undone or
+//! redone next. The lists of a side end with the nearest step. The changes of its steps are in one
+//! list, and in another each step has their number and its cursor (`Entry`).
 //!
 //! What is marked "Read for .." does nothing: it only lets the proof use what a type promises.
 
@@ -57,8 +58,8 @@ impl<'j, C> StepsLeft<'j, C> {
     }
 }
 
-/// The first entry if `first`, else the last one; and then all other entries. `None` if there is
-/// no entry.
+/// The first entry if `first`, else the last one; and then all other entries. `None` if there is no
+/// entry.
 fn entry_at_end(entries: &[Entry], first: bool) -> Option<(&Entry, &[Entry])>
     ensures { MatchOption result (entries.now ≡ [])
         (λ p. entries.now ≡ with_end first (p.0.now ∷ []) p.1.now) }

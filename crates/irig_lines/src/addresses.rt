@@ -1,7 +1,8 @@
 //! Addresses, ranges and times of a script, read. A text that is none is a `BadLine`, the only
 //! error of a line. Pulses count from 1, and times are in microseconds. An address is what it
 //! counts from, its base, and an offset, a number of pulses, which may be below 0. The cursor is
-//! the pulse at which a script is.
+//! the pulse at which a script is. A mark is a time that has a letter as its name. `cut` parts a
+//! text before its first sign or comma.
 
 ghost use Rattle.std.specs.Prelude.{◌≡◌, ◌<◌};
 ghost use Rattle.irig_saved.specs.Letters.{letter_word};
@@ -83,7 +84,7 @@ fn at(base: Base) -> Address
     Address { base, offset: 0 }
 }
 
-/// An address, or that of the cursor if there is none.
+/// An address, or that of the cursor if the text is empty.
 pub fn address_or_cursor(text: &[u8]) -> Result<Address, BadLine>
     ensures { Finds (IsAddressOrCursor text.now) result }
 {
@@ -94,8 +95,8 @@ pub fn address_or_cursor(text: &[u8]) -> Result<Address, BadLine>
     }
 }
 
-/// A range: two addresses with a comma between them, or one; that of the cursor if there is none.
-/// `rest` begins with the comma, or is empty if there is none.
+/// A range: two addresses with a comma between them, or one; that of the cursor if the text is
+/// empty. `rest` begins with the comma, or is empty if there is none.
 pub fn range(text: &[u8]) -> Result<Range, BadLine>
     ensures { Finds (IsRange text.now) result }
 {

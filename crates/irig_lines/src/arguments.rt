@@ -1,5 +1,7 @@
 //! The arguments of a line: times, moments, control functions and words that are known. A text that
-//! is none is a `BadLine`, the only error of a line. Times are in microseconds.
+//! is none is a `BadLine`, the only error of a line. A time is a number of microseconds, or that of
+//! a mark, which is a time with a letter as its name. Control functions are bits that a frame
+//! carries for any use.
 
 ghost use Rattle.std.specs.Prelude.{◌≡◌, Some};
 ghost use Rattle.irig_moment.specs.Written.{moment_of};
@@ -23,8 +25,9 @@ pub fn times(arguments: &[u8]) -> Result<(Time, Time), BadLine>
     Ok((time(a)?, time(b)?))
 }
 
-/// The moment that a word is: a day and a time of day, as `2024-001T00:00:00`, in one of the forms
-/// that `Moment::parse` (irig_moment) takes.
+/// The moment that a word is: a day, by its number in the year or by month and day, and a time of
+/// day, as `2024-001T00:00:00` or `2024-01-01T00:00:00`; maybe with hundredths of a second, as
+/// `.50`.
 pub fn moment(word: &[u8]) -> Result<Moment, BadLine>
     ensures { Finds (λ m. moment_of word.now ≡ Some m) result }
 {
@@ -35,7 +38,7 @@ pub fn moment(word: &[u8]) -> Result<Moment, BadLine>
 }
 
 /// The control functions at the end of a line, as a number whose lowest bit is the first; 0 if
-/// there are none. They are one word, the last.
+/// there are none. They are one word, the last, of hexadecimal digits.
 pub fn controls(text: &[u8]) -> Result<u64, BadLine>
     ensures { Finds (AreControls (words_of text.now)) result }
 {
@@ -61,7 +64,8 @@ pub fn kind(word: &[u8]) -> Result<Kind, BadLine>
     kind_named(word).ok_or(BadLine)
 }
 
-/// The number of an expression: one digit 0 to 7. Whether the kind permits it is not tested here.
+/// The number of a coded expression, which says what a frame carries with the time: one digit 0 to
+/// 7. Whether the kind permits it is not tested here.
 pub fn expression(word: &[u8]) -> Result<u8, BadLine>
     ensures { Finds (IsExpression word.now) result }
 {

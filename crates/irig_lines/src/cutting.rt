@@ -18,7 +18,7 @@ pub enum Until {
 }
 
 impl Until {
-    /// Whether a text is cut before the byte.
+    /// Whether a byte is of the kind that `self` names: a text is cut before the first such byte.
     fn is_at(self, byte: u8) -> bool
         ensures { result ≡ is_at self byte }
     {
@@ -44,14 +44,15 @@ pub fn cut(text: &[u8], until: Until) -> (&[u8], &[u8])
     (&text[..at], &text[at..])
 }
 
-/// Whether a byte is white space in a line. A newline is not: it ends the line, and is not in it.
+/// Whether a byte is white space in a line: a space, a tab or a carriage return. A newline is not:
+/// it ends the line, and is not in it.
 pub fn is_space(byte: u8) -> bool
     ensures { result ≡ is_space byte }
 {
     matches!(byte, b' ' | b'\t' | b'\r')
 }
 
-/// Whether a byte is a sign.
+/// Whether a byte is a sign: a plus or a minus.
 pub fn is_sign(byte: u8) -> bool
     ensures { result ≡ is_sign byte }
 {

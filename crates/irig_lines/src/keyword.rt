@@ -1,4 +1,4 @@
-//! The words that lines begin with.
+//! The words that lines begin with. `found` looks a text up in a table of them.
 
 ghost use Rattle.std.specs.Prelude.{◌≡◌};
 ghost use Rattle.irig_lines.specs.Keywords.{keyword_of};
@@ -65,7 +65,7 @@ static WORDS: [(&[u8], Keyword); 24] = [
     (b"quit", Keyword::Quit),
 ];
 
-/// The word that a text is; `Unknown` if it is not a valid word.
+/// The word that a text is; `Missing` if the text is empty, `Unknown` if it is not a valid word.
 pub fn keyword_of(text: &[u8]) -> Keyword
     ensures { result ≡ keyword_of text.now }
 {

@@ -1,4 +1,5 @@
-//! Numbers of a script. A text that is none is a `BadLine`, the only error of a line.
+//! Numbers of a script. A text that is none is a `BadLine`, the only error of a line. Control
+//! functions are bits that a frame carries for any use.
 
 ghost use Rattle.std.specs.Prelude.{◌≡◌, ◌<◌, ◌^◌, IfOk};
 ghost use Rattle.irig_lines.specs.Findings.{Finds};
@@ -14,7 +15,7 @@ const DIGITS_LIMIT: usize = 18;
 /// The most hexadecimal digits of control functions: 48 bits, as no format has more than 45.
 const CONTROL_LIMIT: usize = 12;
 
-/// The number that a word of 1 to 18 digits is.
+/// The number that a word of 1 to 18 decimal digits is. Any other word is a `BadLine`.
 pub fn number(word: &[u8]) -> Result<u64, BadLine>
     ensures read { Finds (IsNumber word.now) result }
     ensures small { IfOk result (λ n. n < 10 ^ 18) }
@@ -65,6 +66,7 @@ pub fn signed(sign: u8, number: u64) -> i64
 }
 
 /// The control functions that a word of 1 to 12 hexadecimal digits is: the lowest bit is the first.
+/// Any other word is a `BadLine`.
 pub fn control(word: &[u8]) -> Result<u64, BadLine>
     ensures { Finds (IsControl word.now) result }
 {

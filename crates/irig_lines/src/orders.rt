@@ -1,10 +1,11 @@
 //! What a word asks for with a range and arguments. `front` is the text before the word, which is a
-//! range, an address or nothing, and `arguments` is the text after it. A word that takes a range
-//! or an address means the cursor's pulse if `front` is empty; the cursor is the pulse at which a
+//! range, an address or nothing, and `arguments` is the text after it. A word that takes a range or
+//! an address means the cursor's pulse if `front` is empty; the cursor is the pulse at which a
 //! script is. `BadLine`, the only error of a line, says that `front` or `arguments` is not valid
 //! for the word. A time is a number of microseconds, or that of a mark, which is a time with a
 //! letter as its name. Pulses count from 1. Only the form of a line is tested here, not whether its
-//! pulses are there, its marks are set or its times are in order.
+//! pulses are there, its marks are set or its times are in order. `one_word` and `two_words` give
+//! the words of a text if it has just that many.
 //!
 //! Where `let Ok(..) else` returns `BadLine`, `?` would do the same; the proof of it takes longer.
 
@@ -19,7 +20,7 @@ use crate::numbers::{distance, number};
 use crate::range::Range;
 use crate::words::{no_word, one_word, split_word, two_words};
 
-/// `Ok` if there is no range before the word.
+/// `Ok` if there is no range before the word; `BadLine` if there is one.
 pub fn no_range(front: &[u8]) -> Result<(), BadLine>
     ensures ok { OnOk result (front.now ≡ []) }
     ensures err { OnErr result (front.now ≡ [] → ⊥) }
@@ -31,8 +32,8 @@ pub fn no_range(front: &[u8]) -> Result<(), BadLine>
     }
 }
 
-/// What the address `front` asks for if no word is after it: to show its pulse. An empty `front` is
-/// a `BadLine` here; a line of nothing does not come.
+/// What the address `front` asks for if no word is after it: to show its pulse. An empty `front`
+/// would be a `BadLine`, but a line with neither asks for nothing and does not come here.
 pub fn show(front: &[u8]) -> Result<Command, BadLine>
     ensures { Finds (Asks Keyword.Missing front.now []) result }
 {
@@ -61,7 +62,7 @@ pub fn join(front: &[u8], arguments: &[u8]) -> Result<Command, BadLine>
 }
 
 /// What the range `front` and the arguments of `shift` ask for: to move its pulses by a distance in
-/// microseconds, which may be below 0.
+/// microseconds, to earlier times if it is below 0.
 pub fn shift(front: &[u8], arguments: &[u8]) -> Result<Command, BadLine>
     ensures { Finds (Asks Keyword.Shift front.now (words_of arguments.now)) result }
 {
@@ -149,8 +150,8 @@ pub fn unmark(front: &[u8], arguments: &[u8]) -> Result<Command, BadLine>
     Ok(Command::Unmark(letter(name)?))
 }
 
-/// What the arguments of `regen` ask for, if there is no range: frames, as `frames` below reads
-/// them.
+/// What the arguments of `regen` ask for, if there is no range: to generate frames, as `frames`
+/// below reads them.
 pub fn regen(front: &[u8], arguments: &[u8]) -> Result<Command, BadLine>
     ensures { Finds (Asks Keyword.Regen front.now (words_of arguments.now)) result }
 {
@@ -160,7 +161,8 @@ pub fn regen(front: &[u8], arguments: &[u8]) -> Result<Command, BadLine>
     frames(arguments)
 }
 
-/// The range `front` before a word that takes no argument; `BadLine` if there is one.
+/// The range `front` before a word that takes no argument; `BadLine` if the range is not valid, or
+/// an argument is there.
 fn ranged(front: &[u8], arguments: &[u8]) -> Result<Range, BadLine>
     ensures { Finds (λ r. IsRange front.now r × (words_of arguments.now ≡ [])) result }
 {

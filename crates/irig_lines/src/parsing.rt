@@ -1,4 +1,7 @@
-//! Lines of a script as commands. `BadLine`, the only error of a line, says that it is not valid.
+//! Lines of a script as commands. A line is a range of pulses, a word and the arguments of the
+//! word. For each word that takes any of the others a function of its own says what it asks for, as
+//! `delete`. `cut` parts a text before the first byte that is no white space (`Text`). `BadLine`,
+//! the only error of a line, says that it is not valid.
 //!
 //! Where `let Ok(..) else` returns `BadLine`, `?` would do the same; the proof of it takes longer.
 
@@ -32,7 +35,7 @@ pub fn parse_line(line: &[u8]) -> Result<Command, BadLine>
     }
 }
 
-/// Whether a text is empty, or a comment.
+/// Whether a text asks for nothing: it is empty, or a comment, which begins with `#`.
 fn is_nothing(text: &[u8]) -> bool
     ensures { result ≡ is_nothing text.now }
 {
@@ -40,7 +43,7 @@ fn is_nothing(text: &[u8]) -> bool
 }
 
 /// What a text asks for that begins with no white space: it is a range, a word and arguments, each
-/// of which may be missing.
+/// of which may be missing. `BadLine` if it is not valid.
 fn in_text(text: &[u8]) -> Result<Command, BadLine>
     ensures { Finds (λ c. Orders c text.now) result }
 {
@@ -74,8 +77,9 @@ fn ends_range(quoted: bool, byte: u8) -> bool
     is_space(byte) || !quoted && byte.is_ascii_lowercase()
 }
 
-/// What a range (`front`), a word and the arguments after it ask for. `Missing` is no word. The
-/// words that are not named here are those that are alone in a line.
+/// What a range (`front`), a word and the arguments after it ask for. `Missing` is no word: the
+/// range is then the address of a pulse to be shown. The words that are not named here are those
+/// that are alone in a line.
 fn asked(front: &[u8], word: Keyword, arguments: &[u8]) -> Result<Command, BadLine>
     ensures { Finds (Asks word front.now (words_of arguments.now)) result }
 {
@@ -98,7 +102,7 @@ fn asked(front: &[u8], word: Keyword, arguments: &[u8]) -> Result<Command, BadLi
     }
 }
 
-/// What a word asks for that takes neither a range nor an argument.
+/// What a word asks for that takes neither a range nor an argument; `BadLine` if there is one.
 fn asked_alone(front: &[u8], word: Keyword, arguments: &[u8]) -> Result<Command, BadLine>
     requires { IsAlone word }
     ensures { Finds (Asks word front.now (words_of arguments.now)) result }

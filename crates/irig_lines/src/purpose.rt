@@ -27,7 +27,7 @@ pub enum Purpose {
 }
 
 impl Command {
-    /// What the command is for.
+    /// What the command is for, as `Purpose` says of each kind of command.
     pub fn purpose(&self) -> Purpose
         ensures { result ≡ purpose_of self.now }
     {

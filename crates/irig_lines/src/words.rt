@@ -1,5 +1,6 @@
 //! The words of a line, between white space. A text with more or fewer words than asked for is a
-//! `BadLine`, the only error of a line.
+//! `BadLine`, the only error of a line. `cut` parts a text before the first byte that is white
+//! space (`Blank`), or is none (`Text`).
 
 ghost use Rattle.std.specs.Prelude.{◌≡◌, ℕ, List, [], ◌∷◌, IfOk, OnOk, OnErr};
 ghost use Rattle.irig_lines.specs.Words.{words_of, word_and, before, onward};
@@ -19,7 +20,7 @@ pub fn split_word(text: &[u8]) -> (&[u8], &[u8])
     cut(text, Until::Blank)
 }
 
-/// `Ok` if a text has no word.
+/// `Ok` if a text has no word, but for white space; else `BadLine`.
 pub fn no_word(text: &[u8]) -> Result<(), BadLine>
     ensures ok { OnOk result (words_of text.now ≡ []) }
     ensures err { OnErr result (words_of text.now ≡ [] → ⊥) }

@@ -13,7 +13,7 @@ use jiff_core::civil::{Date, days_in_month, days_in_year};
 /// frames after a moment have days, too.
 const LAST_YEAR: u32 = 9_998;
 
-/// The day number of 1 January of a year from 1 to 9999.
+/// The day number of 1 January of a year from 1 to 9999, as jiff gives it.
 fn new_year(year: u32) -> u32
     requires low { 1 ≤ year }
     requires high { year ≤ 9999 }

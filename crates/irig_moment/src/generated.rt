@@ -1,7 +1,9 @@
 //! The fields of frames that are generated.
 //!
-//! A day is a number of days after the first one of jiff's calendar; jiff is a library of dates. A
-//! field that the format does not carry is `None`.
+//! A day is a number of days after the first one of the calendar of jiff, a library of dates. A
+//! field that the format does not carry is `None`. Straight binary seconds are the second of the
+//! day as one number, and control functions are bits for any use. `year_and_place` gives the year
+//! of a day, and its place in that year, from 1.
 
 ghost use Rattle.std.specs.Prelude.{◌≡◌, ◌+◌, ◌%◌, ◌^◌, ◌≤◌, ◌<◌, IsTrue};
 ghost use Rattle.irig_codes.specs.{Format.control_count_of, Fields.fits_in};

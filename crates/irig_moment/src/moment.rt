@@ -1,7 +1,11 @@
 //! Moments: a day and a time of day, to hundredths of a second.
 //!
-//! A day is a number of days after the first one of jiff's calendar (a library of dates); a day has
-//! 8,640,000 hundredths of a second, without leap seconds.
+//! A day is a number of days after the first one of the calendar of jiff, a library of dates; a day
+//! has 8,640,000 hundredths of a second, without leap seconds. The period of a format is how long a
+//! frame takes, in hundredths of a second. A control element carries one bit for any use.
+//! `has_form` says whether a text has a form, `ordinal_date` and `civil_date` give the day that is
+//! in it, and `time` and `fine_time` the hundredths of a second since midnight; `None` if there is
+//! no such day or time.
 
 ghost use Rattle.std.specs.Prelude.{◌≡◌, ◌<◌, ◌^◌, IsTrue, IfSome};
 ghost use Rattle.irig_codes.specs.{Format.control_count_of, Fields.fits_in};

@@ -39,8 +39,8 @@ fn fits_form(form: u8, byte: u8) -> bool
     }
 }
 
-/// The number that `count` decimal digits from a place of a text on make. They are at most four, so
-/// it fits.
+/// The number that `count` decimal digits from a place of a text on make, each of which must be a
+/// digit. They are at most four, so it fits.
 pub fn number(text: &[u8], place: usize, count: usize) -> u32
     requires few { count ≤ 4 }
     requires there { place + count ≤ length text.now }

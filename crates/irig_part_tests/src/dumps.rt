@@ -1,6 +1,7 @@
 //! Dumps and what they say, texts and what is read of them. Lengths and edges are in microseconds.
-//! The parts of a dump are its recording and its journal, if a comment holds one. `wire` is the
-//! reference or the code that is asked for; without one it is the one wire of one bit.
+//! The parts of a dump are its recording and its journal, if a comment holds one. A journal is the
+//! history of a session as text. `wire` is the reference (the name) or the code of the wire that is
+//! asked for; without one it is the one wire of one bit.
 
 ghost use Rattle.std.specs.Prelude.{◌≤◌, ◌^◌, length};
 
@@ -48,7 +49,7 @@ fn is_fault(told: VcdFault, want: &Wanted) -> bool {
     }
 }
 
-/// Whether a dump is read as is wanted. It is short.
+/// Whether a dump, of at most 2^28 bytes, is read as is wanted.
 fn is_read(alloc: Global, dump: &[u8], wire: Option<&[u8]>, want: &Wanted) -> bool
     requires { length dump.now ≤ 2 ^ 28 }
 {
@@ -58,8 +59,7 @@ fn is_read(alloc: Global, dump: &[u8], wire: Option<&[u8]>, want: &Wanted) -> bo
     }
 }
 
-/// Whether a dump is read with its parts as is wanted, and has no journal. It is short:
-/// `read_parts` takes at most 2^28 bytes.
+/// Whether a dump, of at most 2^28 bytes, is read with its parts as is wanted, and has no journal.
 fn is_read_alone(alloc: Global, dump: &[u8], wire: Option<&[u8]>, want: &Wanted) -> bool
     requires { length dump.now ≤ 2 ^ 28 }
 {

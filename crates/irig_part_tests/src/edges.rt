@@ -1,4 +1,5 @@
-//! Edges, and the pulses and the tracks that have them. An error is that memory ran out.
+//! Edges, and the pulses and the tracks that have them. An edge is the time of a rise or a fall, in
+//! microseconds; a track is pulses and a length. An error is that memory ran out.
 
 use irig_gap::Gap;
 use irig_recording::{Pulse, Recording};

@@ -1,6 +1,7 @@
-//! Calls of a journal over the stack, with what each answers and leaves, worked out by hand. The
-//! journal keeps steps back and forward; each turn of a step makes one change to the stack. The
-//! cursor is a number that each step keeps and gives back.
+//! Calls of a journal over a stack of bytes, with what each answers and leaves, worked out by hand.
+//! An edit pushes a byte or pops one. The journal keeps steps back and forward: to turn a step is
+//! to make its change to the stack, and to keep the change that leads back. The cursor is a number
+//! that each step keeps and gives back.
 //!
 //! That a journal is ready at a stack, as the contracts ask, says that its steps fit the stack. A
 //! group is steps from `begin` to `end`, which become one step; `abort` undoes them instead.
@@ -17,8 +18,8 @@ use irig_journal::{Journal, JournalFault, Reversible};
 use std::alloc::Global;
 use std::process::Abort;
 
-/// What a user asks for: an edit with the cursor that it leaves, a move of the cursor, a step back
-/// or forward, or the begin or one of the two ends of a group.
+/// What a user asks for: an edit with the cursor that it leaves (of a push the byte comes first), a
+/// move of the cursor, a step back or forward, or the begin or one of the two ends of a group.
 #[derive(Clone, Copy)]
 enum Call {
     Push(u8, usize),
@@ -52,7 +53,8 @@ type Row = (
     (u128, u128),
 );
 
-/// Undoes, redoes or groups steps, over any state.
+/// Undoes, redoes or groups steps, over any state. An edit or a move, which does not come here,
+/// does nothing.
 fn step<R: Reversible>(
     journal: &mut Journal<R>,
     state: &mut R,
@@ -74,7 +76,8 @@ fn step<R: Reversible>(
     }
 }
 
-/// Makes a change if it applies, over any state.
+/// Makes a change if it applies, over any state, as a step that keeps the cursor before it; the
+/// cursor is `after` then. `Unfit` if it does not apply: nothing changes.
 fn make<R: Reversible>(
     journal: &mut Journal<R>,
     state: &mut R,
@@ -95,7 +98,7 @@ fn make<R: Reversible>(
     reply_to(journal.record(state, change, before))
 }
 
-/// The reply for an answer.
+/// The reply for what the journal answers: `Done`, or that it refused the call and why.
 fn reply_to(answer: Result<(), JournalFault>) -> Reply {
     match answer {
         Ok(()) => Reply::Done,
@@ -105,7 +108,7 @@ fn reply_to(answer: Result<(), JournalFault>) -> Reply {
 
 /// Obeys a call: an edit (`make`), a move of the cursor to a place, or any other (`step`). An edit
 /// leaves the cursor `after`, and its step keeps the one before it. One that does not apply is
-/// `Unfit`. `step` does nothing for edits and moves, which do not reach it.
+/// `Unfit`.
 fn obey(journal: &mut Journal<Stack>, stack: &mut Stack, cursor: &mut usize, call: Call) -> Reply
     requires { AreReady CanEdit edited (λ d. d) (HasPlaceFor (vec_capacity stack.old.items))
         stack.old.items.items journal.old }
@@ -160,7 +163,8 @@ fn are_answered(journal: &mut Journal<Stack>, stack: &mut Stack, rows: &[Row]) -
     true
 }
 
-/// Obeys the calls of rows from an empty stack on.
+/// Obeys the calls of rows from an empty stack on. The test fails if one does not answer or leave
+/// what its row says.
 fn check(rt: &impl Abort, alloc: Global, rows: &[Row]) {
     let mut stack = Stack {
         items: Vec::new(alloc),

@@ -23,8 +23,8 @@ const DAY: Fields = Fields {
     control: None,
 };
 
-/// Whether frame k, from 0 at the moment, has these fields. The calls need a frame that begins
-/// there, and no row has more than 10,000.
+/// Whether frame k, from 0 at the moment, has these fields; 0 is no control function set. The calls
+/// need a frame that begins there, and no row has more than 10,000.
 fn has_fields(moment: Moment, format: Format, k: u64, fields: &Fields) -> bool {
     moment.starts(format) && k < 10_000 && moment.fields(format, k, 0) == *fields
 }

@@ -40,7 +40,7 @@ pub fn patch(session: &mut Session, before: &Recording, after: &Recording) -> Re
 }
 
 /// Inverts the level in each of the stretches that are left, each as a step. It stops at the first
-/// that is refused.
+/// that is refused, by E5 or E11.
 fn invert_all(session: &mut Session, left: &mut Differences<'_>) -> Result<(), Refusal>
     requires track { RisesFrom 0 (edges_of session.old.state.pulses) }
     requires left { AreStretches session.old.state.micros left.old }

@@ -4,8 +4,8 @@
 
 ghost use Rattle.std.specs.Prelude.{◌≡◌, ◌≤◌, ◌+◌, ◌++◌, ◌∷◌, length, drop, decimal};
 
-/// Writes a text so that it ends at `end`, and gives where it starts. There is room for it before
-/// `end`.
+/// Writes a text so that it ends at `end`, and gives where it starts. There is room for it: `end`
+/// is at least its length.
 #[inline(always)]
 pub fn write_text(bytes: &mut [u8], end: usize, text: &[u8]) -> usize
     requires { (length text.now ≤ end) × (end ≤ length bytes.old) }
@@ -18,9 +18,9 @@ pub fn write_text(bytes: &mut [u8], end: usize, text: &[u8]) -> usize
     start
 }
 
-/// Writes a number in decimal and a space so that they end at `end`, and gives where they start. A
-/// number has at most 20 digits, so 21 bytes before `end` have to be there. `write_digits` gives
-/// where the digits start that end before the space.
+/// Writes a number in decimal and a space after it so that they end at `end`, and gives where the
+/// number starts. It has at most 20 digits, so 21 bytes before `end` have to be there.
+/// `write_digits` gives where the digits start that end before the space.
 #[inline(always)]
 pub fn write_number(bytes: &mut [u8], end: usize, number: u64) -> usize
     requires { (21 ≤ end) × (end ≤ length bytes.old) }

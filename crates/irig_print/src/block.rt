@@ -1,4 +1,4 @@
-//! Output in blocks.
+//! Output in blocks: what is printed is held back until a block is full, and then written at once.
 
 ghost use Rattle.std.specs.Prelude.{◌≡◌, ◌≤◌, ◌+◌, ◌++◌, [], OnOk, OnErr, length, take};
 ghost use Rattle.irig_print.specs.Blocks.{Sends};
@@ -39,7 +39,8 @@ impl Block {
         }
     }
 
-    /// Writes what is held back. After that the block is empty, also on an error.
+    /// Writes what is held back. An error says that this write failed. After that the block is
+    /// empty, also on an error.
     pub fn flush<W: Write>(&mut self, out: &mut W) -> Result<(), PrintFault>
         ensures empty { self.new ≡ [] }
         ensures printed { Prints (W.contents out.old) (W.contents out.new) self.old result }
@@ -49,9 +50,9 @@ impl Block {
         put_all(out, &self.bytes[..len])
     }
 
-    /// Takes a text of at most 256 bytes, and writes what is held back first if there is no room.
-    /// After that the block is empty, so there is room. An error says that this write failed: then
-    /// the text is not taken.
+    /// Takes a text of at most 256 bytes, the length of a line. If there is no room for it, what is
+    /// held back is written first: after that the block is empty, so there is room. An error says
+    /// that this write failed: then the text is not taken.
     pub fn put<W: Write>(&mut self, out: &mut W, text: &[u8]) -> Result<(), PrintFault>
         requires { length text.now ≤ 256 }
         ensures ok { OnOk result (Sends

@@ -1,6 +1,7 @@
-//! The line that the command `frames` prints of a record. A row is a line of at most 256 bytes
-//! while it is put together; each function writes at its end, and its condition says how much is in
-//! it before, so that there is room.
+//! The line that the command `frames` prints of a record. A record is a frame that was found: its
+//! marker, which is the pulse with which it begins, and what is reported of it. A row is a line of
+//! at most 256 bytes while it is put together; each function writes at its end, and its condition
+//! says how much is in it before, so that there is room.
 
 ghost use Rattle.std.specs.Prelude.{◌≡◌, ◌≤◌, ◌+◌, ◌++◌, length};
 ghost use Rattle.irig_print.specs.FrameLine.{cause_word, name_word, note_text, time_text};
@@ -11,8 +12,8 @@ use crate::row::Row;
 use irig_codes::{Fields, Name, Note};
 use irig_index::{Cause, Verdict};
 
-/// Writes why a frame is broken at an element: the pulses end, its pulse is not in step, or its
-/// width is of no class that may be there.
+/// Writes why a frame is broken at an element: there is no such pulse, it does not rise one
+/// interval after the one before it, or its width is of no class that may be there.
 fn put_cause(row: &mut Row, cause: Cause)
     requires room { length row.old ≤ 249 }
     ensures text { row.new ≡ row.old ++ cause_word cause }
@@ -25,7 +26,7 @@ fn put_cause(row: &mut Row, cause: Cause)
     }
 }
 
-/// Writes the name of a field.
+/// Writes the name of a field of a frame's time.
 fn put_name(row: &mut Row, name: Name)
     requires room { length row.old ≤ 240 }
     ensures text { row.new ≡ row.old ++ name_word name }
@@ -63,7 +64,7 @@ fn put_note(row: &mut Row, note: Note)
     }
 }
 
-/// Writes the hundredths of a second if a format has them.
+/// Writes a point and the hundredths of a second with two digits, if the format has them.
 fn put_hundredths(row: &mut Row, hundredths: Option<u32>)
     requires room { length row.old ≤ 240 }
     ensures text { row.new ≡ row.old ++ hundredths_text hundredths }
@@ -75,7 +76,7 @@ fn put_hundredths(row: &mut Row, hundredths: Option<u32>)
     }
 }
 
-/// Writes hours, minutes and seconds, each with two digits.
+/// Writes hours, minutes and seconds, each with two digits, as `12:34:56`.
 fn put_clock(row: &mut Row, fields: &Fields)
     requires room { length row.old ≤ 200 }
     ensures text { row.new ≡ row.old ++ clock_text fields.now }
@@ -88,7 +89,7 @@ fn put_clock(row: &mut Row, fields: &Fields)
     row.put_padded(2, fields.seconds);
 }
 
-/// Writes the day of the year, with three digits, and the time of day.
+/// Writes the day of the year, with three digits, and the time of day, as `061 12:34:56`.
 pub fn put_time(row: &mut Row, fields: &Fields)
     requires room { length row.old ≤ 80 }
     ensures text { row.new ≡ row.old ++ time_text fields.now }
@@ -100,7 +101,8 @@ pub fn put_time(row: &mut Row, fields: &Fields)
     put_hundredths(row, fields.hundredths);
 }
 
-/// Writes the parts that only some expressions carry: year, seconds of the day, control functions.
+/// Writes the parts that only some expressions carry, each after its name: the year with two
+/// digits, the second of the day (`sbs`), and the control functions in hexadecimal.
 fn put_parts(row: &mut Row, fields: &Fields)
     requires room { length row.old ≤ 140 }
     ensures text { row.new ≡ row.old ++ parts_text fields.now }

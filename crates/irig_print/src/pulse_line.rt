@@ -30,8 +30,9 @@ pub fn write_pulse(bytes: &mut [u8], end: usize, format: Format, number: u64, pu
 }
 
 /// Writes the word of a class and a newline so that they end at `end`, and gives where they start.
-/// All eight bytes of `letters` are written; the word is those from `start` on, and what comes
-/// before it in the line is written over the others.
+/// A class is the element that a width means, `None` if it is bad. All eight bytes of `letters` are
+/// written; the word is those from `start` on, and what comes before it in the line is written over
+/// the others.
 #[inline(always)]
 fn write_class(bytes: &mut [u8], end: usize, class: Option<Element>) -> usize
     requires { (9 ≤ end) × (end ≤ length bytes.old) }

@@ -1,4 +1,5 @@
-//! What is reported of a frame, in a block.
+//! What is reported of a frame, in a block: at which element it is broken and why, or its time and
+//! what is noted of it.
 
 ghost use Rattle.std.specs.Prelude.{◌≡◌, ◌++◌, OnOk};
 ghost use Rattle.irig_print.specs.FrameLine.{verdict_text};

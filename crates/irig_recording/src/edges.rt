@@ -62,7 +62,8 @@ impl Edges {
         self.is_open
     }
 
-    /// Whether there are more edges than a recording of at most `most` pulses may have.
+    /// Whether there are more edges than a recording of at most `most` pulses may have, which is
+    /// two for each pulse.
     pub fn is_full(&self, most: usize) -> bool
         ensures { IsTrue result ↔ (2 * most < length self.now) }
     {
@@ -73,8 +74,8 @@ impl Edges {
         }
     }
 
-    /// Whether two edges more may be added: then at most one more is kept than a recording of at
-    /// most `most` pulses may have. False from that many pulses on.
+    /// Whether two edges more may be added: with them there are at most 2 * `most` + 1, one more
+    /// than a recording of at most `most` pulses may have. False from that many pulses on.
     #[inline(always)]
     pub fn has_room(&self, most: usize) -> bool
         ensures { result ≡ true ↔ (length self.now + 2 ≤ edges_kept most) }
@@ -115,8 +116,8 @@ impl Edges {
         Ok(())
     }
 
-    /// The pulses of the edges, in the same block: none is copied. The last edge has to be a fall.
-    /// The gap of the buffer is after them all.
+    /// The pulses of the edges, in the same block: none is copied. The last edge, if there is one,
+    /// has to be a fall. The gap of the buffer is after them all.
     pub fn into_pulses(self) -> Gap<Pulse>
         requires { is_even_long self ≡ true }
         ensures edges { edges_of result.items ≡ self }

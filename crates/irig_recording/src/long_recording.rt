@@ -1,6 +1,6 @@
-//! A length and the pulses of a level that are only read, so that there may be many. The pulses are
-//! in a gap buffer, a list with a place where items come and go. Here the place is always after all
-//! pulses.
+//! A length and the pulses of a level that are only read, so that there may be many. An edge is a
+//! time at which the level changes, the rise or the fall of a pulse. The pulses are in a gap
+//! buffer, a list with a place where items come and go. Here the place is always after all pulses.
 
 ghost use Rattle.std.specs.Prelude.{◌≡◌, ◌≤◌, ◌^◌, ◌*◌, ◌+◌, length};
 ghost use Rattle.irig_recording.specs.Pulses.{edges_of};
@@ -40,8 +40,8 @@ impl Model for LongRecording {
 
 impl LongRecording {
     /// The recording of a length and pulses, both in microseconds. The caller knows that they make
-    /// one: no limit is tested here. The place must be after all pulses, and their block not much
-    /// larger than they need.
+    /// one: no limit is tested here. The place must be after all pulses, and their block have room
+    /// for at most twice their number and 1024.
     pub fn from_parts(micros: u64, pulses: Gap<Pulse>) -> LongRecording
         requires lawful { IsLongRecording micros (edges_of pulses.items) }
         requires place { pulses.place ≡ length pulses.items }

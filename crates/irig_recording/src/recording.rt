@@ -1,5 +1,6 @@
-//! A length and the pulses of a level. The pulses are in a gap buffer, a list with a place where
-//! items come and go. Here the place is always after all pulses.
+//! A length and the pulses of a level. An edge is a time at which the level changes, the rise or
+//! the fall of a pulse. The pulses are in a gap buffer, a list with a place where items come and
+//! go. Here the place is always after all pulses.
 
 ghost use Rattle.std.specs.Prelude.{◌≡◌, ◌≤◌, ◌↔◌, ◌^◌, IsTrue, IsSome, IfOk, IfSome, OnErr, true};
 ghost use Rattle.std.specs.Prelude.{length, ◌≢◌, ◌*◌, ◌+◌, []};
@@ -58,8 +59,8 @@ impl Recording {
     }
 
     /// The recording of a length and pulses, both in microseconds. The caller knows that they make
-    /// one: no limit is tested here. The place must be after all pulses, and their block not much
-    /// larger than they need.
+    /// one: no limit is tested here. The place must be after all pulses, and their block have room
+    /// for at most twice their number and 1024.
     pub fn from_parts(micros: u64, pulses: Gap<Pulse>) -> Recording
         requires lawful { IsRecording micros (edges_of pulses.items) }
         requires place { pulses.place ≡ length pulses.items }
@@ -87,8 +88,8 @@ impl Recording {
         &self.pulses
     }
 
-    /// The pulses, in order, without a copy, and the place after them all. Their block is not much
-    /// larger than they need.
+    /// The pulses, in order, without a copy, and the place after them all. Their block has room for
+    /// at most twice their number and 1024.
     pub fn into_pulses(self) -> Gap<Pulse>
         ensures exact { edges_of result.items ≡ self.edges }
         ensures place { result.place ≡ length result.items }
@@ -99,7 +100,8 @@ impl Recording {
     }
 }
 
-/// The pulses of an even number of edges that rise, two for each. It fails only if memory runs out.
+/// The pulses of an even number of edges that rise, in microseconds: each two are the rise and the
+/// fall of one. It fails only if memory runs out.
 fn pulses_of(alloc: Global, edges: &[u64]) -> Result<Gap<Pulse>, AllocError>
     requires few { length edges.now ≤ 2 ^ 23 }
     requires even { is_even_long edges.now ≡ true }

@@ -22,7 +22,7 @@ use std::marker::Model;
 /// Writes the text of a dump, edge by edge, after the bytes of a text that the caller has. `last`
 /// is the last time that was written, in microseconds; lines are made in `line`, or in `pulse`,
 /// which keeps those of the last pulse. In `line` a time ends before byte 21, from 0, and a
-/// newline, the level, the code and a newline are the bytes 21 to 24.
+/// newline, the level, the code (`!`) and a newline are the bytes 21 to 24.
 #[derive(Drop)]
 pub struct TextWriter {
     line: [u8; 48],
@@ -163,7 +163,7 @@ fn share_front(rise: u64, fall: u64) -> bool
     10000 <= rise && rise < 1_000_000_000_000_000 && rise / 10000 == fall / 10000
 }
 
-/// Whether the first pulse rises at 0.
+/// Whether the first pulse rises at 0; false if there is no pulse.
 fn begins_high(pulses: &Gap<Pulse>) -> bool
     ensures { result ≡ begins_high (edges_of pulses.now.items) }
 {
@@ -188,9 +188,9 @@ fn put_header(text: &mut Vec<u8>, high: bool) -> Result<(), AllocError>
 }
 
 /// Writes the two lines of an edge, in microseconds, by the buffer `line`: the time ends before
-/// byte 21, from 0, and the bytes 21 to 24 are a newline, the level, the code and a newline. A
-/// fixed number of bytes, 25, is added to the text, which is fast, and those after the lines are
-/// removed.
+/// byte 21, from 0, and the bytes 21 to 24 are a newline, the level (`high` is 1), the code and a
+/// newline. A fixed number of bytes, 25, is added to the text, which is fast, and those after the
+/// lines are removed.
 #[inline(always)]
 fn put_lines(text: &mut Vec<u8>, line: &mut [u8], edge: u64, high: bool) -> Result<(), AllocError>
     requires room { 48 ≤ length line.old }

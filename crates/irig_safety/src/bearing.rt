@@ -126,7 +126,7 @@ pub fn periods(format: Format, one: &Shown, other: &Shown) -> u128
     clock_after(one, other).saturating_sub(clock(&one.fields)) / period
 }
 
-/// Whether the first time is in second 60 of a minute, and the second one in that minute before it.
+/// Whether `one` is in second 60 of a minute, and `other` in an earlier second of that minute.
 fn goes_back(one: &Fields, other: &Fields) -> bool
     ensures { result ≡ goes_back one.now other.now }
 {
@@ -182,7 +182,7 @@ pub fn stray(format: Format, one: &Shown, other: &Shown) -> u128
 
 /// How much a frame may stray from another: half an interval, up to which a pulse is nearest to its
 /// own place, and a thousandth of the distance, for a clock that is off. Both are this project's
-/// own. The answer is in two-thousandths of a microsecond, so that nothing is divided.
+/// own. The answer is in units of 1/2000 of a microsecond, so that nothing is divided.
 fn slack(format: Format, one: &Shown, other: &Shown) -> u128
     ensures value { result ≡ slack format one.now other.now }
 {
@@ -191,7 +191,7 @@ fn slack(format: Format, one: &Shown, other: &Shown) -> u128
 
 /// Whether two frames are so far from each other that their distance does not say how many frame
 /// periods it is: they may stray by half a period or more, which is so from 495 periods on. Both
-/// sides are in two-thousandths of a microsecond, as `slack` is.
+/// sides are in units of 1/2000 of a microsecond, as `slack` is.
 pub fn is_far(format: Format, one: &Shown, other: &Shown) -> bool
     ensures { result ≡ is_far format one.now other.now }
 {
@@ -234,10 +234,10 @@ pub fn agrees(format: Format, one: &Shown, other: &Shown) -> bool
     !is_far(format, one, other) && is_shown(format, one, other)
 }
 
-/// Whether `from` and `frame` stray by half an interval more than `one` and `other` at most. `one`
-/// and `other` are the frames on both sides of a stretch, `from` and `frame` the ends of a part of
-/// it: a part strays no more than the whole. True if the distance of `one` and `other` does not fit
-/// their times: then it says nothing.
+/// Whether the stray of `from` and `frame` is no more than that of `one` and `other` and half an
+/// interval. `one` and `other` are the frames on both sides of a stretch, `from` and `frame` the
+/// ends of a part of it: a part strays no more than the whole. True if the distance of `one` and
+/// `other` does not fit their times: then it says nothing.
 pub fn is_within(format: Format, one: &Shown, other: &Shown, from: &Shown, frame: &Shown) -> bool
     ensures { result ≡ is_within format one.now other.now from.now frame.now }
 {

@@ -18,9 +18,10 @@ use crate::bearing::{apart, distance, is_later, is_shown, periods, stray};
 use crate::shown::Shown;
 use irig_codes::Format;
 
-/// Whether two frames agree, and so show by how much the clock is off. It is a fortieth at most:
-/// more can be a step between them, at which the recorder lost something or has it twice. If one is
-/// the next after the other it is 8 in 100 at most, since then all pulses between them are in step.
+/// Whether two frames agree, and so show by how much the clock is off, and that is a fortieth at
+/// most: more can be a step between them, at which the recorder lost something or has it twice. If
+/// one is the next after the other it is 8 in 100 at most, since then all pulses between them are
+/// in step.
 pub fn shows_clock(format: Format, one: &Shown, other: &Shown) -> bool
     ensures { result ≡ shows_clock format one.now other.now }
 {

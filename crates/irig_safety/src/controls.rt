@@ -1,7 +1,7 @@
 //! The control functions of a frame, which its time does not decide. Each is one bit, carried by
 //! one element. Functions and elements count from 0. Former frames are those of the recording that
-//! read well when it was opened. `Witnesses` are the frames next to a place: `before2` and `before`
-//! before it, the nearer one last, `after` and `after2` after it.
+//! read well, with nothing wrong in them, when it was opened. `Witnesses` are the frames next to a
+//! place: `before2` and `before` before it, the nearer one last, `after` and `after2` after it.
 
 ghost use Rattle.std.specs.Prelude.{◌≡◌, ◌<◌, ◌≤◌};
 ghost use Rattle.irig_codes.specs.Format.{control_count_of, has_year};

@@ -124,7 +124,7 @@ fn turned_over(format: Format, sides: &Sides) -> u128
 }
 
 /// How many microseconds the curve is off the straight line, `since` elements after one anchor and
-/// `until` before another. If a frame period is longer than the one before it by an even c, the
+/// `until` before another. If each frame period is longer than the one before it by the same c, the
 /// curve is a parabola: s frame periods after one anchor and u before the other it is off by c * s
 /// * u / 2. 0 if the times of the frames are less than a period apart.
 fn bend(format: Format, sides: &Sides, since: u128, until: u128) -> u128

@@ -1,7 +1,7 @@
-//! Why frames are not safe. The former frames are those that read well before. A frame is borne out
-//! if the former frames next to it have its time there. A control function is borne out if the
-//! frames nearest to its own have it, too, if the recording has its pulse or lost it, or if most
-//! other recordings have it.
+//! Why frames are not safe. A frame reads well if nothing is wrong in it. The former frames are
+//! those that read well before. A frame is borne out if the former frames next to it have its time
+//! there. A control function is borne out if the frames nearest to its own have it, too, if the
+//! recording has its pulse or lost it, or if most other recordings have it.
 
 use crate::shown::Shown;
 

@@ -1,9 +1,9 @@
-//! Whether a frame that read well, and is another one now, is mended by that. `former` is the frame
-//! as it was, `frame` as it is now, `near` the former frames next to it, two on each side (`before`
-//! and `after` are the nearer ones), and `others` frames of other recordings of the same code. Two
-//! frames contradict each other if they are near, and their times are not as many frame periods
-//! apart as their rises (`allows` is false). Frames bear out another one if they have its time
-//! there (`is_borne`).
+//! Whether a frame that read well, with nothing wrong in it, and is another one now, is mended by
+//! that. `former` is the frame as it was, `frame` as it is now, `near` the former frames next to
+//! it, two on each side (`before` and `after` are the nearer ones), and `others` frames of other
+//! recordings of the same code. Two frames contradict each other if they are near enough for their
+//! distance to say how many frame periods it is, and their times say another number (`allows` is
+//! false). Frames bear out another one if they have its time there (`is_borne`).
 
 ghost use Rattle.std.specs.Prelude.{◌≡◌, ◌↔◌, IsTrue};
 ghost use Rattle.irig_safety.specs.Mended.{Mends, contradicts_from, contradicts_to, is_mended};
@@ -101,7 +101,7 @@ fn is_refuted(format: Format, near: &Witnesses, former: &Shown) -> bool
     }
 }
 
-/// Whether a frame before a frame is there, and contradicts it.
+/// Whether there is a frame before `frame`, and it contradicts `frame`.
 fn contradicts_from(format: Format, before: Option<Shown>, frame: &Shown) -> bool
     ensures { result ≡ contradicts_from format before frame.now }
 {
@@ -111,7 +111,7 @@ fn contradicts_from(format: Format, before: Option<Shown>, frame: &Shown) -> boo
     }
 }
 
-/// Whether a frame after a frame is there, and contradicts it.
+/// Whether there is a frame after `frame`, and it contradicts `frame`.
 fn contradicts_to(format: Format, frame: &Shown, after: Option<Shown>) -> bool
     ensures { result ≡ contradicts_to format frame.now after }
 {

@@ -1,7 +1,10 @@
 //! Whether the control functions of a frame that read well, which are others now, are mended by
-//! that. `former` is the frame as it was, `frame` as it is now, `near` the former frames next to it
-//! (`before` and `after` are the nearer ones), and `others` frames of other recordings of the same
-//! code. Control functions count from 0.
+//! that. A frame reads well if nothing is wrong in it. `former` is the frame as it was, `frame` as
+//! it is now, `near` the former frames next to it (`before` and `after` are the nearer ones), and
+//! `others` frames of other recordings of the same code. Control functions count from 0. The parity
+//! of a frame is whether its ones up to element 75 are odd in number or even: some codes keep it
+//! the same in each frame. Two frames contradict each other if their distance says how many frame
+//! periods it is, and their times say another number.
 
 ghost use Rattle.std.specs.Prelude.{◌≡◌, ◌↔◌, ◌<◌, ◌⊎◌, IsTrue};
 ghost use Rattle.irig_safety.specs.MendedFunctions.{AreFunctionsMended, HasControlOfBoth};
@@ -109,8 +112,8 @@ fn is_function_mended(
                 || is_by_parity(format, others, near, former, frame))
 }
 
-/// Whether one control function changed alone, by that the frame has the parity that the others
-/// have, and no frame next to it contradicts its time.
+/// Whether one control function changed alone, by that the frame has the parity that frames of the
+/// other recordings have, and no frame next to it contradicts its time.
 fn is_by_parity(
     format: Format,
     others: &[Shown],

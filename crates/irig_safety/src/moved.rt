@@ -1,4 +1,5 @@
-//! Where the frames of a recording are after an edit that moves them. Places in a list count from
+//! Where the frames of a recording are after an edit that moves them. The former frames (`old`) are
+//! those that read well, with nothing wrong in them, before the edit. Places in a list count from
 //! 0. Two frames have one time here if their day and time of day are the same: years are not
 //! compared.
 
@@ -10,9 +11,10 @@ use crate::safety::frame_at;
 use crate::shown::Shown;
 use std::alloc::{AllocError, Global};
 
-/// The former frames (`old`) where they are now: each where the first of the present frames (`new`)
-/// is that has its time, after the one at which a former frame was last found, since frames keep
-/// their order. One without such a frame is where it was: `frame_at` gives `None` for it.
+/// The former frames (`old`) where they are now: each at the rise of the first of the present
+/// frames (`new`) that has its time. The search for one begins after the frame at which the last
+/// one was found, since frames keep their order. One that is not found stays where it was:
+/// `frame_at` gives `None` for it.
 pub fn moved_in(alloc: Global, old: &[Shown], new: &[Shown]) -> Result<Vec<Shown>, AllocError>
     ensures { IfOk result (λ moved. moved.items ≡ moved_in old.now new.now) }
 {

@@ -1,5 +1,7 @@
-//! What is known of a recording as it was opened. A frame's marker is its first pulse, by its place
-//! among the pulses, from 0; the pulse of element k is k places after it.
+//! What is known of a recording as it was opened. Its frames that read well, with nothing wrong in
+//! them, are the former ones. A frame's marker is its first pulse, by its place among the pulses,
+//! from 0; the pulse of element k is k places after it. The class of a pulse is what its width
+//! means.
 
 ghost use Rattle.std.specs.Prelude.{◌≡◌, ◌↔◌, ◌-◌, ◌<◌, ◌≤◌, IsTrue, get_or, length, slice_get};
 ghost use Rattle.std.specs.Prelude.{Some, false, true};
@@ -20,8 +22,9 @@ use irig_codes::{Element, Format, class};
 use irig_recording::Pulse;
 use std::marker::Model;
 
-/// What is known of a recording as it was opened: the frames that read well, the places of their
-/// markers, from 0, and all pulses, which rise; and by what repairs are judged besides.
+/// What is known of a recording as it was opened: the frames that read well, with nothing wrong in
+/// them, the places of their markers, from 0, and all pulses, which rise; and by what else repairs
+/// are judged (`terms`).
 #[derive(Drop)]
 pub struct Original {
     frames: Vec<Shown>,
@@ -48,7 +51,8 @@ impl Model for Original {
 }
 
 impl Original {
-    /// These parts as one. `markers` has the marker of each of `frames`, at the same place.
+    /// A recording with these frames, pulses and terms. `markers` has the marker of each of
+    /// `frames`, at the same place.
     pub fn new(
         frames: Vec<Shown>,
         markers: Vec<usize>,
@@ -143,8 +147,8 @@ impl Original {
         }
     }
 
-    /// Whether a pulse is as recorded: one of the same class, which is what a width means, rises
-    /// within a tenth of an interval of it.
+    /// Whether a pulse is as recorded: one of the same class rises within a tenth of an interval of
+    /// it.
     pub fn has(&self, format: Format, pulse: Pulse) -> bool
         ensures { IsTrue result ↔ IsRecorded format self.now.pulses pulse }
     {
@@ -205,9 +209,9 @@ pub fn near_in(frames: &[Shown], place: usize, next: usize) -> Witnesses
     }
 }
 
-/// Whether one of some pulses is alike to a pulse and near it. `any`: any class will do. The pulses
-/// are in rising order, so those that can be near are in a row: from the first that is not too
-/// early (`low`) to the last that is not too late.
+/// Whether one of some pulses is near a pulse, as near as `reach_of` says, and has its class, or
+/// with `any` some class. The pulses are in rising order, so those that can be near are in a row:
+/// from the first that is not too early (`low`) to the last that is not too late.
 fn has_alike(format: Format, any: bool, recorded: &[Pulse], pulse: Pulse) -> bool
     requires { IsNonDecreasingBy (λ (p : SomePulse). p.rise) recorded.now }
     ensures { IsTrue result ↔ IsNear format any recorded.now pulse }

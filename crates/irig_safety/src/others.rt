@@ -63,7 +63,7 @@ pub fn is_among(others: &[Shown], frame: &Shown) -> bool
 }
 
 /// Whether two frames have the same time of day, day and year. No year is the same as no year
-/// alone, so it counts as 100, which no year of two digits is. No hundredths are 0.
+/// alone, so it counts as 100, which no year of two digits is. No hundredths count as 0.
 fn is_of_time(one: &Fields, other: &Fields) -> bool
     ensures { result ≡ is_of_time one.now other.now }
 {
@@ -103,7 +103,7 @@ fn is_backed(format: Format, before: Option<Shown>, frame: &Shown, after: Option
     is_backed_from(format, before, frame) || is_backed_to(format, frame, after)
 }
 
-/// Whether a frame before a frame is there, and agrees with it.
+/// Whether there is a frame before `frame`, and it agrees with `frame`.
 fn is_backed_from(format: Format, before: Option<Shown>, frame: &Shown) -> bool
     ensures { result ≡ is_backed_from format before frame.now }
 {
@@ -113,7 +113,7 @@ fn is_backed_from(format: Format, before: Option<Shown>, frame: &Shown) -> bool
     }
 }
 
-/// Whether a frame after a frame is there, and agrees with it.
+/// Whether there is a frame after `frame`, and it agrees with `frame`.
 fn is_backed_to(format: Format, frame: &Shown, after: Option<Shown>) -> bool
     ensures { result ≡ is_backed_to format frame.now after }
 {

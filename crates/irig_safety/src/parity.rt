@@ -1,6 +1,7 @@
 //! The parity of frames: whether the ones of a frame up to element 75 are odd in number or even.
 //! IEEE 1344 and IEEE C37.118 have an element for it there, by which it is the same in each frame.
-//! `others` is frames of other recordings of the same code. A parity is 1 (odd) or 0 (even).
+//! `former` is a frame as it was before a repair, and `frame` as it is now. `others` is frames of
+//! other recordings of the same code. A parity is 1 (odd) or 0 (even).
 
 ghost use Rattle.std.specs.Prelude.{◌≡◌, ◌≤◌};
 ghost use Rattle.irig_codes.specs.Format.{control_count_of};
@@ -15,8 +16,8 @@ use irig_codes::{Fields, Format};
 /// The element of the parity, from 0.
 const PARITY: usize = 75;
 
-/// Whether one control function changed alone from the former frame, and by that the frame has the
-/// parity that the others have.
+/// Whether one control function changed alone from the former frame, and by that the parity of the
+/// frame changed to the one that the others have.
 pub fn is_parity_mended(format: Format, others: &[Shown], former: &Shown, frame: &Shown) -> bool
     ensures { result ≡ is_parity_mended format others.now former.now frame.now }
 {
@@ -38,7 +39,8 @@ fn changes(format: Format, one: &Shown, other: &Shown) -> u32
     changed
 }
 
-/// Whether frames have a parity: at least eight have it, and five more for each that has not.
+/// Whether frames have a parity: at least eight have it, and five more for each that has not. Both
+/// numbers are this project's own: a few frames can have it by chance.
 fn have_parity(format: Format, frames: &[Shown], parity: u64) -> bool
     requires { parity ≤ 1 }
     ensures { result ≡ have_parity format parity frames.now }
@@ -46,7 +48,7 @@ fn have_parity(format: Format, frames: &[Shown], parity: u64) -> bool
     8 + 5 * parities(format, frames, 1 - parity) as u128 <= parities(format, frames, parity) as u128
 }
 
-/// How many frames have a parity.
+/// How many of some frames have this parity.
 fn parities(format: Format, frames: &[Shown], parity: u64) -> usize
     ensures { result ≡ parities format parity frames.now }
 {
@@ -97,7 +99,7 @@ fn ones_of_digit(digit: u32) -> u64
     (digit % 2 + digit / 2 % 2 + digit / 4 % 2 + digit / 8 % 2) as u64
 }
 
-/// How many ones the control functions have up to the element of the parity.
+/// How many ones the control functions have that are at or before the element of the parity.
 fn ones_of_functions(format: Format, frame: &Shown) -> u64
     ensures value { result ≡ ones_of_functions format (control_count_of format) frame.now }
     ensures few { result ≤ 45 }

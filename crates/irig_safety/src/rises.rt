@@ -51,7 +51,8 @@ pub fn has_fall(pulses: &[Pulse], time: u64, place: usize) -> bool
 }
 
 /// The place of the first of some pulses that does not fall before a time; how many there are, if
-/// all do. `place` is looked at first, as in `first_rise`.
+/// all do. `place` is looked at first: it is the one if the pulse there does not fall before the
+/// time and the one before it does. Else a search finds it, since the pulses fall in order.
 fn first_fall(pulses: &[Pulse], time: u64, place: usize) -> usize
     requires { IsNonDecreasingBy (λ (p : SomePulse). p.fall) pulses.now }
     ensures before { (j : ℕ) (d : SomePulse) → j < result → j < length pulses.now

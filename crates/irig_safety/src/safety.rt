@@ -1,10 +1,10 @@
-//! Whether frames are safe, and why they are not. `old` is the frames that read well at first (the
-//! former ones) and `new` those that do now, both in the order of their rises. A frame leads to a
-//! later one if the later one's time is whole frame periods later and it rises that long after,
-//! nearly. A frame is borne out if the old ones next to it have its time there. A former frame is
-//! passed if the new frames that were looked at have one that begins when it does. The faults:
-//! `Lost` if a former frame has none, `Changed` if the one it has is not it and does not mend it,
-//! `Unsupported` of a new frame, that it is not borne out.
+//! Whether frames are safe, and why they are not. A frame reads well if nothing is wrong in it.
+//! `old` is the frames that read well at first (the former ones) and `new` those that do now, both
+//! in the order of their rises. A frame leads to a later one if the later one's time is whole frame
+//! periods later and it rises that long after, nearly. A frame is borne out if the old ones next to
+//! it have its time there. A former frame is passed if the new frames that were looked at have one
+//! that begins when it does. The faults: `Lost` if a former frame has none, `Changed` if the one it
+//! has is not it and does not mend it, `Unsupported` of a new frame, that it is not borne out.
 
 ghost use Rattle.std.specs.Prelude.{◌≡◌, ◌↔◌, ◌-◌, ◌≤◌, ◌+◌, ◌∷◌, List, IsTrue, None, Option, Some};
 ghost use Rattle.std.specs.Prelude.{Err, IfErr, IfOk, Ok, OnErr, OnOk, drop, if◌then◌else◌, length};

@@ -1,4 +1,4 @@
-//! What a frame that reads well shows.
+//! What a frame shows that reads well: it is read, and nothing is wrong in it.
 
 ghost use Rattle.std.specs.Prelude.{◌≡◌, ◌↔◌, IsTrue};
 

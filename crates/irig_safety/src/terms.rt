@@ -1,4 +1,4 @@
-//! By what repairs are judged besides the recording.
+//! By what repairs are judged besides the recording. A frame reads well if nothing is wrong in it.
 
 use crate::shown::Shown;
 use std::marker::Model;
@@ -6,7 +6,7 @@ use std::marker::Model;
 /// By what repairs are judged besides the recording.
 #[derive(Drop)]
 pub struct Terms {
-    /// Whether frames may move.
+    /// Whether a frame that read well may be at another time than in the recording.
     pub moved: bool,
     /// Frames of other recordings of the same code.
     pub others: Vec<Shown>,

@@ -152,8 +152,7 @@ pub fn is_own(format: Format, near: &Witnesses, frame: &Shown) -> bool
     }
 }
 
-/// Whether a frame has no inserted second 60, or frames are on both sides: an inserted second is
-/// borne out only by both sides.
+/// Whether a frame has no inserted second 60, or frames are on both sides: only these bear it out.
 fn may_stand(near: &Witnesses, frame: &Shown) -> bool
     ensures { result ≡ may_stand near.now.before near.now.after frame.now }
 {
@@ -189,7 +188,8 @@ fn is_overruled(
     }
 }
 
-/// Whether a side has no frame (`other`), and the two of the other side contradict each other.
+/// Whether one side of a place has no frame (`other`), and the two of the other side (`one` and
+/// then `next`) contradict each other. False if one of these two is not there.
 fn is_disputed(
     format: Format,
     other: Option<Shown>,

@@ -1,5 +1,5 @@
-//! A change of a session, alone or in a group. Its lines are those of a saved journal, the history
-//! of a session as text; `docs/FORMATS.md` has their form.
+//! A change of a session, alone or in a group, which one undo reverses as a whole. Its lines are
+//! those of a saved journal, the history of a session as text; `docs/FORMATS.md` has their form.
 
 ghost use Rattle.std.specs.Prelude.{◌≡◌, ◌<◌, ◌^◌, length};
 ghost use Rattle.irig_saved.specs.SavedText.{change_lines};
@@ -17,8 +17,9 @@ pub enum Change {
 }
 
 impl Change {
-    /// How many lines the change has in the text of a journal: one alone those of `Single::lines`;
-    /// a group one line with its count, and then the lines of all its changes.
+    /// How many lines the change has in the text of a journal: one, and if it is a splice one more
+    /// for each pulse that it inserts; a group has one with its count, and then the lines of all
+    /// its changes.
     pub(crate) fn lines(&self) -> usize
         requires { length (change_lines self.now) < 2 ^ 63 }
         ensures { result ≡ length (change_lines self.now) }

@@ -2,8 +2,9 @@
 //! text; `docs/FORMATS.md` has the form.
 //!
 //! Each function adds to `text`, and fails only if memory runs out; `text` can end with a part of
-//! the line then. `put_word`, `put_number` and `put_numbers` write a space before each word. Pulses
-//! count from 1, letters from 0; times are in microseconds.
+//! the line then. `put_word`, `put_number` and `put_numbers` write a space before each word.
+//! `put_numbered` writes a whole line: a first word and numbers. A splice replaces pulses by
+//! others. Pulses count from 1, letters from 0; times are in microseconds.
 
 ghost use Rattle.std.specs.Prelude.{◌≡◌, ◌++◌, ◌<◌, ◌∷◌, [], OnOk, codes, decimal};
 ghost use Rattle.std.specs.Fmt.{signed_decimal};
@@ -107,7 +108,8 @@ fn put_moved(text: &mut Vec<u8>, marks: &Letters) -> Result<(), AllocError>
     put_word(text, &letters[..count])
 }
 
-/// Writes the line that sets a format: its kind, and its expression, 0 to 7.
+/// Writes the line that sets a format: its kind of time code, such as `B`, and the number of its
+/// coded expression, 0 to 7.
 fn put_set_format(text: &mut Vec<u8>, kind: Kind, expression: u8) -> Result<(), AllocError>
     ensures { OnOk result (text.new.items
         ≡ text.old.items ++ (single_line (SetFormat kind expression) ++ 10 ∷ [])) }
@@ -115,7 +117,8 @@ fn put_set_format(text: &mut Vec<u8>, kind: Kind, expression: u8) -> Result<(), 
     put_formatted(text, b"setformat", kind, expression)
 }
 
-/// Writes the line that sets the mark of a letter to a time, or clears it if that is `None`.
+/// Writes the line that sets the mark of a letter, from 0 (0 is a), to a time, or clears it if that
+/// is `None`.
 fn put_set_mark(text: &mut Vec<u8>, letter: u8, time: Option<u64>) -> Result<(), AllocError>
     requires { letter < 26 }
     ensures { OnOk result (text.new.items

@@ -3,8 +3,9 @@
 //! Each function reads a line, or the rest of one, without its newline, and answers `None` if it
 //! has another form than that of `docs/FORMATS.md`. Words have one space between them. `head` is
 //! the first word of a line, in which there is no space. `word_of` gives the first word of a text
-//! and what is after the space that ends it, `None` if there is no space. Pulses count from 1;
-//! times are in microseconds.
+//! and what is after the space that ends it, `None` if there is no space. A splice replaces pulses
+//! by others, a toggle inverts the level between two times, a shift moves pulses and marks. Pulses
+//! count from 1; times are in microseconds.
 //!
 //! Where `let .. else` hands `None` on, `?` would do the same; the proof of it takes longer.
 
@@ -49,8 +50,8 @@ pub fn counted(head: &[u8], text: &[u8]) -> Option<u64>
     number(word)
 }
 
-/// The kind and the expression, 0 to 7, of a format, in a line of the word `head` and these two.
-/// Whether the kind permits the expression is not judged here.
+/// The format in a line of the word `head`, a kind of time code, such as `B`, and the number of a
+/// coded expression, 0 to 7. Whether the kind permits the expression is not judged here.
 pub fn format(head: &[u8], text: &[u8]) -> Option<(Kind, u8)>
     requires { IsWordy head.now }
     ensures { Decodes IsFormat (λ f. line head.now (words_of_format f)) text.now result }

@@ -53,8 +53,9 @@ pub fn pulses(alloc: Global, count: u64, text: &[u8]) -> Result<(Pulses, &[u8]),
     Ok((pulses, rest))
 }
 
-/// Reads one change that is no group: a splice has more lines than one, for its pulses, and each
-/// other kind has one line. Only the pulses of a splice take memory.
+/// Reads one change that is no group: a splice, which replaces pulses by others, has more lines
+/// than one, for its pulses, and each other kind has one line. Only the pulses of a splice take
+/// memory.
 pub fn single(alloc: Global, text: &[u8]) -> Result<(Single, &[u8]), Stop<'_>>
     ensures { Parses IsSingle single_lines BeginsSplice text.now result }
 {
@@ -129,7 +130,7 @@ pub fn step(alloc: Global, text: &[u8]) -> Result<(SavedStep, &[u8]), Stop<'_>>
     }
 }
 
-/// Reads `count` steps.
+/// Reads `count` steps, in the order of the text.
 pub fn steps(alloc: Global, count: u64, text: &[u8]) -> Result<(Steps, &[u8]), Stop<'_>>
     ensures { Parses (ManySteps count) steps_lines (BeginsSome count) text.now result }
 {

@@ -1,5 +1,7 @@
 //! The lines of the pulses that a splice inserts, as a saved journal has them, given in parts. A
-//! journal is the history of a session as text; each of these lines is a rise and a fall.
+//! splice is a change that replaces pulses by others. A journal is the history of a session as
+//! text; each of these lines is a rise and a fall. A block is a buffer of the caller, to which each
+//! call adds lines.
 //!
 //! Where `match` hands an error on, `?` would do the same; the proof of it takes longer.
 

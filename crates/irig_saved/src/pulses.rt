@@ -15,7 +15,7 @@ use std::mem;
 
 /// Pulses that a splice inserts. Their buffer grows by half each time that it is full, and only for
 /// pulses that were read: no number in a text makes it take memory. So it has at most half as many
-/// free places as pulses, and one. The place of the buffer is after the last pulse.
+/// free places as pulses, plus one. The place of the buffer is after the last pulse.
 #[derive(Drop)]
 pub struct Pulses {
     items: Gap<Pulse>,
@@ -35,7 +35,7 @@ impl Model for Pulses {
 }
 
 impl Pulses {
-    /// No pulses.
+    /// No pulses. It takes no memory.
     pub fn new(alloc: Global) -> Pulses
         ensures { result ≡ [] }
     {
@@ -44,9 +44,9 @@ impl Pulses {
         }
     }
 
-    /// The pulses of a buffer, which must have at most half as many free places as pulses, and one:
-    /// that bound holds of each `Pulses`. The place of the buffer goes to the end, so that `push`
-    /// adds there.
+    /// The pulses of a buffer, which must have at most half as many free places as pulses, plus
+    /// one: that bound holds of each `Pulses`. The place of the buffer goes to the end, so that
+    /// `push` adds there.
     pub fn of(mut items: Gap<Pulse>) -> Pulses
         requires tight { 2 * items.capacity ≤ 3 * length items.items + 2 }
         ensures { result ≡ items.items }
@@ -62,7 +62,7 @@ impl Pulses {
         self.items.len()
     }
 
-    /// The pulse at `index`, from 0.
+    /// The pulse at `index`, from 0. There has to be one.
     pub fn get(&self, index: usize) -> Pulse
         requires { index < length self.now }
         ensures { slice_get self.now index ≡ Some result }
@@ -81,7 +81,7 @@ impl Pulses {
         Ok(())
     }
 
-    /// The buffer of the pulses. It has at most half as many free places as pulses, and one.
+    /// The buffer of the pulses. It has at most half as many free places as pulses, plus one.
     pub fn as_gap(&self) -> &Gap<Pulse>
         ensures items { result.now.items ≡ self.now }
         ensures tight { 2 * result.now.capacity ≤ 3 * length self.now + 2 }
@@ -90,7 +90,8 @@ impl Pulses {
     }
 
     /// Replaces the `count` pulses of a track from `at` on, from 0, by these pulses. Afterwards
-    /// `self` has the pulses that went, so a second call with them undoes the first.
+    /// `self` has the pulses that went, so a second call with them undoes the first. The caller has
+    /// tested that the track permits it, and made room for these pulses in it.
     ///
     /// This takes no memory. `taken` is a spare buffer: it comes in empty, with places for those
     /// that go, and goes out as the empty buffer that these pulses had. The `Span` says where the

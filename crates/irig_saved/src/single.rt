@@ -1,4 +1,4 @@
-//! A change that is no group.
+//! A change that is no group. A group is several changes that one undo reverses.
 
 ghost use Rattle.std.specs.Prelude.{◌≡◌, ◌<◌, ◌^◌, length};
 ghost use Rattle.irig_saved.specs.SavedText.{single_lines};
@@ -43,8 +43,8 @@ pub enum Single {
 }
 
 impl Single {
-    /// How many lines the change has in the text of a saved journal: one, and a splice one more for
-    /// each pulse that it inserts.
+    /// How many lines the change has in the text of a saved journal, the history of a session: one,
+    /// and a splice one more for each pulse that it inserts.
     pub(crate) fn lines(&self) -> usize
         requires { length (single_lines self.now) < 2 ^ 63 }
         ensures { result ≡ length (single_lines self.now) }

@@ -1,5 +1,5 @@
 //! The lines of a change, as a saved journal has them, given in parts. A journal is the history of
-//! a session as text.
+//! a session as text. A block is a buffer of the caller, to which each call adds lines.
 //!
 //! Where `match` hands an error on, `?` would do the same; the proof of it takes longer.
 
@@ -51,10 +51,10 @@ impl<'s> SingleLines<'s> {
     }
 
     /// Adds lines to a block until it has `enough` bytes or none is left. The first line of a
-    /// change is added even if the block has `enough`: it has at most 96 bytes. Returns `true` if
-    /// no line is left and the block has fewer bytes than `enough`, so that more text can be added;
-    /// `false` if the block has `enough`, whether a line is left or not. It fails only if memory
-    /// runs out.
+    /// change is added even if the block has `enough`: it has at most 96 bytes (`shift`, three
+    /// numbers of up to 20 bytes, and 26 letters). Returns `true` if no line is left and the block
+    /// has fewer bytes than `enough`, so that more text can be added; `false` if the block has
+    /// `enough`, whether a line is left or not. It fails only if memory runs out.
     pub fn fill(&mut self, block: &mut Vec<u8>, enough: usize) -> Result<bool, AllocError>
         ensures bytes { OnOk result (block.new.items ++ self.new ≡ block.old.items ++ self.old) }
         ensures end { IfOk result (λ ended. ended ≡ true → self.new ≡ []) }

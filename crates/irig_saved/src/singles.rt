@@ -1,4 +1,5 @@
-//! Changes of one group, in the order in which they are made.
+//! Changes of one group, in the order in which they are made. A group is several edits that one
+//! undo reverses. A saved journal is the history of a session as text.
 
 ghost use Rattle.std.specs.Prelude.{◌≡◌, ◌<◌, ◌^◌, ◌++◌, ◌∷◌, [], OnOk, OnErr, length};
 ghost use Rattle.irig_saved.specs.SavedText.{singles_lines};

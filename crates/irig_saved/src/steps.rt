@@ -1,5 +1,6 @@
 //! Steps of a saved journal, in the order of its text: those back with the oldest first, those
-//! forward with the next redo first.
+//! forward with the next redo first. A step is a change, or a group of them, and the cursor of the
+//! state that it leads to. A journal is the history of a session as text.
 
 ghost use Rattle.std.specs.Prelude.{◌≡◌, ◌<◌, ◌^◌, ◌++◌, ◌∷◌, [], OnOk, OnErr, MatchOption, length};
 ghost use Rattle.std.specs.Prelude.{reverse};

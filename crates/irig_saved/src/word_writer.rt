@@ -65,8 +65,8 @@ pub(crate) fn put_lettered(text: &mut Vec<u8>, head: &[u8], letter: u8) -> Resul
     put_word(text, &[b'a' + letter])
 }
 
-/// Writes a line of the word `head`, the kind of a format and its expression, 0 to 7, and its
-/// newline.
+/// Writes a line of the word `head`, the kind of time code of a format, such as `B`, and the number
+/// of its coded expression, 0 to 7, and its newline.
 pub(crate) fn put_formatted(
     text: &mut Vec<u8>,
     head: &[u8],

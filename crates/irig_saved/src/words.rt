@@ -53,7 +53,7 @@ pub fn distance(word: &[u8]) -> Option<i64>
     }
 }
 
-/// The expression that a word is: a digit 0 to 7.
+/// The number of a coded expression that a word gives: one digit, 0 to 7.
 pub fn expression(word: &[u8]) -> Option<u8>
     ensures { Decodes (λ n. n ≤ 7) (λ n. decimal n) word.now result }
 {

@@ -63,7 +63,7 @@ pub fn put_future(text: &mut Vec<u8>, count: u64) -> Result<(), AllocError>
     put_numbered(text, b"future", &[count])
 }
 
-/// Writes the line that names a saved journal, as `docs/FORMATS.md` says under "The saved journal".
+/// Writes line 1 of a saved journal, which names its form: `irig-journal-1`.
 fn put_name(text: &mut Vec<u8>) -> Result<(), AllocError>
     ensures { OnOk result (text.new.items
         ≡ text.old.items ++ (codes "irig-journal-1" ++ 10 ∷ [])) }
@@ -71,7 +71,8 @@ fn put_name(text: &mut Vec<u8>) -> Result<(), AllocError>
     put_numbered(text, b"irig-journal-1", &[])
 }
 
-/// Writes the line of the format: its kind, and its expression, 0 to 7.
+/// Writes the line of the format: its kind of time code, such as `B`, and the number of its coded
+/// expression, 0 to 7.
 fn put_format(text: &mut Vec<u8>, kind: Kind, expression: u8) -> Result<(), AllocError>
     ensures { OnOk result (text.new.items ≡ text.old.items
         ++ (line (codes "format") (kind_word kind ∷ decimal expression ∷ []) ++ 10 ∷ [])) }

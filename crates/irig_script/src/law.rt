@@ -1,4 +1,6 @@
-//! What holds of lines and of the runs of scripts.
+//! What holds of lines and of the runs of scripts. A machine is all that a session holds: its
+//! present state, the former ones that an undo leads to, and those that were undone, each with its
+//! cursor.
 
 ghost use Rattle.irig_edit.specs.Opened.GoingOn.{IsShort};
 ghost use Rattle.irig_lines.specs.OneCommand.{OneCommand};
@@ -7,7 +9,7 @@ ghost use Rattle.irig_script.specs.{Obey.OneRun.OneRun, Obey.SavedRun.RunsOn};
 
 use irig_edit::{Session, calls_give_back, saved_goes_on};
 
-/// Does nothing: it says that a line asks for one command at most.
+/// Does nothing. Its contract: a line asks for one command at most.
 pub fn lines_ask_for_one_command()
     ensures same { OneCommand }
 {}
@@ -25,11 +27,11 @@ pub fn scripts_have_one_run()
     calls_give_back();
 }
 
-/// Does nothing: it says that a script runs on a saved session as it does on the session itself.
+/// Does nothing. Its contract: a script runs on a saved session as it does on the session itself.
 ///
-/// The saved text is opened again without a wire's name, in any format. Each script then prints the
-/// same bytes and writes the same texts as it does from this session with no group open, if both
-/// runs run out of memory and fail to write at the same lines.
+/// The saved text, of at most 2^28 bytes, is opened again without a wire's name, in any format.
+/// Each script then prints the same bytes and writes the same texts as it does from this session
+/// with no group open, if both runs run out of memory and fail to write at the same lines.
 pub fn saved_sessions_run_on(session: &Session)
     ensures same { IsShort session.now → RunsOn session.now }
 {

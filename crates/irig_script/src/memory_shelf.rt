@@ -1,4 +1,5 @@
-//! A shelf in memory. A shelf is where texts are written; one write may be set to fail.
+//! A shelf in memory. A shelf is where the lines `write` and `save` of a script write their texts;
+//! one write may be set to fail.
 
 ghost use Rattle.std.specs.Prelude.{◌≡◌, ◌++◌, ◌∷◌, [], length, map, Some, IfOk, IsErr, IsFalse};
 ghost use Rattle.std.specs.Prelude.{IsTrue, OnErr, OnOk};

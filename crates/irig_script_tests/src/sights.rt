@@ -1,5 +1,6 @@
 //! A witness that keeps what it sees, for clauses alone: it takes no memory, and in the program it
-//! does nothing.
+//! does nothing. A witness sees the output and the shelf, where texts are written, after each line
+//! of a script is obeyed.
 
 ghost use Rattle.std.specs.Prelude.{◌≡◌, ◌++◌, ◌∷◌, [], List, Some, refl};
 ghost use Rattle.std.specs.Borrow.{ftrue};
@@ -28,7 +29,7 @@ impl Sights {
         Sights {}
     }
 
-    /// These, and then an output and a shelf as they are now.
+    /// What was seen before, and then an output and a shelf as they are now.
     pub fn and<W: Write, S: Shelf>(&self, out: &W, shelf: &S) -> Sights
         ensures more { result.list ≡ self.now.list
             ++ sight (W.contents out.now) (S.known shelf.now).texts ∷ [] }
@@ -40,7 +41,7 @@ impl Sights {
 impl Witness for Sights {
     ghost seen = { λ sights. Some sights.list };
 
-    // Adds an output and a shelf as they are now.
+    // Adds an output and a shelf as they are now to what was seen.
     fn see<W: Write, S: Shelf>(&mut self, out: &W, shelf: &S) {
         *self = self.and(out, shelf);
     }

@@ -1,4 +1,5 @@
-//! A run over files in memory whose witness keeps what it sees.
+//! A run over files in memory whose witness keeps what it sees: the output and the files, after
+//! each line of the script is obeyed. A screen is an output with its witness.
 
 ghost use Rattle.std.specs.Prelude.{◌≡◌, ◌≤◌, ◌^◌, [], List, Some, ℕ, length};
 ghost use Rattle.irig_script.specs.Print.Screen.{Sight};

@@ -23,7 +23,8 @@ static LETTERS: [&str; 4] = ["A", "B", "E", "G"];
 static DIGITS: [&str; 8] = ["0", "1", "2", "3", "4", "5", "6", "7"];
 
 /// What the words of a command line ask for, the program's name being the first. An error says
-/// which mistake they have, that they ask for help, or that memory ran out.
+/// which mistake they have (`Words`, or `Value` of an option), that they ask for help, or that
+/// memory ran out (`Words`, both).
 pub fn settings<'a>(
     alloc: Global,
     words: &'a [String],
@@ -38,7 +39,8 @@ pub fn settings<'a>(
 
 /// What the matches of a command line that `clap` accepts ask for. The letter is then one of a
 /// format, so of the format only the expression can be wrong: one that the format does not permit.
-/// Without `--out` texts are written to the track's path, unless there is a window.
+/// A window is the part of the dump that is read. Without `--out` texts are written to the track's
+/// path, unless there is a window: that needs `--out`.
 fn chosen_of<'a>(matches: &ArgMatches<'a>) -> Result<Settings<'a>, UsageFault<OptionFault>>
     ensures { Chooses (found_of matches.now) result }
 {
@@ -121,7 +123,8 @@ fn lettered<'a>(alloc: Global) -> Result<Command<'a>, AllocError>
     ))
 }
 
-/// The command with the options that say which part of which wire is read.
+/// The command with the options that say which part of which wire is read: `--wire`, and `--from`
+/// and `--to` of `windowed`.
 fn taking<'a>(alloc: Global) -> Result<Command<'a>, AllocError>
     ensures { IfOk result (λ c. IsTaking (app_of c)) }
 {

@@ -1,4 +1,5 @@
-//! The window of a dump that a command line asks for, and where what is written of it goes.
+//! The window of a dump that a command line asks for, and where what is written of it goes. A
+//! window is the part of the dump that is read, between the times of `--from` and `--to`.
 
 ghost use Rattle.std.specs.Prelude.{◌≡◌, ◌&&◌, IfErr, IfOk, is_some, not};
 ghost use Rattle.clap.specs.Words.{found_of};
@@ -9,8 +10,9 @@ use clap::ArgMatches;
 use irig_vcd::Window;
 use irig_words::window_named;
 
-/// The window that the matches ask for, if they ask for one: then they have a path for what is
-/// written, so that no part replaces the whole.
+/// The window that the matches ask for; `None` if they ask for none. An error is `Window` if one of
+/// its times is none, or they are in the wrong order, and `Out` if no path is given for what is
+/// written: a part must not replace the whole.
 pub fn window_of(matches: &ArgMatches<'_>) -> Result<Option<Window>, OptionFault>
     ensures part { IfOk result (IsPart (found_of matches.now)) }
     ensures fault { IfErr result (HasFault (found_of matches.now)) }

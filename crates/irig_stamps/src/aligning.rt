@@ -1,7 +1,10 @@
-//! Lines that are aligned with a recording. The recorder's time of a line is the number in one of
-//! its columns. A frame is believed if another one near it supports its time: moments have their
-//! times from believed frames alone. A `Lens` shows the pulses of a recording as those of a track,
-//! and a `FrameLens` its frames.
+//! Lines that are aligned with a recording of an IRIG time code. The recorder's time of a line is
+//! the number in one of its columns: when the line was recorded, by a clock of its own. `format` is
+//! the code of the recording. A frame is believed if another one near it supports its time, or with
+//! `settings.alone` if it has a time at all: moments have their times from believed frames alone. A
+//! `Lens` shows the pulses of a recording as those of a track, which is all its pulses in order,
+//! and a `FrameLens` its frames. `settings` say how lines are read and printed, and a `RunFault`
+//! says why this was broken off.
 
 ghost use Rattle.std.specs.Prelude.{◌≡◌, ◌≤◌, ◌<◌, ◌^◌, ℕ, List, Option, IfOk, IfSome};
 ghost use Rattle.std.specs.Io.KnownBytes.{Consumes};
@@ -26,9 +29,9 @@ use std::io::{Read, Write};
 
 /// Reads lines to their end and prints each with its time before it: the time of year that a
 /// recording has at the line's recorder's time. Returns whether the column of each line has a
-/// number, lines of the header not counted, and which frames are believed. What was printed before
-/// an error stays. The column is `settings.column`, or if `settings.named` is there, the one with
-/// that name in the header.
+/// number, lines of the header not counted, whether any frame is believed, and how many frames have
+/// a time and are not. What was printed before an error stays. The column is `settings.column`, or
+/// if `settings.named` is there, the one with that name in the header.
 pub fn align<R: Read, W: Write>(
     alloc: Global,
     recording: LongRecording,
@@ -73,8 +76,9 @@ fn align_numbered<R: Read, W: Write>(
     align_track(alloc, &mut pulses, b"", lines, out, format, settings)
 }
 
-/// As `align`, if the column is the one with this name in the last line of the header. What was
-/// read to find it is handed on, since it cannot be read again.
+/// As `align`, if the column is the one with this name in the last line of the header. What `find`
+/// read of the lines to find it (`before`) is handed on, since it cannot be read again. An error if
+/// no column has the name, or two have.
 fn align_named<R: Read, W: Write>(
     alloc: Global,
     recording: &LongRecording,

@@ -19,7 +19,7 @@ pub enum Until {
 }
 
 impl Until {
-    /// Whether a text is cut before the byte.
+    /// Whether a byte is of the kind that `self` names: a text is cut before the first such byte.
     fn is_at(self, byte: u8) -> bool
         ensures { result ≡ is_at self byte }
     {

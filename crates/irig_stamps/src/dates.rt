@@ -25,8 +25,9 @@ pub fn year_in(settings: &Settings<'_>, time: &Time) -> Option<u32>
     }
 }
 
-/// The year of a day, if frames carry no year: that of the first believed frame, or the next one if
-/// the day is before the day of that frame. `None` if its year is not known.
+/// The year of a day, from 1, if frames carry no year: that of the first believed frame
+/// (`settings.year`), or the next one if the day is before the day of that frame, since a track is
+/// taken to be shorter than a year. `None` if `settings.year` is not known.
 fn counted_on(settings: &Settings<'_>, days: u32) -> Option<u32>
     requires year { IfSome settings.now.year (λ y. y ≤ 9998) }
     ensures value { result ≡ counted_on settings.now days }

@@ -1,8 +1,9 @@
 //! The column with a name, in the header of the lines. The header is the first `settings.header`
 //! lines, and the name is looked for in its last one. Columns are parted by `settings.comma`, or if
-//! it is `None` by white space. The faults: `NoHeader` if that line is not there, `LongHeader` if
-//! it does not end in the first 1 MiB, `NoColumn` and `TwoColumns` if none or two columns have the
-//! name; and for the reads, `ReadFailed`, `TooManyReads` and `OutOfMemory`.
+//! it is `None` by white space. `column` gives a column of a line, and `passed` what is left of it
+//! after the first one. The faults (`RunFault`): `NoHeader` if that line is not there, `LongHeader`
+//! if it does not end in the first 1 MiB, `NoColumn` and `TwoColumns` if none or two columns have
+//! the name; and for the reads, `ReadFailed`, `TooManyReads` and `OutOfMemory`.
 
 ghost use Rattle.std.specs.Prelude.{◌≡◌, ◌≤◌, ◌<◌, ◌+◌, ℕ, List, length, Option, Ok, Err, IfErr, IfOk, Bool};
 ghost use Rattle.std.specs.Prelude.{if◌then◌else◌, ◌==◌};

@@ -1,5 +1,6 @@
 //! What is known of the times of a track. A part is pulses in a row whose times are known from one
-//! frame. A frame is believed if another one near it supports its time.
+//! frame. A frame is believed if another one near it supports its time. `Whys` say why other
+//! moments have no time. A `Lens` shows the pulses of a track, and a `FrameLens` its frames.
 
 ghost use Rattle.std.specs.Prelude.{◌≡◌, ◌≤◌, IfOk, IfSome, is_some, length};
 ghost use Rattle.irig_index.specs.Frames.{frames};

@@ -1,9 +1,11 @@
 //! The decimal number in a column. The result is the column's number times 10^`places`, as a whole
-//! number: rounded up if `up`, else down. Each function returns `None` if the text is no number,
-//! and 2^120 for each greater one, since no recorder's time that far from zero has a time. `whole`
-//! and `fraction` are digits in ASCII, before the point and after it. White space is a space, a tab
-//! or a carriage return. `cut` parts a text before the first byte that is no white space (`Text`),
-//! or no digit (`Other`).
+//! number: rounded up if `up`, else down. A `Picos` is such a result, as its sign and its size.
+//! Each function returns `None` if the text is no number, and 2^120 for each greater one, since no
+//! recorder's time that far from zero has a time. `whole` and `fraction` are digits in ASCII,
+//! before the point and after it. `point_after` gives the size of a number without an exponent,
+//! `to_the_left` and `to_the_right` that of one with a minus or without, and `digits` the value of
+//! digits. White space is a space, a tab or a carriage return. `cut` parts a text before the first
+//! byte that is no white space (`Text`), or no digit (`Other`).
 
 ghost use Rattle.std.specs.Prelude.{◌≡◌, ◌^◌, ℕ, List, min, option_map, false, true};
 ghost use Rattle.irig_stamps.specs.Columns.{before, onward};
@@ -17,8 +19,8 @@ use crate::picos::Picos;
 use crate::point::{digits, point_after, to_the_left, to_the_right};
 
 /// The number in a column, if it is one: maybe a sign, digits, maybe a point and digits, and maybe
-/// an exponent, with white space round it. It is in units, 10^`places` to one of the column,
-/// rounded down; 2^120 if it is greater.
+/// an exponent, with white space round it. A unit of the column is 10^`places` picoseconds, and the
+/// result is in picoseconds, rounded down; 2^120 if it is greater.
 pub fn number(places: usize, text: &[u8]) -> Option<Picos>
     ensures { result ≡ option_map capped (number_in places text.now) }
 {
@@ -26,7 +28,8 @@ pub fn number(places: usize, text: &[u8]) -> Option<Picos>
     signed(places, text)
 }
 
-/// The number with its sign, after white space.
+/// The number of a text that begins with its sign or its first digit: the white space before it is
+/// passed already.
 fn signed(places: usize, text: &[u8]) -> Option<Picos>
     ensures { result ≡ option_map capped (signed places text.now) }
 {
@@ -90,7 +93,7 @@ pub fn whole(text: &[u8]) -> Option<u128>
     Some(digits(0, whole))
 }
 
-/// The size of a number without a sign: it begins with a digit.
+/// The size of a number without a sign; `None` if the text does not begin with a digit.
 fn size_in(up: bool, places: usize, text: &[u8]) -> Option<u128>
     ensures { result ≡ option_map (λ v. min v (2 ^ 120)) (size_in up places text.now) }
 {
@@ -101,8 +104,8 @@ fn size_in(up: bool, places: usize, text: &[u8]) -> Option<u128>
     with_fraction(up, places, whole, rest)
 }
 
-/// The size of a number with the digits `whole` before its point. `rest` is what is after them: a
-/// point needs a digit after it.
+/// The size of a number with the digits `whole` before its point. `rest` is what is after them. If
+/// that is a point, a digit has to come after it: without one it is `None`.
 fn with_fraction(up: bool, places: usize, whole: &[u8], rest: &[u8]) -> Option<u128>
     ensures { result ≡ option_map (λ v. min v (2 ^ 120))
         (with_fraction up places whole.now rest.now) }
@@ -152,8 +155,9 @@ fn after_e(up: bool, places: usize, whole: &[u8], fraction: &[u8], rest: &[u8]) 
     }
 }
 
-/// The size of a number with these digits. `rest` begins with the digits of its exponent, at least
-/// one, which moves the point to the left if it has a minus (`left`), else to the right.
+/// The size of a number with these digits. `rest` begins with the digits of its exponent, which
+/// moves the point to the left if it has a minus (`left`), else to the right. `None` if there is no
+/// digit, or more than white space after them.
 fn powered(
     up: bool,
     left: bool,

@@ -1,6 +1,9 @@
-//! The run over a text of lines. `state` is how far they were read, and `text` is what comes out
-//! for them and is not printed yet. `pulses` is the track's pulses, and `known` which of them have
-//! a time. `format` and `settings` say how they are read.
+//! The run over a text of lines: each is printed with the time of a track at its recorder's time,
+//! the number in one of its columns. `state` is how far they were read, and `text` is what comes
+//! out for them and is not printed yet. `pulses` is the track's pulses, and `known` which of them
+//! have a time. `format` is the code of the track, and `settings` say how lines are read and times
+//! are written. A `RunFault` says why the run is broken off, and a `TakeFault` why bytes are not
+//! taken (`take_part`).
 
 ghost use Rattle.std.specs.Prelude.{◌≡◌, ◌≤◌, ◌<◌, ◌^◌, [], ℕ, List, Option, true, false, OnOk, IfOk};
 ghost use Rattle.std.specs.Prelude.{IfSome};
@@ -57,8 +60,8 @@ pub fn run<R: Read, W: Write>(
 }
 
 /// Reads the rest of the lines, and prints what comes out for it. Returns whether the column of
-/// each line, also of those before, has a number, but for the header. `TooManyReads` if the lines
-/// have not ended after 2^32 reads.
+/// each line, also of those before, has a number, but for the header (`state.all`). `TooManyReads`
+/// if the lines have not ended after 2^32 reads.
 fn run_on<R: Read, W: Write>(
     lines: &mut R,
     out: &mut W,
@@ -148,7 +151,7 @@ fn run_read<R: Read, W: Write>(
 }
 
 /// Takes a part of the lines and prints what comes out for it. Returns `false`: more can follow. If
-/// taking it fails, `stop` prints what came out before.
+/// taking it fails, `stop` says why, and prints what came out before a line that is too long.
 fn put_part<W: Write>(
     out: &mut W,
     state: &mut Lines,

@@ -1,7 +1,9 @@
 //! A line with its time before it. `count` is how many lines are before it. `pulses` is the track's
-//! pulses, and `known` which of them have a time. A recorder's time is in picoseconds from the
-//! recorder's zero. The column that is read is `settings.column`, parted by `settings.comma`, or by
-//! white space if that is `None`.
+//! pulses, `known` which of them have a time, in parts, and `whys` why the others have none.
+//! `time_by` and `why_at` give the time of year of a moment, and why it has none; the moment is in
+//! picoseconds after the start of the track. `format` is the track's code. A recorder's time is in
+//! picoseconds from the recorder's zero. The column that is read is `settings.column`, parted by
+//! `settings.comma`, or by white space if that is `None`. An `AllocError` says that memory ran out.
 
 ghost use Rattle.std.specs.Prelude.{◌≡◌, ◌↔◌, ◌<◌, ◌≤◌, ◌^◌, ◌-◌, ◌++◌, ◌∷◌, [], ℕ, List, Some, min, Option};
 ghost use Rattle.std.specs.Prelude.{IfOk, IfSome, OnOk, is_some, option_map, unwrap_or};
@@ -48,7 +50,7 @@ fn span(settings: &Settings<'_>, picos: Picos) -> (u128, u128)
     }
 }
 
-/// The time of year at a recorder's time; `None` if there is none, or it is before the track
+/// The time of year at a recorder's time; `None` if the moment has none, or is before the track
 /// starts. A size of 2^120 picoseconds means that or more (`number`), which is too far from zero to
 /// have a time.
 fn time_of(
@@ -183,7 +185,8 @@ fn told_of<'a>(
     }
 }
 
-/// Adds what is known of a recorder's time to a text.
+/// Adds what is known of a recorder's time to a text: its time of year, in the form of the
+/// settings, or the word for none as it is.
 fn put_told(text: &mut Vec<u8>, settings: &Settings<'_>, told: Told<'_>) -> Result<(), AllocError>
     requires century { settings.now.century ≤ 99 }
     requires year { IfSome settings.now.year (λ y. y ≤ 9998) }

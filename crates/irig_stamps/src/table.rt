@@ -1,6 +1,8 @@
 //! A table of the frames of a track that have a time. Each record is a frame of the track, and
 //! `held` says of each, at the same place, from 0, whether it is believed: whether another frame
-//! near it supports its time.
+//! near it supports its time, or with `settings.alone` whether it has a time at all. A frame's
+//! period is its duration. `settings` say how a time is written, and `format` is the track's code.
+//! An `AllocError` says that memory ran out.
 
 ghost use Rattle.std.specs.Prelude.{◌≡◌, ◌≤◌, ◌<◌, ◌++◌, ℕ, List, Some, slice_get, length, IfOk};
 ghost use Rattle.std.specs.Prelude.{IfSome, OnOk, Option};
@@ -108,7 +110,8 @@ fn table(
     Ok(text)
 }
 
-/// Adds the row of the record at a place, if its frame has a time.
+/// Adds the row of the record at a place, from 0; nothing if its frame has no time. `start_of`
+/// gives when the frame begins, its time, and whether the next one follows.
 fn put_frame(
     text: &mut Vec<u8>,
     pulses: &mut Lens<'_>,
@@ -153,8 +156,9 @@ fn put_start(
     }
 }
 
-/// Adds the row of a frame: the microsecond of its rise, its time, and the word of `answer`, parted
-/// as columns are, by a tab if that is white space. `held` says whether it is believed.
+/// Adds the row of a frame: the microsecond of the track at which it begins (`rise`), its time, and
+/// the word of `answer`. The three are parted as columns are, by a tab if that is white space.
+/// `held` says whether the frame is believed.
 fn put_row(
     text: &mut Vec<u8>,
     settings: &Settings<'_>,

@@ -1,4 +1,5 @@
-//! Times as texts. Days of the year, months and days of a month count from 1.
+//! Times as texts, each added to the end of `text`. Days of the year, months and days of a month
+//! count from 1. An `AllocError` says that memory ran out.
 
 ghost use Rattle.std.specs.Prelude.{◌≡◌, ◌<◌, ◌≤◌, ◌^◌, ◌++◌, ◌∷◌, ◌+◌, ◌*◌, decimal, drop, length};
 ghost use Rattle.std.specs.Prelude.{OnOk, IfSome};
@@ -24,7 +25,7 @@ fn digit(unit: u64, number: u64) -> u8
     b'0' + (number / unit % 10) as u8
 }
 
-/// Adds the word of a time, in the form of the settings, to a text: a hyphen if there is none.
+/// Adds a time to a text, in the form of the settings; a hyphen if there is no time.
 pub fn put_word(
     text: &mut Vec<u8>,
     settings: &Settings<'_>,
@@ -55,7 +56,8 @@ fn put_time(text: &mut Vec<u8>, settings: &Settings<'_>, time: &Time) -> Result<
     }
 }
 
-/// Adds a time of year, as `[YYYY-]DDDThh:mm:ss.ffffff`.
+/// Adds a time of year, as `YYYY-DDDThh:mm:ss.ffffff`, with the day's number in the year. If the
+/// year is not known, `YYYY-` is left out.
 fn put_ordinal(text: &mut Vec<u8>, year: Option<u32>, time: &Time) -> Result<(), AllocError>
     ensures { OnOk result (text.new.items ≡ text.old.items ++ ordinal_text year time.now) }
 {

@@ -1,4 +1,4 @@
-//! The block that the parts of a text wait in.
+//! The block that the parts of a text wait in until they are written together.
 
 ghost use Rattle.std.specs.Prelude.{◌≡◌, ◌≤◌, ◌+◌, [], IfOk};
 ghost use Rattle.std.specs.Vec.{vec_capacity};

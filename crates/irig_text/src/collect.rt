@@ -1,4 +1,4 @@
-//! A text, whole in memory.
+//! A text that comes in parts, whole in memory.
 
 ghost use Rattle.std.specs.Prelude.{◌≡◌, IfOk};
 

@@ -1,4 +1,4 @@
-//! Where texts are written.
+//! Where texts are written: a file, or a list in memory.
 //!
 //! A ghost item is for contracts alone: it is nothing in the program.
 

@@ -1,4 +1,4 @@
-//! What a text in parts is.
+//! What a text in parts is. A block is where parts are collected until they are written together.
 
 ghost use Rattle.std.specs.Prelude.{◌≡◌, ◌≤◌, ◌++◌, [], false, true, ℕ, List, IfOk, OnOk, vec_len};
 

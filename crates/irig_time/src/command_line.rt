@@ -1,9 +1,10 @@
-//! The command line, read by `clap`. Its matches are what `clap` found in its words. Only memory
-//! can run out for a `Command` or an `Arg`. The options come in this order: `taking`, `reading`,
-//! `placing`, `writing`, `marking`, and each adds some to those before, and `command` adds the
-//! track. A `UsageFault` is `Words` if `clap` does not accept the words, or they ask for help, and
-//! `Value` if an option has a value that it cannot have. In a text of the help, what is after the
-//! last colon is the value without the option.
+//! The command line, read by `clap`. Its matches are what `clap` found in its words. `option_arg`
+//! makes an option with a value, `flag_arg` one without, and `needed_arg` a word that has to be
+//! there, each by its name and its text in the help; what is after the last colon of that text is
+//! the value without the option. Only memory can run out for a `Command` or an `Arg`. The options
+//! come in this order: `taking`, `reading`, `placing`, `writing`, `marking`, and each adds some to
+//! those before, and `command` adds the track. A `UsageFault` is `Words` if `clap` does not accept
+//! the words, or they ask for help, and `Value` if an option has a value that it cannot have.
 
 ghost use Rattle.std.specs.Prelude.{◌≡◌, IfErr, IfOk, map, string_bytes};
 ghost use Rattle.clap.specs.Words.{HasMatchesOf, app_of, found_of};
@@ -21,7 +22,8 @@ use clap::{ArgMatches, Command, Error};
 use irig_words::{UsageFault, flag_arg, matches_of, needed_arg, option_arg, windowed};
 use std::alloc::{AllocError, Global};
 
-/// What the words of a command line ask for, the program's name being the first.
+/// What the words of a command line ask for, the program's name being the first. An error says why
+/// they ask for nothing.
 pub fn chosen<'a>(alloc: Global, words: &'a [String]) -> Result<Chosen<'a>, UsageFault<OptionFault>>
     ensures reads { Reads (map string_bytes words.entry.now) result }
     ensures sound { IfOk result (λ c. IsSound c.settings) }
@@ -36,7 +38,8 @@ pub fn chosen<'a>(alloc: Global, words: &'a [String]) -> Result<Chosen<'a>, Usag
     }
 }
 
-/// The values of a command line: the words, as `clap` takes them apart.
+/// The values of a command line: the words, as `clap` takes them apart. `Err` if `clap` does not
+/// accept them, they ask for help, or memory ran out.
 fn asked<'a>(alloc: Global, words: &'a [String]) -> Result<Asked<'a>, Error>
     ensures values { IfOk result (Values the_command AreValues
         (map string_bytes words.entry.now)) }
@@ -79,7 +82,8 @@ fn values_of<'a>(matches: &ArgMatches<'a>) -> Result<Asked<'a>, Error>
     })
 }
 
-/// The matches of a command line that `clap` accepts.
+/// The matches of a command line that `clap` accepts. `Err` if it does not accept the words, they
+/// ask for help, or memory ran out.
 fn parse_words<'a>(alloc: Global, words: &'a [String]) -> Result<ArgMatches<'a>, Error>
     ensures parsed { IfOk result (HasMatchesOf the_command (map string_bytes words.entry.now)) }
     ensures refused { IfErr result (MayRefuse the_command (map string_bytes words.entry.now)) }

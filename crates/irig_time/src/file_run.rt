@@ -1,7 +1,8 @@
 //! Lines are aligned with the track of a dump, of up to 2^26 pulses, as the words of a command line
-//! ask. A frame is believed if another one near it supports its time: moments have their times from
-//! such frames alone. `doubted` is how many others have a time, and `timed` whether some frame is
-//! believed.
+//! ask: each is printed with the time of year that the track has at the line's recorder's time. A
+//! frame is believed if another one near it supports its time: moments have their times from such
+//! frames alone. `doubted` is how many others have a time, and `timed` whether some frame is
+//! believed. An `Ending` says how the program ends.
 
 ghost use Rattle.std.specs.Prelude.{map, string_bytes};
 ghost use Rattle.irig_time.specs.Ending.{AlignsAs, EndsBy, ListsAs, Obeys, RunsAs};
@@ -16,7 +17,8 @@ use irig_stamps::{align, list};
 use std::alloc::Global;
 use std::io::{Read, Write};
 
-/// Aligns lines as the words of a command line ask, the program's name being the first.
+/// Aligns lines as the words of a command line ask, the program's name being the first. `Usage` if
+/// they ask for help, or for nothing that can be done.
 pub fn align_words<'a, D: Disk, R: Read, W: Write>(
     alloc: Global,
     words: &'a [String],
@@ -53,7 +55,8 @@ fn run_file<'a, D: Disk, R: Read, W: Write>(
     }
 }
 
-/// Aligns lines with a recording, or prints its table, as is asked for.
+/// Aligns lines with a recording, or prints its table if that is asked for: a row for each frame
+/// that has a time. The table needs no lines.
 fn run_track<'a, R: Read, W: Write>(
     alloc: Global,
     chosen: &Chosen<'a>,
@@ -74,7 +77,8 @@ fn run_track<'a, R: Read, W: Write>(
 }
 
 /// Prints the table of a recording. The ending is the first of these that holds: frames have a time
-/// and are not believed, some frame is believed, or none is.
+/// and are not believed (`Doubted`), some frame is believed (`Listed`), or none is (`Timeless`).
+/// `Broken` if the run was broken off.
 fn list_track<'a, W: Write>(
     alloc: Global,
     chosen: &Chosen<'a>,
@@ -93,8 +97,8 @@ fn list_track<'a, W: Write>(
 }
 
 /// Aligns lines with a recording. The ending is the first of these that holds: frames have a time
-/// and are not believed; some frame is believed, and then whether the column of each line has a
-/// number; or none is.
+/// and are not believed (`Doubted`); some frame is believed (`Aligned`), and then whether the
+/// column of each line has a number; or none is (`Timeless`). `Broken` if the run was broken off.
 fn align_track<'a, R: Read, W: Write>(
     alloc: Global,
     chosen: &Chosen<'a>,

@@ -1,4 +1,6 @@
-//! The time of day of each line that a recorder wrote next to a time track.
+//! The time of day of each line that a recorder wrote next to a time track. The status is the
+//! number with which the program ends; 0 is success. `tell` and `tell_no_words` print on the
+//! standard error why it ends, and return the status.
 #![tactic(auto)]
 
 mod asked;
@@ -29,7 +31,8 @@ use std::rt::Runtime;
 use std::{env, io};
 
 // Gets the files of the system and the words of the command line; then the lines on the input are
-// aligned. The status is 2 if one of these cannot be had: the track was not looked for then.
+// aligned with the track that the words name. The status is 2 if one of these cannot be had: the
+// track was not looked for then.
 fn main(rt: HostRuntime) -> ExitCode {
     let Ok(files) = system_files(&rt) else {
         return program().tell(&rt, 2, &io::Error::from(io::ErrorKind::OutOfMemory));

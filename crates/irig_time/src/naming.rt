@@ -1,4 +1,6 @@
-//! The name of the column of times.
+//! The name of the column of times, which the program adds before each line. It is printed in the
+//! last line of the header. `asked` has the values of the command line as they are written, and an
+//! `OptionFault` names the option whose value is wrong.
 
 ghost use Rattle.std.specs.Prelude.{◌≡◌, IfErr, IfOk, Some, codes};
 ghost use Rattle.irig_time.specs.Faults.{HasFault};
@@ -12,8 +14,8 @@ use crate::chosen::OptionFault;
 use irig_words::text_or;
 
 /// The name of the column of times, `time` if none is given. `comma` parts columns, or white space
-/// without it, and the header has `header` lines. `Name` if a column cannot have the name,
-/// `Unnamed` if it is given and there is no header to write it in.
+/// without it, and the header has `header` lines. The error is `Name` if a column cannot have the
+/// name, `Unnamed` if it is given and there is no header to write it in.
 pub fn name_of<'a>(
     asked: &Asked<'a>,
     comma: Option<u8>,

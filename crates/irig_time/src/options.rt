@@ -1,4 +1,7 @@
-//! What the values of a command line mean. An option without a value is `true` if it is given.
+//! What the values of a command line mean. `asked` has them as they are written, and an
+//! `OptionFault` says which option is wrong. `text_or` gives the value of an option, or the text
+//! after it if the option is not given. An option without a value is `true` if it is given. A frame
+//! is fine if it reads well, and it is believed if another one near it supports its time.
 
 ghost use Rattle.std.specs.Prelude.{◌≡◌, IfErr, IfOk};
 ghost use Rattle.irig_time.specs.Chosen.{HasSettings, IsChosen, IsSound, asks_why};
@@ -81,8 +84,8 @@ fn tells_of_lines(asked: &Asked<'_>) -> bool
         || asks_why(asked)
 }
 
-/// How lines are read and stamped; or the first fault of an option. The first day is found in the
-/// track later, so it is 0 here.
+/// How lines are read and stamped; or the first fault of an option. The first day and the length of
+/// the track are found later, so they are 0 here.
 fn settings_of<'a>(asked: &Asked<'a>) -> Result<Settings<'a>, OptionFault>
     ensures settings { IfOk result (HasSettings asked.now) }
     ensures sound { IfOk result IsSound }

@@ -1,5 +1,7 @@
 //! How the lines that a recorder wrote, its samples, are read, and how a time is written: by the
-//! values of the options.
+//! values of the options. `text_or` gives the value of an option, or the text after it if the
+//! option is not given. `asked` has the values as they are written. An error, an `OptionFault`, has
+//! the name of the option that is wrong.
 
 ghost use Rattle.std.specs.Prelude.{◌≡◌, ◌≤◌, ◌<◌, ◌^◌, IfErr, IfOk, IfSome, Some, codes, true};
 ghost use Rattle.irig_time.specs.Faults.{HasFault};
@@ -51,7 +53,8 @@ pub struct Column<'a> {
 }
 
 /// Where the recorder's time is in a line: its unit, its offset, its column and what parts columns.
-/// Without the options: microseconds, no offset, column 1 and white space.
+/// Without the options: microseconds, no offset, column 1 and white space. `Unit`, `Offset`,
+/// `Column` or `Comma` if that option has a value that it cannot have.
 pub fn columns_of<'a>(asked: &Asked<'a>) -> Result<Columns<'a>, OptionFault>
     ensures columns { IfOk result (λ c. HasColumns asked.now c.places c.offset c.column c.comma) }
     ensures sound { IfOk result (λ c. c.offset.size ≤ 2 ^ 119) }
@@ -78,7 +81,7 @@ pub fn columns_of<'a>(asked: &Asked<'a>) -> Result<Columns<'a>, OptionFault>
 }
 
 /// The column that is asked for: a number from 1, which becomes one from 0, or a name if it is no
-/// number. `Column` if it is a number out of range, or has no byte.
+/// number. `Column` if it is a number that is not from 1 to 65,536, or has no byte.
 fn column_of<'a>(asked: &Asked<'a>) -> Result<Column<'a>, OptionFault>
     ensures column { IfOk result (IsColumn asked.now) }
     ensures named { IfOk result (λ c. IfSome c.named (λ n. names_column asked.now ≡ true)) }
@@ -109,9 +112,9 @@ fn is_column_name(text: &[u8]) -> bool
     !text.is_empty() && whole(text).is_none()
 }
 
-/// How many lines are the header: 0 if that is not given. `Header` if it is no such number;
-/// `Headless` if it is 0 and a column is given by its name (`named`), which is looked for in the
-/// header.
+/// How many lines are the header: 0 if that is not given. `Header` if it is no number of lines, up
+/// to 2^32; `Headless` if it is 0 and a column is given by its name (`named`), which is looked for
+/// in the header.
 pub fn header_of(asked: &Asked<'_>, named: Option<&[u8]>) -> Result<u64, OptionFault>
     requires { IfSome named (λ n. names_column asked.now ≡ true) }
     ensures header { IfOk result (λ header.

@@ -1,9 +1,9 @@
 //! The statuses of the program as a process, and what it says of faults. 0 is that each line had a
 //! number or the table was printed, 1 that a line had none, that frames are not believed or that
 //! none has a time, 2 a mistake in the command line, 3 a track that was not read, and 4 that the
-//! run was broken off. `tell` and `tell_of` print a fault on the standard error, the latter with a
-//! path, and return the status that they get. `explain` prints the help with status 0, or with 2
-//! what is wrong with the words.
+//! run was broken off. A frame is believed if another one near it supports its time. `tell` and
+//! `tell_of` print a fault on the standard error, the latter with a path, and return the status
+//! that they get. `explain` prints the help with status 0, or with 2 what is wrong with the words.
 
 ghost use Rattle.std.specs.Prelude.{◌≡◌};
 ghost use Rattle.std.specs.Process.{exit_status};

@@ -1,10 +1,12 @@
-//! The units of the recorder's time, by their names.
+//! The units of the recorder's time, by their names: s, ms, us, ns and ps. A unit is 10^n
+//! picoseconds: n is 12, 9, 6, 3 and 0. Each function returns such an n, and `None` if the text is
+//! no unit. It may have 1, 10 or 100 before it, as `100ns`, which adds 0, 1 or 2 to n.
 
 ghost use Rattle.std.specs.Prelude.{◌≡◌, ◌≤◌, IfSome};
 ghost use Rattle.irig_time.specs.Units.{places_after_one, places_after_ten, places_named};
 ghost use Rattle.irig_time.specs.Units.{prefix_places, unit_places, with_places};
 
-/// The n of a unit, or of 1, 10 or 100 of it, as `100ns`: 10^n picoseconds are that.
+/// The n of a unit, or of 1, 10 or 100 of it, as 5 for `100ns`: that is 10^5 picoseconds.
 pub fn places_named(name: &[u8]) -> Option<usize>
     ensures { result ≡ places_named name.now }
 {
@@ -14,7 +16,7 @@ pub fn places_named(name: &[u8]) -> Option<usize>
     }
 }
 
-/// The same for what comes after a 1.
+/// The n of a text by what comes after its 1: one zero, two zeros or none, and the unit.
 fn places_after_one(rest: &[u8]) -> Option<usize>
     ensures { result ≡ places_after_one rest.now }
 {
@@ -24,7 +26,7 @@ fn places_after_one(rest: &[u8]) -> Option<usize>
     }
 }
 
-/// The same for what comes after 10.
+/// The n of a text by what comes after its 10: another zero or none, and the unit.
 fn places_after_ten(rest: &[u8]) -> Option<usize>
     ensures { result ≡ places_after_ten rest.now }
 {
@@ -34,7 +36,8 @@ fn places_after_ten(rest: &[u8]) -> Option<usize>
     }
 }
 
-/// Some more places, if there are any; a unit has at most 12.
+/// An n, and `more` added to it for the zeros before the unit; `None` if there is no n. The n of a
+/// unit is at most 12.
 fn with_places(more: usize, places: Option<usize>) -> Option<usize>
     requires few { more ≤ 2 }
     requires range { IfSome places (λ n. n ≤ 12) }
@@ -46,7 +49,7 @@ fn with_places(more: usize, places: Option<usize>) -> Option<usize>
     }
 }
 
-/// The n of the unit with this name: 10^n picoseconds are one of the unit.
+/// The n of the unit with this name, without a number before it; `None` if there is none.
 fn unit_places(name: &[u8]) -> Option<usize>
     ensures value { result ≡ unit_places name.now }
     ensures range { IfSome result (λ n. n ≤ 12) }
@@ -58,7 +61,7 @@ fn unit_places(name: &[u8]) -> Option<usize>
     }
 }
 
-/// The n of the unit with this letter before its s: 10^n picoseconds are one of the unit.
+/// The n of the unit with this letter before its s; `None` if there is none.
 fn prefix_places(prefix: u8) -> Option<usize>
     ensures value { result ≡ prefix_places prefix }
     ensures range { IfSome result (λ n. n ≤ 12) }

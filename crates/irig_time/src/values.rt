@@ -1,5 +1,6 @@
 //! What the texts of single values mean. Each function that gives an option returns `None` if a
-//! text means no such value.
+//! text means no such value. A `Picos` is a time of the recorder in picoseconds from its zero, as a
+//! sign and a size.
 
 ghost use Rattle.std.specs.Prelude.{◌≡◌, ◌≤◌, ◌<◌, ◌^◌, IfSome, Some};
 ghost use Rattle.std.specs.Str.{bytes_eq};
@@ -37,8 +38,8 @@ fn within(first: u128, last: u128, number: u128) -> Option<u128>
     }
 }
 
-/// A number in the unit of 10^`places` picoseconds, in picoseconds rounded down. `None` also if it
-/// is further than 2^119 picoseconds from zero.
+/// The time that a text means, as a number of units of 10^`places` picoseconds: in picoseconds,
+/// rounded down. `None` if it is no number, or is further than 2^119 picoseconds from zero.
 pub fn offset_named(places: usize, text: &[u8]) -> Option<Picos>
     ensures value { result ≡ offset_named places text.now }
     ensures range { IfSome result (λ v. v.size ≤ 2 ^ 119) }
@@ -61,7 +62,7 @@ fn near(picos: Picos) -> Option<Picos>
     }
 }
 
-/// The byte that parts columns, if the text is just one byte, and this can part them.
+/// The byte that parts columns, if the text is just one byte, and this can part them; else `None`.
 pub fn comma_named(text: &[u8]) -> Option<u8>
     ensures { result ≡ comma_named text.now }
 {
@@ -79,14 +80,16 @@ fn is_parting(byte: u8) -> bool
     byte <= 127 && !is_of_text(byte) && byte != b'\n' && byte != b'\r'
 }
 
-/// Whether this byte can be in a number, a time, a word or a name, so that it cannot part columns.
+/// Whether this byte can be in a number, a time, a word or a name, or is a quote round one, so that
+/// it cannot part columns.
 fn is_of_text(byte: u8) -> bool
     ensures { result ≡ is_of_text byte }
 {
     matches!(byte, b'A'..=b'Z' | b'a'..=b'z' | b'0'..=b'9' | b'.' | b'+' | b'-' | b':' | b'"')
 }
 
-/// The form with this name.
+/// The form of a time that has this name: `ordinal`, `calendar` or `seconds`; `None` for any other
+/// text.
 pub fn form_named(name: &[u8]) -> Option<Form>
     ensures { result ≡ form_named name.now }
 {

@@ -4,7 +4,8 @@
 //! what frames have to be between them by their times. A pair of parts is the pulses counted on
 //! from `from` and those counted back from `to`, each side at most a frame, which is 100 pulses. A
 //! frame is believed if another one near it supports its time. Pulses are in step if each rises one
-//! interval after the one before.
+//! interval after the one before. `Lens` shows the pulses of a track. `century` is 20 for 2000 to
+//! 2099.
 
 ghost use Rattle.std.specs.Prelude.{◌≡◌, ◌≤◌, ◌<◌, ◌+◌, ◌-◌, ◌^◌, IfSome, min, slice_get};
 ghost use Rattle.irig_codes.specs.Format.{frame_period_of};
@@ -59,9 +60,9 @@ pub fn gap(from: &Part, to: &Part) -> usize
 
 /// The pulses that are counted between two parts, on from the first and back from the second;
 /// `None` if a pulse would be of both. `after` pulses follow the first in step, and `before` ones
-/// lead to the second; `in_step` says whether these meet in step. If just one frame is missing,
-/// there are 100 pulses, and the two counts overlap, then all are in step: all of them go on from
-/// the first.
+/// lead to the second; `in_step` says whether these meet in step. If one frame is missing, its 100
+/// pulses are there, and the two counts overlap, then all are in step: all of them are counted on
+/// from the first part.
 fn sides(
     from: &Part,
     to: &Part,
@@ -87,7 +88,7 @@ fn sides(
     sides_by(from, to, head, tail, missing, in_step)
 }
 
-/// The parts of the first `head` pulses after a part and the last `tail` before another, or none if
+/// The parts of the first `head` pulses after a part and the last `tail` before another; `None` if
 /// a pulse would be of both. If the two sides meet out of step, one pulse there has no time.
 fn sides_by(
     from: &Part,
@@ -124,8 +125,8 @@ fn is_seam(in_step: bool, gap: usize, head: usize, tail: usize) -> bool
     !in_step && head + tail == gap && (gap == 100 || gap == 200)
 }
 
-/// How many pulses of the first side have a time: at a slip (`seam`) its last one has none. A pulse
-/// gives its time to both intervals next to it or to none, and over the slip none goes on.
+/// How many of the `head` pulses of the first side have a time: at a slip (`seam`) its last one has
+/// none. A moment has a time only if the pulses around it have one, so none over the slip has.
 fn head_left(seam: bool, head: usize) -> usize
     ensures left { result ≡ head_left seam head }
     ensures few { result ≤ head }
@@ -133,8 +134,8 @@ fn head_left(seam: bool, head: usize) -> usize
     if seam { head.saturating_sub(1) } else { head }
 }
 
-/// How many pulses of the second side have a time: at a slip its first one has none, if the first
-/// side has no pulse that could be left out.
+/// How many of the `tail` pulses of the second side have a time: at a slip (`seam`) its first one
+/// has none, if the first side has no pulse that could be left out.
 fn tail_left(seam: bool, head: usize, tail: usize) -> usize
     ensures left { result ≡ tail_left seam head tail }
     ensures few { result ≤ tail }
@@ -146,9 +147,9 @@ fn tail_left(seam: bool, head: usize, tail: usize) -> usize
     }
 }
 
-/// Of the `count` elements that one side reaches, how many the other side, which reaches `other`,
-/// does not reach too, if both are of one frame (`is_one`); else all. An element that both reach
-/// would be two different pulses, so neither side keeps it.
+/// How many of its `count` elements a side keeps: all, unless both sides are of the one missing
+/// frame (`is_one`). Then it keeps none that the other side has, too, which has `other` of the
+/// frame's 100 from the other end: such an element would be two different pulses.
 fn kept(is_one: bool, count: usize, other: usize) -> usize
     requires { other ≤ 100 }
     ensures kept { result ≡ kept is_one count other }
@@ -163,7 +164,7 @@ fn kept(is_one: bool, count: usize, other: usize) -> usize
 
 /// The frames that are missing between two. The times of the two must be as many periods apart as
 /// their markers, to the nearest period. `None` if they are not, if no frame is missing, or if a
-/// marker is not there. `century` is 20 for 2000 to 2099.
+/// marker is not there.
 pub fn missing_by(
     pulses: &mut Lens<'_>,
     format: Format,
@@ -192,9 +193,9 @@ pub fn missing_by(
     }
 }
 
-/// The parts between two, if `after` pulses after the first are in step and `before` ones before
-/// the second: the two meet in step if the next pulse after the kept ones of the first is. `None`
-/// if a pulse would be of both.
+/// The parts between two frames, if `after` pulses after the first and `before` ones before the
+/// second are in step. The two sides meet in step if the pulse after those that the first side
+/// keeps rises one interval after the one before it. `None` if a pulse would be of both.
 pub fn sides_at(
     pulses: &mut Lens<'_>,
     format: Format,

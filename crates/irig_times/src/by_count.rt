@@ -1,6 +1,7 @@
 //! The time of a microsecond by the pulses whose time is known. Pulses and elements count from 0. A
 //! part is pulses in a row, as elements of one frame whose time is known. `place_of` gives the
-//! element of a pulse and its frame's time, or `None` if the pulse is of no part.
+//! element of a pulse and its frame's time, or `None` if the pulse is of no part. A `Lens` shows
+//! the pulses of a track, and counts how often one is looked at.
 
 ghost use Rattle.std.specs.Prelude.{◌≡◌, ◌↔◌, ◌<◌, ◌≤◌, ◌+◌, ◌*◌, ◌^◌, ℕ, IsTrue, length, Some};
 ghost use Rattle.irig_track.specs.Looks.{LookedThrough};
@@ -19,7 +20,7 @@ const PICOS: u64 = 1_000_000;
 
 /// The time of year some picoseconds after the start of a track. `None` unless the pulse before it
 /// and the next one have times, one interval apart: between them the time goes evenly. `find` says
-/// how many pulses have risen by a microsecond, so the last of them has one number less.
+/// how many pulses have risen by a microsecond, so the number of the last of them is one less.
 ///
 /// The years of two digits are of this century: 20 for 2000 to 2099.
 pub fn time_by(
@@ -75,8 +76,8 @@ fn goes_on(parts: &[Part], format: Format, century: u32, number: usize, place: &
     }
 }
 
-/// The time when `part` picoseconds of the interval of an element are over, which is recorded as
-/// `whole` microseconds long.
+/// The time when `part` picoseconds of an element (`place`) are over, whose interval is recorded as
+/// `whole` microseconds long. The nominal interval is over by the same share.
 fn shared(format: Format, place: &Place, part: u64, whole: u64) -> Time
     requires order { part < 1000000 * whole }
     requires small { whole ≤ 2 ^ 41 }
@@ -104,8 +105,8 @@ fn share(interval: u64, micros: u64, picos: u64, whole: u64) -> u64
     (micros * interval + picos * interval / PICOS) / whole
 }
 
-/// The time `micros` microseconds after another, that of a frame. Nothing is carried: a frame ends
-/// with its minute at the latest.
+/// The time `micros` microseconds after that of a frame. Nothing is carried to the minute: a frame
+/// ends with its minute at the latest.
 fn later_by(time: &Time, micros: u64) -> Time
     requires small { micros < 2 ^ 53 }
     requires minute { time.now.micros < 2 ^ 53 }

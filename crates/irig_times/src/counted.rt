@@ -3,8 +3,9 @@
 //! frame is believed if another one near it supports its time. Pulses next to it are counted if
 //! they are in step with it: as elements of the frame before it or after it. A pair of parts
 //! (`sides`) is what is counted on from a frame and what is counted back from the next. The time
-//! jumps between two frames if a clock was set there. `century` is that of years of two digits: 20
-//! for 2000 to 2099. An error says that memory ran out.
+//! jumps between two frames if a clock was set there. `Lens` shows the pulses of a track, and
+//! `FrameLens` its frames, each by a record. `century` is that of years of two digits: 20 for 2000
+//! to 2099. An error says that memory ran out.
 
 ghost use Rattle.std.specs.Prelude.{[], ◌≡◌, ◌≤◌, ◌<◌, ◌++◌, ◌∷◌, IfOk, None, OnOk, Some, length};
 ghost use Rattle.irig_index.specs.Frames.{frames};
@@ -49,7 +50,7 @@ pub fn timed_parts(
 }
 
 /// The pulses of the frames that are believed, and those that are counted next to them, before each
-/// frame and after the last. `whole` is all frames that have a time.
+/// frame and after the last, as parts in order. `whole` is all frames that have a time.
 fn counted_parts(
     alloc: Global,
     pulses: &mut Lens<'_>,
@@ -63,7 +64,7 @@ fn counted_parts(
         ≡ filled format century pulses.old.track.micros pulses.old.track.pulses None whole.now) }
     ensures pulses { pulses.new.track ≡ pulses.old.track }
 {
-    // The count is not used: what the call promises bounds the pulses.
+    // For the proof alone: the call promises how many pulses there can be.
     let _count = pulses.len();
     let mut list = Vec::new(alloc);
     let mut before = None;
@@ -78,7 +79,7 @@ fn counted_parts(
     Ok(list)
 }
 
-/// The part at a place, from 0, if there is one.
+/// The part at a place, from 0; `None` if there is none.
 fn part_at(parts: &[Part], place: usize) -> Option<Part>
     ensures { result ≡ slice_get parts.now place }
 {
@@ -90,8 +91,9 @@ fn part_at(parts: &[Part], place: usize) -> Option<Part>
 }
 
 /// Adds to a list what is counted before a frame (`part`), and what the frame keeps of its own
-/// pulses: if the time jumps before it, those after the elements of its time; by what is after it
-/// those of `kept_before`. `before` and `next` are the frames before and after it.
+/// pulses. If the time jumps before it, it does not keep the elements that carry its time
+/// (`after_jump`). What comes after it can leave it fewer, too (`kept_before`). `before` and `next`
+/// are the frames before and after it, `None` if there is none.
 fn put_frame(
     list: &mut Vec<Part>,
     pulses: &mut Lens<'_>,
@@ -121,9 +123,9 @@ fn put_frame(
     Ok(())
 }
 
-/// What a frame (`part`) keeps of its own pulses by what is after it: only its marker, if the time
-/// jumps; those that are surely its own, if tens of intervals are lost. `next` is the frame after
-/// it.
+/// What a frame (`part`) keeps of its own pulses by what is after it: at most its marker, its first
+/// pulse, if the time jumps there; those that are surely its own, if tens of intervals are lost
+/// there; else all. `next` is the frame after it, `None` if it is the last.
 fn kept_before(
     pulses: &mut Lens<'_>,
     format: Format,
@@ -145,7 +147,7 @@ fn kept_before(
 }
 
 /// What is counted before a frame (`part`); `None` if the time `jumps` there, or if nothing can be
-/// counted. `before` is the frame before it.
+/// counted. `before` is the frame before it, `None` if it is the first.
 fn sides_without(
     pulses: &mut Lens<'_>,
     format: Format,
@@ -169,7 +171,7 @@ fn sides_without(
     }
 }
 
-/// Adds two parts to a list, if there are two.
+/// Adds the two parts of a pair to a list; does nothing without a pair.
 fn put_sides(list: &mut Vec<Part>, sides: Option<(Part, Part)>) -> Result<(), AllocError>
     ensures { OnOk result (list.new.items ≡ list.old.items ++ with_sides sides []) }
 {

@@ -2,8 +2,9 @@
 //! another, as elements of one frame whose time is known. A frame is believed if another one near
 //! it supports its time; one that is not is a part without pulses. A pulse says an element by its
 //! width: its class is 0, 1 or a position identifier, or none. Pulses and elements count from 0.
-//! `wanted` is the elements that a frame should have. At each end a hundred pulses in step are
-//! counted at most, which is a frame: further on a slip of one interval would go unseen.
+//! `Lens` shows the pulses of a track. `wanted` is the elements that a frame should have. At each
+//! end a hundred pulses in step are counted at most, which is a frame: further on a slip of one
+//! interval would go unseen.
 
 ghost use Rattle.std.specs.Prelude.{◌≡◌, ◌≤◌, ◌<◌, ◌+◌, ◌-◌, ◌^◌, IfSome, length, min, slice_get};
 ghost use Rattle.irig_codes.specs.Format.{frame_period_of};
@@ -60,7 +61,8 @@ pub fn time_elements(format: Format) -> usize
     }
 }
 
-/// Whether a class is there and not the one that is wanted. A width of no class says nothing.
+/// Whether a class is there and not the one that is wanted. False for a width of no class (`None`),
+/// which says nothing.
 fn is_other(class: Option<Element>, wanted: Element) -> bool
     ensures { result ≡ is_other class wanted }
 {
@@ -112,7 +114,8 @@ pub fn contradicts(
     }
 }
 
-/// How many of the first `told` pulses of a part contradict the elements of its frame.
+/// How many of the first `told` pulses of a part contradict the elements that its frame should
+/// have.
 fn contradictions(
     pulses: &mut Lens<'_>,
     format: Format,
@@ -148,8 +151,8 @@ fn more(count: usize, is_so: bool) -> usize
     if is_so { count + 1 } else { count }
 }
 
-/// How many pulses of a part can say another time: all, but for the last one of the track, which
-/// the end of the recording can have cut.
+/// How many pulses of a part can say another time than the part's: all, but for the last one of the
+/// track, whose width the end of the recording can have cut.
 pub fn telling(pulses: &Lens<'_>, part: &Part) -> usize
     requires small { (part.now.number < 2 ^ 32) × (part.now.count ≤ 100) }
     ensures few { result ≤ part.now.count }

@@ -1,5 +1,5 @@
 //! Which time is one frame period after another. Periods are in microseconds. Years are of two
-//! digits, in a century: 20 for 2000 to 2099.
+//! digits, in a century: 20 for 2000 to 2099. Of two times `a` is the first, and `b` the second.
 
 ghost use Rattle.std.specs.Prelude.{◌≡◌, ◌+◌, ◌*◌, ◌%◌, ◌≤◌, ◌<◌, ◌^◌, pos};
 ghost use Rattle.jiff_core.specs.Calendar.{days_in_year};
@@ -86,7 +86,7 @@ fn day_follows(century: u32, a: &Time, b: &Time) -> bool
     }
 }
 
-/// How many days a year of a century has.
+/// How many days a year of two digits has in a century: 365 or 366.
 fn year_length(century: u32, year: u32) -> u32
     requires { century ≤ 99 }
     ensures { result ≡ days_in_year (pos (100 * century + year % 100)) }
@@ -94,7 +94,8 @@ fn year_length(century: u32, year: u32) -> u32
     days_in_year((100 * century + year % 100) as i16) as u32
 }
 
-/// Whether the second time is in the hour after that of the first.
+/// Whether the second time is in the hour after that of the first: after hour 23 that is hour 0 of
+/// the next day.
 fn hour_follows(century: u32, a: &Time, b: &Time) -> bool
     requires { century ≤ 99 }
     ensures { result ≡ hour_follows century a.now b.now }
@@ -106,7 +107,8 @@ fn hour_follows(century: u32, a: &Time, b: &Time) -> bool
     }
 }
 
-/// Whether the second time is in the minute after that of the first.
+/// Whether the second time is in the minute after that of the first: after minute 59 that is minute
+/// 0 of the next hour.
 fn minute_follows(century: u32, a: &Time, b: &Time) -> bool
     requires { century ≤ 99 }
     ensures { result ≡ minute_follows century a.now b.now }

@@ -15,7 +15,7 @@ use std::marker::Model;
 #[derive(Drop)]
 pub struct FrameLens<'a> {
     index: &'a Index,
-    // How many more looks can be counted.
+    // How many more looks can be counted. To count down to 0 is cheaper than up to 2^64 - 1.
     left: u64,
 }
 
@@ -39,7 +39,7 @@ impl<'a> FrameLens<'a> {
         }
     }
 
-    /// How many records there are.
+    /// How many records there are. No look is counted.
     pub fn len(&self) -> usize
         ensures { result ≡ length self.now.records }
     {

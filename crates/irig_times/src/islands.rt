@@ -1,8 +1,8 @@
 //! Which frames are on an island: wrong alike, between frames that agree. Two frames agree if they
 //! are near enough for their distance to say how many periods it is, and their times are as many
-//! apart. A shore is a frame next to the island that does not agree with it. `Three` is the nearest
-//! frame on one side, or a farther one, and the two next to it that are farther still; `None` if
-//! there is no such frame.
+//! apart. A shore is a frame next to the island that does not agree with it. What a frame shows
+//! (`Shown`) is its fields and when its marker rises. `Three` is the nearest frame on one side, or
+//! a farther one, and the two next to it that are farther still; `None` if there is no such frame.
 
 ghost use Rattle.std.specs.Prelude.{◌≡◌, ◌&&◌, List};
 ghost use Rattle.irig_safety.specs.declared.shown.Shown.{Shown};
@@ -75,7 +75,7 @@ fn is_shore_after(format: Format, frame: &Shown, after: Three) -> bool
     }
 }
 
-/// Whether two frames are there and agree.
+/// Whether two frames are there, one before the other, and agree.
 fn agree(format: Format, before: Option<Shown>, after: Option<Shown>) -> bool
     ensures { result ≡ agree format before after }
 {
@@ -85,7 +85,7 @@ fn agree(format: Format, before: Option<Shown>, after: Option<Shown>) -> bool
     }
 }
 
-/// Whether a frame before a frame is there, and agrees with it.
+/// Whether the frame `before` is there, and agrees with `frame`, which comes after it.
 pub fn agrees_from(format: Format, before: Option<Shown>, frame: &Shown) -> bool
     ensures { result ≡ agrees_from format before frame.now }
 {
@@ -95,7 +95,7 @@ pub fn agrees_from(format: Format, before: Option<Shown>, frame: &Shown) -> bool
     }
 }
 
-/// Whether a frame after a frame is there, and agrees with it.
+/// Whether the frame `after` is there, and agrees with `frame`, which comes before it.
 pub fn agrees_to(format: Format, frame: &Shown, after: Option<Shown>) -> bool
     ensures { result ≡ agrees_to format frame.now after }
 {

@@ -1,7 +1,9 @@
 //! Where the time jumps between two frames that are in step. Two pulses are in step if the second
-//! rises one interval after the first. `from` and `to` are frames that have a time, as parts; one
-//! without pulses is not believed. A frame is believed if another one near it supports its time.
-//! Periods are in microseconds; `century` is 20 for 2000 to 2099.
+//! rises one interval after the first. A part is pulses in a row, as elements of one frame whose
+//! time is known. `from` and `to` are frames that have a time, as parts; one without pulses is not
+//! believed. A frame is believed if another one near it supports its time. Its marker is its first
+//! pulse. `Lens` shows the pulses of a track. Periods are in microseconds; `century` is 20 for 2000
+//! to 2099.
 
 ghost use Rattle.std.specs.Prelude.{◌≡◌, ◌≤◌, ◌<◌, ◌+◌, ◌^◌, IfSome, MatchOption, Some};
 ghost use Rattle.irig_times.specs.Jumps.{after_jump, are_apart, are_joined, before_jump, is_jump};
@@ -24,7 +26,8 @@ use irig_track::Lens;
 /// The pulses of a frame.
 const FRAME_PULSES: usize = 100;
 
-/// Whether each pulse after a frame, up to the marker of another and with it, is in step.
+/// Whether each pulse after the hundred of a frame, up to the marker of another and with it, is in
+/// step with the one before.
 fn are_joined(pulses: &mut Lens<'_>, format: Format, from: &Part, to: &Part) -> bool
     requires order { from.now.number + from.now.count ≤ to.now.number }
     requires small { to.now.number < 2 ^ 30 }
@@ -44,9 +47,10 @@ fn pulses_between(from: &Part, to: &Part) -> usize
     to.number.saturating_sub(from.number + FRAME_PULSES)
 }
 
-/// Whether the time runs on by the count of pulses: between two frames are whole hundreds of them,
-/// which are whole frames, and the second time is as many periods later. If there are none, it is
-/// one period later. False for three periods or more over midnight (`missing_in`).
+/// Whether the time runs on by the count of pulses: between two frames are whole hundreds of
+/// pulses, which are whole frames, and the second time is as many periods later and one more.
+/// Without a frame between them it is one period later. False for three periods or more over
+/// midnight, as `missing_in` counts none there.
 fn runs_on(format: Format, century: u32, from: &Part, to: &Part) -> bool
     requires century { century ≤ 99 }
     requires times { (from.now.time.micros < 2 ^ 59) × (to.now.time.micros < 2 ^ 59) }
@@ -97,8 +101,9 @@ fn is_whole_apart(period: u64, interval: u64, distance: u64) -> bool
     2 * rest <= interval || 2 * (period - rest) <= interval
 }
 
-/// Whether two times can be those of frames that are `count` periods apart. Three and more are not
-/// counted over midnight, so then any times can be. `middle` is the time of the one frame between.
+/// Whether two times can be those of frames that are `count` periods apart; 0 is taken as 1. Three
+/// and more are not counted over midnight, so then any times can be. `middle` is the time of the
+/// one frame between.
 pub fn are_apart(century: u32, period: u64, count: u64, from: &Time, to: &Time) -> bool
     requires century { century ≤ 99 }
     requires small { (period < 2 ^ 25) × (count < 2 ^ 42 + 2) }
@@ -114,8 +119,9 @@ pub fn are_apart(century: u32, period: u64, count: u64, from: &Time, to: &Time) 
     !same_day(from, to) || u128::from(day_micros(to)) == later_micros(period, count, from)
 }
 
-/// Whether the markers of two frames are there and whole periods apart, and their times are not
-/// that many.
+/// Whether the markers of two frames are there and whole periods apart, and their times, `from` and
+/// `to`, are not that many. `first` and `last` are the markers' pulses, `None` if they are not
+/// there.
 fn slips(
     format: Format,
     century: u32,
@@ -137,7 +143,8 @@ fn slips(
     }
 }
 
-/// Whether two markers are whole periods apart, and the times of their frames are not that many.
+/// Whether two markers are whole periods apart, and the times of their frames, `from` and `to`, are
+/// not that many.
 fn slips_by(format: Format, century: u32, from: &Time, to: &Time, first: Pulse, last: Pulse) -> bool
     requires century { century ≤ 99 }
     requires times { (from.now.micros < 2 ^ 59) × (to.now.micros < 2 ^ 59) }
@@ -154,7 +161,7 @@ fn slips_by(format: Format, century: u32, from: &Time, to: &Time, first: Pulse, 
 }
 
 /// Whether the last frame (`from`) is believed, a time follows it on its day, and yet nothing is
-/// counted after it: pulses there say another time.
+/// counted after it (`end_after`): pulses there say another time.
 fn is_denied_after(pulses: &mut Lens<'_>, format: Format, from: &Part) -> bool
     requires small { (from.now.time.micros < 2 ^ 59) × (from.now.number + from.now.count < 2 ^ 30) }
     ensures denied { result ≡ is_denied_after format pulses.old.track.pulses from.now }
@@ -166,7 +173,7 @@ fn is_denied_after(pulses: &mut Lens<'_>, format: Format, from: &Part) -> bool
 }
 
 /// Whether the first frame (`to`) is believed, a time is before it on its day, and yet nothing is
-/// counted before it: pulses there say another time.
+/// counted before it (`end_before`): pulses there say another time.
 fn is_denied_before(pulses: &mut Lens<'_>, format: Format, to: &Part) -> bool
     requires small { (to.now.time.micros < 2 ^ 59) × (to.now.number < 2 ^ 30) }
     ensures denied { result ≡ is_denied_before format pulses.old.track.pulses to.now }
@@ -201,7 +208,7 @@ pub fn is_jump_between(
     }
 }
 
-/// A frame, if the time `jumps` after it: of its pulses only the marker keeps its time, since
+/// A frame, if the time `jumps` after it: of its pulses at most the marker keeps its time, since
 /// nobody knows at which element the time jumps. Else as it is.
 pub fn before_jump(jumps: bool, part: Part) -> Part
     ensures { result ≡ before_jump jumps part }
@@ -216,9 +223,9 @@ pub fn before_jump(jumps: bool, part: Part) -> Part
     }
 }
 
-/// A frame, if the time `jumps` before it: of its pulses those after the elements of its time keep
-/// it, since the time was surely right from there on. Else as it is. A frame of fewer pulses keeps
-/// none.
+/// A frame, if the time `jumps` before it: its first elements, which carry its time, lose it, and
+/// the pulses after them keep it, since the time was surely right from there on. Else as it is. A
+/// frame of fewer pulses keeps none.
 pub fn after_jump(format: Format, jumps: bool, part: Part) -> Part
     requires small { (part.number < 2 ^ 32) × (part.element < 2 ^ 32) }
     ensures { result ≡ after_jump format.kind jumps part }

@@ -1,6 +1,6 @@
 //! The times of frames that are missing between two others. Periods are in microseconds, and so are
 //! the times of rises. `None` if no frames can be missing there by these times. `century` is 20 for
-//! 2000 to 2099.
+//! 2000 to 2099. `Time` is a minute of the year, and the microseconds since it began.
 
 ghost use Rattle.std.specs.Prelude.{IfSome, ◌≡◌, ◌≤◌, ◌+◌, ◌*◌, ◌^◌, ◌<◌};
 ghost use Rattle.irig_times.specs.Between.{at_micros, at_minute, day_micros, is_middle, is_whole};
@@ -28,14 +28,14 @@ pub struct Missing {
     pub last: Time,
 }
 
-/// A time in the minute of another, `micros` microseconds after it began.
+/// The time in the minute of another, `micros` microseconds after that minute began.
 fn at_micros(time: &Time, micros: u64) -> Time
     ensures { result ≡ at_micros time.now micros }
 {
     Time { micros, ..*time }
 }
 
-/// A time on the day of another, `micros` microseconds after that minute began.
+/// The time on the day of another, `micros` microseconds after this hour and minute began.
 fn at_minute(time: &Time, hours: u32, minutes: u32, micros: u64) -> Time
     ensures { result ≡ at_minute time.now hours minutes micros }
 {
@@ -196,7 +196,7 @@ pub fn later_micros(period: u64, count: u64, from: &Time) -> u128
     u128::from(day_micros(from)) + u128::from(count) * u128::from(period)
 }
 
-/// One frame of a time; `None` if there is no time.
+/// What is missing, if it is the one frame of a time; `None` if there is no time.
 fn missing_one(time: Option<Time>) -> Option<Missing>
     ensures { result ≡ missing_one time }
 {
@@ -210,8 +210,8 @@ fn missing_one(time: Option<Time>) -> Option<Missing>
     }
 }
 
-/// More than one frame, the first and the last of these times. `None` if one of the times is
-/// missing, or its frame does not end in its minute.
+/// What is missing, if it is more than one frame: the first and the last have these times. `None`
+/// if one of the times is not there, or its frame does not end in its minute.
 fn missing_more(period: u64, first: Option<Time>, last: Option<Time>) -> Option<Missing>
     requires small { period < 2 ^ 25 }
     requires first { IfSome first (λ t. t.micros < 2 ^ 60) }

@@ -1,6 +1,7 @@
 //! The five frames that are nearest to one. They are frames that have a time, on one side of it.
 //! Five, since each of the first three can be a shore of an island, and the two after it support
-//! that one.
+//! that one. An island is up to three frames that are wrong alike; a shore is the frame next to it.
+//! `Shown` is what a frame shows: its fields, and when its marker rises.
 
 ghost use Rattle.std.specs.Prelude.{◌≡◌, List, []};
 ghost use Rattle.irig_safety.specs.declared.shown.Shown.{Shown};
@@ -11,7 +12,8 @@ use irig_safety::Shown;
 /// A frame, if it is there, and the two next after it that are farther away.
 pub type Three = (Option<Shown>, Option<Shown>, Option<Shown>);
 
-/// The five frames that are nearest to a frame on one side of it, the nearest one first.
+/// The five frames that are nearest to a frame on one side of it, the nearest one first; `None` for
+/// each that is not there.
 #[derive(Clone, Copy)]
 pub struct Nearest {
     pub first: Option<Shown>,
@@ -22,7 +24,7 @@ pub struct Nearest {
 }
 
 impl Nearest {
-    /// No frame.
+    /// No frame at all: all five are `None`.
     pub fn none() -> Nearest
         ensures { result ≡ nearest [] }
     {
@@ -53,7 +55,7 @@ impl Nearest {
         }
     }
 
-    /// The first, and the two after it.
+    /// The nearest frame, and the two after it.
     pub fn near(&self) -> Three
         ensures first { result.0 ≡ self.now.first }
         ensures second { result.1 ≡ self.now.second }
@@ -62,7 +64,7 @@ impl Nearest {
         (self.first, self.second, self.third)
     }
 
-    /// The second, and the two after it.
+    /// The second nearest frame, and the two after it.
     pub fn next(&self) -> Three
         ensures first { result.0 ≡ self.now.second }
         ensures second { result.1 ≡ self.now.third }
@@ -71,7 +73,7 @@ impl Nearest {
         (self.second, self.third, self.fourth)
     }
 
-    /// The third, and the two after it.
+    /// The third nearest frame, and the two after it.
     pub fn far(&self) -> Three
         ensures first { result.0 ≡ self.now.third }
         ensures second { result.1 ≡ self.now.fourth }

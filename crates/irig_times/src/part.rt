@@ -1,4 +1,5 @@
-//! Parts of frames whose time is known.
+//! Parts of frames whose time is known. A frame is a hundred pulses, its elements, and its marker
+//! is the first of them.
 
 ghost use Rattle.std.specs.Prelude.{◌≡◌, ◌↔◌, ◌<◌, ◌≤◌, ◌^◌, ℕ, MatchOption, length};
 ghost use Rattle.irig_codes.specs.Format.{FormatView};

@@ -1,11 +1,14 @@
 //! What is counted between two frames, from both sides, as far as it is borne out. Pulses are borne
 //! out up to the last position identifier at its place, without it, before one that says another
-//! element. `from` and `to` are two believed frames, as parts; a pair is the part on from the one
-//! and the part back from the other. A side is the pulses next to one of them, from it on or back;
-//! pulse 0 of a side is the nearest. `wanted` is the elements that the frame there should have.
+//! element. A part is pulses in a row, as elements of one frame whose time is known. `from` and
+//! `to` are two frames, as parts, both believed: another frame near each supports its time. A pair
+//! is the part on from the one and the part back from the other. A side is the pulses next to one
+//! of them, from it on or back; pulse 0 of a side is the nearest. `missing` is the frames that have
+//! to be between them by their times, and `wanted` the elements that the frame there should have.
 //! Pulses are in step if each rises one interval after the one before. `denies`: a pulse says
 //! another element; `confirms`: it is a position identifier at its place. A side counts a hundred
-//! pulses at most, a frame: further on a slip of one interval would go unseen.
+//! pulses at most, a frame: further on a slip of one interval would go unseen. `Lens` shows the
+//! pulses of a track.
 
 ghost use Rattle.std.specs.Prelude.{◌≡◌, ◌≤◌, ◌<◌, ◌+◌, ◌^◌};
 ghost use Rattle.irig_times.specs.Sides.{between, borne, borne_at, confirmed, placed, side_after};
@@ -71,9 +74,9 @@ fn confirmed(
     0
 }
 
-/// How many of the first `most` pulses of a side are kept: those up to the last position identifier
-/// before the first that says another element, without it, since what is lost can be anywhere after
-/// its rise.
+/// How many of the first `most` pulses of a side are kept. Those from the first on that says
+/// another element are not. Of the others those are that come before the last position identifier
+/// at its place, without it, since what is lost can be anywhere after its rise.
 fn borne(
     pulses: &mut Lens<'_>,
     format: Format,
@@ -90,9 +93,9 @@ fn borne(
     confirmed(pulses, format, wanted, side, placed(side, count))
 }
 
-/// Among how many of the first `most` pulses of a side position identifiers are at their places:
-/// on a side that goes back not the last one, since without the pulse before it it can be the
-/// marker of its frame.
+/// How many of the first `most` pulses of a side can show a position identifier at its place: all,
+/// but on a side that goes back not the farthest. As the pulse before that one is not among them,
+/// it can be the marker of its frame, which is as wide.
 fn placed(side: &Side, most: usize) -> usize
     ensures count { result ≡ placed side.now most }
     ensures few { result ≤ most }
@@ -105,7 +108,7 @@ fn placed(side: &Side, most: usize) -> usize
 }
 
 /// How many of the first `most` pulses of a side are kept, by the elements of a frame of this time;
-/// none if no frame has it, as it is past its minute or does not fit the format.
+/// 0 if no frame has it, as it is past its minute or does not fit the format.
 pub fn borne_at(
     pulses: &mut Lens<'_>,
     format: Format,
@@ -129,7 +132,7 @@ pub fn borne_at(
     borne(pulses, format, &wanted, side, most)
 }
 
-/// The pulses of a part.
+/// The pulses of a part, as a side: from its first one on.
 pub fn side_of(part: &Part) -> Side
     ensures { result ≡ side_of part.now }
 {
@@ -139,7 +142,7 @@ pub fn side_of(part: &Part) -> Side
     }
 }
 
-/// The side after a frame.
+/// The side after a frame: the pulses from its last one on, without it.
 fn side_after(part: &Part) -> Side
     requires { part.now.number + part.now.count < 2 ^ 32 }
     ensures { result ≡ side_after part.now }

@@ -1,8 +1,9 @@
-//! The pulses at the two ends of a track that count. A clock can be set in silence, and only the
-//! elements of the time show it. So pulses next to silence, at the begin or the end of the
+//! The pulses at the two ends of a track that count. A part is pulses in a row, as elements of one
+//! frame whose time is known. A clock can be set in silence, and only the elements of the time, the
+//! first ones of a frame, show it. So pulses next to silence, at the begin or the end of the
 //! recording, count only if all these elements were recorded there. At the end they count only up
 //! to the last position identifier, without it. Pulses and elements count from 0. A pair of parts
-//! is what is counted, and an empty part.
+//! is what is counted, and an empty part. `Lens` shows the pulses of a track.
 
 ghost use Rattle.std.specs.Prelude.{◌≡◌, ◌≤◌, ◌<◌, ◌+◌, ◌^◌, IfSome};
 ghost use Rattle.irig_times.specs.Silence.{before_silence, counted_after, counted_before};
@@ -26,7 +27,7 @@ fn is_silence(format: Format, micros: u64) -> bool
     micros > 2 * format.interval()
 }
 
-/// Whether silence is before the first pulse of a track; false if it has none.
+/// Whether silence is before the first pulse of a track; false if the track has no pulse.
 fn is_silent_before(format: Format, first: Option<Pulse>) -> bool
     ensures { result ≡ is_silent_before format first }
 {
@@ -36,7 +37,8 @@ fn is_silent_before(format: Format, first: Option<Pulse>) -> bool
     }
 }
 
-/// Whether silence is after the last pulse of a track of some microseconds; false if it has none.
+/// Whether silence is after the last pulse of a track that is `micros` microseconds long; false if
+/// the track has no pulse.
 fn is_silent_after(format: Format, micros: u64, last: Option<Pulse>) -> bool
     ensures { result ≡ is_silent_after format micros last }
 {
@@ -74,7 +76,8 @@ fn precedes_silence(pulses: &mut Lens<'_>, format: Format, part: &Part) -> bool
     is_silent_after(format, micros, last)
 }
 
-/// Whether all elements of the time are among those pulses of a part that can say another time.
+/// Whether all elements of the time are among the pulses of a part. The last pulse of the track
+/// does not count, since the end of the recording can have cut it (`telling`).
 fn has_its_time(pulses: &Lens<'_>, format: Format, part: &Part) -> bool
     requires small { (part.now.number < 2 ^ 32) × (part.now.count ≤ 100) }
     ensures { result ≡ has_its_time format pulses.now.track.pulses part.now }
@@ -92,7 +95,8 @@ fn counts_before(pulses: &mut Lens<'_>, format: Format, part: &Part) -> bool
     !follows_silence(pulses, format, part) || has_its_time(pulses, format, part)
 }
 
-/// The pulses of a part up to the last position identifier that is at its place, without it.
+/// The pulses of a part up to the last position identifier that is where its frame should have one,
+/// without it. Only those count that come before a pulse that says another element (`borne_at`).
 fn up_to_mark(pulses: &mut Lens<'_>, format: Format, part: &Part) -> Part
     requires small { (part.now.number < 2 ^ 32) × (part.now.count ≤ 100) }
     ensures part { result ≡ up_to_mark format pulses.old.track.pulses part.now }
@@ -102,9 +106,9 @@ fn up_to_mark(pulses: &mut Lens<'_>, format: Format, part: &Part) -> Part
     Part { count, ..*part }
 }
 
-/// What counts of a part before silence, and the empty part after it: nothing without all elements
-/// of its time, and nothing from its last position identifier on, as what was lost there shows
-/// nowhere.
+/// What counts of a part before silence, and the empty part after it (`next`). `None` without all
+/// elements of its time. Nothing counts from its last position identifier on, as what was lost
+/// there shows nowhere.
 fn before_silence(
     pulses: &mut Lens<'_>,
     format: Format,
@@ -143,7 +147,9 @@ fn heard_before(
     }
 }
 
-/// What is counted after the last frame, as far as it counts.
+/// The pulses after the last frame that have a time (`sides`, as `end_after` gives them), as far as
+/// they count: all, if no silence is after them; else what `before_silence` leaves. `None` if there
+/// are none, or none count.
 fn heard_after(
     pulses: &mut Lens<'_>,
     format: Format,

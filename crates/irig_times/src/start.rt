@@ -1,5 +1,6 @@
 //! Where frames start. `century` is 20 for 2000 to 2099. A record is a frame of the track; places
-//! of records, pulses and elements count from 0.
+//! of records, pulses and elements count from 0. A frame's marker is its first pulse. `Lens` shows
+//! the pulses of a track, and `FrameLens` its records.
 
 ghost use Rattle.std.specs.Prelude.{◌≡◌, ◌↔◌, ◌<◌, ◌≤◌, ◌+◌, IsTrue, length, slice_get, Some};
 ghost use Rattle.irig_codes.specs.Format.{FormatView};
@@ -42,7 +43,7 @@ pub fn start_of(
     ensures pulses { pulses.new.track ≡ pulses.old.track }
     ensures same { records.new.records ≡ records.old.records }
 {
-    // The count is not used: what the call promises bounds the records.
+    // For the proof alone: the call promises how many records there can be.
     let _count = records.len();
     let record = records.record(place);
     match timed(format, record.verdict) {
@@ -83,7 +84,7 @@ fn started(
     ensures pulses { pulses.new.track ≡ pulses.old.track }
     ensures same { records.new.records ≡ records.old.records }
 {
-    // The count is not used: what the call promises bounds the pulses.
+    // For the proof alone: the call promises how many pulses there can be.
     let _count = pulses.len();
     FrameStart {
         rise: pulses.pulse(marker).rise,

@@ -1,6 +1,7 @@
 //! Pulses that follow one another in step. Pulses count from 0. A step is from the rise of one
 //! pulse to that of the next, in microseconds. It is in step if it is one interval long, to a
 //! tenth; the pulse that it leads to is in step if it is also as long as the steps next to it.
+//! `Lens` shows the pulses of a track.
 
 ghost use Rattle.std.specs.Prelude.{◌≡◌, ◌<◌, ◌≤◌, ◌+◌, ◌^◌, IfSome, length, option_map, slice_get};
 ghost use Rattle.irig_recording.specs.declared.pulse.Pulse.{Pulse};
@@ -11,7 +12,7 @@ use irig_codes::{Format, in_step};
 use irig_recording::Pulse;
 use irig_track::Lens;
 
-/// The pulse of a number, if there is one.
+/// The pulse of a number; `None` if there is none.
 pub fn pulse_at(pulses: &mut Lens<'_>, number: usize) -> Option<Pulse>
     ensures pulse { result ≡ slice_get pulses.old.track.pulses number }
     ensures low { IfSome result (λ p. p.rise ≤ 2 ^ 40) }
@@ -25,7 +26,8 @@ pub fn pulse_at(pulses: &mut Lens<'_>, number: usize) -> Option<Pulse>
 }
 
 /// Whether the pulse of a number rises one interval after the one before it, to a tenth, and that
-/// step is as long as those next to it. By the first alone a late rise would pass on a fast clock.
+/// step is as long as those next to it. The first test alone would let a late rise pass on a fast
+/// clock.
 fn is_in_step_at(pulses: &mut Lens<'_>, format: Format, number: usize) -> bool
     requires { number < 2 ^ 33 }
     ensures step { result ≡ is_in_step_at format pulses.old.track.pulses number }
@@ -34,7 +36,8 @@ fn is_in_step_at(pulses: &mut Lens<'_>, format: Format, number: usize) -> bool
     follows_at(pulses, format, number) && is_even_at(pulses, format, number)
 }
 
-/// Whether the pulse of a number rises one interval after the one before it, to a tenth.
+/// Whether the pulse of a number rises one interval after the one before it, to a tenth; false if
+/// one of them is not there.
 pub fn follows_at(pulses: &mut Lens<'_>, format: Format, number: usize) -> bool
     ensures step { result ≡ follows_at format pulses.old.track.pulses number }
     ensures pulses { pulses.new.track ≡ pulses.old.track }

@@ -2,9 +2,10 @@
 //! Two frames agree if they are near enough for their distance to say how many periods it is, and
 //! their times are as many apart. An island is up to three frames that are wrong alike, between two
 //! that agree with each other, its shores. A record is a frame of the track; places count from 0.
-//! `before` and `after` are the five frames nearest to a frame that have a time; their `near`,
-//! `next` and `far` are three in a row, from the first, the second and the third on. What a frame
-//! shows (`Shown`) is its fields and when its marker rises. An error says that memory ran out.
+//! `Lens` shows the pulses of the track, and `FrameLens` its records. `before` and `after` are the
+//! five frames nearest to a frame that have a time; their `near`, `next` and `far` are three in a
+//! row, from the first, the second and the third on. What a frame shows (`Shown`) is its fields and
+//! when its marker rises. An error says that memory ran out.
 
 ghost use Rattle.std.specs.Prelude.{◌≡◌, ◌<◌, ◌&&◌, IfOk, None, Some, [], drop, is_some, length};
 ghost use Rattle.std.specs.Prelude.{List, not, slice_get};
@@ -65,7 +66,7 @@ fn shown_at(
     ensures same { records.new.records ≡ records.old.records }
 {
     let record = records.record(place);
-    // The count is not used: what the call promises bounds the pulses.
+    // For the proof alone: the call promises how many pulses there can be.
     let _count = pulses.len();
     match timed(format, record.verdict) {
         Some(fields) => Some(Shown {

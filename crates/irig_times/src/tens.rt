@@ -1,6 +1,7 @@
-//! What a frame keeps of its own pulses if tens of intervals are lost up to the next one. `from`
-//! and `to` are two frames, as parts. Pulses are in step if each rises one interval after the one
-//! before.
+//! What a frame keeps of its own pulses if tens of intervals (10, 20, ..) are lost up to the next
+//! one. A part is pulses in a row, as elements of one frame whose time is known. `from` and `to`
+//! are two frames, as parts; a frame's marker is its first pulse. Pulses are in step if each rises
+//! one interval after the one before. `Lens` shows the pulses of a track.
 
 ghost use Rattle.std.specs.Prelude.{◌≡◌, ◌≤◌, ◌<◌, ◌+◌, ◌^◌, IfSome};
 ghost use Rattle.irig_times.specs.Tens.{before_loss, front_of, loses_tens, sure_elements, up_to_loss};
@@ -12,7 +13,8 @@ use crate::torn::{are_tens, is_torn, tenths_found};
 use irig_codes::Format;
 use irig_track::Lens;
 
-/// Whether intervals are lost between two frames, and as many as tens of them.
+/// Whether intervals are lost between two frames (`is_torn`), and their number is a multiple of
+/// ten: the second marker is a whole number of tens of intervals after the first.
 fn loses_tens(pulses: &mut Lens<'_>, format: Format, from: &Part, to: &Part) -> bool
     requires order { from.now.number + from.now.count ≤ to.now.number }
     requires small { to.now.number < 2 ^ 32 }
@@ -30,9 +32,10 @@ fn loses_tens(pulses: &mut Lens<'_>, format: Format, from: &Part, to: &Part) -> 
 
 /// How many elements of a frame are surely its own, if the marker of the next frame is `found`
 /// tenths of an interval after its own. Markers after the loss are whole frames before that one, so
-/// one would be at element 10, 20 .. or 90 of the frame. It reads well, so none is there, and the
-/// loss is later: all elements before the position identifier just before that place are its own.
-/// 100 if whole frames are lost, which show no place.
+/// one would be at element 10, 20 .. or 90 of the frame: `found` to the nearest ten intervals,
+/// without whole frames. It reads well, so none is there, and the loss is later: all elements
+/// before the position identifier just before that place (9, 19 .. or 89) are its own. 100 if whole
+/// frames are lost, which show no place.
 fn sure_elements(found: u64) -> usize
     requires { found ≤ 2 ^ 54 }
     ensures { result ≡ sure_elements found }
@@ -41,7 +44,7 @@ fn sure_elements(found: u64) -> usize
     if tens == 0 { 100 } else { 10 * tens - 1 }
 }
 
-/// The first `most` pulses of a part.
+/// The first `most` pulses of a part; all of them if it has fewer.
 fn front_of(part: Part, most: usize) -> Part
     ensures { result ≡ front_of part most }
 {
@@ -67,7 +70,7 @@ fn before_loss(pulses: &mut Lens<'_>, format: Format, part: Part, to: &Part) -> 
     front_of(part, sure_elements(found))
 }
 
-/// The same of a frame and the next one; all if there is none.
+/// As `before_loss`, of a frame and the next one (`to`); all its pulses if there is no next one.
 pub fn up_to_loss(pulses: &mut Lens<'_>, format: Format, part: Part, to: Option<Part>) -> Part
     requires order { IfSome to (λ b. part.number + part.count ≤ b.number) }
     requires small { IfSome to (λ b. b.number < 2 ^ 32) }

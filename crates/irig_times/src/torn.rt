@@ -1,7 +1,8 @@
 //! Whether intervals are lost between two frames (the stretch is torn), and what pulses say of the
 //! elements there. `from` and `to` are two frames, as parts: a part is pulses that follow one
-//! another, as elements of one frame whose time is known. Tenths are of an interval. An element is
-//! said by a pulse's width: its class is 0, 1 or a position identifier.
+//! another, as elements of one frame whose time is known. A frame's marker is its first pulse.
+//! Tenths are of an interval. An element is said by a pulse's width: its class is 0, 1 or a
+//! position identifier. `Lens` shows the pulses of a track.
 
 ghost use Rattle.std.specs.Prelude.{◌≡◌, ◌≤◌, ◌<◌, ◌+◌, ◌*◌, ◌^◌, Some, slice_get};
 ghost use Rattle.irig_codes.specs.Format.{frame_period_of};
@@ -92,7 +93,7 @@ pub fn tenths_found(pulses: &mut Lens<'_>, from: &Part, to: &Part) -> u64
 }
 
 /// How many tenths of an interval the second frame is after the first, by the whole frame periods
-/// that are nearest to the distance: 1000 for each.
+/// that are nearest to the distance: 1000 for each, as a frame has 100 intervals.
 fn tenths_told(pulses: &mut Lens<'_>, format: Format, from: &Part, to: &Part) -> u64
     ensures count { result ≡ tenths_told format pulses.old.track.pulses from.now to.now }
     ensures few { result ≤ 2 ^ 54 }
@@ -102,8 +103,8 @@ fn tenths_told(pulses: &mut Lens<'_>, format: Format, from: &Part, to: &Part) ->
     1000 * rounded(format.frame_period(), 0, time)
 }
 
-/// Whether two numbers of tenths are the same, to half an interval (5), as intervals are lost
-/// whole.
+/// Whether two numbers of tenths of an interval are the same, to half an interval (5), as intervals
+/// are lost whole.
 fn are_near(one: u64, other: u64) -> bool
     requires { (one ≤ 2 ^ 54) × (other ≤ 2 ^ 54) }
     ensures { result ≡ are_near one other }
@@ -111,8 +112,9 @@ fn are_near(one: u64, other: u64) -> bool
     one <= other + 5 && other <= one + 5
 }
 
-/// Whether these tenths are tens of intervals, to a fifth of one: a whole number of hundreds, to 2.
-/// If the loss is further off, pulses there are not in step, so that counting ends by itself.
+/// Whether these tenths of an interval are tens of intervals, to a fifth of one: a whole number of
+/// hundreds, to 2. If the loss is further off, pulses there are not in step, so that counting ends
+/// by itself.
 pub fn are_tens(count: u64) -> bool
     requires { count ≤ 2 ^ 54 }
     ensures { result ≡ are_tens count }
@@ -168,7 +170,7 @@ fn element_of(side: &Side, place: usize) -> usize
     if side.is_back { LAST - place } else { place }
 }
 
-/// Whether a pulse is there and is a position identifier by its width, and none is wanted.
+/// Whether a pulse is there and is a position identifier by its width, and none is wanted there.
 fn is_stray(format: Format, pulse: Option<Pulse>, wanted: Element) -> bool
     ensures { result ≡ is_stray format pulse (Some wanted) }
 {
@@ -203,7 +205,7 @@ pub fn denies(
     is_stray(format, pulse, wanted[element])
 }
 
-/// Whether a pulse is there and is a position identifier by its width, and one is wanted.
+/// Whether a pulse is there and is a position identifier by its width, and one is wanted there.
 fn is_mark(format: Format, pulse: Option<Pulse>, wanted: Element) -> bool
     ensures { result ≡ is_mark format pulse (Some wanted) }
 {

@@ -1,6 +1,7 @@
 //! The frames of a track that have a time, as parts: pulses in a row, as elements of one frame. A
 //! frame is believed if another one near it supports its time; one that is not is a part without
-//! pulses. A fine frame has a time (`timed`).
+//! pulses. A fine frame has a time (`timed`). `FrameLens` shows the frames of a track, each by a
+//! record.
 
 ghost use Rattle.std.specs.Prelude.{◌≡◌, ◌<◌, IfOk, Some, length, slice_get};
 ghost use Rattle.irig_index.specs.{Frames.frames, declared.record.Record.Record};

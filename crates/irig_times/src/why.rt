@@ -1,5 +1,5 @@
-//! Why moments have no time. A frame is believed if another one near it supports its time; one that
-//! is not is a part without pulses. Pulses count from 0. An error is that memory ran out.
+//! Why moments have no time. A frame is a part: its pulses, or none if it is not believed, as no
+//! frame near it supports its time. Pulses count from 0. `century` is 20 for 2000 to 2099.
 
 ghost use Rattle.std.specs.Prelude.{◌≡◌, ◌≤◌, ◌<◌, ◌+◌, ◌/◌, ◌^◌, ℕ, IfOk, IfSome, List, Bool, Some};
 ghost use Rattle.std.specs.Prelude.{MatchOption, length, slice_get};
@@ -53,7 +53,7 @@ pub struct Whys {
     pub gaps: Vec<Why>,
 }
 
-/// Why pulses of a track have no time: of each record `held` says whether its frame is believed.
+/// Why pulses have no time; of each frame `held` says if it is believed. Fails if memory runs out.
 pub fn find_whys(
     alloc: Global,
     pulses: &mut Lens<'_>,
@@ -89,7 +89,7 @@ fn gaps(
         AreWhys format century pulses.old.track.pulses whole.now list.items) }
     ensures pulses { pulses.new.track ≡ pulses.old.track }
 {
-    // The count is not used: what the call promises bounds the pulses.
+    // For the proof alone: the call promises how many pulses there can be.
     let _count = pulses.len();
     let mut list = Vec::new(alloc);
     let mut before = None;
@@ -145,7 +145,7 @@ fn why_steady(
     }
 }
 
-/// Why pulses between two frames have no time, if it does not jump: not believed, or as `Why` says.
+/// Why pulses between two frames have no time, if it does not jump: `Unbelieved`, `Hole` or `Set`.
 fn why_between(pulses: &mut Lens<'_>, format: Format, century: u32, from: &Part, to: &Part) -> Why
     requires century { century ≤ 99 }
     requires times { (from.now.time.micros < 2 ^ 59) × (to.now.time.micros < 2 ^ 59) }

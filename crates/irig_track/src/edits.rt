@@ -1,4 +1,6 @@
-//! The edits of a track: splice, shift and toggle, each with the test that it may be made.
+//! The edits of a track: splice, shift and toggle, each with the test that it may be made. A splice
+//! replaces pulses by others, a shift moves pulses in time, and a toggle inverts the level between
+//! two times.
 //!
 //! None of the edits takes memory or can fail: a caller asks the test first, and makes room before.
 //!

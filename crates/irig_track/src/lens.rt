@@ -58,7 +58,7 @@ impl<'a> Lens<'a> {
         Lens::on(recording.length(), recording.pulses())
     }
 
-    /// A lens on a length and pulses, in microseconds, which has counted no look.
+    /// A lens on a length in microseconds and on pulses with such times, which has counted no look.
     fn on(micros: u64, pulses: &'a Gap<Pulse>) -> Lens<'a>
         requires { IsLongTrack micros pulses.now.items }
         ensures { result ≡ lens_view (track_view micros pulses.now.items
@@ -71,7 +71,7 @@ impl<'a> Lens<'a> {
         }
     }
 
-    /// How many pulses the track has.
+    /// How many pulses the track has. No look is counted.
     pub fn len(&self) -> usize
         ensures len { result ≡ length self.now.track.pulses }
         ensures track { IsLongTrack self.now.track.micros self.now.track.pulses }

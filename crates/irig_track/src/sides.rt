@@ -11,7 +11,7 @@ ghost use Rattle.irig_recording.specs.declared.pulse.Pulse.{Pulse};
 use irig_gap::Gap;
 use irig_recording::Pulse;
 
-/// The first pulse right of the gap, if there is one. It stays there.
+/// The first pulse right of the gap; `None` if there is none. It stays there.
 pub(crate) fn next(pulses: &Gap<Pulse>) -> Option<Pulse>
     ensures next { result ≡ slice_get (right_of pulses.now) 0 }
     ensures inside { IsSome result → pulses.now.place < length pulses.now.items }

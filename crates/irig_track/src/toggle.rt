@@ -18,9 +18,9 @@ use irig_gap::Gap;
 use irig_recording::Pulse;
 
 /// Toggles `a`, and returns the rise that waits for its fall. If the next pulse rises at `a` or
-/// before it, it loses its edge at `a`, or is cut at `a` if it has none there; its other edge then
-/// waits. Else `a` itself is the rise. Pulses left of the gap fall before `a`, those right of it at
-/// `a` or later.
+/// before it, it loses its edge at `a`, or is cut at `a` if it has none there; its other edge,
+/// which is its fall in the latter case, then waits as a rise. Else `a` itself is the rise. Pulses
+/// left of the gap fall before `a`, those right of it at `a` or later.
 fn begin(pulses: &mut Gap<Pulse>, a: u64) -> u64
     requires rises { RisesFrom 0 (edges_of pulses.old.items) }
     requires left { Under a (edges_of (left_of pulses.old)) }

@@ -41,7 +41,7 @@ impl Model for Track {
 
 impl Track {
     /// The track with the recording's length and edges; it takes over the recording's block of
-    /// memory. An error, if memory runs out, drops the recording.
+    /// memory. It fails only if memory runs out, and then the recording is dropped.
     ///
     /// It gets some spare room, so that the first pulse that comes does not move all pulses to
     /// another block. It takes memory only if the block has no such room.
@@ -96,7 +96,7 @@ impl Track {
         whole(alloc, 36 * self.pulses.len() + 140, &mut self.text_parts())
     }
 
-    /// Whether the first pulse rises at 0.
+    /// Whether the first pulse rises at 0; false if there is no pulse.
     pub(crate) fn begins_high(&self) -> bool
         ensures high { result ≡ begins_high (edges_of self.now.pulses) }
         ensures track { IsTrack self.now.micros self.now.pulses }

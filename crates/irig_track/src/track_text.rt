@@ -97,8 +97,8 @@ fn put_next(
 }
 
 /// Adds the header to `text` if that comes next, else nothing. The header has the level from time 0
-/// on, so `begin` takes whether a pulse rises at 0. Returns the number of the pulse that comes
-/// next, from 0; `None` if the text has ended.
+/// on, so `begin` of the writer takes whether a pulse rises at 0. Returns the number of the pulse
+/// that comes next, from 0; `None` if the text has ended.
 fn put_header(
     writer: &mut TextWriter,
     text: &mut Vec<u8>,

@@ -1,8 +1,9 @@
 //! Values on other codes of one byte. They are skipped, with the newline after them.
 //!
-//! `code` is that of the wire that is read; a value on another code, one "apart", says nothing of
-//! it. Places are those of bytes in `source`, from 0. `false` or `None` says only that nothing is
-//! taken here: the way for any token, which is slower, then reads what is there.
+//! A dump names each wire by a code, a short text after each value. `code` is that of the wire that
+//! is read; a value on another code, one "apart", says nothing of it. `source` is text of the dump;
+//! places are those of bytes in it, from 0. `false` or `None` says only that nothing is taken here:
+//! the way for any token, which is slower, then reads what is there.
 
 ghost use Rattle.std.specs.Prelude.{◌≡◌, ◌≤◌, ◌<◌, ◌+◌, ◌∷◌, ◌↔◌, [], true, false, length, drop};
 ghost use Rattle.std.specs.Prelude.{◌⊎◌, ℕ, map, slice_index, IfSome};
@@ -42,8 +43,8 @@ fn is_apart(source: &[u8], start: usize, code: &[u8]) -> bool
     source[start + 2] == b'\n'
 }
 
-/// A bit for each byte that is not above a space: bit k for byte k. White space is among them; a
-/// value that ends at another one of them is left to the slower way.
+/// A bit for each of 16 bytes that is at most a space, 32: bit k for byte k. White space is among
+/// them. At any other one of them no value ends, so a value that has one is left to the slower way.
 #[inline(always)]
 fn spaces(bytes: u8x16) -> u64
     ensures { result ≡ mask_l (map is_low bytes) }
@@ -88,7 +89,8 @@ fn dark_end(source: &[u8], from: usize) -> usize
     at
 }
 
-/// Whether a vector, a real or a text begins with this byte.
+/// Whether a vector, a real or a text begins with this byte: `b`, `r` or `s`, or one of these as a
+/// capital.
 #[inline(always)]
 fn begins_value(byte: u8) -> bool
     ensures kind { result ≡ takes_code (kind_of_byte byte) }
@@ -122,8 +124,9 @@ fn value_apart(source: &[u8], start: usize, code: &[u8]) -> Option<usize>
     Some(space + 3)
 }
 
-/// The place after the value at a place, if it gives the wire no level and a newline is after it: a
-/// 0 or a 1, or else a vector, a real or a text. `None` if something else is there.
+/// The place after the value at a place, if it is on another code than the wire's, so that it gives
+/// the wire no level, and a newline is after it. It is a 0 or a 1, or else a vector, a real or a
+/// text. `None` if something else is there.
 #[inline(always)]
 pub fn end_apart(source: &[u8], start: usize, code: &[u8]) -> Option<usize>
     requires room { start + 3 ≤ length source.now }

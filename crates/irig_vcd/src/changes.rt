@@ -1,10 +1,11 @@
-//! The changes of a wire.
+//! The changes of a wire: what comes after the declarations of a dump.
 //!
-//! `code` is that of the wire that is read. A clock is a time of the dump, in its unit. The trace
-//! follows the level of the wire and keeps its edges; `trace.put` gives it the level (`true` is
-//! high) from a microsecond on. `journals` has the places of the journals so far, and `pending`
-//! what is open after the last token: a value without its code, or a comment. An error is the first
-//! fault of the changes, or that memory ran out.
+//! A token is a word of the dump, a run of bytes without white space. `code` is that of the wire
+//! that is read. A clock is a time of the dump, in its `unit`. The trace follows the level of the
+//! wire and keeps its edges; `trace.put` gives it the level (`true` is high) from a microsecond on.
+//! `journals` has the places of the journals so far, and `pending` what is open after the last
+//! token: a value without its code, or a comment. An error is the first fault of the changes, or
+//! that memory ran out.
 //!
 //! Where `match` hands an error on, `?` would do the same; the proof of it takes longer.
 
@@ -32,7 +33,7 @@ use crate::unit::Unit;
 use irig_recording::Edges;
 use std::alloc::Global;
 
-/// Whether a token sets a time.
+/// Whether a token sets a time: it begins with `#`.
 fn is_hash(kind: Kind) -> bool
     ensures { result ≡ is_hash (kind_view kind) }
 {
@@ -49,9 +50,10 @@ fn digits_of(word: &[u8]) -> &[u8]
     }
 }
 
-/// Takes a token with those that go with it, and gives the time then: a token of a time sets it,
-/// and a value of the wire goes into the trace at `clock`. A function of its own so that the loop
-/// over the tokens that are read in one step keeps its values in registers.
+/// Takes a token with those that go with it, as the code of a value, and returns the clock after
+/// it: a token of a time sets the clock, and a value of the wire goes into the trace at `clock`. A
+/// function of its own so that the loop over the tokens that are read in one step keeps its values
+/// in registers.
 #[inline(never)]
 fn take(
     token: Token<'_>,
@@ -117,9 +119,9 @@ pub struct Body {
     pub journals: Journals,
 }
 
-/// Follows the tokens of a part of the changes, from a time on, and gives the time then. What is
-/// open from the part before is taken first. A function of its own for the machine too: what it is
-/// called from would take its registers.
+/// Follows the tokens of a part of the changes, from the clock `from` on, and returns the clock
+/// after them. What is open from the part before is taken first. A function of its own so that it
+/// has all registers of the machine: in its caller it would have fewer.
 #[inline(never)]
 pub fn follow(
     tokens: &mut Tokens,
@@ -144,10 +146,10 @@ pub fn follow(
     }
 }
 
-/// Follows the tokens that are left, from a time on, and gives the time then. First come those that
-/// are taken in one step (`follow_short`), which `is_plain` and `is_quick` permit for short codes
-/// and small units, then one of any kind (`take`), and so on. The answer comes when no token is
-/// left.
+/// Follows the tokens that are left, from the clock `from` on, and returns the clock after them.
+/// First come those that are taken in one step (`follow_short`), which `is_plain` and `is_quick`
+/// permit for short codes and small units, then one of any kind (`take`), and so on. It ends when
+/// no token is left.
 #[inline(always)]
 fn follow_on(
     tokens: &mut Tokens,

@@ -152,7 +152,7 @@ impl DumpReader {
     }
 }
 
-/// Holds the next part of the dump, and reads what is held if it is enough: `wanted` bytes.
+/// Holds the next part of the dump, and reads what is held if that is `wanted` bytes or more.
 fn put_part(progress: &mut Progress, part: &[u8]) -> Result<(), VcdFault>
     requires reader { IsReader progress.old }
     requires short { bytes_read progress.old + length part.now ≤ 2 ^ 48 }

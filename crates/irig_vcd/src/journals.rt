@@ -2,7 +2,7 @@
 //!
 //! A journal is a comment whose first word is `irig-journal-1`. `Pending` says what is open after
 //! the last token: `Comment` is a comment without its first word, `Rest` one with it, and where it
-//! begins if it is a journal.
+//! begins if it is a journal. A comment ends with the word `$end`.
 
 ghost use Rattle.std.specs.Prelude.{◌≡◌, ◌≤◌, ◌++◌, ◌∷◌, [], ℕ, List, None, Some, IfErr, IfOk};
 ghost use Rattle.std.specs.Prelude.{IfSome, codes, length, map, vec_len};

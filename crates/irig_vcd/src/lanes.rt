@@ -1,5 +1,5 @@
-//! Digits, sixteen at a time, each as its value, 0 to 9. Places are those of bytes in `source`,
-//! from 0.
+//! Digits, sixteen at a time, each as its value, 0 to 9. A lane is one number of a vector, here one
+//! of sixteen bytes that are taken at once. Places are those of bytes in `source`, from 0.
 //!
 //! Two neighbours a and b are one word a + 2^k b of 2k bits. That times base * 2^k + 1 is a + 2^k
 //! (base * a + b): what is above 2k bits is lost. The shift by k leaves base * a + b. So digits
@@ -14,7 +14,7 @@ ghost use Rattle.irig_vcd.specs.{Code.Lanes.joined, Code.Lanes.shows_none, Code.
 
 use std::simd::prelude::*;
 
-/// Sixteen lanes that are cleared by `&`, and sixteen that stay.
+/// Sixteen bytes that clear a lane by `&`, and sixteen that leave it as it is.
 const KEEP: [u8; 32] = [
     0, 0, 0, 0, 0, 0, 0, 0, 0, 0, 0, 0, 0, 0, 0, 0, 255, 255, 255, 255, 255, 255, 255, 255, 255,
     255, 255, 255, 255, 255, 255, 255,

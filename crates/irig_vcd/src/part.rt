@@ -1,4 +1,4 @@
-//! Where a part of a dump may end.
+//! Where a part of a dump may end. A word is a run of bytes without white space.
 
 ghost use Rattle.std.specs.Prelude.{◌≡◌, ◌≤◌, true, false, not, length, drop, take};
 ghost use Rattle.std.specs.List.{list_all};

@@ -1,4 +1,4 @@
-//! What is open after a word.
+//! What is open after a word of a dump: something that only later words end.
 
 ghost use Rattle.irig_vcd.specs.{Code.Pending.Means, Scan.IsClosed, Scan.Open, Scan.left_open};
 

@@ -154,7 +154,8 @@ impl Progress {
     }
 }
 
-/// A wire's name that is kept, as it is given to a call. `None` if none was asked for.
+/// The name of the wire that was asked for, borrowed from where it is kept. `None` if none was
+/// asked for.
 fn name(wire: &Option<Vec<u8>>) -> Option<&[u8]>
     ensures { name_of result ≡ bytes_of wire.now }
 {

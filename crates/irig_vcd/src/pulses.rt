@@ -1,4 +1,5 @@
-//! Pulses that are read in one step: a rise and a fall, each a time line and a level line.
+//! Pulses that are read in one step: a rise and a fall, each a time line and a level line, as
+//! `#120` and `1!`.
 //!
 //! `code` is that of the wire that is read, of one byte. `unit` is that of the dump's times: a
 //! microsecond or less. A clock is a time of the dump, cut in two: `whole` is in microseconds, and
@@ -79,9 +80,9 @@ fn edge_at(source: &[u8], at: usize, high: bool, code: u8, unit: Unit) -> Option
     })
 }
 
-/// The rise and the fall at a place, 16 or more, each in a later microsecond than what is before
-/// it, and none after a limit; `after` and `limit` are microseconds. `None` if something else is
-/// there.
+/// The rise and the fall at a place, 16 or more: the rise in a later microsecond than `after`, the
+/// fall in a later one than the rise, and not after `limit`. Both are microseconds of the dump.
+/// `None` if something else is there.
 #[inline(always)]
 fn pulse_at(
     source: &[u8],

@@ -1,7 +1,8 @@
 //! What was read after the declarations.
 //!
 //! `code` is that of the wire that is read, and `unit` that of the dump's times. A clock is a time
-//! in that unit. The trace follows the level of the wire and keeps its edges. `moved` gives the
+//! in that unit. The trace follows the level of the wire and keeps its edges. An extent says how
+//! much of the dump is kept: a window, from one microsecond to another, or all. `moved` gives the
 //! microsecond of the window that a microsecond of the dump falls on.
 //!
 //! Where `match` hands an error on, `?` would do the same; the proof of it takes longer.
@@ -51,7 +52,8 @@ impl Reading {
     }
 
     /// Reads tokens of the changes, after those that were read before. They may be those of a part:
-    /// what is open after the last is kept. An error is a fault whatever comes after them.
+    /// what is open after the last is kept. An error is a fault of the dump whatever comes after
+    /// them, or that memory ran out.
     pub fn read(&mut self, tokens: &mut Tokens, unit: Unit, code: &[u8]) -> Result<(), VcdFault>
         requires time { IsOn unit self.old.trace self.old.clock }
         ensures time { OnOk result (IsOn unit self.new.trace self.new.clock) }

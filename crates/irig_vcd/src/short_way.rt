@@ -1,9 +1,10 @@
 //! The tokens of a wire's changes that are taken in one step.
 //!
-//! A clock is a time of the dump, in its unit. The trace follows the level of the wire and keeps
-//! its edges. A code is plain if it has 1 to 18 printable bytes. `is_quick` says that whole pulses
-//! are taken in one step. A stretch of the trace is how far that may go. All else is left to the
-//! way for any token, which is slower.
+//! A token is a word of the dump, a run of bytes without white space. A clock is a time of the
+//! dump, in its unit. The trace follows the level of the wire and keeps its edges. A code, by which
+//! the changes name a wire, is plain if it has 1 to 18 printable bytes. `is_quick` says that whole
+//! pulses are taken in one step. A stretch of the trace is how far that may go. All else is left to
+//! the way for any token, which is slower.
 //!
 //! Where `match` hands an error on, `?` would do the same; the proof of it takes longer.
 
@@ -36,8 +37,8 @@ pub fn is_plain(code: &[u8]) -> bool
     !code.is_empty() && code.len() <= LONGEST_CODE && is_code(code)
 }
 
-/// Whether pulses are taken in one step: in units of a microsecond or less, on a plain code of one
-/// byte.
+/// Whether whole pulses are taken in one step: in units of a microsecond or less, on a plain code
+/// of one byte.
 pub fn is_quick(is_plain: bool, unit: Unit, code: &[u8]) -> bool
     ensures plain { result ≡ true → is_plain ≡ true }
     ensures unit { result ≡ true → unit ≤ 9 }
@@ -46,9 +47,9 @@ pub fn is_quick(is_plain: bool, unit: Unit, code: &[u8]) -> bool
     is_plain && unit.divides_microsecond() && code.len() == 1
 }
 
-/// Takes the tokens here that are taken in one step, up to the first that is not, and gives the
-/// time then. `from` is the time before them. A value on another code (`Apart`) is only passed. An
-/// error is a time that may not come there, or that memory ran out.
+/// Takes the tokens here that are taken in one step, up to the first that is not, and returns the
+/// time after them. `from` is the time before them. A value on another code (`Apart`) is only
+/// passed. An error is a time that may not come there, or that memory ran out.
 #[inline(always)]
 pub fn follow_short(
     is_plain: bool,
@@ -99,9 +100,9 @@ fn has_sign(source: &[u8], at: usize) -> bool
     at < source.len() && source[at] == b'#'
 }
 
-/// Takes the pulses here, if they are taken in one step, and returns the time then. A pulse begins
-/// at a low level with the number sign of its time. Without a stretch none is taken: the next
-/// change goes the usual way. It fails only if memory runs out.
+/// Takes the pulses here, if they are taken in one step, and returns the time after them, else
+/// `clock`. A pulse begins at a low level with the number sign of its time. Without a stretch none
+/// is taken: the next change goes the usual way. It fails only if memory runs out.
 #[inline(always)]
 fn ahead(
     is_quick: bool,
@@ -134,8 +135,8 @@ fn ahead(
     Ok(clock)
 }
 
-/// Takes a value that was read in one step, with the pulses after it, and gives the time then. It
-/// fails only if memory runs out.
+/// Takes a value that was read in one step (`high` is its level), with the pulses after it, and
+/// returns the time of the last of them. It fails only if memory runs out.
 #[inline(always)]
 fn take_bit(
     high: bool,

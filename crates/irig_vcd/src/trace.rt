@@ -1,9 +1,10 @@
 //! A level that is given by its changes, traced.
 //!
-//! Times are in microseconds of the dump. `moved` gives the microsecond of the window that a time
-//! falls on. Several changes can be in one microsecond, so an edge is kept only when a later one
-//! comes: if the level then differs from that of the microsecond before. `LENGTH_LIMIT` is the
-//! latest time that a dump may have.
+//! Times are in microseconds of the dump. A window is the part of the dump that is kept; without
+//! one it is all. `moved` gives the microsecond of the window that a time falls on. Several changes
+//! can be in one microsecond, so an edge is kept only when a later one comes: if the level then
+//! differs from that of the microsecond before. `LENGTH_LIMIT` is the latest time that a dump may
+//! have.
 
 ghost use Rattle.std.specs.Prelude.{◌≡◌, ◌≤◌, ◌<◌, ◌+◌, ◌*◌, ◌^◌, true, false, ◌∷◌, [], ◌++◌, ℕ, List};
 ghost use Rattle.std.specs.Prelude.{◌↔◌, OnOk, OnErr, IfOk, IfSome, length, take};
@@ -59,8 +60,8 @@ impl Trace {
     }
 
     /// Continues to a time, which is not before the last. If that is in a later microsecond of the
-    /// window, no change comes any more in the last microsecond (`place`): an edge is kept there if
-    /// the level changed. It fails only if memory runs out.
+    /// window, no change comes any more in that of the last time (`place`): an edge is kept there
+    /// if the level changed. It fails only if memory runs out.
     fn advance(&mut self, time: u64) -> Result<(), AllocError>
         requires { self.old.time ≤ time }
         ensures ok { OnOk result
@@ -104,7 +105,7 @@ impl Trace {
         Ok(())
     }
 
-    /// Whether the level is low.
+    /// Whether the level is low after the last change.
     #[inline(always)]
     pub fn is_low(&self) -> bool
         ensures { result ≡ true → self.entry.now.now ≡ false }
@@ -112,10 +113,10 @@ impl Trace {
         !self.now
     }
 
-    /// The stretch from here on in which pulses are taken in one step. The level is low. No edge is
-    /// in the window before its begin or from its end on. Within it edges are kept if a rise waits
-    /// for its fall, and that fall is at the last time: then each step keeps this fall and the next
-    /// rise. Else it is `None`: the next change is to be taken in the usual way.
+    /// The stretch from here on in which pulses are taken in one step. The level is low. Before the
+    /// window and from its end on no edge is kept (`apart`). Within it edges are kept if a rise
+    /// waits for its fall, and that fall is at the last time: then each step keeps this fall and
+    /// the next rise. Else it is `None`: the next change is to be taken in the usual way.
     #[inline(always)]
     pub fn stretch(&self) -> Option<Stretch>
         requires { self.now.now ≡ false }

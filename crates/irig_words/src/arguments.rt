@@ -1,4 +1,5 @@
-//! The arguments of a command line, as `clap` takes them. `help` says what one is for.
+//! The arguments of a command line, as `clap` takes them: each has a name by which its value is
+//! asked for later, and `help` says what it is for.
 
 ghost use Rattle.std.specs.Prelude.{◌≡◌, None, false};
 ghost use Rattle.clap.specs.Words.{rule_of};

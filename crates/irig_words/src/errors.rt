@@ -13,7 +13,7 @@ use std::alloc::AllocError;
 
 /// The matches of the words of a command line, the program's name being the first: what `clap`
 /// found in them. An error says which mistake they have, has the help that was asked for, or says
-/// that memory ran out. None of the command's arguments has a rule on another.
+/// that memory ran out. The command must have no argument with a rule on another one.
 pub fn matches_of<'a>(command: Command<'a>, words: &'a [String]) -> Result<ArgMatches<'a>, Error>
     requires { is_simple_and_free (app_of command) ≡ true }
     ensures parsed { IfOk result

@@ -1,4 +1,5 @@
-//! The format that the options of a command line name.
+//! The format that the options of a command line name: a letter (A, B, E or G) and an expression,
+//! which is a digit that says what the code carries.
 
 ghost use Rattle.std.specs.Prelude.{◌≡◌, IfErr, IfOk};
 ghost use Rattle.irig_words.specs.Formats.{HasFormatFault, IsFormat, digit_named, given, text_or};

@@ -59,7 +59,7 @@ impl<'a> Program<'a> {
 
     /// Says why the words of the command line could not be read, and returns the status, 2: one of
     /// them is not UTF-8, which is `InvalidData`, or the system gave none. `command` is the
-    /// program's own, or it says that memory ran out for it.
+    /// program's own, which `clap` needs for what it says, or it says that memory ran out for it.
     pub fn tell_no_words<R: Eprint>(
         &self,
         rt: &R,

@@ -1,4 +1,5 @@
-//! The window of a dump that the options of a command line name.
+//! The window of a dump that the options of a command line name: the part that is read, from the
+//! first microsecond of it to the first one after it.
 
 ghost use Rattle.std.specs.Prelude.{◌≡◌, ◌||◌, IfErr, IfOk, None, codes, false, is_some};
 ghost use Rattle.clap.specs.Words.{app_of, rule_of};

@@ -1,8 +1,9 @@
-//! How single changes turn, in the track and in the marks alone: the change is made, and what leads
-//! back is left instead of it.
+//! How single changes turn, in the track and in the marks alone. To turn a change is to make it and
+//! to leave the change that leads back instead of it.
 //!
-//! Times are in microseconds. A `Span` says which pulses a turn touched: from pulse `at` on, from
-//! 0, `old` pulses became `new`.
+//! A toggle inverts the level between two times, and a shift moves pulses, with marks among them. A
+//! mark is a time that has one of the letters a to z as its name. Times are in microseconds. A
+//! `Span` says which pulses a turn touched: from pulse `at` on, from 0, `old` pulses became `new`.
 //!
 //! What is marked "Read for .." does nothing: it only lets the proof use what a type promises.
 
@@ -88,8 +89,8 @@ pub(crate) fn turn_mark(marks: &mut Marks, letter: usize, time: &mut Option<u64>
     *time = before;
 }
 
-/// The format of a kind and an expression. The caller has tested that the kind permits it, so there
-/// is no error.
+/// The format of a kind of time code, such as B, and the number of a coded expression, 0 to 7. The
+/// caller has tested that the kind permits it, so there is no error.
 pub(crate) fn permitted(kind: Kind, expression: u8) -> Format
     requires { IsTrue (is_permitted kind expression) }
     ensures { (result.kind ≡ kind) × (result.expression ≡ expression) }

@@ -2,7 +2,7 @@
 //! that go. A state is lawful if track and marks keep their limits and the index has the frames.
 //!
 //! A journal asks these calls of a state (`Reversible`). To turn a change is to make it and to
-//! leave the change that leads back in it.
+//! leave the change that leads back in it. A splice is the change that replaces pulses by others.
 //!
 //! What is marked "Read for .." does nothing: it only lets the proof use what a type promises.
 
@@ -62,7 +62,8 @@ impl Reversible for Present {
 
     ghost gathered = { gathered };
 
-    // Does nothing but make known that the state is lawful.
+    // Does nothing as it runs. Its contract lets the proofs of callers use that the state is
+    // lawful.
     fn known(&self) {
         // Read for the law of its type alone.
         let _track = self.track();
@@ -85,7 +86,8 @@ impl Reversible for Present {
         self.make_turn(turn);
     }
 
-    // How many pulses the change holds: those that a splice inserts.
+    // How many pulses the change holds in memory: those that a splice inserts. Other changes hold
+    // none.
     fn weight(turn: &Turn) -> u64 {
         turn.held() as u64
     }

@@ -1,8 +1,10 @@
 //! Whether a change of the present state can be made, and room for its turn.
 //!
 //! The limits of a track: its pulses do not touch and lie within its length, and they are at most
-//! 2^22. A change counts pulses from 1, a track from 0. A record is what the index keeps of a
-//! frame. To turn a change is to make it and to leave the change that leads back in it.
+//! 2^22. A change counts pulses from 1, a track from 0. A splice replaces pulses by others, a
+//! toggle inverts the level between two times, and a shift moves pulses with the marks among them.
+//! The index keeps a record of each frame, and reads the pulses by a lens on the track (`lens`). To
+//! turn a change is to make it and to leave the change that leads back in it.
 //!
 //! What is marked "Read for .." does nothing: it only lets the proof use what a type promises.
 
@@ -66,8 +68,9 @@ impl Present {
     }
 
     /// Whether a single change, whose pulses count from 1, can be made within the limits. One that
-    /// names a pulse 0 cannot: a saved journal can have it, and 0 less 1 would wrap. Whether all
-    /// other pulses are there is tested by `can_splice` and `can_move`.
+    /// names a pulse 0 cannot: a saved journal, the history of a session as text, can have it, and
+    /// 0 less 1 would wrap. Whether all other pulses are there is tested by `can_splice` and
+    /// `can_move`.
     pub(crate) fn allows(&self, single: &Single) -> bool
         ensures { IsTrue result ↔ FitsSingle self.now.state single.now }
     {

@@ -1,7 +1,7 @@
-//! A single change of a state, with room for its turn. Only a splice removes and inserts pulses as
-//! a list.
+//! A single change of a state, with room for its turn. To turn a change is to make it and to leave
+//! the change that leads back in it.
 //!
-//! To turn a change is to make it and to leave the change that leads back in it.
+//! A splice replaces pulses by others. Only a splice removes and inserts pulses as a list.
 
 ghost use Rattle.std.specs.Prelude.{◌≡◌, ◌≤◌, ◌+◌, ◌*◌, [], OnErr, OnOk};
 ghost use Rattle.irig_edit.specs.Changes.Single.{goes, held_in};

@@ -1,10 +1,11 @@
 //! Single changes turned in place, with the frames repaired at their places.
 //!
 //! To turn a change is to make it and to leave the change that leads back in it. Before each call
-//! the change was found possible, and room was made for it (`room`), so nothing fails here. The
-//! index holds the frames of the track; a span says which pulses a turn touched, and `repair` reads
-//! the frames again that these may have changed. Times are in microseconds. A change counts pulses
-//! from 1, a track from 0.
+//! the change was found possible, and room was made for it (`room`), so nothing fails here. A
+//! splice replaces pulses by others, a toggle inverts the level between two times, and a shift
+//! moves pulses. The index holds the frames of the track; a span says which pulses a turn touched,
+//! and `repair` reads the frames again that these may have changed. Times are in microseconds. A
+//! change counts pulses from 1, a track from 0.
 //!
 //! What is marked "Read for .." does nothing: it only lets the proof use what a type promises.
 
@@ -171,8 +172,9 @@ impl Present {
         back
     }
 
-    /// Turns the setting of a format: `kind` and `expression` become the former ones. All frames
-    /// are read again in the new format.
+    /// Turns the setting of a format, a kind of time code and the number of its coded expression:
+    /// `kind` and `expression` become those of the former format, which leads back. All frames are
+    /// read again in the new format.
     fn set_format(&mut self, kind: &mut Kind, expression: &mut u8)
         requires permitted { IsTrue (is_permitted kind.old expression.old) }
         requires holds { HoldsState (places_in self.old) 0 (state self.old.state.micros

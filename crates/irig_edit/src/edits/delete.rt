@@ -3,7 +3,8 @@
 //! Pulses count from 1, and times are in microseconds. `plan` judges the edit and changes nothing.
 //! Its refusals: E2 is `NoPulse`. If memory runs out, E11, nothing changes either. If `plan`
 //! refuses nothing, `splice` replaces `count` pulses from `first` on by the list `put`, as a step
-//! that leaves the cursor at `cursor`; these are its arguments, in this order.
+//! that leaves the cursor at `cursor`; these are its arguments, in this order. A step is what one
+//! undo reverses; the cursor is the number of a pulse, or 0 before the first.
 
 ghost use Rattle.std.specs.Prelude.{◌≡◌, ◌+◌, ◌-◌, ◌≤◌, [], Some, MatchResult, OnOk};
 ghost use Rattle.irig_edit.specs.Edits.Becoming.{Plans, judgement_of};

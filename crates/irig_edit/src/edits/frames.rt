@@ -1,7 +1,7 @@
 //! The pulses of frames that are generated.
 //!
 //! Times are in microseconds. A frame is 100 pulses, one for each element. They rise one interval
-//! of the format after another.
+//! of the format after another. A moment is a date and a time of day.
 
 ghost use Rattle.std.specs.Prelude.{◌≡◌, ◌+◌, ◌*◌, ◌^◌, ◌<◌, ◌≤◌, ◌++◌, length, IsTrue, IfOk};
 ghost use Rattle.irig_codes.specs.Format.{control_count_of, interval_of};
@@ -27,10 +27,11 @@ pub(crate) fn span(format: Format, frames: u64) -> u64
     100 * frames * format.interval()
 }
 
-/// The pulses of `frames` frames, one after the other, from `start` on. The first frame carries the
-/// moment, each later one a frame period more than the one before it; all carry the control
-/// functions `control`, whose lowest bit is the first control element. `fields` gives the fields of
-/// frame `k`, and `encode` its 100 elements. It fails only if memory runs out.
+/// The pulses of `frames` frames, one after the other, from `start` on: at most 10,000, which end
+/// within the longest length, 2^40 microseconds. The first frame carries the moment, each later one
+/// a frame period more than the one before it; all carry the control functions `control`, whose
+/// lowest bit is the first control element. `fields` gives the fields of frame `k`, and `encode`
+/// its 100 elements. It fails only if memory runs out.
 pub(crate) fn pulses_of(
     alloc: Global,
     format: Format,

@@ -3,7 +3,8 @@
 //! Pulses count from 1, and times are in microseconds. `plan` judges the edit and changes nothing.
 //! Its refusals: E1 is `OutOfRange`, E5 `TooMany`. If memory runs out, E11, nothing changes either.
 //! If `plan` refuses nothing, `change` makes a single change, as a step that leaves the cursor at
-//! its second argument.
+//! its second argument. A step is what one undo reverses; the cursor is the number of a pulse, or 0
+//! before the first.
 
 ghost use Rattle.std.specs.Prelude.{◌≡◌, None, Some, IfErr, OnOk};
 ghost use Rattle.irig_track.specs.Toggles.{CanToggle};

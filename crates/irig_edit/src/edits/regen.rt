@@ -4,7 +4,9 @@
 //! Its refusals: E1 is `OutOfRange`, E3 `Touching`, E5 `TooMany`, E7 `BadTime`, E8 `BadControl`. If
 //! memory runs out, E11, nothing changes either. If `plan` refuses nothing, `splice` replaces
 //! `count` pulses from `first` on by the list `put`, as a step that leaves the cursor at `cursor`;
-//! these are its arguments, in this order.
+//! these are its arguments, in this order. A moment is a date and a time of day, which a frame
+//! carries. A step is what one undo reverses; the cursor is the number of a pulse, or 0 before the
+//! first.
 //!
 //! What is marked "Read for .." does nothing: it only lets the proof use what a type promises.
 

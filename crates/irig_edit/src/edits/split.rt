@@ -4,7 +4,8 @@
 //! Its refusals: E1 is `OutOfRange`, E2 `NoPulse`, E4 `NotInside`, E5 `TooMany`. If memory runs
 //! out, E11, nothing changes either. If `plan` refuses nothing, `splice` replaces `count` pulses
 //! from `first` on by the list `put`, as a step that leaves the cursor at `cursor`; these are its
-//! arguments, in this order.
+//! arguments, in this order. A step is what one undo reverses; the cursor is the number of a pulse,
+//! or 0 before the first.
 
 ghost use Rattle.std.specs.Prelude.{◌≡◌, ◌+◌, [], ◌∷◌, Some, MatchResult};
 ghost use Rattle.irig_track.specs.Edges.{pulse};

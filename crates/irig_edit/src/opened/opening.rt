@@ -3,7 +3,8 @@
 //! A journal is the history of a session, saved as text (`Saved` once it is read): a format, a
 //! cursor, marks, and the steps back and forward. V13 is `VcdFault::BadJournal`, with the number of
 //! the journal's line at fault, from 1. `wire` is the name of the dump's wire to read; if none is
-//! given, the dump has to have one wire of one bit.
+//! given, the dump has to have one wire of one bit. A dump and the text of a journal have at most
+//! 2^28 bytes here.
 //!
 //! Where `match` hands an error on, `?` would do the same; the proof of it takes longer.
 
@@ -29,9 +30,9 @@ use irig_vcd::{VcdFault, read_parts};
 use std::alloc::Global;
 
 impl Session {
-    /// The session of a dump's wire, as `irig_vcd::read` takes it. A dump without a journal opens
-    /// in `format`, as `open` does; else format, marks, cursor, past and future are those of the
-    /// journal. The bytes are dropped before the session takes its memory.
+    /// The session of a dump's wire. A dump without a journal opens in `format`, with the cursor at
+    /// the last pulse, no mark and no step; else format, marks, cursor, past and future are those
+    /// of the journal. The bytes are dropped before the session takes its memory.
     ///
     /// An error is a fault of the dump, or V13 with the number of the line at fault of the journal,
     /// from 1. `OutOfMemory` comes only if the wire has an edge before the first fault of the dump,
@@ -135,7 +136,7 @@ fn journal_of(alloc: Global, text: &[u8]) -> Result<Saved, VcdFault>
 }
 
 /// Reads the text of a journal, if there is one; `None` if there is no text. V13 if it has not the
-/// form of one; its steps are not tried.
+/// form of one, `OutOfMemory` if memory runs out; its steps are not tried.
 fn saved_of(alloc: Global, text: Option<Vec<u8>>) -> Result<Option<Saved>, VcdFault>
     requires short { IfSome text (λ text. length text.items ≤ 2 ^ 28) }
     ensures saved { IfOk result (IsJournalOf (bytes_of text)) }

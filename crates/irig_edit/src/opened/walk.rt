@@ -120,7 +120,9 @@ impl Walk {
         self.journal.turn_round();
     }
 
-    /// The session with this state and these steps. Its count of looks at pulses is 0.
+    /// The session with this state and these steps. `last_looks` is 0: it counts the pulses that
+    /// the last edit of the session read to keep the frames true, and the session has made none
+    /// yet.
     pub(crate) fn into_session(self, alloc: Global) -> Session
         requires cursor { self.cursor ≤ length self.state.pulses }
         requires steps { CanTakeAll self.state self.past × CanTakeAll self.state self.future }

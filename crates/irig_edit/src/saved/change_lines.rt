@@ -1,8 +1,9 @@
 //! The lines of single changes, in parts.
 //!
-//! A line is one of the text of a saved journal; a change has one, and a splice one more for each
-//! pulse that it inserts. A `Turn` has a change in `single`. The changes of a step are kept in the
-//! opposite order: an undo or a redo makes the last one first, so its lines come first.
+//! A line is one of the text of a saved journal; a change has one, and a splice, which replaces
+//! pulses by others, one more for each pulse that it inserts. A block is a buffer of the caller, to
+//! which each call adds lines. A `Turn` has a change in `single`. The changes of a step are kept in
+//! the opposite order: an undo or a redo makes the last one first, so its lines come first.
 
 ghost use Rattle.std.specs.Prelude.{◌≡◌, ◌≤◌, ◌<◌, ◌++◌, [], IfOk, OnOk, false, reverse, true};
 ghost use Rattle.std.specs.Prelude.{vec_len};
@@ -31,7 +32,8 @@ impl<'s> Model for ChangeLines<'s> {
 }
 
 impl<'s> ChangeLines<'s> {
-    /// The lines of all these changes, the last first.
+    /// The lines of all these changes, the last first. No change has begun, so `single` has no
+    /// lines yet.
     pub(crate) fn new(turns: &'s [Turn]) -> ChangeLines<'s>
         ensures { result ≡ changes_text (reverse turns.now) }
     {

@@ -10,9 +10,9 @@ ghost use Rattle.irig_edit.specs.declared.saved.stage.Stage.TheVariants.{Over};
 pub(crate) enum Stage {
     /// The dump, and after it the lines of the journal before its steps.
     Dump,
-    /// The steps back.
+    /// The steps back, which can be undone.
     Back,
-    /// The steps on.
+    /// The steps forward, which can be redone.
     On,
     /// Nothing.
     Over,

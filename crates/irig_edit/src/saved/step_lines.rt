@@ -1,7 +1,8 @@
-//! The lines of the steps on one side of the present, in parts.
+//! The lines of the steps on one side of the present, back or forward, in parts.
 //!
 //! A step is a change, or a group of them, and the cursor of the state that it leads to. A line is
-//! one of the text of a saved journal.
+//! one of the text of a saved journal. A block is a buffer of the caller, to which each call adds
+//! lines.
 //!
 //! Where `match` hands an error on, `?` would do the same; the proof of it takes longer.
 

@@ -1,7 +1,8 @@
 //! The text of a saved session, in parts: the dump, the lines of the journal before its steps, the
-//! steps back, the steps forward, and the end. A stage is how far it has come. A journal is the
-//! history of a session. `past_steps` gives the steps back with the oldest first, `future_steps`
-//! those forward with the next redo first: in this order they are saved.
+//! steps back, the steps forward, and the end. A stage is how far it has come. A block is a buffer
+//! of the caller, to which each call adds text. A journal is the history of a session. `past_steps`
+//! gives the steps back with the oldest first, `future_steps` those forward with the next redo
+//! first: in this order they are saved.
 //!
 //! Where `match` hands an error on, `?` would do the same; the proof of it takes longer.
 

@@ -77,7 +77,8 @@ impl Session {
         })
     }
 
-    /// Sets the format, as a step; the cursor stays. The only refusal is E11: memory runs out.
+    /// Sets the format in which frames are read, as a step; the cursor stays. The only refusal is
+    /// E11: memory runs out.
     pub fn format(&mut self, format: Format) -> Result<(), Refusal>
         ensures step { Steps (Make (SetFormat format)) self.old result self.new }
         ensures looks { LooksAfter (Make (SetFormat format)) self.old result self.new }

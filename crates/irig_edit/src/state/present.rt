@@ -64,8 +64,9 @@ impl Present {
     }
 
     /// How many bytes to ask for at first for the text of the track's dump. A pulse has two edges,
-    /// each of at most 18 bytes. 4,096 more, this project's own choice, are for the header, the
-    /// length and some lines of a journal. If the text is longer, it takes more.
+    /// each of at most 18 bytes: `#`, a time of 13 digits, the value with its code, and two line
+    /// ends. 4,096 more, this project's own choice, are for the header, the length and some lines
+    /// of a journal. If the text is longer, it takes more.
     pub(crate) fn text_room(&self) -> usize
         ensures { result ≡ 36 * length self.now.state.pulses + 4096 }
     {

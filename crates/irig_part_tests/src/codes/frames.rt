@@ -92,6 +92,7 @@ static FIELDS: [Carried; 2] = [
     ),
 ];
 
+// The fields of each row give a frame with just the ones of the row, and are read from it again.
 #[test]
 fn frames_carry_their_fields_both_ways(rt: HostRuntime) {
     for row in FIELDS.iter() {
@@ -191,6 +192,7 @@ fn is_noted((expression, ones, fields, note): &Noted) -> bool {
     }
 }
 
+// Each frame is read as the fields of its row, with a note of what is wrong.
 #[test]
 fn what_is_wrong_with_a_frame_is_noted(rt: HostRuntime) {
     for row in NOTED.iter() {

@@ -8,8 +8,8 @@ use super::{HEADER, Row, check_rows, is_right, put_texts};
 use irig_vcd::{VcdFault, read_parts};
 use std::alloc::Global;
 
-/// Whether a dump gives the journal that is wanted. If `want` is `None`, whether it gives the fault
-/// of a second journal, at line 1. It is short.
+/// Whether a dump, of at most 2^28 bytes, gives the journal that is wanted. If `want` is `None`,
+/// whether it gives the fault of a second journal, at line 1.
 fn gives(alloc: Global, dump: &[u8], want: Option<&[u8]>) -> bool
     requires { length dump.now ≤ 2 ^ 28 }
 {
@@ -19,7 +19,8 @@ fn gives(alloc: Global, dump: &[u8], want: Option<&[u8]>) -> bool
     }
 }
 
-/// Whether the dump of these changes gives the journal that is wanted, or the fault.
+/// Whether the dump of these changes gives the journal that is wanted, or the fault of a second one
+/// if `want` is `None`. False if memory runs out.
 fn is_right_journal(alloc: Global, changes: &str, want: Option<&[u8]>) -> bool {
     let mut dump = Vec::new(alloc);
     put_texts(&mut dump, &[HEADER, changes])
@@ -47,6 +48,7 @@ static JOURNALS: [(&str, &[u8]); 4] = [
     ),
 ];
 
+// Each dump gives its journal, the text from its first word up to `$end`.
 #[test]
 fn one_journal_is_given(rt: HostRuntime) {
     for (changes, journal) in JOURNALS.iter() {
@@ -88,6 +90,7 @@ static SECOND: [&str; 2] = [
     "$comment irig-journal-1 a $end #5 $comment b $end $comment irig-journal-1 c $end #6",
 ];
 
+// A dump with two journals has the fault V13, `BadJournal`, at line 1.
 #[test]
 fn a_second_journal_is_told(rt: HostRuntime) {
     for changes in SECOND.iter() {

@@ -104,6 +104,7 @@ fn has_text(alloc: Global, fault: VcdFault, text: &str) -> bool {
     }
 }
 
+// Each fault prints as the text of its row.
 #[test]
 fn faults_have_their_texts(rt: HostRuntime) {
     for (fault, text) in FAULTS.iter() {

@@ -71,7 +71,8 @@ fn what_is_written_is_read(rt: HostRuntime) {
     assert!(rt; is_read_back(rt.alloc(), 70, &[0, 5, 9, 70]));
 }
 
-/// The dump of a recording of 2^22 pulses. Its last line sets the time to 8,388,608 microseconds.
+/// The dump of a recording of 2^22 pulses, of 1 microsecond each and 1 apart. Its last line sets
+/// the time to 8,388,608 microseconds.
 fn full_dump(alloc: Global) -> Result<Vec<u8>, AllocError> {
     let edges = most_edges(alloc)?;
     lines_of(alloc, 1 << 23, edges.as_slice())
@@ -99,6 +100,7 @@ fn takes_no_more(alloc: Global, dump: &mut Vec<u8>) -> bool {
         && has_count(alloc, dump.as_slice(), Err(VcdFault::TooManyPulses))
 }
 
+// A dump of 2^22 pulses is read; with one pulse more it has the fault `TooManyPulses`.
 #[test]
 fn a_pulse_above_the_limit_is_told(rt: HostRuntime) {
     let mut dump = full_dump(rt.alloc()).expect(&rt, "a dump");

@@ -140,6 +140,7 @@ static CHANGES: [Row; 13] = [
     ("#1 1! #2 U!", Fault(VcdFault::BadToken(72))),
 ];
 
+// Each dump is the header, 63 bytes, and the changes of a row.
 #[test]
 fn changes_behind_a_header(rt: HostRuntime) {
     check_rows(&rt, rt.alloc(), &CHANGES);
@@ -183,6 +184,7 @@ static TORN: [(usize, Wanted); 6] = [
     (94, Edges(280, &[100, 120, 200, 280])),
 ];
 
+// Each dump is the first bytes of that of two pulses, as many as its row says.
 #[test]
 fn a_torn_dump_says_what_is_left(rt: HostRuntime) {
     for (len, want) in TORN.iter() {

@@ -1,7 +1,9 @@
 //! Tracks of format G, expression 2, their edits, and indexes that are kept next to them. An index
 //! has a record of each frame: its marker and what it says. A marker is a position identifier right
-//! after another one. Times are in microseconds, pulses count from 0. A look is one reading of a
-//! pulse. Memory that runs out is an error, or false.
+//! after another one. Times are in microseconds, pulses count from 0. A sound frame is one that is
+//! read without a fault. A look is one reading of a pulse; a lens shows the pulses of a track to an
+//! index, and counts the looks. To repair an index is to read only what is near an edit, to rebuild
+//! it to read all. Memory that runs out is an error, or false.
 
 ghost use Rattle.std.specs.Prelude.{◌≡◌, ◌<◌, ◌≤◌, IfOk, OnOk, MatchOption, IsTrue};
 ghost use Rattle.irig_index.specs.Frames.{frames};
@@ -33,9 +35,9 @@ pub(crate) fn format_g(rt: &impl Abort) -> Format {
         .expect(rt, "G permits expression 2")
 }
 
-/// The width, in microseconds, of an element of a frame of day 1, 00:00:00.00 or .01: 80 for a
-/// position identifier, 50 for a 1, 20 for a 0. The units of the day are elements 30 to 33, those
-/// of the hundredths 50 to 53.
+/// The width, in microseconds, of an element of a frame of day 1, 00:00:00.00, or .01 if
+/// `hundredths` is 1: 80 for a position identifier, 50 for a 1, 20 for a 0. The units of the day
+/// are elements 30 to 33, those of the hundredths 50 to 53.
 fn width(hundredths: u64, element: u64) -> u64
     ensures { result < 100 }
 {
@@ -48,8 +50,8 @@ fn width(hundredths: u64, element: u64) -> u64
     }
 }
 
-/// A track of this many pulses, 100 microseconds apart, which is the interval of G: of sound
-/// frames, or all position identifiers.
+/// A track of this many pulses, at most 1,000,000, which are 100 microseconds apart, the interval
+/// of G: of sound frames, or all position identifiers.
 fn pulses(alloc: Global, count: u64, are_sound: bool) -> Result<Track, AllocError>
     requires { count ≤ 1000000 }
 {
@@ -62,7 +64,8 @@ fn pulses(alloc: Global, count: u64, are_sound: bool) -> Result<Track, AllocErro
     track_of(alloc, 100 * count, edges.as_slice())
 }
 
-/// This many pulses of sound frames: element e of frame k rises at (100 k + e) * 100.
+/// This many pulses of sound frames, at most 1,000,000: element e of frame k rises at (100 k + e) *
+/// 100.
 pub(crate) fn sound(alloc: Global, count: u64) -> Result<Track, AllocError>
     requires { count ≤ 1000000 }
 {
@@ -74,7 +77,8 @@ pub(crate) fn positions(alloc: Global) -> Result<Track, AllocError> {
     pulses(alloc, 8, false)
 }
 
-/// Removes `count` pulses from `at` on, from 0, if they are there, and returns where; else `None`.
+/// Removes `count` pulses from `at` on, from 0, if they are there, and returns the place (`Span`);
+/// else `None`, and nothing changes.
 fn cut(
     alloc: Global,
     track: &mut Track,
@@ -94,8 +98,8 @@ fn cut(
     Ok(Some(track.splice(at, count, &mut put, &mut taken)))
 }
 
-/// Makes an edit, if it can be made, and returns where; else `None`. An inversion can make one
-/// pulse more, so there is room for one.
+/// Makes an edit, if it can be made, and returns its place (`Span`: the first pulse, how many went
+/// and how many came); else `None`. An inversion can make one pulse more, so there is room for one.
 fn make(alloc: Global, track: &mut Track, edit: Edit) -> Result<Option<Span>, AllocError>
     ensures micros { OnOk result (track.new.micros ≡ track.old.micros) }
     ensures span { IfOk result (λ made. MatchOption made (track.new.pulses ≡ track.old.pulses)

@@ -1,7 +1,9 @@
-//! Repairs against indexes that are built from nothing. An edit agrees if an index that is repaired
-//! after it is the same as one that is built from nothing. An edit that cannot be made changes
-//! nothing, and agrees. Format G has an interval of 100 microseconds. Pulses of the short track are
-//! 80 microseconds wide, and all are position identifiers. If memory runs out, the answer is false.
+//! Repairs against indexes that are built from nothing. An index has a record of each frame of a
+//! track; to repair it is to read only what is near an edit. A lens (`lens`) shows the pulses of a
+//! track to an index. An edit agrees if an index that is repaired after it is the same as one that
+//! is built from nothing. An edit that cannot be made changes nothing, and agrees. Format G has an
+//! interval of 100 microseconds. Pulses of the short track are 80 microseconds wide, and all are
+//! position identifiers. If memory runs out, the answer is false.
 
 ghost use Rattle.std.specs.Prelude.{◌≡◌, IsTrue};
 ghost use Rattle.irig_index.specs.Frames.{frames};
@@ -92,6 +94,7 @@ fn an_inversion_at_each_place_of_a_short_track(rt: HostRuntime) {
 /// -20 and -90 cannot be made. A pulse is in step if it is at most 10 away from its place.
 static MOVES: [i64; 7] = [-90, -20, -10, -1, 1, 10, 19];
 
+// Each of the eight pulses is moved by each distance, and back.
 #[test]
 fn a_move_at_each_place_of_a_short_track(rt: HostRuntime) {
     let format = format_g(&rt);
@@ -144,6 +147,7 @@ static TURNS: [&[Edit]; 6] = [
     &[Edit::Cut(400, 1), NEAR],
 ];
 
+// The edits of each row are made one after another on a track of four frames.
 #[test]
 fn edits_in_turn(rt: HostRuntime) {
     let format = format_g(&rt);

@@ -1,7 +1,9 @@
 //! Tracks with the frames that they have, worked out by hand. Pulse k, from 0, rises at 100 k
 //! microseconds. Position identifiers are 80 wide, ones 50, zeros 20. A frame begins at a marker: a
 //! position identifier (Pr) right after another one (P0). `Broken` has the first element that is
-//! not as it should be, from 0, and why. Memory that runs out is false.
+//! not as it should be, from 0, and why. A sound track has frames without a fault. An index has a
+//! record of each frame. A look is one reading of a pulse; a lens shows the pulses of a track to an
+//! index, and counts the looks. Memory that runs out is false.
 
 ghost use Rattle.std.specs.Prelude.{◌≡◌, IsTrue};
 ghost use Rattle.irig_index.specs.Frames.{frames};
@@ -36,7 +38,8 @@ static SOUND: [Record; 1] = [Record {
     verdict: SECOND,
 }];
 
-/// Whether one index, repaired after an edit, and another, rebuilt, hold these records.
+/// Whether one index, repaired near an edit, and another, rebuilt from the whole track, hold these
+/// records.
 fn both_hold(
     alloc: Global,
     track: &mut Track,
@@ -58,16 +61,18 @@ fn both_hold(
 /// Whether the two frames of a sound track are read, with as few looks as they take, and the index
 /// has a place for its one record.
 fn is_read(index: &Index, lens: &Lens<'_>) -> bool {
-    // The pass moves on by two places if the pulse after the first is no position identifier:
-    // those are 1, 3, 5, 7 and 10, 12 .. 98 in the first frame, 49 looks. At 9 and 100 it meets
-    // one, and looks at the pulse before it too: 4 looks. The frame of the one marker takes 99
-    // more. The pass continues at its last pulse, 199, another position identifier: 2 looks.
+    // A marker is the second of two identifiers in a row. So if a pulse is none, the pass looks
+    // next at the one two places later: at 1, 3, 5, 7 and 10, 12 .. 98 of the first frame, 49
+    // looks. At 9 and 100 it meets one, and looks at the pulse before it too: 4 looks. The frame of
+    // the marker, 100, takes 99 more. The pass continues at that frame's last pulse, 199, an
+    // identifier: 2 looks.
     let looks = 49 + 4 + 99 + 2;
     let room = index.room() + index.len() >= 1;
     room && holds(index, &SOUND) && index.looks() == looks && lens.looks() == looks
 }
 
-/// Whether an index of a sound track is built with few looks.
+/// Whether an index of a sound track is built, with as few looks as `is_read` counts. False if
+/// memory runs out.
 fn is_built(alloc: Global, track: &Track, format: Format) -> bool {
     let mut lens = track.lens();
     match Index::build(alloc, &mut lens, format) {
@@ -76,6 +81,8 @@ fn is_built(alloc: Global, track: &Track, format: Format) -> bool {
     }
 }
 
+// The index of two sound frames has the record of the second, and is built with the looks that
+// `is_read` counts. The two calls at the end are laws of an index, and do nothing as they run.
 #[test]
 fn a_sound_track_is_read_with_few_looks(rt: HostRuntime) {
     let track = sound(rt.alloc(), 200).expect(&rt, "memory");
@@ -149,8 +156,8 @@ static ROWS: [Row; 8] = [
     ),
 ];
 
-/// Whether both indexes hold the records of each row, and those of the sound track after its edit
-/// is undone.
+/// Whether `index`, repaired, and `other`, rebuilt, hold the records of each row, and those of the
+/// sound track after its edit is undone.
 fn rows_hold(
     alloc: Global,
     track: &mut Track,
@@ -170,7 +177,8 @@ fn rows_hold(
     true
 }
 
-/// Whether an index of the sound track, repaired, and another hold the records of each row.
+/// Whether an index of the sound track, repaired after each edit, and `other`, which is rebuilt,
+/// hold the records of each row.
 fn is_repaired(alloc: Global, track: &mut Track, other: &mut Index, format: Format) -> bool {
     match Index::build(alloc, &mut track.lens(), format) {
         Ok(mut index) => rows_hold(alloc, track, &mut index, other, format),
@@ -186,6 +194,8 @@ fn are_read(alloc: Global, track: &mut Track, format: Format) -> bool {
     }
 }
 
+// After each edit of `ROWS`, made on two sound frames, an index that is repaired and one that is
+// rebuilt have the records of the row.
 #[test]
 fn frames_are_read_or_broken_where_they_are(rt: HostRuntime) {
     let mut track = sound(rt.alloc(), 200).expect(&rt, "memory");
@@ -202,7 +212,8 @@ static RISES: [(u64, usize); 6] = [
     (u64::MAX, 200),
 ];
 
-/// Whether a time is found among the rises, with at most this many looks.
+/// Whether a search for a time finds that `count` pulses rise at or before it, with at most this
+/// many looks.
 fn is_found(track: &Track, time: u64, count: usize, looks: u64) -> bool {
     let mut lens = track.lens();
     Index::find(&mut lens, time) == count && lens.looks() <= looks
@@ -212,7 +223,7 @@ fn is_found(track: &Track, time: u64, count: usize, looks: u64) -> bool {
 fn a_time_is_found_among_the_rises(rt: HostRuntime) {
     let track = sound(rt.alloc(), 200).expect(&rt, "memory");
     for (time, count) in RISES.iter() {
-        // 200 has eight binary digits.
+        // 200 has eight binary digits: a search makes at most as many looks.
         assert!(rt; is_found(&track, *time, *count, 8));
     }
 }
@@ -220,6 +231,7 @@ fn a_time_is_found_among_the_rises(rt: HostRuntime) {
 #[test]
 fn a_time_is_found_among_a_million_rises(rt: HostRuntime) {
     let track = sound(rt.alloc(), 1_000_000).expect(&rt, "memory");
-    // 1,000,000 has twenty binary digits. Pulse 500,000, from 0, rises at 50,000,000.
+    // 1,000,000 has twenty binary digits: a search makes at most as many looks. Pulse 500,000, from
+    // 0, rises at 50,000,000.
     assert!(rt; is_found(&track, 50_000_000, 500_001, 20));
 }

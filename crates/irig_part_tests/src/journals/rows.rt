@@ -99,6 +99,7 @@ static GROUPS: [Row; 27] = [
     (Call::Undo, Reply::Done, b"bc", 3, 2, 1, 20, (1, 0)),
 ];
 
+// The edits of a group are undone and redone as one step.
 #[test]
 fn a_group_is_taken_back_whole(rt: HostRuntime) {
     check(&rt, rt.alloc(), &GROUPS);
@@ -127,6 +128,7 @@ static ABORTS: [Row; 17] = [
     (Call::End, NONE_OPEN, b"", 0, 0, 0, 10, (0, 0)),
 ];
 
+// An abort undoes the steps of the open group, and leaves nothing to redo.
 #[test]
 fn an_abort_gives_back_what_stood_at_the_begin(rt: HostRuntime) {
     check(&rt, rt.alloc(), &ABORTS);

@@ -1,6 +1,7 @@
 //! The steps that a journal shows, those of a gathered group, and what becomes of them when it is
 //! turned round: its steps back become its steps forward. `past_steps` shows the steps back, the
-//! oldest first; `future_steps` those forward, the next one first.
+//! oldest first; `future_steps` those forward, the next one first. To gather steps is to make one
+//! group of the newest steps back.
 //!
 //! A journal keeps the changes of a state, here a stack of bytes, so that they can be undone and
 //! redone. A step is what one undo or redo does: one change, or a group of them. A cursor is a
@@ -23,7 +24,8 @@ fn empty(alloc: Global) -> Stack {
     }
 }
 
-/// Pushes a byte on a stack with this cursor. If memory runs out nothing is pushed.
+/// Pushes a byte on a stack, as a step whose undo leads to this cursor. If memory runs out nothing
+/// is pushed.
 fn push(journal: &mut Journal<Stack>, stack: &mut Stack, byte: u8, cursor: usize)
     requires ready { AreReady CanEdit edited (λ d. d) (HasPlaceFor (vec_capacity stack.old.items))
         stack.old.items.items journal.old }
@@ -34,7 +36,7 @@ fn push(journal: &mut Journal<Stack>, stack: &mut Stack, byte: u8, cursor: usize
     let _done = journal.record(stack, Single::Push(byte), cursor);
 }
 
-/// Pushes two bytes, with the cursors 7 and 8.
+/// Pushes a and b, as steps whose undos lead to the cursors 7 and 8.
 fn push_two(journal: &mut Journal<Stack>, stack: &mut Stack)
     requires ready { AreReady CanEdit edited (λ d. d) (HasPlaceFor (vec_capacity stack.old.items))
         stack.old.items.items journal.old }
@@ -119,8 +121,8 @@ fn is_redone(journal: &mut Journal<Stack>, stack: &mut Stack, cursor: &mut usize
         && stack.items.as_slice() == b"ab".as_slice()
 }
 
-/// Whether two pushes become a group with cursor 5, and an undo from cursor 9 on and a redo are
-/// right.
+/// Whether two pushes become a group with cursor 5; then an undo, from cursor 9 on, leads to that
+/// cursor and an empty stack, and a redo back to cursor 9 and both bytes.
 fn goes_both_ways(journal: &mut Journal<Stack>, stack: &mut Stack) -> bool
     requires no_group { journal.old.floor ≡ None }
     requires ready { AreReady CanEdit edited (λ d. d) (HasPlaceFor (vec_capacity stack.old.items))
@@ -149,7 +151,7 @@ fn gathered_steps_are_one_group(rt: HostRuntime) {
     assert!(rt; goes_both_ways(&mut journal, &mut stack));
 }
 
-/// Whether no steps are gathered to a group of no changes.
+/// Whether gathering 0 steps, with cursor 5, adds a group of no changes that leads to cursor 5.
 fn gathers_none(journal: &mut Journal<Stack>, stack: &Stack) -> bool
     requires no_group { journal.old.floor ≡ None }
     requires ready { AreReady CanEdit edited (λ d. d) (HasPlaceFor (vec_capacity stack.now.items))

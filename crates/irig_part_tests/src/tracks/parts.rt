@@ -74,6 +74,7 @@ fn comes_in_parts(alloc: Global, track: &Track) -> bool {
     true
 }
 
+// The text of a track comes in the parts that each row of `PARTS` says.
 #[test]
 fn a_text_comes_in_parts(rt: HostRuntime) {
     let track = track_of(rt.alloc(), 1000, EDGES).expect(&rt, "a track");

@@ -201,8 +201,8 @@ fn full_track(alloc: Global) -> Result<Track, AllocError> {
     track_of(alloc, 8_388_618, edges.as_slice())
 }
 
-/// Whether a pulse comes into a full track only instead of another, and an inversion is made only
-/// if it makes no further pulse. Pulse k, from 0, is from 2k to 2k + 1 microseconds.
+/// Whether a full track takes a pulse only instead of another, and an inversion only if it adds
+/// none: from 0 on, it removes a rise. Pulse k, from 0, is from 2k to 2k + 1 microseconds.
 fn takes_no_further(track: &Track, put: &Gap<Pulse>) -> bool {
     track.room() == 0
         && !track.can_splice(4_194_304, 0, put)
@@ -219,7 +219,7 @@ fn a_full_track_takes_no_further_pulse(rt: HostRuntime) {
     assert!(rt; takes_no_further(&track, &put));
 }
 
-/// Whether a lens on the track of two pulses shows a pulse.
+/// Whether a lens, which shows a track and counts its looks, shows pulse `index`, from 0.
 fn shows(lens: &mut Lens<'_>, track: &Track, index: usize) -> bool {
     index < lens.len() && index < track.len() && lens.pulse(index) == track.pulse(index)
 }

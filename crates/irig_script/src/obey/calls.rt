@@ -1,8 +1,9 @@
-//! Commands as calls of the session. `number_at`, `ends` and `time` say which pulses and times are
-//! meant, as the session is before the call. Pulses count from 1 here; the number 0 is that of one
-//! that is not there, and the session refuses it. Times are in microseconds; that of a mark which
-//! is not set is above each length, and is refused, too. A refused edit changes nothing; the reply
-//! then has why, a `Refusal`.
+//! Commands as calls of the session. An address names a pulse; a range names one pulse, or all from
+//! one address to another. `number_at`, `ends` and `time` say which pulses and times are meant, as
+//! the session is before the call. Pulses count from 1 here; the number 0 is that of one that is
+//! not there, and the session refuses it. Times are in microseconds; that of a mark which is not
+//! set is above each length, and is refused, too. A refused edit changes nothing; the reply then
+//! has why, a `Refusal`.
 
 ghost use Rattle.std.specs.Prelude.{◌≡◌};
 ghost use Rattle.irig_lines.specs.declared.command.Command.{Command};
@@ -109,8 +110,8 @@ pub fn invert(session: &mut Session, from: Time, to: Time) -> Reply
     reply_to(session.invert(a, b))
 }
 
-/// Generates `frames` frames from the time `start` on. The first has the moment `from`; the lowest
-/// bit of `control` is the first control function.
+/// Generates `frames` frames from the time `start` on. The first has the moment `from`, a date and
+/// a time of day; the lowest bit of `control` is the first control function.
 pub fn regen(session: &mut Session, start: Time, frames: u64, from: Moment, control: u64) -> Reply
     ensures { Obeys (Command.Regen start frames from control) session.old result session.new }
 {
@@ -118,7 +119,8 @@ pub fn regen(session: &mut Session, start: Time, frames: u64, from: Moment, cont
     reply_to(session.regen(start, frames, from, control))
 }
 
-/// Reads frames in another format. Refused if the kind of time code has no such expression.
+/// Reads frames in another format: a kind of time code, and the number of a coded expression.
+/// Refused if the kind has no such expression.
 pub fn set_format(session: &mut Session, kind: Kind, expression: u8) -> Reply
     ensures { Obeys (Command.Format kind expression) session.old result session.new }
 {
@@ -143,14 +145,15 @@ pub fn unmark(session: &mut Session, letter: Letter) -> Reply
     reply_to(session.mark(letter.byte(), None))
 }
 
-/// Undoes the newest step.
+/// Undoes the newest step, which is an edit or a group of them. Refused if there is none, or it was
+/// made before the open group was begun.
 pub fn undo(session: &mut Session) -> Reply
     ensures { Obeys Command.Undo session.old result session.new }
 {
     reply_to(session.undo())
 }
 
-/// Redoes the step that was undone last.
+/// Redoes the step that was undone last. Refused if there is none.
 pub fn redo(session: &mut Session) -> Reply
     ensures { Obeys Command.Redo session.old result session.new }
 {
@@ -158,20 +161,21 @@ pub fn redo(session: &mut Session) -> Reply
 }
 
 /// Opens a group: what is done from here on becomes one step (`end`), or is undone (`abort`).
+/// Refused if one is open.
 pub fn begin(session: &mut Session) -> Reply
     ensures { Obeys Command.Begin session.old result session.new }
 {
     reply_to(session.begin())
 }
 
-/// Makes one step of what was done since the group was opened.
+/// Makes one step of what was done since the group was opened. Refused if no group is open.
 pub fn end(session: &mut Session) -> Reply
     ensures { Obeys Command.End session.old result session.new }
 {
     reply_to(session.end())
 }
 
-/// Undoes what was done since the group was opened.
+/// Undoes what was done since the group was opened, for good. Refused if no group is open.
 pub fn abort(session: &mut Session) -> Reply
     ensures { Obeys Command.Abort session.old result session.new }
 {

@@ -1,5 +1,7 @@
-//! A script run on a dump. The screen is the output with the witness that watches it, and the shelf
-//! is where the lines `write` and `save` write. An error is a fault of the dump, then no line was
+//! A script run on a dump. A dump can carry a journal, the history of a session as text; both have
+//! at most 2^28 bytes. The screen is the output with the witness that watches it, and the shelf is
+//! where the lines `write` and `save` write. A witness is shown the output and the shelf after each
+//! line was obeyed, before its answer is printed. An error is a fault of the dump, then no line was
 //! read, or a fault of the run. `Status` says whether a line was refused.
 
 ghost use Rattle.std.specs.Prelude.{◌≡◌, ◌≢◌, ◌⊎◌, ◌≤◌, ◌^◌, ℕ, List, Option, length, Ok, Err};

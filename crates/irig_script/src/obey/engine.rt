@@ -1,7 +1,8 @@
 //! The run of a script. `line` is the bytes of a line that have come so far, and `status` says
 //! whether a line was refused. The screen is the output with the witness that watches it, and the
-//! shelf is where the lines `write` and `save` write. `PrintFault` says that a write of the output
-//! failed.
+//! shelf is where the lines `write` and `save` write. A witness is shown the output and the shelf
+//! after each line was obeyed, before its answer is printed. `PrintFault` says that a write of the
+//! output failed.
 //!
 //! Where `match` or `let Ok(..) else` returns an error, `?` would do the same; the proof of it
 //! takes longer.
@@ -106,8 +107,8 @@ fn obey_read<R: Read, W: Write, N: Witness, S: Shelf>(
     Ok(ended)
 }
 
-/// One read of a script into the buffer. Returns how many bytes it gave, 0 at the end. Each error
-/// of the system is `ReadFailed`.
+/// One read of a script into the buffer. Returns how many bytes it gave, 0 if the script has ended.
+/// Each error of the system is `ReadFailed`.
 fn read_part<R: Read>(script: &mut R, buffer: &mut [u8; READ_LIMIT]) -> Result<usize, RunFault>
     ensures bound { ReadsAtMost result buffer.new }
     ensures bytes { ReadConsumes (R.remaining script.old) (R.remaining script.new) result

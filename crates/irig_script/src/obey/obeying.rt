@@ -1,5 +1,6 @@
 //! What is replied to a line of a script, and done for it. Each function below `obey` is called
-//! only with the commands of its purpose, so its last case never comes.
+//! only with the commands of its purpose, so its last case never comes. The shelf is where `write`
+//! and `save` write their texts.
 
 ghost use Rattle.std.specs.Prelude.{◌≡◌, ◌≢◌, length};
 ghost use Rattle.irig_script.specs.Obey.Obeying.{Obeys};
@@ -56,8 +57,9 @@ fn write_or_obey<S: Shelf>(command: Command, session: &mut Session, shelf: &mut 
     }
 }
 
-/// Obeys a command that neither writes a text nor ends the script, so `Text` and `End` do not come.
-/// A blank line or a comment, `Nothing`, changes nothing and prints nothing.
+/// Obeys a command that neither writes a text nor ends the script, so its purpose is not `Text` or
+/// `End`. A blank line or a comment, whose purpose is `Nothing`, changes nothing and prints
+/// nothing.
 pub fn obey(command: Command, session: &mut Session) -> Reply
     requires goes_on { command ≢ Command.Quit }
     requires writes_none { command ≢ Command.Write }
@@ -121,7 +123,8 @@ fn choose_format(command: Command, session: &mut Session) -> Reply
     }
 }
 
-/// Answers a question: the reply says what is to be listed, and the cursor moves if it is a pulse.
+/// Answers a question: the reply says what is to be listed. `show`, which names a pulse, moves the
+/// cursor to it.
 fn answer(command: Command, session: &mut Session) -> Reply
     requires { purpose_of command ≡ Purpose.Question }
     ensures answer { Obeys command session.old result session.new }

@@ -1,6 +1,7 @@
 //! The numbers of the pulses that addresses and ranges mean in a session, and its times. Pulses
 //! count from 1, and 0 is the number of one that is not there. An address is what it counts from,
-//! its base, and an offset, a number of pulses.
+//! its base, and an offset, a number of pulses, below 0 for pulses before. A range is one address,
+//! or two: the first and the last of its pulses. A mark is a time that is kept under a letter.
 
 ghost use Rattle.std.specs.Prelude.{◌≡◌, ◌+◌, ◌-◌};
 ghost use Rattle.irig_track.specs.Shifts.{ahead, back};
@@ -12,7 +13,7 @@ use irig_edit::Session;
 use irig_lines::{Address, Base, Range, Time};
 use irig_saved::Letter;
 
-/// The time of a mark in microseconds, if it is set.
+/// The time in microseconds of the mark of a letter; `None` if it is not set.
 fn mark(session: &Session, letter: &Letter) -> Option<u64>
     ensures { result ≡ mark_of letter.now (present_in session.now) }
 {

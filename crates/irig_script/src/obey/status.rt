@@ -1,4 +1,4 @@
-//! How a run ends.
+//! How the run of a script ends.
 
 use thiserror::Error;
 

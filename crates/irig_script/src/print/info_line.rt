@@ -12,7 +12,8 @@ use irig_edit::Session;
 use irig_print::{PrintFault, Row, put_all};
 use std::io::Write;
 
-/// Prints the line: counts, format, cursor (a pulse, from 1), and how many steps can be undone and
+/// Prints the line: the length in microseconds, how many pulses and frames there are, the format,
+/// the cursor (a pulse, from 1, or 0 before the first), and how many steps can be undone and
 /// redone.
 pub fn print_info<W: Write>(session: &Session, out: &mut W) -> Result<(), PrintFault>
     ensures { Prints (W.contents out.old) (W.contents out.new) (info_text session.now) result }
@@ -27,7 +28,7 @@ pub fn print_info<W: Write>(session: &Session, out: &mut W) -> Result<(), PrintF
 }
 
 /// Writes the length of the track in microseconds, how many pulses and frames it has, and their
-/// format. The row is empty before.
+/// format: its kind, and the number of its coded expression. The row is empty before.
 fn put_track(row: &mut Row, session: &Session)
     requires { row.old ≡ [] }
     ensures text { row.new ≡ codes "length " ++ decimal session.now.state.micros

@@ -1,5 +1,6 @@
-//! The listing of pulses. A line has at most `LINE_ROOM` bytes, which are 72. `PrintFault` says
-//! that a write of the output failed.
+//! The listing of pulses. A line has at most `LINE_ROOM` bytes, which are 72. A block is bytes on
+//! the stack, in which lines are put together that go out by one write. `PrintFault` says that a
+//! write of the output failed.
 //!
 //! Where `let .. else` hands an error on, `?` would do the same; the proof of it takes longer.
 
@@ -38,8 +39,8 @@ pub fn print_pulses<W: Write>(
     }
 }
 
-/// Prints the lines by a long block. The block is no part of what calls this, so that a short line
-/// does not pay for it.
+/// Prints the lines by a long block, `BLOCK`. It is a call of its own, so that a short listing does
+/// not pay for the block on the stack.
 #[inline(never)]
 fn print_many<W: Write>(
     session: &Session,

@@ -51,7 +51,7 @@ impl Reply {
 }
 
 /// Prints what a reply asks for, by what the session has now: a line by one write, if the output
-/// takes it, and a listing in blocks.
+/// takes it, and a listing in blocks of lines.
 pub fn print<W: Write>(reply: Reply, session: &Session, out: &mut W) -> Result<(), PrintFault>
     ensures { Prints (W.contents out.old) (W.contents out.new)
         (reply_text session.now reply) result }

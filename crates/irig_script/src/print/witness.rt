@@ -1,4 +1,5 @@
-//! Who sees what is printed and what is written.
+//! Who sees what is printed and what is written. The output is what a script prints; the shelf is
+//! where its lines `write` and `save` write texts.
 
 ghost use Rattle.std.specs.Prelude.{◌∷◌, [], List, None, Option};
 ghost use Rattle.irig_script.specs.Print.Screen.{Sight, sight};

@@ -1,5 +1,9 @@
 //! Runs whose script cannot be read, or whose output or texts cannot be written, from each byte and
 //! each write on.
+//!
+//! `INVERTED` and `DELETED` are worked scripts on two pulses, 100 to 120 and 200 to 280
+//! microseconds: each has what it prints, and a stop for each line (`stops`), which is what there
+//! is after it. A shelf is where `write` writes its texts: here in memory.
 
 use crate::scripts::helpers::two_pulses;
 use crate::scripts::stops::{
@@ -154,7 +158,7 @@ fn a_failed_write_ends_the_run(rt: HostRuntime) {
 }
 
 /// What the script of two writes (`INVERTED`) prints, by the write that fails, from 1: `S3` instead
-/// of the count of its bytes.
+/// of the count of its bytes, which is 179 of the first text and 163 of the second.
 pub static REFUSED: [(u64, &[u8]); 2] = [
     (
         1,
@@ -197,7 +201,7 @@ fn is_put_once(alloc: Global, fails: u64, printed: &[u8]) -> bool {
     }
 }
 
-// The lines after a refused one are obeyed.
+// A line whose write to the shelf fails is refused, and the lines after it are obeyed.
 #[test]
 fn a_failed_put_refuses_its_line(rt: HostRuntime) {
     for (fails, printed) in REFUSED.iter() {

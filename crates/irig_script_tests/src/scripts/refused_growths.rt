@@ -1,6 +1,7 @@
 //! What a refused growth leaves: `tests/no_memory` runs it with each growth refused in turn. A
 //! growth is a request for memory. At most one is refused in a run, so a call that was refused
-//! succeeds when it is made again.
+//! succeeds when it is made again. Each session begins with two pulses, 100 to 120 and 200 to 280
+//! microseconds. A shelf is where `write` writes its texts: here in memory.
 
 use crate::scripts::helpers::{TWO_PULSES, two_pulses};
 use irig_codes::{Format, Kind};
@@ -9,7 +10,7 @@ use irig_script::{DumpRunFault, MemoryShelf, NoWitness, Screen, Status, run_on_d
 use irig_vcd::VcdFault;
 use std::alloc::Global;
 
-/// Whether a pulse is inserted; an error leaves pulses and steps, and the next call succeeds.
+/// Whether a third pulse is inserted; an error leaves pulses and steps, and the next call succeeds.
 fn inserts(session: &mut Session) -> bool {
     if session.insert(400, 450) == Err(Refusal::OutOfMemory) {
         session.len() == 2 && session.steps_back() == 0 && session.insert(400, 450) == Ok(())

@@ -1,5 +1,6 @@
 //! Scripts over memory: what each prints, and how it ends. The scripts of the whole language are
-//! rows of `tests/rows`, which the program obeys.
+//! rows of `tests/rows`, which the program obeys. A shelf is where `write` writes its texts: here
+//! in memory.
 
 use crate::scripts::helpers::TWO_PULSES;
 use crate::scripts::row::Row;
@@ -65,7 +66,7 @@ fn long_lines_are_refused(rt: HostRuntime) -> Result<(), AllocError> {
     Ok(())
 }
 
-// A write that fails is refused, and the next one is not.
+// The first write fails and is refused; the second one is not, so one text is on the shelf.
 #[test]
 fn a_failed_put_is_refused(rt: HostRuntime) {
     let row = Row {

@@ -1,4 +1,4 @@
-//! A run whose output takes one byte of each write.
+//! A run whose output takes one byte of each write. `INVERTED` is a script with what it prints.
 
 use crate::scripts::helpers::two_pulses;
 use crate::scripts::stops::INVERTED;

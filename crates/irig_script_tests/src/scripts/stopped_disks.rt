@@ -1,4 +1,7 @@
 //! The writes of a script to a disk in memory, stopped after each call and failed at each.
+//! `INVERTED` is that script, with what it prints, and `REFUSED` what it prints if its first or its
+//! second write fails. A disk in memory is the log of the calls on it, the newest first: what it is
+//! without its newest calls is what a crash before them leaves.
 
 use crate::scripts::failing_ends::REFUSED;
 use crate::scripts::helpers::two_pulses;

@@ -1,4 +1,4 @@
-//! Worked scripts with what each of their lines leaves.
+//! Worked scripts with what each of their lines leaves. A shelf is where `write` writes its texts.
 //!
 //! `write` prints how many bytes the dump has: 125 of its nine first lines, 16 for each pulse (two
 //! edges of three-digit times), and 6 of the line `#1000`: 163 with two pulses, 179 with three.

@@ -1,4 +1,6 @@
-//! A script whose witness keeps what it sees, over files in memory.
+//! A script whose witness keeps what it sees, over files in memory. `INVERTED` is that script, with
+//! what it prints. A witness sees the output and the files after each line is obeyed. A screen is
+//! an output with its witness.
 
 ghost use Rattle.std.specs.Prelude.{◌≤◌, ◌^◌, IfSome, length};
 
@@ -12,7 +14,7 @@ use irig_files::Room;
 use irig_script::{Screen, Status};
 use std::alloc::Global;
 
-/// The dump, and the format in which it is read. `None` if memory runs out.
+/// The dump of two pulses, and the format in which it is read. `None` if memory runs out.
 fn opening(alloc: Global) -> Option<(Vec<u8>, Format)>
     ensures { IfSome result (λ opened. length opened.0.items ≤ 2 ^ 28) }
 {
@@ -45,7 +47,8 @@ fn is_right(alloc: Global, room: &mut Room) -> bool {
         && left(alloc, files.system().calls()) == Some(163)
 }
 
-/// Whether the script leaves that text if the run makes its screen and its files itself.
+/// Whether the script leaves that text, 163 bytes, if the run makes its screen and its files
+/// itself. False if memory runs out.
 fn is_right_anew(alloc: Global, room: &mut Room) -> bool {
     let Some((dump, format)) = opening(alloc) else {
         return false;

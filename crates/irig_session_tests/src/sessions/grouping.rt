@@ -1,6 +1,8 @@
-//! Groups, call by call: what refuses a call, and the steps and the pulses held afterwards. A step
-//! is what one undo reverses. An edit in the past holds the pulses that it removed, one in the
-//! future those that it inserts.
+//! Groups, call by call, on a session of two pulses (100 to 120 and 200 to 280 microseconds): what
+//! refuses a call, and the steps and the pulses held afterwards. A group is the edits from a begin
+//! to an end, which make one step. A step is what one undo reverses. An edit in the past holds the
+//! pulses that it removed, one in the future those that it inserts. The two numbers of `Delete` are
+//! pulses, from 1; those of `Insert` are microseconds.
 
 use super::helpers::{Call, obey, two_pulses};
 use irig_edit::{Refusal, Session, groups_give_back};
@@ -38,7 +40,8 @@ static ONE_STEP: [Row; 6] = [
     (Call::Redo, None, [2, 1, 0], (1, 0)),
 ];
 
-// A group of two edits is undone and redone as one step. What holds of every group is a law.
+// A group of two edits is undone and redone as one step. The call `groups_give_back` does nothing:
+// its contract is the law of what every group leaves.
 #[test]
 fn a_group_is_one_step(rt: HostRuntime) {
     check(&rt, rt.alloc(), &ONE_STEP);

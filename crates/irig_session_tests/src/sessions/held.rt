@@ -1,6 +1,7 @@
-//! How many pulses the steps of a session hold, call by call. An edit in the past holds the pulses
-//! that it removed, one in the future those that it inserts; a toggle, a shift and a mark hold
-//! none.
+//! How many pulses the steps of a session hold, call by call. A step is what one undo reverses. An
+//! edit in the past holds the pulses that it removed, one in the future those that it inserts; a
+//! toggle, a shift and a mark hold none. Pulses count from 1, times are in microseconds, and 0 is
+//! the mark `a`.
 
 use super::helpers::{Call, obey, open};
 use irig_codes::Element;
@@ -50,7 +51,7 @@ fn a_step_holds_what_its_edit_took_or_put(rt: HostRuntime) {
     check(&rt, rt.alloc(), 1_000, &[100, 120, 200, 280], &EDITS);
 }
 
-/// Frames on a track without a pulse.
+/// Frames on a track without a pulse: `Regen` has where the first begins, and how many there are.
 static FRAMES: [Row; 6] = [
     // Two frames of 100 pulses, where none was.
     (Call::Regen(0, 2), (0, 0)),

@@ -8,7 +8,9 @@ use irig_moment::Moment;
 use irig_recording::Recording;
 use std::alloc::Global;
 
-/// A call of a row. Frames are generated from the begin of 2024 on, without control bits.
+/// A call of a row. `Mark` has a letter, 0 for `a`, and its time, `None` to clear it; `Regen` a
+/// time and how many frames are generated from there on, from the begin of 2024 on, without control
+/// bits; `Go` the pulse to which the cursor goes.
 #[derive(Clone, Copy)]
 pub enum Call {
     Insert(u64, u64),

@@ -1,6 +1,8 @@
 //! How many looks at pulses calls take, and the frames that they leave, call by call. A look is one
 //! read of a pulse to keep the frames true; a frame begins with its marker, a pulse. The bound of
 //! an edit is that of `Index::repair` (irig_index): `3 * (new + 200)` looks, if `new` pulses come.
+//! `Regen` has a time, in microseconds, and how many frames of 100 pulses are generated from there
+//! on; pulses count from 1.
 
 use super::helpers::{Call, obey, open};
 use irig_codes::{Element, Kind};
@@ -80,7 +82,8 @@ static EACH_KIND: [Row; 8] = [
     (Call::Undo, [9, 101, 901], 100_000),
 ];
 
-// The law is that generated frames are read as they were made.
+// The call `generated_frames_read_back` does nothing: its contract is the law that generated frames
+// are read as they were made.
 #[test]
 fn each_kind_of_edit_looks_in_its_window(rt: HostRuntime) {
     check(&rt, rt.alloc(), 100_000, &EACH_KIND);

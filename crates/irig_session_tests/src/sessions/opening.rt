@@ -1,5 +1,8 @@
 //! Dumps with a journal, the history of a session: each is opened, or the number of its wrong line
-//! is found. Lines count from 1, which is `irig-journal-1`, so the lines of a row begin with 2.
+//! is found. A journal has the format, the cursor, which is the pulse at which the session is (0
+//! for none), the marks, and the steps that can be undone (`past`) and redone (`future`). `splice 1
+//! 0 1` replaces 0 pulses from pulse 1 on by 1 of the next line. Lines count from 1, which is
+//! `irig-journal-1`, so the lines of a row begin with 2.
 
 use super::helpers::is_saved;
 use irig_codes::{Format, Kind};
@@ -18,7 +21,8 @@ const BEGIN: &[u8] =
     $enddefinitions $end\n#0\n$dumpvars\n0!\n$end\n#200\n1!\n#280\n0!\n#1000\n$comment\n\
     irig-journal-1\n";
 
-/// The dump with a journal of these lines, after its name. It fails only if memory runs out.
+/// The dump of `BEGIN` with a journal of these lines, which come after the name of the journal. It
+/// fails only if memory runs out.
 fn dump(alloc: Global, lines: &[u8]) -> Result<Vec<u8>, AllocError> {
     let mut text = Vec::new(alloc);
     text.extend_from_slice(BEGIN)?;
@@ -27,11 +31,12 @@ fn dump(alloc: Global, lines: &[u8]) -> Result<Vec<u8>, AllocError> {
     Ok(text)
 }
 
-/// Opens the session of a dump with a journal of these lines, or returns the fault.
+/// Opens the session of a dump with a journal of these lines, or returns the fault. The format is
+/// that of the journal.
 fn opened(alloc: Global, lines: &[u8]) -> Result<Session, VcdFault> {
     let text = dump(alloc, lines)?;
-    // Another format than that of the rows: the journal's counts. The bound on the text is for the
-    // contract of `open_dump`, which asks for at most 2^28 bytes.
+    // Another format than that of the rows: the journal's is taken. The bound on the text is for
+    // the contract of `open_dump`, which asks for at most 2^28 bytes.
     match Format::new(Kind::B, 0) {
         Ok(format) if text.len() <= 1_000 => Session::open_dump(alloc, text, None, format),
         _ => Err(VcdFault::OutOfMemory),
@@ -72,6 +77,7 @@ static ROWS: [Row; 12] = [
         setmark a 110\n",
         None,
     ),
+    // Line 3: the track has no pulse 2 for the cursor.
     (
         b"format G 2\ncursor 2\npast 1\nat 2\nsplice 1 0 1\n100 120\nfuture 1\nat 1\n\
         setmark a 110\n",

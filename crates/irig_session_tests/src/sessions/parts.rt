@@ -1,4 +1,6 @@
-//! A saved session that is given in parts, block by block, against its text.
+//! A saved session that is given in parts, block by block, against its text. A block is where parts
+//! are collected until it has enough bytes. The session has two pulses, 100 to 120 and 200 to 280
+//! microseconds.
 
 use super::helpers::{Call, is_saved, obey, two_pulses};
 use irig_edit::Session;
@@ -6,7 +8,8 @@ use irig_text::{Text, new_block};
 use std::alloc::{AllocError, Global};
 use std::process::Abort;
 
-/// A mark, a splice of two pulses, a group, and a mark that is undone.
+/// A mark, a delete of both pulses, a group of two inserts, and a mark that `check` undoes. A mark
+/// is a letter, 0 for `a` and 25 for `z`, with a time in microseconds.
 static CALLS: [Call; 7] = [
     Call::Mark(0, Some(110)),
     Call::Delete(1, 2),
@@ -18,7 +21,7 @@ static CALLS: [Call; 7] = [
 ];
 
 /// The text of the session that these calls leave, after an undo, as it is saved by
-/// `docs/FORMATS.md`.
+/// `docs/FORMATS.md`: the track, and the journal as a comment.
 static TEXT: &[u8] = b"$timescale 1 us $end
 $scope module irig $end
 $var wire 1 ! code $end

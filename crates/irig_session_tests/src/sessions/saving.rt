@@ -1,5 +1,9 @@
 //! Sessions saved after calls, against the journal's lines that follow from these calls by
-//! `docs/FORMATS.md`. A journal is the history of a session.
+//! `docs/FORMATS.md`. A journal is the history of a session: its cursor, which is the pulse at
+//! which it is, its marks, and the steps that can be undone (`past`) and redone (`future`). `splice
+//! 1 0 1` replaces 0 pulses from pulse 1 on by 1 of the next line. Each session begins with two
+//! pulses, 100 to 120 and 200 to 280 microseconds. Pulses count from 1; mark 0 is `a`, and 25 is
+//! `z`.
 
 use super::helpers::{Call, is_saved, obey, two_pulses};
 use irig_edit::Session;
@@ -47,6 +51,7 @@ fn check(rt: &impl Abort, alloc: Global, rows: &[Row]) {
 
 /// Steps of each kind, and what they lead to.
 static STEPS: [Row; 4] = [
+    // The delete is undone by a splice that inserts 100 to 120 as pulse 1; the mark is redone.
     (
         &[Call::Delete(1, 1), Call::Mark(0, Some(110)), Call::Undo],
         b"format G 2\ncursor 1\npast 1\nat 2\nsplice 1 0 1\n100 120\nfuture 1\nat 1\n\
