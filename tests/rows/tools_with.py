@@ -376,7 +376,10 @@ def of_width():
         ("nor have they, and the frame is damaged", without(odd(alone), 1045), code(), {1045: "0", alone: class_at(code(), alone)}),
         ("as wide as others", exact, code(), {}),
         ("as wide as others, which are all wider", [[rise, fall + 300] for rise, fall in exact], code(), {}),
-        ("off by less than a fiftieth of an interval", odd(at, 190), code(), {}),
+        ("off by a hundredth of an interval, and all others are as wide as each other", odd(at, 110), code(), {at: told}),
+        ("off by less than half of that", odd(at, 45), code(), {}),
+        ("off by a hundredth of an interval, and others there are, too", odd(at, 110), shaky(code()), {at: told}),
+        ("off by a hundredth of an interval, and others are, too", shaky(odd(at, 110)), code(), {}),
         ("some others are off, too", uneven(odd(at)), code(), {}),
         ("and so are some there", odd(at), uneven(code()), {}),
         ("the other one is off, too", odd(at), widened(code(), at), {}),
@@ -397,6 +400,29 @@ def of_three(is_it):
     return next(at for at in range(1060, 1069) if is_it(*(class_at(code(), at + by) for by in (-100, 0, 100))))
 
 
+def of_meeting():
+    """What is recorded here next to damage is damaged, too, if another recording has something else in a pulse as wide as others."""
+    here, there = code(), flipped(code(), LOST)
+    told, other = class_at(there, LOST), class_at(here, LOST)
+    for name, lost, elsewhere, wanted in (
+        ("before what is lost", [LOST + 1], there, told),
+        ("after it", [LOST - 1], there, told),
+        ("two elements from it", [LOST + 2], there, None),
+        ("not as wide as others there", [LOST + 1], widened(flipped(code(), LOST), LOST), None),
+        ("and the other recording has the same", [LOST + 1], here, None),
+    ):
+        found = mended(without(here, *lost), slow(elsewhere))
+        yield same(name, (found[0].get(LOST), found[2], len(found[3])), (wanted, set(), int(wanted is None and elsewhere != here)))
+    reasons = mended(without(here, LOST + 1), slow(there))[1]
+    names = {"0": "zero", "1": "one"}
+    yield same("its reason", reasons[0], "a %s as recorded in B.vcd at %s, and what is next to it here is damaged, too" % (
+        names[told], place_of(slow(there), LOST)))
+    parity = (75, 1)
+    confirmed = mended(without(code(parity=parity), 1076), slow(flipped(code(parity=parity), 1071, 1075)))
+    yield same("but not what a parity confirms", (confirmed[0].keys(), confirmed[2]), ({1076}, set()))
+    yield same("nor in a frame that is fine", mended(late([list(each) for each in here], LOST + 1, 600), slow(there))[0].get(LOST), None)
+
+
 def odd(at, by=700):
     """The code with a pulse of the other class that is off by some microseconds, towards what it was."""
     pulses = flipped(code(), at)
@@ -414,6 +440,11 @@ def widened(pulses, *places):
 def uneven(pulses):
     """One pulse of six is wider."""
     return widened(pulses, *range(0, len(pulses), 6))
+
+
+def shaky(pulses):
+    """Widths are off by up to 100 microseconds."""
+    return [[rise, fall + (37 * at) % 201 - 100] for at, (rise, fall) in enumerate(pulses)]
 
 
 def of_inserted():
@@ -503,6 +534,28 @@ def of_guarded():
         yield same("without it", edges(text_of("alone.vcd")) == edges(dump(code())), False)
 
     return in_folder(lambda: list(holds()), rec=dump(noisy), other=dump(slow(code()), 100))
+
+
+def of_parity():
+    """irig_guard gives a frame that was fine the control function that the other recording has, if the parity is right only with it."""
+    def sent_with(parity):
+        return code(parity=parity)
+
+    parity, sound = (75, 1), sent_with((75, 1))
+    alone = next(at for at in range(1060, 1069) if class_at(sound, at - 100) != class_at(sound, at) != class_at(sound, at + 100))
+    for name, rule, places, there, is_mended in (
+        ("a parity that is wrong here", parity, [alone], slice(3000), True),
+        ("and with it a second one", parity, [alone, alone + 1], slice(3000), False),
+        ("no parity", None, [alone], slice(3000), False),
+        ("a parity, and only seven frames there", parity, [alone], slice(690, 1490), False),
+        ("eight", parity, [alone], slice(590, 1490), True),
+    ):
+        def holds(name=name, rule=rule, is_mended=is_mended):
+            mend("--with", "other.vcd", "--apply", "new.vcd")
+            yield same(name, edges(text_of("new.vcd")) == edges(dump(sent_with(rule))), is_mended)
+
+        rec, other = flipped(sent_with(rule), *places), slow(sent_with(rule)[there])
+        yield from in_folder(lambda holds=holds: list(holds()), rec=dump(rec), other=dump(other))
 
 
 def noisy(pulses, first, last, touching=False):
@@ -666,5 +719,5 @@ def of_refused():
 
 def cases(_top):
     parts = (of_lost, of_recorded, of_explained, of_votes, of_trusted, of_other_code, of_contrary, of_rules, of_few, of_beside, of_width,
-             of_inserted, of_apply, of_guarded, of_parts, of_mended, of_fine, of_refused)
+             of_meeting, of_inserted, of_apply, of_guarded, of_parity, of_parts, of_mended, of_fine, of_refused)
     return [case("mend: with: " + part.__name__[3:].replace("_", " "), lambda part=part: list(part())) for part in parts]

@@ -14,6 +14,7 @@ from .witnesses import OTHER, Witnesses, rule_with
 
 BY_HAND = "force the one that is wrong"
 NOT_AS_WIDE = ", and the %s here is not as wide as others"
+NEXT_TO_DAMAGE = ", and what is next to it here is damaged, too"
 NOT_TAKEN = "so nothing of it is taken: its clock was set otherwise, or it is another code"
 
 
@@ -54,7 +55,8 @@ def _compare_elsewhere(faults: Faults) -> None:
 def _why_damage(faults: Faults, number: FrameNumber, element: int) -> Optional[str]:
     """What else says that an element is damage here which other recordings have otherwise: it is the only one, and the rule says so; or
     the frames next to it have it as they do; or its pulse is not as wide as others, and theirs is; or the frame is damaged, and most
-    recordings have it so, which needs no more words. None if nothing does, or if the rule confirms it."""
+    recordings have it so, which needs no more words, or a place next to it is damaged. None if nothing does, or if the rule confirms
+    it."""
     times, elsewhere, here = faults.times, faults.elsewhere, faults.times.texts[number][element]
     if times.is_confirmed(number, element):
         return None
@@ -65,7 +67,9 @@ def _why_damage(faults: Faults, number: FrameNumber, element: int) -> Optional[s
     width = _not_as_wide(faults, number, element)
     if width and (number not in times.sound or times.is_beside(number, element, OTHER[here])):  # else irig_guard drops it
         return width
-    return "" if number not in times.sound and elsewhere.outvotes(number, element, here) else None
+    if number in times.sound:
+        return None
+    return "" if elsewhere.outvotes(number, element, here) else _next_to_damage(faults, number, element)
 
 
 def _not_as_wide(faults: Faults, number: FrameNumber, element: int) -> str:
@@ -73,6 +77,16 @@ def _not_as_wide(faults: Faults, number: FrameNumber, element: int) -> str:
     here = faults.times.texts[number][element]
     is_shown = faults.is_odd(place_in(number, element)) and faults.elsewhere.is_usual(number, element, OTHER[here])
     return NOT_AS_WIDE % NAMES[here] if is_shown else ""
+
+
+def _next_to_damage(faults: Faults, number: FrameNumber, element: int) -> Optional[str]:
+    """What is said if a place next to an element is damaged here, and its pulse is as wide as others where it is recorded otherwise; else
+    None. One damage of both is likelier than one of each recording at places that meet. A frame that is fine stays as it is."""
+    place, here = place_in(number, element), faults.times.texts[number][element]
+    is_beside = place - 1 in faults.wanted or place + 1 in faults.wanted
+    if not is_beside or faults.is_fine(number):
+        return None
+    return NEXT_TO_DAMAGE if faults.elsewhere.is_usual(number, element, OTHER[here]) else None
 
 
 class _Frame:

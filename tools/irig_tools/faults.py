@@ -78,9 +78,9 @@ class Faults:
                 self.wanted.setdefault(place, told)
         off = [place for place in sorted(self.wanted) if self._is_off_alone(place)]
         # of which the rise alone is off, in frames that are fine
-        self.in_fine = {place for number, places in groupby(off, frame_of) if self._is_fine(number) for place in places}
+        self.in_fine = {place for number, places in groupby(off, frame_of) if self.is_fine(number) for place in places}
 
-    def _is_fine(self, number: FrameNumber) -> bool:
+    def is_fine(self, number: FrameNumber) -> bool:
         """Whether a frame is fine as it is."""
         marker = self.track.pulses_at(max(self.track.first, place_in(number)))
         return bool(marker) and is_fine_at(self.track.listing, self.layout, marker[0])

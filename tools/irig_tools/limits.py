@@ -152,7 +152,9 @@ UNLIKE_ELSEWHERE, UNLIKE_SHARE = 2, 0.1  # frames of the same time that may diff
 LEAST_COMPARED = 9  # control functions of a frame that are recorded in both: fewer are alike by chance
 MOST_ALIKE = 400  # moments at which the control functions change in the same way in both: more say nothing of their clocks
 AS_WIDE = 0.02  # intervals: a pulse that is off by more is not as wide as others of its class: in G a width is rounded by a hundredth
-OF_OTHER_WIDTH = 0.1  # the share of the pulses of a class that are off by so much, beyond which a width says nothing
+AS_WIDE_IF_EVEN = 0.005  # the same where nearly all hardly differ: a quarter of that, and much more than they are off on a clock of 0.1 %
+OF_NEARLY_ALL = 3  # times as much as nearly all are off, if that is between both
+OF_OTHER_WIDTH = 0.1  # the share of the pulses of a class that are not nearly all: if more are off, a width says nothing
 
 # stretches that are there twice (copies, steps)
 UNLIKE_IN_COPY = 25  # a copy has at most one element in that many that differs: more is no copy, but frames alike [0, 1]

@@ -2,41 +2,48 @@
 from __future__ import annotations
 
 from statistics import median_low
-from typing import Dict, Optional, Sequence
+from typing import Dict, NamedTuple, Optional, Sequence
 
 from . import limits
 from .units import Microseconds, PulseIndex
+
+
+class Usual(NamedTuple):
+    """How wide nearly all pulses of a class are, and by how much more or less is still as wide."""
+
+    width: int
+    most_off: float
 
 
 class Widths:
     """The pulses of a recording. None is looked at before it is asked for."""
 
     def __init__(self, rises: Sequence[Microseconds], falls: Sequence[Microseconds], classes: str, interval: float) -> None:
-        self._rises, self._falls, self._classes = rises, falls, classes
-        self._most = limits.AS_WIDE * interval
-        self._usual: Dict[str, Optional[int]] = {}
+        self._rises, self._falls, self._classes, self._interval = rises, falls, classes, interval
+        self._usual: Dict[str, Optional[Usual]] = {}
 
     def is_usual(self, pulse: PulseIndex) -> bool:
         """Whether a pulse is as wide as nearly all others of its class."""
-        off = self._off(pulse)
-        return off is not None and off <= self._most
+        return self._is_as_wide(pulse) is True
 
     def is_odd(self, pulse: PulseIndex) -> bool:
         """Whether nearly all others of its class are as wide as each other, and this one is not."""
-        off = self._off(pulse)
-        return off is not None and off > self._most
+        return self._is_as_wide(pulse) is False
 
-    def _off(self, pulse: PulseIndex) -> Optional[int]:
-        """By how much a pulse is wider than is usual, or narrower; None if nothing is usual."""
+    def _is_as_wide(self, pulse: PulseIndex) -> Optional[bool]:
+        """Whether a pulse is as wide as is usual; None if nothing is."""
         name = self._classes[pulse]
         if name not in self._usual:
             self._usual[name] = self._usual_of(name)
         usual = self._usual[name]
-        return None if usual is None else abs(self._falls[pulse] - self._rises[pulse] - usual)
+        return None if usual is None else abs(self._falls[pulse] - self._rises[pulse] - usual.width) <= usual.most_off
 
-    def _usual_of(self, name: str) -> Optional[int]:
+    def _usual_of(self, name: str) -> Optional[Usual]:
         """The width of nearly all pulses of a class; None if too many are off."""
         widths = [fall - rise for rise, fall, each in zip(self._rises, self._falls, self._classes) if each == name]
-        usual = median_low(widths)
-        off = sum(abs(width - usual) > self._most for width in widths)
-        return usual if off <= limits.OF_OTHER_WIDTH * len(widths) else None
+        usual, most = median_low(widths), limits.AS_WIDE * self._interval
+        off = sorted(abs(width - usual) for width in widths)
+        nearly_all = off[int((1 - limits.OF_OTHER_WIDTH) * (len(off) - 1))]
+        if nearly_all > most:
+            return None
+        return Usual(usual, min(most, max(limits.AS_WIDE_IF_EVEN * self._interval, limits.OF_NEARLY_ALL * nearly_all)))
