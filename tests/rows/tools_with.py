@@ -5,7 +5,9 @@ the words.
 """
 import json
 import random
+import subprocess
 
+from built import BUILT
 from cases import case
 from irig_tools import mend_program, others
 from irig_tools.analysis import examine
@@ -558,6 +560,25 @@ def of_parity():
         yield from in_folder(lambda holds=holds: list(holds()), rec=dump(rec), other=dump(other))
 
 
+def of_classes():
+    """The second frame that is fine shows a wrong day. Once that is mended, the frames before the first one are, too."""
+    lost = LOST - 1000
+    broken = without(flipped(code(), 430), 50 + 14, 100 + 20, 100 + lost, 200 + 30)
+
+    def holds():
+        status, printed, _ = mend("--with", "other.vcd", "--apply", "new.vcd", "--out", "new.ed")
+        yield same("--apply", (status, " 0 left" in printed[0], " refused" in printed[0]), (0, True, False))
+        yield same("what is written", edges(text_of("new.vcd")) == edges(dump(code())), True)
+        edits = [line for line in text_of("new.ed").splitlines() if line[0] != "#"]
+        yield same("the classes come first", " force " in edits[0] and len(edits) > 3, True)
+        words, script = "--expression=4 --out obeyed.vcd rec.vcd".split(), text_of("new.ed") + "write\n"
+        done = subprocess.run([BUILT, *words], input=script, capture_output=True, text=True, check=False)
+        yield same("irig_ed obeys the script", (done.returncode, text_of("obeyed.vcd") == text_of("new.vcd")), (0, True))
+        yield same("without another recording", " refused" in mend("--apply", "alone.vcd")[1][0], True)
+
+    return in_folder(lambda: list(holds()), rec=dump(broken), other=dump(slow(code())))
+
+
 def noisy(pulses, first, last, touching=False):
     """Noise instead of these pulses: each place has two, neither of which rises when one is due; the second can last until the next is."""
     noise = [[10000 * at + begin, 10000 * at + end] for at in range(first, last + 1)
@@ -719,5 +740,5 @@ def of_refused():
 
 def cases(_top):
     parts = (of_lost, of_recorded, of_explained, of_votes, of_trusted, of_other_code, of_contrary, of_rules, of_few, of_beside, of_width,
-             of_meeting, of_inserted, of_apply, of_guarded, of_parity, of_parts, of_mended, of_fine, of_refused)
+             of_meeting, of_inserted, of_apply, of_guarded, of_parity, of_classes, of_parts, of_mended, of_fine, of_refused)
     return [case("mend: with: " + part.__name__[3:].replace("_", " "), lambda part=part: list(part())) for part in parts]

@@ -8,7 +8,7 @@ from typing import Callable, List, Sequence, Set, Tuple, Union
 
 from . import limits
 from .analysis import START
-from .apply import Counts, FrameCount, Refused, beside, find_guard, frames_of, guesses_in, most_off, run_script
+from .apply import Counts, FrameCount, Refused, beside, find_guard, frames_of, guesses_in, most_off, run_script, turning
 from .became import became_of
 from .believed import NOTHING_BEARS, without_time
 from .damage import Damage, Seen, look
@@ -18,7 +18,7 @@ from .left import without_line
 from .opening import Opened
 from .parted import parted
 from .script import Repair
-from .second_try import once_more
+from .second_try import after_classes, classes_kept, once_more
 from .taken_times import takers, timed
 from .units import ELEMENTS
 
@@ -144,9 +144,12 @@ def _run_once(track: Opened, editor: Editor, script: List[Repair], how: How, rep
         script[:] = _without_moves_in_fine(how.propose(editor, False))
         again = run_script(track, script, how.save, repaired, False, kind, how.others)
         refused = replace(again, reasons=[*refused.reasons, *again.reasons])
-    result = [*track.code, repaired]
+    classes = [] if how.move or not how.others or turning(script) else classes_kept(script, refused)
 
-    def again_without() -> List[Repair]:
-        return [each for each in _without_moves_in_fine(how.propose(Editor(result), how.move)) if each.at not in left]
+    def again_for(path: str) -> List[Repair]:
+        found = how.propose(Editor([*track.code, path]), how.move)
+        return [each for each in _without_moves_in_fine(found) if each.at not in left]
 
-    return once_more(script, refused, again_without, list(how.command(track)), repaired, kind)
+    refused = once_more(script, refused, lambda: again_for(repaired), list(how.command(track)), repaired, kind)
+    return after_classes(script, refused, classes, lambda first, out: run_script(track, first, how.save, out, False, kind, how.others),
+                         again_for, list(how.command(track)), repaired, kind)

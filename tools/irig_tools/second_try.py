@@ -1,5 +1,5 @@
 """A second run through irig_guard. Of neighbouring frames that are fine and wrong those at the ends are mended first; only then has one
-between them neighbours that support its time."""
+between them neighbours that support its time. And a frame that is fine and wrong is mended first, and then those next to it."""
 from __future__ import annotations
 
 import os
@@ -31,6 +31,28 @@ def once_more(script: List[Repair], refused: Refused, propose_again: Callable[[]
     script[:] = [repair for repair in script if repair not in gone] + kept
     return replace(refused, lines=refused.lines - sum(len(each.edits) for each in gone), filled=refused.filled_with(again),
                    reasons=_left(refused.reasons, kept, INTERVAL[kind]))
+
+
+def classes_kept(script: Sequence[Repair], refused: Refused) -> List[Repair]:
+    """The repairs that were kept, and that only give pulses another class: each pulse is where it was recorded after them."""
+    return [repair for repair in script if _changes_classes(repair) and not refused.drops(repair)]
+
+
+def after_classes(script: List[Repair], refused: Refused, classes: Sequence[Repair], run: Callable[[Sequence[Repair], str], Refused],
+                  propose: Callable[[str], Sequence[Repair]], command: List[str], out: str, kind: str) -> Refused:
+    """What is refused if these repairs that only give classes are made first, and all else for the track that they give. That counts if
+    it is less; then the script has both."""
+    base = out + ".classes"
+    if not classes or not refused.lines:
+        return refused
+    first = run(classes, base)
+    found = propose(base)
+    again = run_guarded(command, base, found, base + ".again", kind)
+    if first.lines or again.lines >= refused.lines:
+        return refused
+    os.replace(base + ".again", out)
+    script[:] = [*classes, *found]
+    return replace(again, filled=first.filled_with(again))
 
 
 def _left(reasons: Sequence[Reason], kept: Sequence[Repair], interval: int) -> List[Reason]:
