@@ -7,6 +7,8 @@ from reference.bearing import LONGEST_COUNT, Bearing, Near, Shown, clock
 
 LONGEST_LINE, LONGEST_COMMENT = 1000, 900
 LEAST_ANCHORS = 60  # of a frame, if nothing was fine
+PARITY = 75  # the element
+LEAST_WITH_PARITY, FOR_EACH_WITHOUT = 8, 5
 NOTHING_FINE, NOT_KEPT = b"# nothing to go by: no frame of the recording is fine", b"# not kept: "
 NO_REPAIR, REFUSED = "not a repair", "refused: "
 LOST, CHANGED, UNSUPPORTED = "would be lost", "would change", "would have a time that is not supported"
@@ -106,15 +108,15 @@ class Safety:
 
     def _has_control_of_most(self, beside: Near, was: Shown, frame: Shown) -> bool:
         """Whether a frame has other control functions than it had, nothing else is another, and each of those that are others is so
-        in both next to it, and in most other recordings."""
-        if not changes_control(was, frame) or beside.before is None or beside.after is None:
+        in most other recordings, and in both next to it; or it is the only one, and the parity of those says so."""
+        if not changes_control(was, frame):
             return False
-        now = frame.values["control"]
+        now, sides = frame.values["control"], (beside.before, beside.after)
         changed = [bit for bit in range(len(self.controls.elements)) if (was.values["control"] ^ now) >> bit & 1]
-        return all(
-            self.controls.is_told(frame, bit) and not any((one.values["control"] ^ now) >> bit & 1 for one in (beside.before, beside.after))
-            for bit in changed
-        )
+        shared = [None not in sides and not any((one.values["control"] ^ now) >> bit & 1 for one in sides if one) for bit in changed]
+        is_allowed = not (sides[0] and not self.bearing.allows(sides[0], frame) or sides[1] and not self.bearing.allows(frame, sides[1]))
+        is_right = len(changed) == 1 and is_allowed and self.controls.is_by_parity(was, frame)
+        return all(self.controls.is_told(frame, bit) and (each or is_right) for bit, each in zip(changed, shared))
 
     def _controls(self, old: Sequence[Shown], new: Sequence[Fine]) -> Optional[str]:
         """The first frame that is not as it was, and whose control functions are not supported."""
@@ -199,7 +201,8 @@ class Controls:
         self.others = others
         self.interval, self.pulses = opened.interval(), opened.pulses()
         self.rises = [rise for rise, _ in self.pulses]
-        fields = timecode.layout(opened.kind, opened.expression)
+        self.code = opened.kind, opened.expression
+        fields = timecode.layout(*self.code)
         self.elements = [element for element, _ in fields["control"][0]] if "control" in fields else []
 
     def are_supported(self, near: Near, frame: Fine) -> bool:
@@ -234,6 +237,15 @@ class Controls:
         """Whether most frames of other recordings with its time have a control function as it has it."""
         votes = [(one.values["control"] ^ frame.values["control"]) >> bit & 1 for one in self._of_time(frame)]
         return 2 * sum(votes) < len(votes)
+
+    def is_by_parity(self, was: Shown, frame: Shown) -> bool:
+        """Whether a frame has the parity of the others, and had not: at least eight have it, and five more for each that has not."""
+        parity, *others = map(self._parity, (frame, *self.others))
+        return parity != self._parity(was) and others.count(parity) >= LEAST_WITH_PARITY + FOR_EACH_WITHOUT * others.count(1 - parity)
+
+    def _parity(self, frame: Shown) -> int:
+        """Whether the ones up to the element of the parity are odd in number."""
+        return timecode.encode(*self.code, frame.values)[:PARITY + 1].count("one") % 2
 
     def have_time(self, frame: Shown) -> bool:
         """Whether another recording has a frame of its time."""

@@ -51,6 +51,14 @@ def steady(form: str = "B4", many: int = 7, begin: datetime.datetime = NOON, con
     return frames(form, [values_of(form, when, control) for when in times])
 
 
+def with_parity(many: int) -> Pulses:
+    """Frames with other control functions in each; element 75 makes the ones up to it odd in number."""
+    shown = [values_of("B4", NOON + datetime.timedelta(seconds=k), k * 7919 % 2 ** 14) for k in range(many)]
+    for values in shown:
+        values["control"] += (1 - timecode.encode("B", 4, values)[:75].count("one") % 2) << 14
+    return frames("B4", shown)
+
+
 def leap(form: str = "B4") -> Pulses:
     """The end of 2016: 23:59:56 to 23:59:60, then 00:00:00 to 00:00:02."""
     last, first = datetime.datetime(2016, 12, 31, 23, 59), datetime.datetime(2017, 1, 1)
@@ -73,6 +81,15 @@ def changed(pulses: Pulses, number: int, name: str) -> Pulses:
     found = [list(pulse) for pulse in pulses]
     found[number - 1][1] = found[number - 1][0] + timecode.nominal(10000, name)
     return found
+
+
+def class_of(pulses: Pulses, number: int) -> str:
+    rise, fall = pulses[number - 1]
+    return "zero" if fall - rise < 3500 else "one"
+
+
+def other_class(pulses: Pulses, number: int) -> Pulses:
+    return changed(pulses, number, "one" if class_of(pulses, number) == "zero" else "zero")
 
 
 def moved(pulses: Pulses, change: Callable[[int], int]) -> Pulses:
@@ -115,8 +132,13 @@ OF_SOUND = [[at * 1001 // 1000 + 123456 for at in pulse] for pulse in SOUND]
 CHANGING = frames("B4", [values_of("B4", NOON + datetime.timedelta(seconds=k), 4 + (k % 2 << 17)) for k in range(7)])
 CHANGING_AS_ZERO = changed(CHANGING, 363, "zero")  # element 62 of frame 3
 FIRST_IS_50, LAST_IS_57 = changed(steady("B5"), 102, "zero"), changed(steady("B5"), 602, "one")  # and not 51, and not 56
+ODD = with_parity(9)  # eight fine frames; in the others element 60 of frame 3 or of the last is of another class, or two of frame 3 are
+ODD_BUT_3, ODD_BUT_LAST, ODD_BUT_TWO = other_class(ODD, 361), other_class(ODD, 861), other_class(other_class(ODD, 361), 362)
 AS_ZERO = without(SOUND, 343)  # and the control function of frame 3 was recorded as a zero
 SET_FUNCTION_OF_3 = ["begin", "insert 3420000 3422000", "363 force one", "end"]
+MEND_BY_PARITY, SPOIL_BY_PARITY = ["361 force " + class_of(ODD, 361)], ["362 force " + class_of(ODD_BUT_TWO, 362)]
+MEND_LAST = ["861 force " + class_of(ODD, 861)]
+MEND_TWO = ["begin", *MEND_BY_PARITY, "362 force " + class_of(ODD, 362), "end"]
 LATE_FUNCTION = ["begin", "363 delete", "insert 3620000 3625000", "end"]
 LATER = ["begin", "insert 3420000 3422000", "350,390 shift 600"]  # elements 49 to 89 of frame 3
 MEND = "insert 2420000 2422000"
@@ -410,6 +432,23 @@ ROWS = (
         ["begin", "363 force one", "371 force one", "end"],
         unsafe("138 12:34:53", 3000000, CHANGED, "begin", "363 force one", "371 force one", "end"),
         others=[changed(CHANGING, 371, "one")]),
+    # a parity
+    Row("a frame with a wrong parity, and another recording has a control function of it otherwise", "B4", ODD_BUT_3, MEND_BY_PARITY,
+        MEND_BY_PARITY, filled=1, others=[ODD]),
+    Row("the same of the last frame", "B4", ODD_BUT_LAST, MEND_LAST, MEND_LAST, filled=1, others=[ODD]),
+    Row("the same, and no other recording", "B4", ODD_BUT_3, MEND_BY_PARITY, unsafe("138 12:34:53", 3000000, CHANGED, *MEND_BY_PARITY)),
+    Row("the same, and the other recording has seven frames", "B4", ODD_BUT_3, MEND_BY_PARITY,
+        unsafe("138 12:34:53", 3000000, CHANGED, *MEND_BY_PARITY), others=[ODD[100:]]),
+    Row("the same, and one of its eight frames has another parity", "B4", ODD_BUT_3, MEND_BY_PARITY,
+        unsafe("138 12:34:53", 3000000, CHANGED, *MEND_BY_PARITY), others=[ODD_BUT_LAST]),
+    Row("the same, and it has what is here", "B4", ODD_BUT_3, MEND_BY_PARITY,
+        unsafe("138 12:34:53", 3000000, CHANGED, *MEND_BY_PARITY), others=[[*ODD_BUT_3, *with_parity(13)[900:]]]),
+    Row("a frame with a right parity, and another recording has two control functions of it otherwise", "B4", ODD_BUT_TWO, MEND_TWO,
+        unsafe("138 12:34:53", 3000000, CHANGED, *MEND_TWO), others=[ODD]),
+    Row("one of these, after which the parity is wrong", "B4", ODD_BUT_TWO, MEND_BY_PARITY,
+        unsafe("138 12:34:53", 3000000, CHANGED, *MEND_BY_PARITY), others=[ODD]),
+    Row("a frame with a right parity, and another recording has one otherwise, whose parity is wrong", "B4", ODD, SPOIL_BY_PARITY,
+        unsafe("138 12:34:53", 3000000, CHANGED, *SPOIL_BY_PARITY), others=[[*other_class(ODD, 362), *with_parity(13)[900:]]]),
     # a first or last frame that another recording knows
     Row("the first frame has another time, and another recording has the one before the next", "B5", FIRST_IS_50, ["102 force one"],
         ["102 force one"], others=[steady("B5")]),
