@@ -405,7 +405,7 @@ def of_three(is_it):
 def of_meeting():
     """What is recorded here next to damage is damaged, too, if another recording has something else in a pulse as wide as others."""
     here, there = code(), flipped(code(), LOST)
-    told, other = class_at(there, LOST), class_at(here, LOST)
+    told = class_at(there, LOST)
     for name, lost, elsewhere, wanted in (
         ("before what is lost", [LOST + 1], there, told),
         ("after it", [LOST - 1], there, told),

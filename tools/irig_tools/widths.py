@@ -8,7 +8,7 @@ from . import limits
 from .units import Microseconds, PulseIndex
 
 
-class Usual(NamedTuple):
+class UsualWidth(NamedTuple):
     """How wide nearly all pulses of a class are, and by how much more or less is still as wide."""
 
     width: int
@@ -20,7 +20,7 @@ class Widths:
 
     def __init__(self, rises: Sequence[Microseconds], falls: Sequence[Microseconds], classes: str, interval: float) -> None:
         self._rises, self._falls, self._classes, self._interval = rises, falls, classes, interval
-        self._usual: Dict[str, Optional[Usual]] = {}
+        self._usual: Dict[str, Optional[UsualWidth]] = {}
 
     def is_usual(self, pulse: PulseIndex) -> bool:
         """Whether a pulse is as wide as nearly all others of its class."""
@@ -38,7 +38,7 @@ class Widths:
         usual = self._usual[name]
         return None if usual is None else abs(self._falls[pulse] - self._rises[pulse] - usual.width) <= usual.most_off
 
-    def _usual_of(self, name: str) -> Optional[Usual]:
+    def _usual_of(self, name: str) -> Optional[UsualWidth]:
         """The width of nearly all pulses of a class; None if too many are off."""
         widths = [fall - rise for rise, fall, each in zip(self._rises, self._falls, self._classes) if each == name]
         usual, most = median_low(widths), limits.AS_WIDE * self._interval
@@ -46,4 +46,4 @@ class Widths:
         nearly_all = off[int((1 - limits.OF_OTHER_WIDTH) * (len(off) - 1))]
         if nearly_all > most:
             return None
-        return Usual(usual, min(most, max(limits.AS_WIDE_IF_EVEN * self._interval, limits.OF_NEARLY_ALL * nearly_all)))
+        return UsualWidth(usual, min(most, max(limits.AS_WIDE_IF_EVEN * self._interval, limits.OF_NEARLY_ALL * nearly_all)))
