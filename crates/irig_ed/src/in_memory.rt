@@ -57,10 +57,13 @@ type Row = (&'static str, &'static str, u8, &'static [u8], usize);
 
 /// What is no regular file, and the standard output, are written in place, also through a link.
 /// Paths are from the folder with the dump `t`.
-static ROWS: [Row; 7] = [
+static ROWS: [Row; 9] = [
     // A new file first, and then a file that is there: 5 and 6 calls.
     ("t", "w", 0, b"163\n163\n", 11),
     ("t", "t", 0, b"163\n163\n", 12),
+    // A link to it stays, and a file that must not be written does, too.
+    ("t", "way", 0, b"163\n163\n", 12),
+    ("t", "locked", 1, b"? S3 WriteFailed\n? S3 WriteFailed\n", 0),
     // In place: no file is made or renamed.
     ("t", "out", 0, b"163\n163\n", 0),
     ("t", "link", 0, b"163\n163\n", 0),
@@ -70,34 +73,47 @@ static ROWS: [Row; 7] = [
     ("none", "w", 3, b"", 0),
 ];
 
-/// A folder with the dump, the standard output, a link to it, and a pipe. A path may follow 40
-/// links.
+/// The same with a window of the whole dump: it is not written over the track, also through a link.
+static WINDOW_ROWS: [Row; 4] = [
+    ("t", "w", 0, b"163\n163\n", 11),
+    ("t", "out", 0, b"163\n163\n", 0),
+    ("t", "t", 2, b"", 0),
+    ("t", "way", 2, b"", 0),
+];
+
+/// A folder with the dump, a link to it, a file that must not be written, the standard output, a
+/// link to it, and a pipe. A path may follow 40 links.
 fn folder(alloc: Global) -> Result<Tree, MemoryFault> {
     let mut tree = Tree::new(alloc, 40);
     tree.add_path(".", "/")?;
     tree.add_file("/t", DUMP, 0o640)?;
+    tree.add_other("/way", Some(String::from_str(alloc, "t")?))?;
+    tree.add_file("/locked", DUMP, 0o440)?;
     tree.add_output("/out")?;
     tree.add_other("/link", Some(String::from_str(alloc, "out")?))?;
     tree.add_other("/pipe", None)?;
     Ok(tree)
 }
 
-/// The words of a row: the program's name, `--out` with its path, and the track; `None` if memory
-/// runs out.
-fn words(alloc: Global, track: &str, out: &str) -> Option<Vec<String>> {
+/// The words of a row: the program's name, `--from 0` for a window, `--out` with its path, and the
+/// track; `None` if memory runs out.
+fn words(alloc: Global, window: bool, track: &str, out: &str) -> Option<Vec<String>> {
     let mut words = Vec::new(alloc);
-    for word in ["irig_ed", "--out", out, track].iter() {
-        let word = String::from_str(alloc, word).ok()?;
-        words.push(word).ok()?;
+    let all = ["irig_ed", "--from", "0", "--out", out, track];
+    for (place, word) in all.iter().enumerate() {
+        if window || place != 1 && place != 2 {
+            let word = String::from_str(alloc, word).ok()?;
+            words.push(word).ok()?;
+        }
     }
     Some(words)
 }
 
 /// Whether the run of a row ends, prints and writes as the row says. Its script is `write`, twice.
-fn is_run<R: Eprint + AllocGlobal>(rt: &R, tree: Tree, row: Row) -> bool {
+fn is_run<R: Eprint + AllocGlobal>(rt: &R, tree: Tree, window: bool, row: Row) -> bool {
     let (track, out, status, printed, calls) = row;
     let alloc = rt.alloc();
-    let Some(words) = words(alloc, track, out) else {
+    let Some(words) = words(alloc, window, track, out) else {
         return false;
     };
     let before = tree.memory.calls().len();
@@ -115,13 +131,27 @@ fn is_run<R: Eprint + AllocGlobal>(rt: &R, tree: Tree, row: Row) -> bool {
         && disk.system().memory.calls().len().saturating_sub(before) == calls
 }
 
-// Only a path that leads to the place of a regular file, or of none yet, changes the folder.
+/// Whether the run of a row, with a window or without one, is as the row says.
+fn is_run_in_folder<R: Eprint + AllocGlobal>(rt: &R, window: bool, row: Row) -> bool {
+    match folder(rt.alloc()) {
+        Ok(tree) => is_run(rt, tree, window, row),
+        Err(_) => false,
+    }
+}
+
+// Only a path that leads to the place of a regular file that may be written, or of none yet,
+// changes the folder.
 #[test]
 fn the_standard_output_is_written_in_place(rt: HostRuntime) {
     for row in ROWS.iter() {
-        match folder(rt.alloc()) {
-            Ok(tree) => assert!(rt; is_run(&rt, tree, *row)),
-            Err(_) => assert!(rt; false),
-        }
+        assert!(rt; is_run_in_folder(&rt, false, *row));
+    }
+}
+
+// A window is written to another file than the track.
+#[test]
+fn a_window_is_not_written_over_its_track(rt: HostRuntime) {
+    for row in WINDOW_ROWS.iter() {
+        assert!(rt; is_run_in_folder(&rt, true, *row));
     }
 }
