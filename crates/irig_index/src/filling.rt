@@ -182,9 +182,10 @@ fn retell(
     set_record(records, pulses, count - 1, Stored::new(marker, verdict));
 }
 
-/// Up to which place a repair seeks markers, not included: so the last pulse that can be a new
-/// marker is the first one after the edit, or the last pulse of the track. Each later pulse and the
-/// one before it are as they were.
+/// The place at which a repair stops to seek markers, itself left out: that of the first pulse
+/// after the edit, or of the last pulse of the track if that comes first. So the last pulse that
+/// can be a new marker is the first one after the edit. Each later pulse and the one before it are
+/// as they were.
 pub fn last_place(lens: &Lens<'_>, edit: Span) -> usize
     requires { edit.at + edit.new ≤ length lens.now.track.pulses }
     ensures least { result ≡ min (length lens.now.track.pulses - 1) (edit.at + edit.new) }

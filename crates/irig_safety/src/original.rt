@@ -74,15 +74,16 @@ impl Original {
         }
     }
 
-    /// Whether frames may move: be at another time than in the recording.
+    /// Whether frames may be at another time than in the recording.
     pub fn is_moved(&self) -> bool
         ensures { result ≡ self.now.terms.moved }
     {
         self.terms.moved
     }
 
-    /// Whether more of the frames of other recordings that have the time of `frame` have a control
-    /// function as it has it than otherwise.
+    /// Whether other recordings confirm a control function of `frame`, which is numbered from 0: of
+    /// their frames with its time more have that function as it has it than the other way. False if
+    /// as many have, or there are none.
     pub fn is_told(&self, frame: &Shown, function: u32) -> bool
         requires { function < 64 }
         ensures { result ≡ is_told function self.now.terms.others frame.now }

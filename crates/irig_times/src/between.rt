@@ -88,8 +88,8 @@ fn sides(
     sides_by(from, to, head, tail, missing, in_step)
 }
 
-/// The parts of the first `head` pulses after a part and the last `tail` before another; `None` if
-/// a pulse would be of both. If the two sides meet out of step, one pulse there has no time.
+/// The parts of the first `head` pulses after a part and the last `tail` before another, of the
+/// missing frames; `None` if a pulse would be of both. At a slip (`is_seam`) one pulse is left out.
 fn sides_by(
     from: &Part,
     to: &Part,

@@ -75,7 +75,7 @@ pub fn find_whys(
     Ok(Whys { frames, gaps })
 }
 
-/// Why there is no time before each of some frames, and after the last.
+/// Why pulses have no time, before each part of `whole`, all that have one, and after the last.
 fn gaps(
     alloc: Global,
     pulses: &mut Lens<'_>,

@@ -83,8 +83,9 @@ fn exchange(
     }
 }
 
-/// Takes `count` pulses right of the gap of `from`, and puts them left of the gap of `to`, in the
-/// same order. The caller has seen that they are there, so `None` does not come.
+/// Takes `count` pulses right of the gap of `from`, and puts them left of the gap of `to`, which
+/// has room for them, in the same order. The caller has seen that they are there, so `None` does
+/// not come.
 fn carry(from: &mut Gap<Pulse>, count: usize, to: &mut Gap<Pulse>)
     requires there { from.old.place + count ≤ length from.old.items }
     requires room { length to.old.items + count ≤ to.old.capacity }

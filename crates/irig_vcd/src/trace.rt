@@ -202,7 +202,8 @@ impl Trace {
     }
 }
 
-/// The stretch up to a limit in which no edge is in the window, so that none is kept.
+/// The stretch up to a limit, in microseconds of the dump, in which no edge is in the window: none
+/// is kept. `most` is how many pulses may be kept after it.
 fn apart(limit: u64, most: usize) -> Stretch
     ensures limit { result.limit ≡ limit }
     ensures most { result.most ≡ most }

@@ -34,8 +34,9 @@ impl Present {
         self.track.can_toggle(a, b)
     }
 
-    /// Whether the pulses `i` to `j`, both included and from 0, can be moved by `by` microseconds
-    /// within the limits.
+    /// Whether the pulses `i` to `j`, both included and from 0, can be moved by `by` microseconds,
+    /// below 0 to earlier times, so that they touch no other pulse and stay within the length. It
+    /// is false, too, if one of them is not there, or `i` is above `j`.
     pub(crate) fn can_shift(&self, i: usize, j: usize, by: i64) -> bool
         ensures can { IsTrue result ↔ CanShift self.now.state.micros i j by self.now.state.pulses }
         ensures state { IsState self.now.state }

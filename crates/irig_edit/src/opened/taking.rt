@@ -94,8 +94,8 @@ impl Walk {
         }
     }
 
-    /// Takes the steps back of a journal, undoes them, and swaps past and future: now they can be
-    /// undone. Then it does the same with the steps forward, which are ahead in the end.
+    /// Takes the steps back of a journal, undoes them, and swaps past and future, so that these are
+    /// the past. Then it takes the steps forward and undoes them, too, so that these are ahead.
     ///
     /// `line` is the number, from 1, of the line that counts the steps forward. The newest step
     /// back ends just before it, so the line of a fault there is found by counting back from it.

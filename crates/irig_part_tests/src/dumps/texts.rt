@@ -93,7 +93,8 @@ fn has_count(alloc: Global, dump: &[u8], want: Result<usize, VcdFault>) -> bool 
 /// Lines after those of a full dump, of one more pulse. It rises at the last time of that dump.
 const MORE: &[u8] = b"1!\n#8388609\n0!\n";
 
-/// Whether a full dump is read, and is not with one pulse more.
+/// Whether a full dump is read, and is not with one pulse more, which is added to it. It is false,
+/// too, if memory runs out.
 fn takes_no_more(alloc: Global, dump: &mut Vec<u8>) -> bool {
     has_count(alloc, dump.as_slice(), Ok(1 << 22))
         && dump.extend_from_slice(MORE).is_ok()

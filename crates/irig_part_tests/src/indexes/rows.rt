@@ -177,8 +177,9 @@ fn rows_hold(
     true
 }
 
-/// Whether an index of the sound track, repaired after each edit, and `other`, which is rebuilt,
-/// hold the records of each row.
+/// Whether an index of the sound track that is repaired after each edit of `ROWS`, and `other`,
+/// which is rebuilt, hold the records of the row; and those of the sound track when the edit is
+/// undone.
 fn is_repaired(alloc: Global, track: &mut Track, other: &mut Index, format: Format) -> bool {
     match Index::build(alloc, &mut track.lens(), format) {
         Ok(mut index) => rows_hold(alloc, track, &mut index, other, format),
