@@ -78,8 +78,8 @@ fn old_folder(alloc: Global) -> Option<Memory> {
     }
 }
 
-/// Whether the name `t` leads, after these calls, to a file with these bytes, which each crash
-/// leaves.
+/// Whether the name `t` leads, after these calls, the newest first, to a file with these bytes, and
+/// no crash would lose them now (`is_kept`). It is false, too, if memory runs out.
 fn holds(alloc: Global, calls: &[Call], bytes: &[u8]) -> bool {
     let Some(file) = file_at(calls, b"t") else {
         return false;

@@ -55,7 +55,8 @@ impl PlainCalls for Memory {
 
     ghost may_write = { λ _ _. ⊤ };
 
-    // What the program's answers go to: no file of this folder, so nothing takes them.
+    // What the program's answers go to: no file of this folder, so it takes no byte. The path does
+    // not matter.
     fn open_output(&self, _: &str) -> Nothing {
         Nothing
     }

@@ -213,8 +213,9 @@ fn mend_one(
     }
 }
 
-/// Obeys one line if it is an edit, and keeps what it did if it is safe. If not, all is as it was
-/// but for what can be redone.
+/// Obeys one line if it is an edit, and keeps what it did if it is safe: the answer is the frames
+/// that read well after it. `NoRepair` if the line is no edit. After each error all is as it was
+/// but for what can be redone. `opened` is the recording as it was opened.
 fn take_line(
     alloc: Global,
     session: &mut Session,

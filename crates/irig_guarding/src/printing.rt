@@ -53,8 +53,8 @@ pub fn put_lines(out: &mut Vec<u8>, lines: &[Line]) -> Result<(), AllocError>
     Ok(())
 }
 
-/// Prints a line as a comment: a comment as it is, of any other line the first 900 bytes after a
-/// number sign.
+/// Prints a line as a comment, and a newline: a comment as it is, of any other line a number sign,
+/// a space and its first 900 bytes.
 fn put_remark(out: &mut Vec<u8>, line: &Line) -> Result<(), AllocError>
     ensures { OnOk result ((remark : List ℕ) × IsRemark remark × IsRemarkOf line.now.bytes.items remark
         × (out.new.items ≡ out.old.items ++ (remark ++ 10 ∷ []))) }

@@ -228,7 +228,7 @@ fn is_worked_put(text: &mut Vec<u8>, format: Format) -> bool {
 /// The lines of that group.
 const GROUP: &[u8] = b"at 4\ngroup 3\nshift 1 2 -20 az\ntoggle 5 6\nsetformat E 1\n";
 
-/// Whether the lines of that group are written into an empty text.
+/// Whether `put_changes` writes exactly `GROUP` into an empty text. False if memory runs out.
 fn is_group_put(text: &mut Vec<u8>) -> bool {
     put_changes(text) && text.as_slice() == GROUP
 }

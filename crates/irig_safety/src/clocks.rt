@@ -43,8 +43,9 @@ fn is_in_time(format: Format, one: &Shown, other: &Shown, from: &Shown, frame: &
         && 2 * apart(here, wanted) <= whole * u128::from(format.interval())
 }
 
-/// Whether `one` and `other` show a clock (`shows_clock`), and by it `frame` begins when it should
-/// after `from`, to half an interval.
+/// Whether `one` and `other` show a clock (`shows_clock`), and `frame`, which has to be later than
+/// `from`, begins after it by the periods between their times, counted in that clock, to half an
+/// interval of the format.
 pub fn is_by_clock(format: Format, one: &Shown, other: &Shown, from: &Shown, frame: &Shown) -> bool
     ensures { result ≡ is_by_clock format one.now other.now from.now frame.now }
 {

@@ -160,7 +160,8 @@ enum Told<'a> {
     Word(&'a [u8]),
 }
 
-/// What is known of a recorder's time: its time of year, or the word for none. A hyphen if the
+/// What is printed for a recorder's time (`number`, in picoseconds): its time of year; or if it has
+/// none, a word that says why, if that is asked for, else a hyphen. A hyphen, too, for `None`: the
 /// column has no number.
 fn told_of<'a>(
     pulses: &mut Lens<'_>,

@@ -18,7 +18,8 @@ use irig_stamps::{Form, Settings};
 use irig_words::{format_named, text_or, window_named};
 
 /// What the values of a command line ask for. An error is a fault that they have: a value that its
-/// option cannot have, dates without a year, or the table with an option for lines.
+/// option cannot have; dates to which nothing gives a year; or `--table` with an option that says
+/// how lines are read or printed, since the table reads no lines.
 pub fn chosen_of<'a>(asked: &Asked<'a>) -> Result<Chosen<'a>, OptionFault>
     ensures chosen { IfOk result (IsChosen asked.now) }
     ensures sound { IfOk result (λ c. IsSound c.settings) }

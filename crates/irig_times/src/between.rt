@@ -88,8 +88,9 @@ fn sides(
     sides_by(from, to, head, tail, missing, in_step)
 }
 
-/// The parts of the first `head` pulses after a part and the last `tail` before another, of the
-/// missing frames; `None` if a pulse would be of both. At a slip (`is_seam`) one pulse is left out.
+/// The first `head` pulses after a part and the last `tail` before another, as parts of the missing
+/// frames; `None` if a pulse would be of both. If the two sides do not meet in step, and are all
+/// pulses of one or two frames (`is_seam`: the recorder slipped there), one pulse is left out.
 fn sides_by(
     from: &Part,
     to: &Part,
@@ -224,9 +225,9 @@ pub fn min(one: usize, other: usize) -> usize
     if one <= other { one } else { other }
 }
 
-/// What is counted between a frame (`to`) and the one before it (`from`), or before `to` if it is
-/// the first. `None` if one of them is not believed, which is a part without pulses, or if nothing
-/// can be counted there.
+/// The pulses that are counted between two frames that follow each other: on from `from`, and back
+/// from `to`; only back if `from` is `None`, as `to` is the first. `None` if one of them is not
+/// believed, which is a part without pulses, or if nothing can be counted there.
 pub fn sides_before(
     pulses: &mut Lens<'_>,
     format: Format,
