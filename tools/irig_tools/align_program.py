@@ -89,7 +89,7 @@ def work(given: Given) -> int:
 
 
 def aligned_whole(command: List[str]) -> Optional[int]:
-    """The status of a run on the whole track, which reads the lines and prints; none if it does not hold the track, and no line was read."""
+    """The status of a run on the whole track, which reads the lines and prints; none if it cannot hold that, and no line was read."""
     sys.stdout.flush()
     try:
         process = subprocess.Popen(command, stderr=subprocess.PIPE)
