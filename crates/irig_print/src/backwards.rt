@@ -1,10 +1,10 @@
-//! Texts that are written in front of others, from the last to the first. `end` is the index, from
-//! 0, after the last byte that is written, and what is given back is the index of the first. Bytes
-//! from `end` on do not change.
+//! A line that is written from its last text to its first, each directly before those that are
+//! there. `end` is the index, from 0, after the last byte that is written, and the result is the
+//! index of the first. Bytes from `end` on do not change; what is before the result may.
 
 ghost use Rattle.std.specs.Prelude.{◌≡◌, ◌≤◌, ◌+◌, ◌++◌, ◌∷◌, length, drop, decimal};
 
-/// Writes a text so that it ends at `end`, and gives where it starts. There is room for it: `end`
+/// Writes a text so that it ends at `end`, and returns where it starts. There is room for it: `end`
 /// is at least its length.
 #[inline(always)]
 pub fn write_text(bytes: &mut [u8], end: usize, text: &[u8]) -> usize
@@ -18,9 +18,9 @@ pub fn write_text(bytes: &mut [u8], end: usize, text: &[u8]) -> usize
     start
 }
 
-/// Writes a number in decimal and a space after it so that they end at `end`, and gives where the
-/// number starts. It has at most 20 digits, so 21 bytes before `end` have to be there.
-/// `write_digits` gives where the digits start that end before the space.
+/// Writes a number in decimal and a space after it so that the space ends at `end`, and returns
+/// where the number starts. It has at most 20 digits, so 21 bytes before `end` have to be there.
+/// `write_digits` writes the digits so that they end before the space, and returns their start.
 #[inline(always)]
 pub fn write_number(bytes: &mut [u8], end: usize, number: u64) -> usize
     requires { (21 ≤ end) × (end ≤ length bytes.old) }

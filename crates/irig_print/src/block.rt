@@ -1,4 +1,5 @@
-//! Output in blocks: what is printed is held back until a block is full, and then written at once.
+//! Output in blocks: what is printed is held back until a block has no room for the next text, and
+//! then written at once.
 
 ghost use Rattle.std.specs.Prelude.{◌≡◌, ◌≤◌, ◌+◌, ◌++◌, [], OnOk, OnErr, length, take};
 ghost use Rattle.irig_print.specs.Blocks.{Sends};
@@ -11,7 +12,8 @@ use std::marker::Model;
 /// The most bytes that a block holds back.
 const BLOCK_LIMIT: usize = 8192;
 
-/// Bytes that are held back until 8,192 have come, or they are flushed. It takes no memory.
+/// At most 8,192 bytes that are held back until the next text has no room, or they are flushed. It
+/// takes no memory.
 #[derive(Drop)]
 pub struct Block {
     bytes: [u8; BLOCK_LIMIT],
@@ -39,8 +41,8 @@ impl Block {
         }
     }
 
-    /// Writes what is held back. An error says that this write failed. After that the block is
-    /// empty, also on an error.
+    /// Writes what is held back. After that the block is empty, also on an error. An error says
+    /// that the write failed: only a front of the bytes is out then, and the others are lost.
     pub fn flush<W: Write>(&mut self, out: &mut W) -> Result<(), PrintFault>
         ensures empty { self.new ≡ [] }
         ensures printed { Prints (W.contents out.old) (W.contents out.new) self.old result }
@@ -50,9 +52,10 @@ impl Block {
         put_all(out, &self.bytes[..len])
     }
 
-    /// Takes a text of at most 256 bytes, the length of a line. If there is no room for it, what is
-    /// held back is written first: after that the block is empty, so there is room. An error says
-    /// that this write failed: then the text is not taken.
+    /// Takes a text of at most 256 bytes, the longest line. If there is room it is only held back.
+    /// Else what is held back is written first, so that the block is empty and has room. An error
+    /// says that this write failed: then the text is not taken, the block is empty, and only a
+    /// front of what was held back is out.
     pub fn put<W: Write>(&mut self, out: &mut W, text: &[u8]) -> Result<(), PrintFault>
         requires { length text.now ≤ 256 }
         ensures ok { OnOk result (Sends
@@ -67,7 +70,7 @@ impl Block {
         Ok(())
     }
 
-    /// Takes a text that there is room for.
+    /// Holds back a text too, after what is held already. There is room for it.
     fn hold(&mut self, text: &[u8])
         requires { length self.old + length text.now ≤ 8192 }
         ensures { self.new ≡ self.old ++ text.now }

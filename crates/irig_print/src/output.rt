@@ -8,8 +8,9 @@ use std::io::Write;
 #[derive(Clone, Copy)]
 pub struct PrintFault;
 
-/// Writes all of the bytes. A write that fails or takes no byte ends it with an error, which does
-/// not say which; a front of the bytes can be out then.
+/// Writes all of the bytes, in as many writes as that takes; no bytes, no write. If a write fails
+/// or takes no byte, the answer is `PrintFault`, which says no more. Then a front of the bytes may
+/// be out, but not all.
 pub fn put_all<W: Write>(out: &mut W, bytes: &[u8]) -> Result<(), PrintFault>
     ensures { Prints (W.contents out.old) (W.contents out.new) bytes.now result }
 {

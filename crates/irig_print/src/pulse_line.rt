@@ -12,9 +12,11 @@ use irig_recording::Pulse;
 /// letters with a newline.
 pub const LINE_ROOM: usize = 72;
 
-/// Writes the line of a pulse so that it ends at `end`, the index after its last byte, and gives
-/// the index of its first: its number, from 1, its rise and its fall in microseconds, and the word
-/// of the element that its width means.
+/// Writes the line of a pulse so that it ends at `end`, the index after its last byte, and returns
+/// the index of its first. The line has the pulse's number, from 1, its rise and its fall in
+/// microseconds, and the word of the element that its width means, or `bad`. The line is written
+/// from its end, so that no digits have to be counted. A fall before the rise would be a width of
+/// 0: no recording has one, but the type of a pulse permits it.
 pub fn write_pulse(bytes: &mut [u8], end: usize, format: Format, number: u64, pulse: Pulse) -> usize
     requires { (72 ≤ end) × (end ≤ length bytes.old) }
     ensures start { (end ≤ result + 72) × (result ≤ length bytes.old) }
@@ -29,10 +31,10 @@ pub fn write_pulse(bytes: &mut [u8], end: usize, format: Format, number: u64, pu
     write_number(bytes, rise, number)
 }
 
-/// Writes the word of a class and a newline so that they end at `end`, and gives where they start.
-/// A class is the element that a width means, `None` if it is bad. All eight bytes of `letters` are
-/// written; the word is those from `start` on, and what comes before it in the line is written over
-/// the others.
+/// Writes the word of a class and a newline so that they end at `end`, and returns where the word
+/// starts. A class is the element that a width means, or `None` if the width is bad. Always all
+/// eight bytes of `letters` are written, which is fast. The word is those from `start` on; the rest
+/// of the line is later written over the bytes before it.
 #[inline(always)]
 fn write_class(bytes: &mut [u8], end: usize, class: Option<Element>) -> usize
     requires { (9 ≤ end) × (end ≤ length bytes.old) }

@@ -72,8 +72,8 @@ impl Row {
         self.len = len + text.len();
     }
 
-    /// Writes a number in decimal. `write_digits` writes the digits so that they end before the
-    /// given place, here the end of the array, and returns where they start.
+    /// Writes a number in decimal at the end, with at most 20 digits. `write_digits` writes them so
+    /// that they end at the end of the array, and returns where they start.
     pub fn put_number(&mut self, number: u64)
         requires room { length self.old ≤ 236 }
         ensures text { self.new ≡ self.old ++ decimal number }
@@ -84,8 +84,9 @@ impl Row {
         self.put(&digits[start..]);
     }
 
-    /// Writes a number in decimal, with zeros in front if it has fewer digits than `width`, which
-    /// is at most 3. A number with more digits is written whole.
+    /// Writes a number in decimal at the end, with zeros before it if it has fewer digits than
+    /// `width`, which is at most 3. A number with more digits is written whole: a `u32` has at most
+    /// 10.
     pub fn put_padded(&mut self, width: usize, number: u32)
         requires narrow { width ≤ 3 }
         requires room { length self.old ≤ 246 }
@@ -99,8 +100,8 @@ impl Row {
         self.put(&digits[start..]);
     }
 
-    /// Writes a number in lower-case hexadecimal, without zeros in front: the last digit first, at
-    /// the end of the array.
+    /// Writes a number in lower-case hexadecimal at the end, without zeros before it; 0 is `0`. The
+    /// loop makes the last digit first, at the end of the array.
     pub fn put_hexadecimal(&mut self, number: u64)
         requires room { length self.old ≤ 240 }
         ensures text { self.new ≡ self.old ++ hexadecimal number }
@@ -119,7 +120,7 @@ impl Row {
     }
 }
 
-/// The byte of a hexadecimal digit: 48 is `0`, and 87 is ten before `a`.
+/// The byte of a hexadecimal digit, `0` to `9` or `a` to `f`: 48 is `0`, and 87 is ten before `a`.
 fn glyph(digit: u64) -> u8
     requires { digit < 16 }
     ensures { result ≡ digit_glyph false digit }

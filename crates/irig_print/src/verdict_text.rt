@@ -9,7 +9,8 @@ use crate::row::Row;
 use irig_index::Verdict;
 use std::alloc::AllocError;
 
-/// Writes what the command `frames` reports of a frame, as in its line. It fails only if memory
+/// Adds to the end of `block` what the command `frames` reports of a frame, as its line has it
+/// after the numbers: for example `broken 19 class`. There is no newline. It fails only if memory
 /// runs out.
 pub fn put_verdict_text(block: &mut Vec<u8>, verdict: &Verdict) -> Result<(), AllocError>
     ensures { OnOk result (block.new.items ≡ block.old.items ++ verdict_text verdict.now) }

@@ -1,8 +1,9 @@
 //! Edges of a wire that are read one after another, and kept as pulses.
 //!
 //! Two edges are a pulse: a rise and a fall. If the last edge is a rise, it waits in `rise`, and
-//! `is_open` is true. A recording may have a number of pulses, `most`: 2^22, or 2^26 if it is long.
-//! One edge more is kept, to know that there are too many. Times are in microseconds.
+//! `is_open` is true. A recording may have at most `most` pulses: 2^22, or 2^26 if it is long. They
+//! have 2 * `most` edges. One edge more may be kept (`edges_kept most` is 2 * `most` + 1), to know
+//! that there are too many. Times are in microseconds.
 //!
 //! The pulses are in a gap buffer: a list whose free room, the gap, can be anywhere in it. Here it
 //! is always after all pulses, so `gap_at` is how many there are.
@@ -74,8 +75,8 @@ impl Edges {
         }
     }
 
-    /// Whether two edges more may be added: with them there are at most 2 * `most` + 1, one more
-    /// than a recording of at most `most` pulses may have. False from that many pulses on.
+    /// Whether two edges more may be added: with them there are at most 2 * `most` + 1 edges, which
+    /// is one more than `most` pulses have. It is false as soon as `most` pulses are whole.
     #[inline(always)]
     pub fn has_room(&self, most: usize) -> bool
         ensures { result ≡ true ↔ (length self.now + 2 ≤ edges_kept most) }
@@ -83,9 +84,10 @@ impl Edges {
         self.pulses.gap_at() < most
     }
 
-    /// Adds an edge, a time after those of the others: a fall if the last one is a rise, else a
-    /// rise. Only a fall takes memory, for the pulse that it ends. It fails only if memory runs
-    /// out.
+    /// Adds an edge: a fall if the last one is a rise, else a rise. Its time should be later than
+    /// those of the others, which is not tested. There may be at most 2^27 edges before, as many as
+    /// 2^26 pulses have. Only a fall takes memory, for the pulse that it ends. It fails only if
+    /// memory runs out.
     pub fn push(&mut self, edge: u64) -> Result<(), AllocError>
         requires { length self.old ≤ 2 ^ 27 }
         ensures { OnOk result (self.new ≡ self.old ++ edge ∷ []) }
@@ -101,9 +103,9 @@ impl Edges {
         Ok(())
     }
 
-    /// Adds a fall and the next rise, two times after those of the others. The last edge has to be
-    /// a rise, to which this fall belongs; the new rise waits then. It fails only if memory runs
-    /// out.
+    /// Adds a fall and the next rise. The last edge has to be a rise, which this fall ends; the new
+    /// rise waits then. Both times should be later than those of the others, which is not tested.
+    /// It does in one step what two calls of `push` do. It fails only if memory runs out.
     #[inline(always)]
     pub fn close_and_open(&mut self, fall: u64, rise: u64) -> Result<(), AllocError>
         requires risen { is_even_long self.old ≡ false }
@@ -116,8 +118,9 @@ impl Edges {
         Ok(())
     }
 
-    /// The pulses of the edges, in the same block: none is copied. The last edge, if there is one,
-    /// has to be a fall. The gap of the buffer is after them all.
+    /// The pulses of the edges, in the same block of memory: none is copied. The last edge, if any,
+    /// has to be a fall. The gap of the buffer is after all pulses. The block has room for at most
+    /// twice their number and 1024.
     pub fn into_pulses(self) -> Gap<Pulse>
         requires { is_even_long self ≡ true }
         ensures edges { edges_of result.items ≡ self }
@@ -128,7 +131,8 @@ impl Edges {
     }
 }
 
-/// Adds a pulse after the others. It fails only if memory runs out, and nothing changes then.
+/// Adds a pulse after the others; the gap stays after all. It fails only if memory runs out, and
+/// nothing changes then.
 #[inline(always)]
 fn put(pulses: &mut Gap<Pulse>, pulse: Pulse) -> Result<(), AllocError>
     requires few { length pulses.old.items ≤ 2 ^ 26 }
@@ -146,8 +150,8 @@ fn put(pulses: &mut Gap<Pulse>, pulse: Pulse) -> Result<(), AllocError>
     Ok(())
 }
 
-/// Makes the capacity of a full buffer larger: twice the old one and a first block, so that few
-/// growths come; but not above `next_limit`. If memory runs out, nothing changes.
+/// Makes the capacity of a full buffer larger: twice the old one and 1024 pulses (`FIRST_ROOM`), so
+/// that it grows seldom; but at most `next_limit`. If memory runs out, nothing changes.
 #[inline(never)]
 fn grow(pulses: &mut Gap<Pulse>) -> Result<(), AllocError>
     requires few { length pulses.old.items ≤ 2 ^ 26 }
@@ -162,8 +166,10 @@ fn grow(pulses: &mut Gap<Pulse>) -> Result<(), AllocError>
     pulses.grow(twice.min(next_limit(old)))
 }
 
-/// The largest capacity that may come after a full block of a capacity: that for the most pulses of
-/// a recording, 2^22, and a first block; from there on that of a long one, 2^26, and a first block.
+/// The largest capacity, in pulses, to which a full buffer of this capacity may grow. For one of at
+/// most 2^22, the most pulses of a recording, it is 2^22 + 1024; for a larger one, which is that of
+/// a long recording, 2^26 + 1024. The 1024 more (`FIRST_ROOM`) make it larger than the capacity
+/// also at these limits.
 fn next_limit(capacity: usize) -> usize
     requires few { capacity ≤ 2 ^ 26 }
     ensures more { capacity < result }

@@ -1,8 +1,9 @@
 //! The lines of a pulse, kept for the next one.
 //!
 //! The four lines are `#RISE`, `1!`, `#FALL` and `0!`. Most pulses come soon after the one before,
-//! so their times have the same digits but for the last four. These digits are written over the old
-//! ones, and all else is kept: that is faster than to make each line from its number.
+//! so their times have the same digits but for the last four. The last four are written over the
+//! old ones, and all else is kept: that is faster than to make each line from its number. The kept
+//! digits are those before the last four; they are the same for the rise and the fall.
 //!
 //! The lines of an edge end with four bytes, a newline, the level, the code and a newline; the last
 //! four digits of its time come just before these.
@@ -24,8 +25,7 @@ static PAIRS: [u8; 200] = *b"\
     8081828384858687888990919293949596979899";
 
 /// The four lines of a pulse at the front of `bytes`; the two lines of each edge have `long` bytes,
-/// at most 20. `base` is a time in microseconds: the digits that both times have in front of their
-/// last four, and then 0000.
+/// at most 20. `base` is a time in microseconds: the kept digits, and then 0000.
 #[derive(Drop)]
 pub struct KeptPulse {
     bytes: [u8; 56],
@@ -47,9 +47,10 @@ impl KeptPulse {
         }
     }
 
-    /// Makes the kept digits fit a pulse, if that takes at most to count up one digit: the one in
-    /// front of the last four, if it is one too low for the rise. Returns whether both times, in
-    /// microseconds, have the kept digits then. A digit that was counted up stays so in any case.
+    /// Tries to make the kept digits fit a pulse, whose times are in microseconds. If they are one
+    /// too low for the rise, the last of them counts up by one, unless it is 9. Returns whether
+    /// both times have the kept digits then. `false` can leave the digit counted up, if the rise
+    /// fits and the fall does not.
     #[inline(always)]
     pub fn catch_up(&mut self, rise: u64, fall: u64) -> bool
         requires holds { HoldsPulse self.old }
@@ -59,10 +60,11 @@ impl KeptPulse {
         self.catch_up_to(rise) && self.is_near(fall)
     }
 
-    /// Makes new lines, with both edges at a time in microseconds of 5 to 15 digits: one digit in
-    /// front of the last four is needed, and more do not fit. They are made in `line`: a time ends
-    /// before byte 21, from 0, and the bytes 21 to 24 are a newline, the level, the code and a
-    /// newline. So the lines of an edge are the bytes from `start`, that of the `#`, to byte 24.
+    /// Makes new lines, with both edges at `time`, in microseconds; `put` then writes the last four
+    /// digits of each. The time has 5 to 15 digits: one digit is needed before the last four, and
+    /// more than 15 do not fit. The lines are made in `line`: the time ends before byte 21, from 0,
+    /// and the bytes 21 to 24 are a newline, the level, the code and a newline. So the lines of an
+    /// edge are the bytes from `start`, that of the `#`, to byte 24.
     pub fn renew(&mut self, line: &mut [u8], time: u64)
         requires some { 10000 ≤ time }
         requires few { time < 10 ^ 15 }
@@ -81,10 +83,10 @@ impl KeptPulse {
         self.base = time - time % 10000;
     }
 
-    /// Writes the lines of a pulse whose times, in microseconds, have the digits that are kept. The
-    /// last four digits of each time begin 8 bytes before the end of its lines. A fixed number of
-    /// bytes, 48, is added to the text, which is fast, and those after the lines are removed. It
-    /// fails only if memory runs out.
+    /// Adds the lines of a pulse to the text. Both times, in microseconds, have the kept digits
+    /// (`catch_up` or `renew` made sure). The last four digits of each begin 8 bytes before the end
+    /// of its lines. Always 48 bytes are added, which is fast, and those after the lines are
+    /// removed. It fails only if memory runs out.
     #[inline(always)]
     pub fn put(&mut self, text: &mut Vec<u8>, rise: u64, fall: u64) -> Result<(), AllocError>
         requires holds { HoldsPulse self.old }
@@ -106,7 +108,7 @@ impl KeptPulse {
         Ok(())
     }
 
-    /// Whether a time, in microseconds, has the kept digits in front of its last four.
+    /// Whether a time, in microseconds, has the kept digits before its last four.
     #[inline(always)]
     fn is_near(&self, time: u64) -> bool
         ensures { result ≡ true ↔ IsNear self.now time }
@@ -114,8 +116,9 @@ impl KeptPulse {
         self.base <= time && time - self.base < 10000
     }
 
-    /// Makes the kept digits those of a time, in microseconds, if they are so already, or are one
-    /// too low and do not end with 9. Returns whether the time has the kept digits then.
+    /// Counts up the kept digits by one, if they are one too low for a time, in microseconds, and
+    /// do not end with 9. Returns whether the time has the kept digits then; it is `true` without a
+    /// change if it had them before. `false` changes nothing.
     #[inline(always)]
     fn catch_up_to(&mut self, time: u64) -> bool
         requires holds { HoldsPulse self.old }
@@ -132,9 +135,9 @@ impl KeptPulse {
         past < 20000 && self.count_up()
     }
 
-    /// Counts up the kept digits by one, in the lines of both edges, if that changes only the last
-    /// of them: if it is not 9. That digit is 9 bytes before the end of the lines of an edge.
-    /// Returns whether it did; `false` changes nothing.
+    /// Counts up the kept digits by one, in the lines of both edges, unless the last of them is 9:
+    /// then more digits would change. The last kept digit is 9 bytes before the end of the lines of
+    /// an edge. Returns whether it counted up; `false` changes nothing.
     #[inline(always)]
     fn count_up(&mut self) -> bool
         requires holds { HoldsPulse self.old }
@@ -157,8 +160,8 @@ impl KeptPulse {
 }
 
 /// Copies 24 bytes of `line`, from byte `start` on, to the place `at` of `bytes`; both count from
-/// 0. There is room for them. The lines of an edge have at most 20 bytes; a fixed number of bytes
-/// is copied fast.
+/// 0. There is room for them. The lines of an edge have at most 20 bytes, but a fixed number of
+/// bytes is copied fast; what comes after the lines has no meaning.
 fn put_part(bytes: &mut [u8], at: usize, line: &[u8], start: usize)
     requires room { at + 24 ≤ length bytes.old }
     requires some { start + 24 ≤ length line.now }

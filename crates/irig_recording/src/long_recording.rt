@@ -40,8 +40,8 @@ impl Model for LongRecording {
 
 impl LongRecording {
     /// The recording of a length and pulses, both in microseconds. The caller knows that they make
-    /// one: no limit is tested here. The place must be after all pulses, and their block have room
-    /// for at most twice their number and 1024.
+    /// one: no limit is tested here. The buffer's place must be after all pulses, and its block of
+    /// memory must have room for at most twice their number and 1024.
     pub fn from_parts(micros: u64, pulses: Gap<Pulse>) -> LongRecording
         requires lawful { IsLongRecording micros (edges_of pulses.items) }
         requires place { pulses.place ≡ length pulses.items }
@@ -59,8 +59,8 @@ impl LongRecording {
         self.micros
     }
 
-    /// The pulses, in order. The place is after them all, so `gap_at` is their number, and
-    /// `get_left` gives each.
+    /// The pulses, in order. The buffer's place is after all of them, so `gap_at` is their number,
+    /// and `get_left` gives each by its index, from 0.
     pub fn pulses(&self) -> &Gap<Pulse>
         ensures exact { edges_of result.now.items ≡ self.now.edges }
         ensures place { result.now.place ≡ length result.now.items }
@@ -69,8 +69,8 @@ impl LongRecording {
         &self.pulses
     }
 
-    /// The same recording, of which the caller knows that it has at most 2^22 pulses: no pulse is
-    /// copied.
+    /// The same recording as a `Recording`, without a copy of the pulses. The caller knows that it
+    /// has at most 2^22 pulses, which are 2^23 edges.
     pub fn into_recording(self) -> Recording
         requires few { length self.edges ≤ 2 ^ 23 }
         ensures { result ≡ self }

@@ -42,9 +42,9 @@ impl Model for Recording {
 }
 
 impl Recording {
-    /// The recording of a length and edges, both in microseconds. `None` unless they make one: the
-    /// edges have to rise, to be even in number, at most 2^23, none of them above the length, and
-    /// the length at most 2^40. It fails only if memory runs out.
+    /// The recording of a length and edges, both in microseconds. `None` unless they make one: each
+    /// edge has to be above the one before it and none above the length, their number has to be
+    /// even and at most 2^23, and the length at most 2^40. It fails only if memory runs out.
     pub fn new(alloc: Global, length: u64, edges: &[u64]) -> Result<Option<Recording>, AllocError>
         ensures accepted { IfOk result (λ r. IsSome r ↔ IsRecording length edges.now) }
         ensures view { IfOk result (λ r. IfSome r (λ made.
@@ -59,8 +59,8 @@ impl Recording {
     }
 
     /// The recording of a length and pulses, both in microseconds. The caller knows that they make
-    /// one: no limit is tested here. The place must be after all pulses, and their block have room
-    /// for at most twice their number and 1024.
+    /// one: no limit is tested here. The buffer's place must be after all pulses, and its block of
+    /// memory must have room for at most twice their number and 1024.
     pub fn from_parts(micros: u64, pulses: Gap<Pulse>) -> Recording
         requires lawful { IsRecording micros (edges_of pulses.items) }
         requires place { pulses.place ≡ length pulses.items }
@@ -78,8 +78,8 @@ impl Recording {
         self.micros
     }
 
-    /// The pulses, in order. The place is after them all, so `gap_at` is their number, and
-    /// `get_left` gives each.
+    /// The pulses, in order. The buffer's place is after all of them, so `gap_at` is their number,
+    /// and `get_left` gives each by its index, from 0.
     pub fn pulses(&self) -> &Gap<Pulse>
         ensures exact { edges_of result.now.items ≡ self.now.edges }
         ensures place { result.now.place ≡ length result.now.items }
@@ -88,8 +88,8 @@ impl Recording {
         &self.pulses
     }
 
-    /// The pulses, in order, without a copy, and the place after them all. Their block has room for
-    /// at most twice their number and 1024.
+    /// The pulses, in order, without a copy. The buffer's place is after all of them, and its block
+    /// of memory has room for at most twice their number and 1024.
     pub fn into_pulses(self) -> Gap<Pulse>
         ensures exact { edges_of result.items ≡ self.edges }
         ensures place { result.place ≡ length result.items }
@@ -100,8 +100,8 @@ impl Recording {
     }
 }
 
-/// The pulses of an even number of edges that rise, in microseconds: each two are the rise and the
-/// fall of one. It fails only if memory runs out.
+/// The pulses of edges, in microseconds: each two edges are the rise and the fall of a pulse. There
+/// is an even number of edges, at most 2^23. It fails only if memory runs out.
 fn pulses_of(alloc: Global, edges: &[u64]) -> Result<Gap<Pulse>, AllocError>
     requires few { length edges.now ≤ 2 ^ 23 }
     requires even { is_even_long edges.now ≡ true }
@@ -117,8 +117,9 @@ fn pulses_of(alloc: Global, edges: &[u64]) -> Result<Gap<Pulse>, AllocError>
     Ok(kept.into_pulses())
 }
 
-/// Whether these are the length and the edges of a recording, both in microseconds: no limit is
-/// passed, each edge is after the one before it, and each rise has its fall.
+/// Whether these are the length and the edges of a recording, both in microseconds: the length is
+/// at most 2^40, the edges are at most 2^23 and even in number, so that each rise has its fall, and
+/// each edge is above the one before it and at most the length.
 fn is_recording(length: u64, edges: &[u64]) -> bool
     ensures { IsTrue result ↔ IsRecording length edges.now }
 {
@@ -135,8 +136,8 @@ fn is_recording(length: u64, edges: &[u64]) -> bool
 }
 
 /// Whether each edge is above the one before it, and none above the length. `low` is the least time
-/// that the next edge may have. It is at most the length and 1, which fits: the caller has tested
-/// that the length is at most 2^40.
+/// that the next edge may have: at most the length + 1. That fits into 64 bits, since the caller
+/// has tested that the length is at most 2^40.
 fn is_rising(length: u64, edges: &[u64]) -> bool
     requires { length ≤ 2 ^ 40 }
     ensures { IsTrue result ↔ (RisesFrom 0 edges.now × UpTo length edges.now) }

@@ -1,8 +1,12 @@
 //! Writes a recording as the text of a dump, in the form of `docs/FORMATS.md`, under "The dump that
 //! is written".
 //!
-//! Each function adds to `text`, and fails only if memory runs out. A line of a time is `#` and its
-//! microseconds; a line of a level is `1!` or `0!`. An edge has both lines.
+//! Each function that has a `text` adds to its end, and fails only if memory runs out; a part may
+//! be added then. A line of a time is `#` and its microseconds; a line of a level is `1!` (high) or
+//! `0!` (low). An edge has both lines.
+//!
+//! The clauses `enough` say for how many bytes `text` needs room before, so that memory cannot run
+//! out.
 
 ghost use Rattle.std.specs.Prelude.{◌≡◌, ◌≤◌, ◌<◌, ◌^◌, ◌+◌, ◌/◌, true, false, ◌++◌, ◌∷◌, OnOk};
 ghost use Rattle.std.specs.Prelude.{IfOk, length, drop, decimal, vec_capacity, vec_len, IsOk};
@@ -20,9 +24,9 @@ use std::alloc::{AllocError, Global};
 use std::marker::Model;
 
 /// Writes the text of a dump, edge by edge, after the bytes of a text that the caller has. `last`
-/// is the last time that was written, in microseconds; lines are made in `line`, or in `pulse`,
-/// which keeps those of the last pulse. In `line` a time ends before byte 21, from 0, and a
-/// newline, the level, the code (`!`) and a newline are the bytes 21 to 24.
+/// is the time of the last edge, in microseconds, or 0 before the first. Lines are made in `line`,
+/// or in `pulse`, which keeps those of an earlier pulse. In `line` a time ends before byte 21, from
+/// 0, and a newline, the level, the code (`!`) and a newline are the bytes 21 to 24.
 #[derive(Drop)]
 pub struct TextWriter {
     line: [u8; 48],
@@ -54,8 +58,8 @@ impl TextWriter {
         }
     }
 
-    /// Begins a text: writes the lines before the first edge above 0. `high` says whether an edge,
-    /// a rise, is at 0.
+    /// Begins a text: writes the lines before the first edge above 0, 125 bytes. `high` says
+    /// whether an edge, a rise, is at 0.
     pub fn begin(&mut self, text: &mut Vec<u8>, high: bool) -> Result<(), AllocError>
         ensures text { OnOk result (text.new.items ≡ text.old.items ++ header_text high) }
         ensures last { self.new.last ≡ 0 }
@@ -67,7 +71,8 @@ impl TextWriter {
     }
 
     /// Writes the lines of an edge at a time in microseconds, from which on the level is high
-    /// (`high`) or low. An edge at 0 is part of the header, so it has no lines.
+    /// (`high`) or low. An edge at 0 is part of the header, so nothing is written for it. Up to
+    /// 2^40 the lines have at most 18 bytes, but `put_lines` needs room for 25.
     #[inline(always)]
     pub fn put_edge(&mut self, text: &mut Vec<u8>, edge: u64, high: bool) -> Result<(), AllocError>
         ensures text { OnOk result (text.new.items ≡ text.old.items ++ lines_at high edge) }
@@ -84,10 +89,11 @@ impl TextWriter {
     }
 
     /// Writes the lines of a pulse: the level is high from its rise on and low from its fall on, in
-    /// microseconds. Most times have the same digits in front of their last four as the pulse
-    /// before, or have them after one digit counts up. Then only the last four are written. If not,
-    /// new lines are made, if both times have the same front digits; else the edges are written one
-    /// by one.
+    /// microseconds. As by `put_edge`, a rise at 0 has no lines. There are three ways, the fastest
+    /// first. If the times have the same digits before their last four as the kept pulse, or have
+    /// them after the last of these digits counts up, only the last four are written (`catch_up`).
+    /// If not, but both times share these digits, new lines are made and kept (`renew`). Else the
+    /// edges are written one by one.
     #[inline(always)]
     pub fn put_pulse(&mut self, text: &mut Vec<u8>, rise: u64, fall: u64) -> Result<(), AllocError>
         ensures text { OnOk result
@@ -109,8 +115,8 @@ impl TextWriter {
         self.pulse.put(text, rise, fall)
     }
 
-    /// Writes the line of the length, in microseconds, unless the last time that was written is the
-    /// length.
+    /// Ends a text: writes the line of the length, in microseconds, unless the last edge is at the
+    /// length, or there was no edge and the length is 0.
     pub fn finish(&self, text: &mut Vec<u8>, length: u64) -> Result<(), AllocError>
         ensures text { OnOk result
             (text.new.items ≡ text.old.items ++ length_line self.now.last length) }
@@ -126,10 +132,10 @@ impl TextWriter {
 }
 
 /// The canonical dump of a recording, as `docs/FORMATS.md` says: nine lines, two for each edge
-/// above 0, and one for the length if no edge is there. At first it asks for as much as the longest
-/// text takes. A time is at most 2^40, so it has at most 13 digits, and its line 15 bytes. An edge
-/// then has 18 bytes, and a pulse 36; the header has 125 and the length 15, together 140. `read` of
-/// `irig_vcd` gives the recording back.
+/// above 0, and one for the length, unless that is 0 or an edge. `read` of `irig_vcd` gives the
+/// recording back. It asks once for the memory of the longest text. A time is at most 2^40, so it
+/// has at most 13 digits, and its line 15 bytes. An edge then has 18 bytes, and a pulse 36; the
+/// header has 125 and the length 15, together 140.
 pub fn text(alloc: Global, recording: &Recording) -> Result<Vec<u8>, AllocError>
     ensures written { IfOk result (λ text. text.items ≡ file_text recording.now) }
     ensures short { IfOk result (λ text. length text.items ≤ 2 ^ 28) }
@@ -139,7 +145,8 @@ pub fn text(alloc: Global, recording: &Recording) -> Result<Vec<u8>, AllocError>
     Ok(text)
 }
 
-/// Adds the text of a recording to `text`: the header, its pulses, and the length.
+/// Adds the text of a recording to `text`: the header, its pulses, and the length. `gap_at` is the
+/// number of pulses.
 fn put_text(text: &mut Vec<u8>, recording: &Recording) -> Result<(), AllocError>
     ensures { OnOk result (text.new.items ≡ text.old.items ++ file_text recording.now) }
 {
@@ -153,7 +160,7 @@ fn put_text(text: &mut Vec<u8>, recording: &Recording) -> Result<(), AllocError>
     writer.finish(text, recording.length())
 }
 
-/// Whether two times, in microseconds, have 5 to 15 digits and the same ones in front of the last
+/// Whether two times, in microseconds, have 5 to 15 digits and the same digits before the last
 /// four: then a `KeptPulse` can hold their lines.
 fn share_front(rise: u64, fall: u64) -> bool
     ensures same { result ≡ true → rise / 10000 ≡ fall / 10000 }
@@ -170,7 +177,8 @@ fn begins_high(pulses: &Gap<Pulse>) -> bool
     0 < pulses.len() && pulses.get(0).rise == 0
 }
 
-/// Writes the lines before the first edge above 0; `high` says whether the level is high at 0.
+/// Writes the lines before the first edge above 0, 125 bytes. `high` says whether the level is high
+/// at 0.
 #[tactic(auto, unfolding(crate::specs::FileText::head_text))]
 fn put_header(text: &mut Vec<u8>, high: bool) -> Result<(), AllocError>
     ensures text { OnOk result (text.new.items ≡ text.old.items ++ header_text high) }
@@ -223,7 +231,8 @@ pub(crate) fn put_digits(line: &mut [u8], time: u64) -> usize
     start
 }
 
-/// Writes the line of a time, in microseconds, without a line of a level after it.
+/// Writes the line of a time, in microseconds, without a line of a level after it. In the buffer
+/// the digits end before byte 21, from 0, which is the newline.
 fn put_time(text: &mut Vec<u8>, time: u64) -> Result<(), AllocError>
     ensures text { OnOk result (text.new.items ≡ text.old.items ++ time_line time) }
     ensures enough { time ≤ 2 ^ 40 → vec_len text.old + 15 ≤ vec_capacity text.old → IsOk result }

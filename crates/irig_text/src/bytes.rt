@@ -8,11 +8,12 @@ use std::alloc::AllocError;
 /// Bytes in memory, as a text in parts.
 #[derive(Drop)]
 pub struct Bytes<'a> {
+    /// The bytes that are still to come.
     left: &'a [u8],
 }
 
 impl<'a> Bytes<'a> {
-    /// The text that has these bytes.
+    /// The text that has these bytes: all are still to come.
     pub fn new(bytes: &'a [u8]) -> Bytes<'a>
         ensures { result.left.now ≡ bytes.now }
     {
@@ -23,8 +24,9 @@ impl<'a> Bytes<'a> {
 impl Text for Bytes<'_> {
     ghost rest = { λ b. b.left.now };
 
-    // Adds bytes to the block until it has `enough`, or none is left. Returns whether none is left.
-    // It fails only if memory runs out; a block that has `enough` already gets none.
+    // Adds the next bytes to the block until it has `enough` in all, or none is left. A block that
+    // has `enough` already gets none. Returns whether none is left, whether the block is full or
+    // not. It fails only if memory runs out.
     fn fill(&mut self, block: &mut Vec<u8>, enough: usize) -> Result<bool, AllocError> {
         let count = enough.saturating_sub(block.len()).min(self.left.len());
         let (part, left) = self.left.split_at(count);

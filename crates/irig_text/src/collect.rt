@@ -6,9 +6,11 @@ use crate::text::Text;
 use std::alloc::{AllocError, Global};
 
 /// All bytes of a text that comes in parts. `room` is how many bytes are asked for at first; if
-/// these do not suffice it takes more. `fill` adds parts until `usize::MAX` bytes are there, or the
-/// text ends, and returns whether it has ended; so the first call gets all of it. The loop has a
-/// bound so that it ends. It fails only if memory runs out.
+/// these do not suffice, more are. It fails only if memory runs out; the text is then given up.
+///
+/// `fill` returns `true` if the text has ended, `false` only if the block has `usize::MAX` bytes.
+/// No memory holds that many, so the first call gets the whole text. Only for the proof is there a
+/// loop, and a bound of it.
 pub fn whole<T: Text>(alloc: Global, room: usize, text: &mut T) -> Result<Vec<u8>, AllocError>
     ensures { IfOk result (λ all. all.items ≡ T.rest text.old) }
 {
@@ -18,6 +20,6 @@ pub fn whole<T: Text>(alloc: Global, room: usize, text: &mut T) -> Result<Vec<u8
             return Ok(all);
         }
     }
-    // No text has that many parts, so this does not come.
+    // This is never reached: no memory holds that many bytes.
     Err(AllocError)
 }

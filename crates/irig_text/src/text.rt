@@ -9,10 +9,11 @@ pub trait Text {
     /// The bytes that are still to come.
     ghost rest: { Self → List ℕ };
 
-    /// Adds the next parts to a block until it has `enough` bytes in all, or the text ends. Returns
-    /// whether the text has ended; if not, the block has at least `enough`. It asks for memory only
-    /// if the block has no room for a part, and fails only if there is none; the text is given up
-    /// then.
+    /// Adds the next parts to a block until it has `enough` bytes in all, or the text ends. The
+    /// last part may go past `enough`. `true` says that the text has ended. `false` says that the
+    /// block has at least `enough` bytes; more may come. It asks for memory only if the block has
+    /// no room for a part, and fails only if memory runs out. Then the caller gives up the text:
+    /// nothing is promised of what is left of it, nor of the block.
     fn fill(&mut self, block: &mut Vec<u8>, enough: usize) -> Result<bool, AllocError>
         ensures bytes { OnOk result
             (block.new.items ++ rest self.new ≡ block.old.items ++ rest self.old) }

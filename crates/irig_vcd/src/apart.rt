@@ -3,7 +3,8 @@
 //! A dump names each wire by a code, a short text after each value. `code` is that of the wire that
 //! is read; a value on another code, one "apart", says nothing of it. `source` is text of the dump;
 //! places are those of bytes in it, from 0. `false` or `None` says only that nothing is taken here:
-//! the way for any token, which is slower, then reads what is there.
+//! the way for any token, which is slower, then reads what is there. In contracts, `words_from` are
+//! the words of bytes that begin at a place, and `Takes..` says which word was taken of them.
 
 ghost use Rattle.std.specs.Prelude.{◌≡◌, ◌≤◌, ◌<◌, ◌+◌, ◌∷◌, ◌↔◌, [], true, false, length, drop};
 ghost use Rattle.std.specs.Prelude.{◌⊎◌, ℕ, map, slice_index, IfSome};
@@ -24,8 +25,8 @@ fn is_byte(code: &[u8], byte: u8) -> bool
     }
 }
 
-/// Whether a 0 or a 1 on another code of one printable byte, with a newline after it, is at a
-/// place.
+/// Whether three bytes are at a place: a value, 0 or 1, a code of one printable byte that is not
+/// the wire's, and a newline.
 #[inline(always)]
 fn is_apart(source: &[u8], start: usize, code: &[u8]) -> bool
     requires room { start + 3 ≤ length source.now }
@@ -43,8 +44,8 @@ fn is_apart(source: &[u8], start: usize, code: &[u8]) -> bool
     source[start + 2] == b'\n'
 }
 
-/// A bit for each of 16 bytes that is at most a space, 32: bit k for byte k. White space is among
-/// them. At any other one of them no value ends, so a value that has one is left to the slower way.
+/// Bit k is set if byte k of the 16 is at most 32, a space. All white space is. So are a few bytes
+/// that are no white space, which are rare: a value that has one is left to the slower way.
 #[inline(always)]
 fn spaces(bytes: u8x16) -> u64
     ensures { result ≡ mask_l (map is_low bytes) }
@@ -52,8 +53,8 @@ fn spaces(bytes: u8x16) -> u64
     bytes.simd_le(u8x16::splat(b' ')).to_bitmask()
 }
 
-/// How many bytes above a space there are from a place on, 16 at most: that many are compared at
-/// once.
+/// How many bytes from a place on are above 32, a space, up to the first that is not; 16 if all 16
+/// that are compared at once are.
 #[inline(always)]
 fn dark_count(source: &[u8], from: usize) -> usize
     requires { from + 16 ≤ length source.now }
@@ -68,9 +69,10 @@ fn dark_count(source: &[u8], from: usize) -> usize
     found.trailing_zeros() as usize
 }
 
-/// The end of the bytes above a space from a place on, or a place among them if fewer than 16 bytes
-/// are left: the caller looks whether a space is there. A function of its own so that the loop over
-/// the tokens, which reaches it seldom, keeps its values in registers.
+/// The place of the first byte from `from` on that is at most 32, a space; the byte before `from`
+/// is of a word. 16 bytes are compared at a time, so if fewer are left it may stop earlier, still
+/// in the word: the caller looks whether a space is there. A function of its own so that the loop
+/// over the tokens, which reaches it seldom, keeps its values in registers.
 #[inline(never)]
 fn dark_end(source: &[u8], from: usize) -> usize
     requires { from ≤ length source.now }
@@ -99,9 +101,10 @@ fn begins_value(byte: u8) -> bool
     matches!(byte, b'b' | b'B' | b'r' | b'R' | b's' | b'S')
 }
 
-/// The place after the vector, the real or the text at a place, if a space, another code of one
-/// byte and a newline are after it. Its own bytes are not looked at: on another code they may be
-/// any. `None` if something else is there.
+/// The place after a vector, a real or a text, with its code and a newline, that begins at `start`.
+/// After the value come one space, a code of one byte that is not the wire's, and the newline. The
+/// bytes of the value are not looked at: on another code they may be any. `None` if something else
+/// is there.
 #[inline(always)]
 fn value_apart(source: &[u8], start: usize, code: &[u8]) -> Option<usize>
     requires { start < length source.now }
@@ -124,9 +127,9 @@ fn value_apart(source: &[u8], start: usize, code: &[u8]) -> Option<usize>
     Some(space + 3)
 }
 
-/// The place after the value at a place, if it is on another code than the wire's, so that it gives
-/// the wire no level, and a newline is after it. It is a 0 or a 1, or else a vector, a real or a
-/// text. `None` if something else is there.
+/// The place after a value, with its code and a newline, that begins at `start`. The code is one
+/// byte and not the wire's, so the value gives the wire no level. It is a 0 or a 1, or else a
+/// vector, a real or a text. `None` if something else is there.
 #[inline(always)]
 pub fn end_apart(source: &[u8], start: usize, code: &[u8]) -> Option<usize>
     requires room { start + 3 ≤ length source.now }

@@ -5,7 +5,7 @@
 //! wire and keeps its edges; `trace.put` gives it the level (`true` is high) from a microsecond on.
 //! `journals` has the places of the journals so far, and `pending` what is open after the last
 //! token: a value without its code, or a comment. An error is the first fault of the changes, or
-//! that memory ran out.
+//! that memory ran out; then all that was read so far is given up.
 //!
 //! Where `match` hands an error on, `?` would do the same; the proof of it takes longer.
 
@@ -40,7 +40,8 @@ fn is_hash(kind: Kind) -> bool
     matches!(kind, Kind::Hash)
 }
 
-/// What is after the first byte of a word, for a time after its `#`; nothing if the word is empty.
+/// What is after the first byte of a word: of a time, which begins with `#`, its digits. Nothing if
+/// the word is empty.
 fn digits_of(word: &[u8]) -> &[u8]
     ensures { result.now ≡ rest_of word.now }
 {
@@ -50,10 +51,10 @@ fn digits_of(word: &[u8]) -> &[u8]
     }
 }
 
-/// Takes a token with those that go with it, as the code of a value, and returns the clock after
-/// it: a token of a time sets the clock, and a value of the wire goes into the trace at `clock`. A
-/// function of its own so that the loop over the tokens that are read in one step keeps its values
-/// in registers.
+/// Takes a token of any kind, with those that go with it, as the code of a value, and returns the
+/// clock after it. A time sets the clock; any other token leaves it as it is. If the token gives
+/// the wire a level, that goes into the trace at the time `clock`. A function of its own so that
+/// the loop over the tokens that are read in one step keeps its values in registers.
 #[inline(never)]
 fn take(
     token: Token<'_>,
@@ -85,8 +86,8 @@ fn take(
 }
 
 /// Takes the first tokens of a part, if something is open from the part before it: the code of a
-/// value, or the rest of a comment. The value is one at the time `clock`. If something is still
-/// open then, no token is left.
+/// value, or the rest of a comment. If the value gives the wire a level, that goes into the trace
+/// at the time `clock`. If something is still open after this, no token is left.
 fn resume(
     tokens: &mut Tokens,
     unit: Unit,
@@ -119,9 +120,10 @@ pub struct Body {
     pub journals: Journals,
 }
 
-/// Follows the tokens of a part of the changes, from the clock `from` on, and returns the clock
-/// after them. What is open from the part before is taken first. A function of its own so that it
-/// has all registers of the machine: in its caller it would have fewer.
+/// Follows all tokens of a part of the changes, from the clock `from` on, and returns the clock
+/// after them. What is open from the part before is taken first (`resume`); what is open at the end
+/// is in `pending`. A function of its own so that it has all registers of the machine: in its
+/// caller it would have fewer.
 #[inline(never)]
 pub fn follow(
     tokens: &mut Tokens,
@@ -147,9 +149,10 @@ pub fn follow(
 }
 
 /// Follows the tokens that are left, from the clock `from` on, and returns the clock after them.
-/// First come those that are taken in one step (`follow_short`), which `is_plain` and `is_quick`
-/// permit for short codes and small units, then one of any kind (`take`), and so on. It ends when
-/// no token is left.
+/// First come those that are taken in one step (`follow_short`), then one of any kind (`take`), and
+/// again, until no token is left. `is_plain` says that the code is short enough for values to be
+/// taken in one step. `is_quick` says that whole pulses may be: the code is also of one byte, and
+/// the unit is a microsecond or less.
 #[inline(always)]
 fn follow_on(
     tokens: &mut Tokens,
@@ -186,9 +189,10 @@ fn follow_on(
     }
 }
 
-/// Reads what is after the declarations, up to the end of the dump: the last time, the edges of the
-/// wire, and the places of the journals. There is no window (`None`), so the edges of all of it are
-/// kept, up to those of 2^22 pulses.
+/// Reads what is after the declarations of a whole dump: the last time, the edges of the wire, and
+/// the places of the journals. There is no window (`None`), so the edges of all of the dump are
+/// kept, but of those beyond 2^22 pulses only one, which shows that there are too many. A value
+/// without its code or a comment that is open at the end is a fault, too.
 pub fn changes(
     alloc: Global,
     tokens: &mut Tokens,

@@ -51,8 +51,9 @@ impl Model for DumpReader {
 }
 
 impl DumpReader {
-    /// A reader that has read nothing of a dump, for the wire of a name, or without a name for the
-    /// one wire of one bit. It fails only if memory runs out.
+    /// A reader that has read nothing of a dump yet, for the wire with a name, or with `None` for
+    /// the one wire of one bit. It keeps all of the dump, with at most 2^22 pulses. It fails only
+    /// if memory runs out.
     pub fn new(alloc: Global, wire: Option<&[u8]>) -> Result<DumpReader, AllocError>
         ensures read { IfOk result (HasRead (name_of wire.entry) []) }
         ensures whole { IfOk result (λ r. r.reading.trace.extent ≡ short None) }
@@ -61,8 +62,8 @@ impl DumpReader {
         DumpReader::of_extent(alloc, wire, Extent::short(None))
     }
 
-    /// A reader that has read nothing of a dump, and keeps as much of it as `extent` says. It fails
-    /// only if memory runs out.
+    /// A reader as `new` makes it, which has read nothing yet, but which keeps as much of the dump
+    /// as `extent` says. It fails only if memory runs out.
     pub fn of_extent(
         alloc: Global,
         wire: Option<&[u8]>,
@@ -87,8 +88,8 @@ impl DumpReader {
         })
     }
 
-    /// Whether that many bytes more are within 2^48, which a dump in parts may have. Each test
-    /// subtracts from the limit, so no sum overflows.
+    /// Whether a dump that has `count` bytes more than came so far has at most 2^48, which a dump
+    /// in parts may have. Each test subtracts from the limit, so no sum overflows.
     pub fn has_room(&self, count: usize) -> bool
         ensures { IsTrue result ↔ (bytes_read self.now + count ≤ 2 ^ 48) }
     {
@@ -127,7 +128,7 @@ impl DumpReader {
     }
 
     /// What the dump says, if nothing comes after its parts: the recording, and the text of its
-    /// journal, from its first word up to its `$end`.
+    /// journal from its first word up to its `$end`, or `None`. An error is the dump's first fault.
     pub fn end(self) -> Result<(LongRecording, Option<Vec<u8>>), VcdFault>
         ensures read { IfOk result (λ x. (wire : Option (List ℕ)) (bytes : List ℕ)
             → HasRead wire bytes self
@@ -152,7 +153,7 @@ impl DumpReader {
     }
 }
 
-/// Holds the next part of the dump, and reads what is held if that is `wanted` bytes or more.
+/// Holds the next part of the dump. Reads what is held if that is `wanted` bytes or more, else not.
 fn put_part(progress: &mut Progress, part: &[u8]) -> Result<(), VcdFault>
     requires reader { IsReader progress.old }
     requires short { bytes_read progress.old + length part.now ≤ 2 ^ 48 }
@@ -248,9 +249,8 @@ fn read_rest(progress: &mut Progress) -> Result<Unit, VcdFault>
     }
 }
 
-/// What was read, if nothing comes after it: the recording, and the journal that was gathered, if
-/// there is one. The faults of the whole come last: too many edges (`kept`), then a second journal
-/// (`one`).
+/// What was read, if nothing comes after it: the recording, and the journal that was gathered, or
+/// `None`. The faults of the whole come last: too many edges (`kept`), a second journal (`one`).
 fn finish(
     reading: Reading,
     journal: Vec<u8>,
@@ -287,7 +287,7 @@ fn finish(
     }
 }
 
-/// A copy of a wire's name, if there is one. It fails only if memory runs out.
+/// A copy of a wire's name; `None` if there is no name. It fails only if memory runs out.
 fn copied(alloc: Global, wire: Option<&[u8]>) -> Result<Option<Vec<u8>>, AllocError>
     ensures { IfOk result (λ name. bytes_of name ≡ name_of wire.entry) }
 {

@@ -35,7 +35,7 @@ impl Extent {
         }
     }
 
-    /// The most pulses that are kept.
+    /// The most pulses that are kept: 2^26 if it is long, else 2^22.
     #[inline(always)]
     pub fn most_pulses(self) -> usize
         ensures value { result ≡ most_pulses self }

@@ -29,7 +29,8 @@ pub struct Place {
 
 impl Place {
     /// The bytes of this place that are in `part`, a part of the dump with `gone` bytes of the dump
-    /// before it. There may be none.
+    /// before it. The place can begin before the part or end after it: then it is cut. The result
+    /// is empty if none of it is in the part.
     pub fn within<'a>(self, part: &'a [u8], gone: usize) -> &'a [u8]
         ensures bytes { result.now ≡ part_at (Some (self.start, self.end)) gone part.now }
         ensures short { length result.now ≤ length part.now }
@@ -58,7 +59,8 @@ impl Journals {
         }
     }
 
-    /// Notes one more journal. Only the place of the first is kept.
+    /// Notes one more journal, in the order of the dump. Only the place of the first is kept; of
+    /// the others only that there are some (`many`).
     fn put(&mut self, place: Place)
         ensures { (all : List Comment) (c : Comment)
             → place.start ≡ c.first.offset → place.end ≡ c.end
@@ -70,10 +72,10 @@ impl Journals {
         }
     }
 
-    /// Goes past the `$end` of a comment whose first word was read, and keeps the comment's place
-    /// if it is a journal. `journal` is where that begins, in bytes of the dump from 0, or `None`
-    /// if it is none. Returns what is open then: the comment, if its `$end` is not among the
-    /// tokens.
+    /// Goes past the `$end` of a comment whose first word was read, and notes the comment (`put`)
+    /// if it is a journal. `journal` is where its first word begins, in bytes of the dump from 0,
+    /// or `None` if it is no journal. Returns what is open then: `Nothing`; or the comment, with
+    /// the same `journal`, if its `$end` is not among the tokens.
     pub fn take_rest(&mut self, journal: Option<usize>, tokens: &mut Tokens) -> Pending
         ensures read { (code : List ℕ) (unit : ℕ) (s : Scan) → Keeps s self.old (pending.Rest journal)
             → Reaches code unit s tokens.old None tokens.new self.new result }
@@ -89,8 +91,9 @@ impl Journals {
         Pending::Nothing
     }
 
-    /// Passes a comment, from its first word on, and notes where a journal is. A comment may also
-    /// end at once. Returns what is open then: the comment, if its `$end` is not among the tokens.
+    /// Passes a comment, from its first word on, and notes it if it is a journal. A comment may
+    /// also have no word before its `$end`. Returns what is open then: `Nothing`; or the comment,
+    /// without or with its first word, if the tokens end before its `$end`.
     pub fn take_comment(&mut self, tokens: &mut Tokens) -> Pending
         ensures read { (code : List ℕ) (unit : ℕ) (s : Scan) → Keeps s self.old pending.Comment
             → Reaches code unit s tokens.old None tokens.new self.new result }
@@ -105,8 +108,9 @@ impl Journals {
         self.take_rest(journal_at(first), tokens)
     }
 
-    /// The place of the first journal so far; `None` if there is none, and none is open. If it is
-    /// still open, as `pending` says, it goes up to `top`, in bytes of the dump from 0.
+    /// The place of the first journal so far. If it is still open, as `pending` says, its place
+    /// goes up to `top`, the end of what was read, in bytes of the dump from 0. `None` if no
+    /// journal was read, and none is open.
     pub fn so_far(self, pending: Pending, top: usize) -> Option<Place>
         ensures { place_view result ≡ so_far (place_view self.first) pending top }
     {
@@ -119,8 +123,9 @@ impl Journals {
         }
     }
 
-    /// `bytes`, which were gathered of the first journal, if there is one; else they are dropped.
-    /// `BadJournal(1)` if there is a second one.
+    /// The text of the one journal: `bytes`, which the caller gathered of the first journal part by
+    /// part. `None` if there is no journal; then `bytes` are dropped. `BadJournal(1)` if there is a
+    /// second one. It is for a dump in parts, and `text` for one that is in memory.
     pub fn one(self, bytes: Vec<u8>) -> Result<Option<Vec<u8>>, VcdFault>
         ensures one { (all : List Comment) (dump : List ℕ) → Holds all self
             → IfSome self.first (λ p. text_at dump (Some p) ≡ Some bytes.items)
@@ -138,8 +143,9 @@ impl Journals {
         }
     }
 
-    /// The text of the one journal, if there is one. `BadJournal(1)` if there is a second one.
-    /// `source` is the whole dump.
+    /// The text of the one journal, from its first word up to its `$end`; `None` if there is no
+    /// journal. `BadJournal(1)` if there is a second one. `source` is the whole dump, whose places
+    /// were noted.
     pub fn text<'a>(self, source: &'a [u8]) -> Result<Option<&'a [u8]>, VcdFault>
         requires within { LiesIn source.now self }
         ensures one { (all : List Comment) → Holds all self
@@ -158,7 +164,8 @@ impl Journals {
     }
 }
 
-/// Where a journal begins, in bytes of the dump from 0, if this is the first word of one.
+/// Where a journal begins, in bytes of the dump from 0, if this first word of a comment makes it a
+/// journal; `None` for any other comment.
 fn journal_at(first: Token<'_>) -> Option<usize>
     ensures { Begins result (word_of first.entry) }
 {
@@ -169,7 +176,7 @@ fn journal_at(first: Token<'_>) -> Option<usize>
     }
 }
 
-/// Whether a comment is a journal by its first word.
+/// Whether a comment with this first word is a journal: the word is `irig-journal-1`.
 fn is_journal(word: &[u8]) -> bool
     ensures { result ≡ bytes_eq word.now (codes "irig-journal-1") }
 {

@@ -20,7 +20,8 @@ const KEEP: [u8; 32] = [
     255, 255, 255, 255, 255, 255, 255,
 ];
 
-/// The numbers of two digits that sixteen digits make. 2561 is 10 * 2^8 + 1.
+/// The eight numbers of two digits that sixteen digits make, each of two neighbours. 2561 is 10 *
+/// 2^8 + 1: the base is 10, and k is 8.
 #[inline(always)]
 fn twos(digits: u8x16) -> u16x8
     requires digits { AllBelowBase 10 digits }
@@ -30,7 +31,8 @@ fn twos(digits: u8x16) -> u16x8
     (u16x8::from_le_bytes(digits) * u16x8::splat(2561)) >> u16x8::splat(8)
 }
 
-/// The numbers of four digits that eight of two make. 6553601 is 100 * 2^16 + 1.
+/// The four numbers of four digits that eight numbers of two digits make, each of two neighbours.
+/// 6553601 is 100 * 2^16 + 1.
 #[inline(always)]
 fn fours(twos: u16x8) -> u32x4
     requires digits { AllBelowBase 100 twos }
@@ -40,8 +42,8 @@ fn fours(twos: u16x8) -> u32x4
     (u32x4::from_le_bytes(twos.to_le_bytes()) * u32x4::splat(6553601)) >> u32x4::splat(16)
 }
 
-/// The number of eight digits that two numbers of four make, in one word. 42949672960001 is 10000 *
-/// 2^32 + 1.
+/// The number of eight digits that two numbers of four digits make. Both are in one word, the first
+/// in the lower half. 42949672960001 is 10000 * 2^32 + 1.
 #[inline(always)]
 fn eight(pair: u64) -> u64
     ensures { (a b : ℕ) → pair ≡ a + 2 ^ 32 * b → a < 10000 → b < 10000 → result ≡ 10000 * a + b }
@@ -49,7 +51,7 @@ fn eight(pair: u64) -> u64
     pair.wrapping_mul(42949672960001) >> 32
 }
 
-/// The two numbers of eight digits that four numbers of four digits make, two by two.
+/// The two numbers of eight digits that four numbers of four digits make, each of two neighbours.
 #[inline(always)]
 fn eights(fours: u32x4) -> [u64; 2]
     requires digits { AllBelowBase 10000 fours }
@@ -72,8 +74,8 @@ pub fn sixteen(digits: u8x16) -> u64
     parts[0] * 100_000_000 + parts[1]
 }
 
-/// A bit for each byte of a text that shows no digit. Bit k is for byte k. A byte below `0` wraps
-/// around to a number above 9.
+/// Bit k is set if byte k, of a text, shows no digit, `0` to `9`. A byte below `0` wraps around to
+/// a number above 9.
 #[inline(always)]
 fn no_digits(bytes: u8x16) -> u64
     ensures { result ≡ mask_l (map shows_none bytes) }
@@ -83,8 +85,8 @@ fn no_digits(bytes: u8x16) -> u64
         .to_bitmask()
 }
 
-/// The last `count` of sixteen lanes, with 0 in the others: sixteen bytes of `KEEP` from `count` on
-/// begin with 16 - `count` zeros.
+/// The last `count` of sixteen lanes as they are, and 0 in the lanes before: sixteen bytes of
+/// `KEEP` from `count` on begin with 16 - `count` zeros.
 #[inline(always)]
 fn last_lanes(lanes: u8x16, count: usize) -> u8x16
     requires { count ≤ 16 }
@@ -93,8 +95,8 @@ fn last_lanes(lanes: u8x16, count: usize) -> u8x16
     lanes & u8x16::from_slice(&KEEP[count..])
 }
 
-/// How many bytes from a place on show digits, at most 15. 0 also if all sixteen do: the number may
-/// then go on, and the caller reads it in another way.
+/// How many bytes from a place on show digits, up to the first that shows none: 0 to 15. Also 0 if
+/// all sixteen do: the number may then go on, and the caller reads it in another way.
 #[inline(always)]
 fn digits_count(source: &[u8], from: usize) -> usize
     requires { from + 16 ≤ length source.now }
@@ -110,10 +112,11 @@ fn digits_count(source: &[u8], from: usize) -> usize
 }
 
 /// Where the digits from a place on end, and the number that they spell; the place itself and 0 if
-/// there is none, or more than 15.
+/// there are no digits, or more than 15.
 ///
-/// It reads the sixteen bytes from the place on, to count the digits, and the sixteen up to their
-/// end, so that they are the last lanes. So the place has to be 16 or more.
+/// It reads the sixteen bytes from the place on, to count the digits, and then the sixteen bytes
+/// before the end of the digits, so that these are the last lanes. So the place has to be 16 or
+/// more. The lanes before the digits become 0, which changes no number.
 #[inline(always)]
 pub fn lanes_end(source: &[u8], from: usize) -> (usize, u64)
     requires back { 16 ≤ from }

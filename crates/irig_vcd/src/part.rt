@@ -6,8 +6,8 @@ ghost use Rattle.irig_vcd.specs.{Code.Joins.ends_inside, Words.is_space};
 
 use crate::token::is_space;
 
-/// How many bytes there are up to the last white space, with it; 0 if there is none. No word goes
-/// on after them, so they can be read before the next part is there.
+/// How many bytes there are up to and with the last white space; 0 if there is none. No word is cut
+/// there, so these bytes can be read before the next part has come.
 pub fn whole_len(bytes: &[u8]) -> usize
     ensures within { result ≤ length bytes.now }
     ensures outside { ends_inside false (take result bytes.now) ≡ false }

@@ -5,7 +5,8 @@ ghost use Rattle.irig_vcd.specs.{Code.Pending.Means, Scan.IsClosed, Scan.Open, S
 use crate::fault::VcdFault;
 
 /// A value without its code: its place in the dump, in bytes from 0, and the level that it gives
-/// the wire of its code: `Ok(None)` is none, an error a value that does not belong there.
+/// the wire of its code. `Ok(None)` is no level, as of a real or a text; an error is that of a
+/// vector that has no bit at its end.
 #[derive(Clone, Copy)]
 pub struct Value {
     pub offset: usize,

@@ -1,7 +1,8 @@
 //! How far a dump that comes in parts is read.
 //!
 //! A fault of the declarations may be there only because the dump is cut: so each of them is an
-//! inner error, which more of the dump may mend. An outer error is a fault whatever comes. The
+//! inner error, `Ok(Err(..))`, which more of the dump may mend. An outer error, `Err(..)`, is a
+//! fault whatever comes, or that memory ran out; the caller gives up all of it then. The
 //! declarations are whole if the section that ends them is there.
 //!
 //! Where `match` hands an error on, `?` would do the same; the proof of it takes longer.
@@ -42,9 +43,11 @@ pub struct Progress {
 }
 
 impl Progress {
-    /// Reads the bytes that are held, up to the place `whole`, from 0, and returns the unit. The
-    /// inner error is any fault of the declarations: nothing is read then, since more of the dump
-    /// may mend it or bring another in its place. The outer error is a fault whatever comes.
+    /// Reads the bytes that are held, up to the place `whole`, from 0, and returns the unit of the
+    /// dump. If there is no unit yet, it begins with the declarations (`begin`), else it continues
+    /// after what was read (`go_on`). The bytes stay held. The inner error is any fault of the
+    /// declarations: nothing is read then, since more of the dump may mend it or bring another
+    /// fault. The outer error is a fault whatever comes, or that memory ran out.
     pub fn read_to(&mut self, whole: usize) -> Result<Result<Unit, VcdFault>, VcdFault>
         requires within { whole ≤ vec_len self.old.held }
         requires ready { IsReady self.old.unit self.old.reading }
@@ -100,9 +103,10 @@ impl Progress {
         }
     }
 
-    /// Gathers the bytes of the first journal among those that are held, up to the place `whole`,
-    /// from 0. These were read, and not yet gathered. It fails only if memory runs out. `so_far` is
-    /// the place of that journal in the dump, and `within` what of it is held here.
+    /// Adds to `journal` the bytes of the first journal among those that are held, up to the place
+    /// `whole`, from 0. These were read, and not yet gathered. Without a journal there nothing
+    /// changes. It fails only if memory runs out. `so_far` is the place of that journal in the
+    /// dump, and `within` what of it is held here.
     pub fn gather(&mut self, whole: usize) -> Result<(), AllocError>
         requires within { whole ≤ vec_len self.old.held }
         requires short { self.old.gone + vec_len self.old.held ≤ 2 ^ 48 }
@@ -134,8 +138,9 @@ impl Progress {
         }
     }
 
-    /// Lets the first `count` bytes go, which are read. Then it waits until twice as many bytes are
-    /// held as stay, so that little is read again, however small the parts are.
+    /// Lets the first `count` of the held bytes go, which are read. `wanted` is then twice as many
+    /// bytes as stay: the reader waits for these, so that little is read again, however small the
+    /// parts are.
     pub fn let_go(&mut self, count: usize)
         requires within { count ≤ vec_len self.old.held }
         requires short { self.old.gone + vec_len self.old.held ≤ 2 ^ 48 }
@@ -165,7 +170,7 @@ fn name(wire: &Option<Vec<u8>>) -> Option<&[u8]>
     }
 }
 
-/// Drops the first `count` bytes: the others move to the front.
+/// Drops the first `count` bytes; there are at least that many. The others move to the front.
 fn drop_front(bytes: &mut Vec<u8>, count: usize)
     requires { count ≤ vec_len bytes.old }
     ensures { bytes.new.items ≡ drop count bytes.old.items }
@@ -175,10 +180,10 @@ fn drop_front(bytes: &mut Vec<u8>, count: usize)
     bytes.truncate(left);
 }
 
-/// Reads the declarations and what is after them in a part, which is the front of the dump, keeps
-/// the code, and returns the unit. The inner error is any fault of the declarations: nothing is
-/// read then, since more of the dump may mend it or bring another in its place. The outer error is
-/// a fault whatever comes.
+/// Reads the declarations and what is after them in a part, which is the front of the dump; adds
+/// the code of the wire to `code`, which is empty, and returns the unit. The inner error is any
+/// fault of the declarations: nothing is read then, since more of the dump may mend it or bring
+/// another fault. The outer error is a fault whatever comes, or that memory ran out.
 fn begin(
     wire: Option<&[u8]>,
     code: &mut Vec<u8>,
@@ -212,8 +217,8 @@ fn begin(
     }
 }
 
-/// Reads what is after the declarations in a part, which comes after `gone` bytes of the dump. An
-/// error is a fault whatever comes.
+/// Reads a part of what is after the declarations, which comes after `gone` bytes of the dump. An
+/// error is a fault whatever comes, or that memory ran out.
 fn go_on(
     unit: Unit,
     code: &[u8],

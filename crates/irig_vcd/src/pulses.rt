@@ -22,19 +22,20 @@ use crate::trace::{Stretch, Trace};
 use crate::unit::Unit;
 use std::alloc::AllocError;
 
-/// Fewer bytes than these are left to the slower way. Two edges have at most 40: each a `#`, 15
-/// digits, a newline, a value, a code and a newline. The rest is room to read sixteen at once.
+/// If fewer bytes than these are left in the text, the slower way reads them. Two edges have at
+/// most 40: each a `#`, 15 digits, a newline, a value, a code and a newline. The rest is room to
+/// read sixteen bytes at once.
 const LONGEST_PULSE: usize = 64;
 
-/// A time with a value at it, and the place after both lines, in bytes from 0.
+/// A time line and a level line: the time, and the place after both lines, in bytes from 0.
 #[derive(Clone, Copy)]
 pub struct Edge {
     pub time: Clock,
     pub end: usize,
 }
 
-/// Whether a newline, a value, a code and a newline are at a place: the end of a time line, and a
-/// level line. The four bytes are compared as one number.
+/// Whether a newline, this value, this code and a newline are at a place: the end of a time line,
+/// and a level line. The four bytes are compared as one number, which is fast.
 #[inline(always)]
 fn is_line(source: &[u8], at: usize, value: u8, code: u8) -> bool
     requires { at + 4 ≤ length source.now }
@@ -49,12 +50,12 @@ fn is_line(source: &[u8], at: usize, value: u8, code: u8) -> bool
     stands == line
 }
 
-/// The edge at a place, in bytes from 0, to this level and of this code. `None` if its two lines
-/// are not there: a time, and the value with this code. A time without digits or with more than 15
-/// is none: `lanes_end` then ends where it began.
+/// The edge at a place, in bytes from 0: the line of a time, and the line that gives this code this
+/// level (`high`). `None` if something else is there, also a time without digits or with more than
+/// 15: `lanes_end` then ends where it began.
 ///
-/// The unit says how many of the digits are below a microsecond: they are the clock's `rest`, the
-/// others its `whole`. The place is 16 or more, since `lanes_end` reads back.
+/// The unit says how many of the last digits are below a microsecond: they are the clock's `rest`,
+/// the others its `whole`. The place is 16 or more, since `lanes_end` also reads bytes before it.
 #[inline(always)]
 fn edge_at(source: &[u8], at: usize, high: bool, code: u8, unit: Unit) -> Option<Edge>
     requires back { 16 ≤ at }
@@ -80,9 +81,9 @@ fn edge_at(source: &[u8], at: usize, high: bool, code: u8, unit: Unit) -> Option
     })
 }
 
-/// The rise and the fall at a place, 16 or more: the rise in a later microsecond than `after`, the
-/// fall in a later one than the rise, and not after `limit`. Both are microseconds of the dump.
-/// `None` if something else is there.
+/// The pulse at a place, which is 16 or more: its rise and its fall. The rise has to be in a later
+/// microsecond than `after`, the fall in a later one than the rise, and not after `limit`; both are
+/// microseconds of the dump. `None` if something else is there.
 #[inline(always)]
 fn pulse_at(
     source: &[u8],
@@ -113,11 +114,11 @@ fn pulse_at(
     Some((rise, fall))
 }
 
-/// Takes the pulses here, after the time `from`, and returns the time of the last fall, or `from`
-/// if there is none. It stops at what is no pulse, at an edge in the microsecond of the one before
-/// it, where fewer bytes are left than a pulse may have, and where no more edges are kept.
-/// `pulse_at` reads up to sixteen bytes before a place, so nothing is taken in the first sixteen.
-/// It fails only if memory runs out.
+/// Takes the pulses here, after the time `from`, into the trace, and returns the time of the last
+/// fall, or `from` if none is taken. It stops at what is no pulse, at an edge that is not in a
+/// later microsecond than the one before it, at a fall after the limit of the stretch, if fewer
+/// than 64 bytes are left, and if no more edges can be kept. `pulse_at` reads up to sixteen bytes
+/// before a place, so nothing is taken in the first sixteen. It fails only if memory runs out.
 #[inline(always)]
 fn pulses_in(
     tokens: &mut Tokens,
@@ -161,9 +162,10 @@ fn pulses_in(
     Ok(clock)
 }
 
-/// Takes the pulses here as `pulses_in` does, of a dump in microseconds: after the time `from`, and
-/// returns the time of the last fall, both in microseconds. A function of its own for the machine:
-/// its state stays in registers.
+/// Takes the pulses here as `pulses_in` does, of a dump whose unit is the microsecond: after the
+/// time `from`, into the trace. Returns the time of the last fall, or `from` if none is taken; both
+/// are in microseconds. It fails only if memory runs out. A function of its own for speed: its
+/// state stays in registers of the machine.
 #[inline(never)]
 fn pulses_in_micros(
     tokens: &mut Tokens,
@@ -190,10 +192,10 @@ fn pulses_in_micros(
     Ok(clock.whole)
 }
 
-/// Takes the pulses here, after the time `from`, and returns the time of the last fall, or `from`
-/// if there is none. The unit is given as a constant if it is a microsecond (9) or a nanosecond
-/// (6): then the machine knows beforehand by which number it cuts the times. It fails only if
-/// memory runs out.
+/// Takes the pulses here, after the time `from`, into the trace, and returns the time of the last
+/// fall, or `from` if none is taken (`pulses_in` says when it stops). A unit of a microsecond (9)
+/// or a nanosecond (6) is passed on as a constant: then the compiler knows by which number the
+/// times are cut, which is faster. It fails only if memory runs out.
 #[inline(never)]
 pub fn pulses(
     tokens: &mut Tokens,

@@ -26,8 +26,8 @@ use crate::unit::Unit;
 use crate::window::moved;
 use std::alloc::Global;
 
-/// What was read after the declarations: the last time, the edges and the journals so far, and what
-/// is open after the last token.
+/// What was read after the declarations: the last time (`clock`), the edges (`trace`) and the
+/// journals so far, and what is open after the last token (`pending`).
 #[derive(Drop)]
 pub struct Reading {
     pub clock: Clock,
@@ -37,7 +37,8 @@ pub struct Reading {
 }
 
 impl Reading {
-    /// Nothing is read yet; only the edges in the window will be kept, or all without one.
+    /// Nothing is read yet: the time is 0. `extent` says which edges will be kept: those in its
+    /// window, or all without one.
     pub fn new(alloc: Global, extent: Extent) -> Reading
         ensures start { (unit : ℕ) → StandsAt unit start result }
         ensures time { (unit : ℕ) → IsOn unit result.trace result.clock }
@@ -51,9 +52,9 @@ impl Reading {
         }
     }
 
-    /// Reads tokens of the changes, after those that were read before. They may be those of a part:
-    /// what is open after the last is kept. An error is a fault of the dump whatever comes after
-    /// them, or that memory ran out.
+    /// Reads all of these tokens of the changes, after those that were read before. They may be
+    /// those of a part: what is open after the last is kept in `pending`. An error is a fault of
+    /// the dump whatever comes after them, or that memory ran out; this reading is then given up.
     pub fn read(&mut self, tokens: &mut Tokens, unit: Unit, code: &[u8]) -> Result<(), VcdFault>
         requires time { IsOn unit self.old.trace self.old.clock }
         ensures time { OnOk result (IsOn unit self.new.trace self.new.clock) }
@@ -73,9 +74,10 @@ impl Reading {
         Ok(())
     }
 
-    /// What was read, if nothing comes after it: the length in microseconds, which is that of the
-    /// window if there is one and the dump is not shorter; the edges; and the places of the
-    /// journals. It is a fault if something is open (`closed`), as a comment without its end.
+    /// What was read, if nothing comes after it: the length in microseconds, the edges and the
+    /// places of the journals. The length is that of the dump. With a window it is that of the
+    /// window, or less if the dump ends before the window does. `BadToken` if a value without its
+    /// code is open, `Unclosed` if a comment is (`closed`); else only memory can run out.
     pub fn finish(self, unit: Unit) -> Result<Body, VcdFault>
         requires time { IsOn unit self.trace self.clock }
         ensures exact { (s : Scan) → StandsAt unit s self

@@ -4,7 +4,8 @@
 //! dump, in its unit. The trace follows the level of the wire and keeps its edges. A code, by which
 //! the changes name a wire, is plain if it has 1 to 18 printable bytes. `is_quick` says that whole
 //! pulses are taken in one step. A stretch of the trace is how far that may go. All else is left to
-//! the way for any token, which is slower.
+//! the way for any token, which is slower. `tokens` holds the tokens that are left: what is taken
+//! is removed from it.
 //!
 //! Where `match` hands an error on, `?` would do the same; the proof of it takes longer.
 
@@ -28,7 +29,7 @@ use crate::unit::Unit;
 use crate::variable::is_code;
 use std::alloc::AllocError;
 
-/// Whether a code is of 1 to 18 printable bytes.
+/// Whether a code has 1 to 18 printable bytes, from `!` to `~`.
 pub fn is_plain(code: &[u8]) -> bool
     ensures some { result ≡ true → 0 < length code.now }
     ensures few { result ≡ true → length code.now ≤ 18 }
@@ -37,8 +38,8 @@ pub fn is_plain(code: &[u8]) -> bool
     !code.is_empty() && code.len() <= LONGEST_CODE && is_code(code)
 }
 
-/// Whether whole pulses are taken in one step: in units of a microsecond or less, on a plain code
-/// of one byte.
+/// Whether whole pulses may be taken in one step: if the unit is a microsecond or less, and the
+/// code is plain and of one byte.
 pub fn is_quick(is_plain: bool, unit: Unit, code: &[u8]) -> bool
     ensures plain { result ≡ true → is_plain ≡ true }
     ensures unit { result ≡ true → unit ≤ 9 }
@@ -48,8 +49,9 @@ pub fn is_quick(is_plain: bool, unit: Unit, code: &[u8]) -> bool
 }
 
 /// Takes the tokens here that are taken in one step, up to the first that is not, and returns the
-/// time after them. `from` is the time before them. A value on another code (`Apart`) is only
-/// passed. An error is a time that may not come there, or that memory ran out.
+/// time after them. `from` is the time before them. A time sets the clock; a value on the code goes
+/// into the trace, with the pulses after it; a value on another code (`Apart`) is only passed. An
+/// error is a time that is before the last or too late, or that memory ran out.
 #[inline(always)]
 pub fn follow_short(
     is_plain: bool,
@@ -92,7 +94,7 @@ pub fn follow_short(
     }
 }
 
-/// Whether a number sign is at a place.
+/// Whether a number sign, with which a time begins, is at a place; false at the end of the text.
 #[inline(always)]
 fn has_sign(source: &[u8], at: usize) -> bool
     ensures { result ≡ true ↔ (at < length source.now) × (slice_index source.now at ≡ 35) }
@@ -100,9 +102,10 @@ fn has_sign(source: &[u8], at: usize) -> bool
     at < source.len() && source[at] == b'#'
 }
 
-/// Takes the pulses here, if they are taken in one step, and returns the time after them, else
-/// `clock`. A pulse begins at a low level with the number sign of its time. Without a stretch none
-/// is taken: the next change goes the usual way. It fails only if memory runs out.
+/// Takes the whole pulses that come next, each in one step, and returns the time after them. It
+/// takes none, and returns `clock`, if `is_quick` is false, if the level is not low, if no number
+/// sign is next, with which the time of a pulse begins, or if the trace has no stretch: then the
+/// next change goes the usual way. It fails only if memory runs out.
 #[inline(always)]
 fn ahead(
     is_quick: bool,
@@ -135,8 +138,9 @@ fn ahead(
     Ok(clock)
 }
 
-/// Takes a value that was read in one step (`high` is its level), with the pulses after it, and
-/// returns the time of the last of them. It fails only if memory runs out.
+/// Takes a value on the code, which was read in one step: the trace gets its level (`high`) at the
+/// time `clock`. Then takes the pulses after it (`ahead`), and returns the time of the last fall,
+/// or `clock` if none is taken. It fails only if memory runs out.
 #[inline(always)]
 fn take_bit(
     high: bool,

@@ -2,9 +2,9 @@
 //!
 //! Times are in microseconds of the dump. A window is the part of the dump that is kept; without
 //! one it is all. `moved` gives the microsecond of the window that a time falls on. Several changes
-//! can be in one microsecond, so an edge is kept only when a later one comes: if the level then
-//! differs from that of the microsecond before. `LENGTH_LIMIT` is the latest time that a dump may
-//! have.
+//! can be in one microsecond: the last one counts. So an edge is kept only when the trace goes on
+//! to a later microsecond, and only if the level differs from that of the microsecond before.
+//! `LENGTH_LIMIT` is the latest time that a dump may have.
 
 ghost use Rattle.std.specs.Prelude.{◌≡◌, ◌≤◌, ◌<◌, ◌+◌, ◌*◌, ◌^◌, true, false, ◌∷◌, [], ◌++◌, ℕ, List};
 ghost use Rattle.std.specs.Prelude.{◌↔◌, OnOk, OnErr, IfOk, IfSome, length, take};
@@ -32,9 +32,9 @@ pub struct Trace {
     edges: Edges,
 }
 
-/// What becomes of the next edges of a level that is low, up to a limit in microseconds of the
-/// dump: they are kept, each at its time less `from`, that of the begin of the window, while they
-/// are of at most `most` pulses; or none of them is in the window.
+/// What becomes of the next edges of a level that is low, up to `limit`, in microseconds of the
+/// dump. If `is_kept`, they are kept, each at its time less `from`, which is the begin of the
+/// window, while they are those of at most `most` pulses. If not, none of them is in the window.
 #[derive(Clone, Copy)]
 pub struct Stretch {
     pub from: u64,
@@ -59,9 +59,11 @@ impl Trace {
         }
     }
 
-    /// Continues to a time, which is not before the last. If that is in a later microsecond of the
-    /// window, no change comes any more in that of the last time (`place`): an edge is kept there
-    /// if the level changed. It fails only if memory runs out.
+    /// Continues to `time`, which is not before the last time. If both fall on one microsecond of
+    /// the window, only the time is noted. If `time` falls on a later one, no change comes any more
+    /// in that of the last time (`place`). If the level from there on differs from that before, an
+    /// edge is kept at `place`, unless there are too many already (`keep`). It fails only if memory
+    /// runs out.
     fn advance(&mut self, time: u64) -> Result<(), AllocError>
         requires { self.old.time ≤ time }
         ensures ok { OnOk result
@@ -86,8 +88,8 @@ impl Trace {
         Ok(())
     }
 
-    /// Takes the next change: the level from a time in microseconds on. It fails only if memory
-    /// runs out.
+    /// Takes the next change: the level (`high`) from a time in microseconds on, which is not
+    /// before the last time. It fails only if memory runs out.
     pub fn put(&mut self, time: u64, high: bool) -> Result<(), AllocError>
         requires { self.old.time ≤ time }
         ensures ok { OnOk result
@@ -113,10 +115,11 @@ impl Trace {
         !self.now
     }
 
-    /// The stretch from here on in which pulses are taken in one step. The level is low. Before the
-    /// window and from its end on no edge is kept (`apart`). Within it edges are kept if a rise
-    /// waits for its fall, and that fall is at the last time: then each step keeps this fall and
-    /// the next rise. Else it is `None`: the next change is to be taken in the usual way.
+    /// The stretch from here on in which pulses are taken in one step. The level has to be low. At
+    /// a time before the window or from its end on no edge is kept (`apart`). Within the window
+    /// edges are kept if a rise waits for its fall, which is at the last time: each step then keeps
+    /// this fall and the next rise. Else it is `None`: the next change is to be taken in the usual
+    /// way.
     #[inline(always)]
     pub fn stretch(&self) -> Option<Stretch>
         requires { self.now.now ≡ false }
@@ -145,7 +148,7 @@ impl Trace {
         None
     }
 
-    /// Whether two edges more can be kept on a stretch.
+    /// Whether two edges more can be kept on a stretch: false if `stretch.most` pulses are whole.
     #[inline(always)]
     pub fn has_room(&self, stretch: Stretch) -> bool
         ensures { result ≡ true ↔ (length self.entry.now.edges + 2 ≤ edges_kept stretch.most) }
@@ -153,10 +156,10 @@ impl Trace {
         self.edges.has_room(stretch.most)
     }
 
-    /// Takes a rise and a fall on a stretch, at times in microseconds. If edges are kept, it keeps
-    /// the fall at the last time, which waited, and this rise; the fall that is given waits in its
-    /// turn. All are then at or after `stretch.from`. If none are kept, only the time goes on: the
-    /// level is low before and after.
+    /// Takes the next rise and fall on a stretch, at times in microseconds of the dump. If edges
+    /// are kept there, it keeps the fall at the last time, which waited, and `rise`; now `fall`
+    /// waits. All are at or after `stretch.from`. If none are kept, only the time is noted: the
+    /// level is low before and after. It fails only if memory runs out.
     #[inline(always)]
     pub fn put_pulse(&mut self, rise: u64, fall: u64, stretch: Stretch) -> Result<(), AllocError>
         requires here { LiesOn stretch self.old }
@@ -183,8 +186,9 @@ impl Trace {
         Ok(())
     }
 
-    /// The edges of the recording of the window, of a dump that ends at a time. If the level is
-    /// high just before the end (`before`), its pulse ends there. It fails only if memory runs out.
+    /// The edges of the recording of the window, of a dump that ends at `end`, in microseconds. If
+    /// the level is high just before the end (`before`), its pulse ends there. If there are too
+    /// many edges, one more is kept than `most_pulses` have. It fails only if memory runs out.
     pub fn finish(mut self, end: u64) -> Result<Edges, AllocError>
         requires { self.time ≤ end }
         ensures edges { IfOk result
@@ -203,7 +207,7 @@ impl Trace {
 }
 
 /// The stretch up to a limit, in microseconds of the dump, in which no edge is in the window: none
-/// is kept. `most` is how many pulses may be kept after it.
+/// is kept, so `from` is not used. `most` is how many pulses may be kept in all.
 fn apart(limit: u64, most: usize) -> Stretch
     ensures limit { result.limit ≡ limit }
     ensures most { result.most ≡ most }
@@ -224,9 +228,9 @@ pub fn differ(level: bool, other: bool) -> bool
     level != other
 }
 
-/// Adds an edge, a microsecond of the window, after the others, if `is_edge` says that there is
-/// one. If they are more than those of `most` pulses already, it adds none and asks for no memory.
-/// It fails only if memory runs out.
+/// Adds `edge`, a microsecond of the window, after the others, if `is_edge` is true. If there are
+/// more edges already than `most` pulses have, it adds none and asks for no memory. It fails only
+/// if memory runs out.
 fn keep(edges: &mut Edges, most: usize, is_edge: bool, edge: u64) -> Result<(), AllocError>
     requires limit { most ≤ 2 ^ 26 }
     ensures ok { OnOk result

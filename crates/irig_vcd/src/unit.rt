@@ -1,7 +1,8 @@
 //! The unit of time of a dump.
 //!
-//! A time is a number of units. Its whole part is in microseconds, or in units if these are longer:
-//! `factor` is how many microseconds one of these is.
+//! A time is a number of units. Its whole part counts microseconds, or units if these are longer:
+//! `factor` is how many microseconds 1 of the whole part is. The rest are the units below one
+//! microsecond.
 
 ghost use Rattle.std.specs.Prelude.{◌≡◌, ◌≤◌, ◌-◌, ◌==◌, nat_le};
 ghost use Rattle.irig_vcd.specs.Code.Time.{factor_of, limit_of};
@@ -52,14 +53,15 @@ impl Unit {
         self.exponent == 6
     }
 
-    /// Whether a microsecond is a whole number of units.
+    /// Whether a microsecond is a whole number of units: the unit is a microsecond or shorter.
     pub fn divides_microsecond(self) -> bool
         ensures { result ≡ nat_le self 9 }
     {
         self.exponent <= 9
     }
 
-    /// How many digits of a number of units are below one microsecond: none if the unit is longer.
+    /// How many of the last digits of a number of units are below one microsecond: 0 if the unit is
+    /// a microsecond or longer, 9 for femtoseconds.
     #[inline(always)]
     pub fn digits_below(self) -> u8
         ensures value { result ≡ 9 - self }
@@ -68,8 +70,8 @@ impl Unit {
         9u8.saturating_sub(self.exponent)
     }
 
-    /// The largest whole part of a time that is within 2^40 microseconds: 2^40 over `factor`,
-    /// rounded down. `LENGTH_LIMIT` is 2^40.
+    /// The largest whole part of a time that is within 2^40 microseconds (`LENGTH_LIMIT`): 2^40
+    /// over `factor`, rounded down.
     #[tactic(auto, unfolding(crate::specs::Code::Time::limit_of))]
     pub fn limit(self) -> u64
         ensures { result ≡ limit_of self }
@@ -87,8 +89,8 @@ impl Unit {
         }
     }
 
-    /// How many microseconds 1 in the whole part of a time is: more than 1 only if the unit is
-    /// longer than a microsecond.
+    /// How many microseconds 1 of the whole part of a time is: a power of ten if the unit is longer
+    /// than a microsecond, else 1.
     #[tactic(auto, unfolding(crate::specs::Code::Time::factor_of))]
     pub fn factor(self) -> u64
         ensures { result ≡ factor_of self }
