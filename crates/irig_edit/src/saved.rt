@@ -17,9 +17,9 @@ pub use text::SavedText;
 
 impl Session {
     /// The text of the track's dump with the journal after it, as `docs/FORMATS.md` says under "The
-    /// saved journal". The steps of an open group are saved one by one. `whole` collects the parts;
-    /// it asks for `text_room` bytes at first, and for more if they do not suffice. It fails only
-    /// if memory runs out.
+    /// saved journal". The steps of an open group are saved one by one. `whole` collects the parts
+    /// in one `Vec`: it asks for memory for `text_room` bytes at first, which the dump fits in, and
+    /// for more if the journal is long. It fails only if memory runs out.
     pub fn saved(&self) -> Result<Vec<u8>, AllocError>
         ensures { IfOk result (λ text. text.items ≡ saved_text (work_in self.now)) }
     {
@@ -30,7 +30,8 @@ impl Session {
         )
     }
 
-    /// The text of the saved session, in parts. It takes no memory.
+    /// The text that `saved` returns, to be given in parts: the track's dump with the journal after
+    /// it. This takes no memory.
     pub fn saved_parts(&self) -> SavedText<'_>
         ensures { result ≡ saved_text (work_in self.now) }
     {

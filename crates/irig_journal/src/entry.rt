@@ -17,7 +17,8 @@ pub(crate) struct Entry {
     pub(crate) cursor: usize,
 }
 
-/// How many changes the steps of these entries have, all together.
+/// How many changes the steps of these entries have, all together. The number is below 2^64, as all
+/// these changes are in one list in memory; so the sum does not overflow.
 pub(crate) fn count_all(entries: &[Entry]) -> usize
     requires few { counts_of entries.now < 2 ^ 64 }
     ensures { result ≡ counts_of entries.now }
@@ -29,10 +30,11 @@ pub(crate) fn count_all(entries: &[Entry]) -> usize
     count
 }
 
-/// Makes one group of the steps after the first `at` of the list, which are the nearest ones: it
-/// has all their changes and leads to `cursor`. Only the entries are joined: the changes are in
-/// another list and stay there. It takes no memory: the list has a place (if no step is joined, the
-/// caller has made one), so `unwrap` finds no error.
+/// Keeps the first `at` entries of the list, and makes one group of all steps after them, the
+/// nearest ones. The group has all their changes and leads to `cursor`. If no step comes after the
+/// first `at`, a group without changes is added. Only the entries are joined: the changes are in
+/// another list and stay there. This takes no memory: the list has a place for the group (if no
+/// step is joined, the caller has made it), so `unwrap` finds no error.
 pub(crate) fn join_beyond(entries: &mut Vec<Entry>, at: usize, cursor: usize)
     requires within { at ≤ vec_len entries.old }
     requires place { at < vec_capacity entries.old }

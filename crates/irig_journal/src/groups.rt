@@ -9,6 +9,11 @@
 //! A floor is the begin of the open group, an `Opening`: how many steps the past had, and the
 //! cursor. An undo does not go below it. `known` does nothing: it only lets the proof use what
 //! holds of the state.
+//!
+//! A journal is ready at a state (`AreReady`) if its steps apply one after another from there, and
+//! each change has room for its turn. `grouped_of` is what journal, state and cursor mean: the
+//! machine that keeps each former state whole, with the floor. `beyond` are the steps after the
+//! first ones of a list, `farthest` these first ones.
 
 ghost use Rattle.std.specs.Prelude.{◌≡◌, ◌↔◌, ◌<◌, ◌≤◌, ◌⊎◌, ◌∷◌, ◌^◌, [], ℕ, IsErr, IsErrOf};
 ghost use Rattle.std.specs.Prelude.{IsNone, IsSome, IfSome, OnErr, OnOk, None, Some, drop, length};
@@ -53,8 +58,8 @@ impl<R: Reversible> Journal<R> {
     }
 
     /// Closes the open group: the steps made since its begin become one. A single step stays as it
-    /// is, and without a step none is made. It takes no memory, and the only error is `NoGroup`: no
-    /// group is open.
+    /// is, and without a step none is made. `state` is the present one, read for the proof alone.
+    /// This takes no memory, and the only error is `NoGroup`: no group is open.
     pub fn end(&mut self, state: &R) -> Result<(), JournalFault>
         requires ready { AreReady R.fits R.turned R.delta (R.has_room (R.places state.now))
             (R.content state.now) self.old }
@@ -83,11 +88,11 @@ impl<R: Reversible> Journal<R> {
         Ok(())
     }
 
-    /// Makes one group of the newest `count` steps of the past, which leads to `cursor`.
-    /// `irig_edit` calls it as it opens a saved session: it makes the changes of a saved group one
-    /// by one first. It takes memory only if `count` is 0: then no step is replaced, and a group
-    /// without changes is added. The only error is `OutOfMemory`; no step changes then. The past
-    /// must have `count` steps, and no group may be open.
+    /// Makes one group of the newest `count` steps of the past; an undo of the group leads to
+    /// `cursor`. The past must have `count` steps, and no group may be open. `state` is the present
+    /// one, read for the proof alone. If `count` is 0, a group without changes is added: only that
+    /// takes memory. The only error is `OutOfMemory`; no step changes then. `irig_edit` calls this
+    /// as it opens a saved session, after it has made the changes of a saved group one by one.
     pub fn gather(&mut self, state: &R, count: usize, cursor: usize) -> Result<(), JournalFault>
         requires within { count ≤ length (past_of R.delta self.old) }
         requires no_group { self.old.floor ≡ None }
@@ -157,9 +162,10 @@ impl<R: Reversible> Journal<R> {
     }
 }
 
-/// Makes one step of those after the first `at` of the past's list, if they are more than one. An
-/// undo of the new step leads to the state before the group, as the oldest of these does. That is
-/// the entry at index `at`, from 0; so the new step gets its cursor. It takes no memory.
+/// Keeps the first `at` entries of the past's list, and makes one step of all steps after them if
+/// they are more than one; one alone stays as it is. An undo of the new step leads to the state
+/// before the oldest of the joined steps. So the new step gets the cursor of that oldest one, the
+/// entry at index `at`, from 0. This takes no memory.
 fn end_beyond(entries: &mut Vec<Entry>, at: usize)
     requires within { at ≤ vec_len entries.old }
     requires few { counts_of entries.old.items < 2 ^ 64 }

@@ -5,7 +5,9 @@
 //! of each step. The nearest step of a side is the one that is undone or redone next, the farthest
 //! the last one. To turn a change is to make it to the state, and to leave the change that leads
 //! back. Each side has its places before (`places` makes them), so `unwrap` of a `push` finds no
-//! error. `known` does nothing: it only lets the proof use what holds of the state.
+//! error. `known` does nothing: it only lets the proof use what holds of the state. Steps or
+//! changes are ready at a state (`AreReady`, `ReadyInTurn`) if they apply one after another from
+//! there, each with room for its turn.
 
 ghost use Rattle.std.specs.Prelude.{◌≡◌, ◌+◌, ◌<◌, ◌≤◌, ◌∷◌, [], reverse, vec_capacity, vec_len};
 ghost use Rattle.irig_journal.specs.History.{step, stepped_back};
@@ -19,8 +21,8 @@ use crate::side::Side;
 use std::mem;
 
 /// Turns a new change, for which room was made, and adds the change that leads back as the nearest
-/// step of the past. `before` is the cursor of the state before the change. The future loses its
-/// steps, as they no longer follow.
+/// step of the past. That step gets `before`, the cursor of the state before the change. All steps
+/// of the future are dropped: they led on from the state before the change.
 pub(crate) fn turn_new<R: Reversible>(
     past: &mut Side<R::Change>,
     future: &mut Side<R::Change>,
@@ -56,8 +58,8 @@ pub(crate) fn turn_new<R: Reversible>(
 
 /// Turns the nearest step of one side, and moves it to the other: from the past it is an undo, from
 /// the future a redo. The two cursors are swapped: `cursor` becomes that of the state the step
-/// leads to, and the step, which now leads back, gets the former one. There is a step in `from`;
-/// the caller has looked.
+/// leads to, and the step, which now leads back, gets the former cursor. `from` must have a step,
+/// so `unwrap` of the `pop` finds one.
 pub(crate) fn turn_nearest<R: Reversible>(
     from: &mut Side<R::Change>,
     to: &mut Side<R::Change>,
@@ -89,9 +91,9 @@ pub(crate) fn turn_nearest<R: Reversible>(
     to.entries.push(nearest).unwrap();
 }
 
-/// Turns the nearest `count` changes of one list, one after another, and moves each to the other. A
-/// list ends with the nearest; so in the other list they are in the opposite order, in which they
-/// are turned back.
+/// Turns the nearest `count` changes of `from`, the nearest first, and moves each to the end of
+/// `to`. `from` has at least that many, and `to` has places for them. Both lists end with the
+/// nearest; so in `to` the changes are in the opposite order, in which they are turned back.
 fn turn_changes<R: Reversible>(
     from: &mut Vec<R::Change>,
     to: &mut Vec<R::Change>,

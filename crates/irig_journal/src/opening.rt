@@ -11,8 +11,9 @@ pub struct Opening {
     pub cursor: usize,
 }
 
-/// Whether none of the steps of the past, `long` of them, may be undone, since all of them were
-/// made before the open group was begun. It is false if no group is open (`None`).
+/// Whether a group is open and the past, which has `long` steps, has none that was made since its
+/// begin: then no step may be undone. `floor` is the begin of the open group; if it is `None`, no
+/// group is open and the answer is false. The past never has fewer steps than at the begin.
 pub(crate) fn is_at_floor(floor: Option<Opening>, long: usize) -> bool
     ensures { IsTrue result ↔ AtFloor floor long }
 {

@@ -2,8 +2,9 @@
 //!
 //! The past has the steps that can be undone, the future those that can be redone. A place is room
 //! in a list for one item. A side has a list of changes and one of entries, one entry for a step.
-//! Each side has a place for every step of both, as a step can move to the other side. `prepare`
-//! makes the room in the state. An error is that memory ran out.
+//! Each side has a place for every step of both (`AreSides`), as a step can move to the other side.
+//! `prepare` makes the room in the state. An error is that memory ran out. Steps are ready at a
+//! state (`AreReady`) if they apply one after another from there, each with room for its turn.
 //!
 //! Where `let .. else` hands an error on, `?` would do the same; the proof of it takes longer.
 
@@ -17,8 +18,9 @@ use crate::entry::Entry;
 use crate::side::Side;
 use std::alloc::AllocError;
 
-/// Makes room for a change, its undo and its redo: on both sides, and in the state. What sides and
-/// state hold stays, also on an error. The change must be one that can be made.
+/// Makes room for a change, its undo and its redo: on both sides, in the state and in the change.
+/// Nothing is made yet: the steps, the state and the change mean what they meant, also after an
+/// error. The change must be one that can be made.
 pub(crate) fn reserve_change<R: Reversible>(
     past: &mut Side<R::Change>,
     future: &mut Side<R::Change>,
@@ -48,9 +50,10 @@ pub(crate) fn reserve_change<R: Reversible>(
     state.prepare(change)
 }
 
-/// Makes a place in the past for one more step of one change, and places in the future for all that
-/// the past has then. The new step drops the steps of the future, so that is empty then; later
-/// undos may move all of the past there. The steps stay, also on an error.
+/// Makes a place in the past for one more step of one change, and places in the future for all
+/// steps that the past has then: later undos may move all of them there. The steps of the future
+/// need no places of their own, since they are dropped as the new step is made. Here all steps
+/// stay, also after an error.
 fn reserve_step<C>(past: &mut Side<C>, future: &mut Side<C>) -> Result<(), AllocError>
     requires { AreSides past.old future.old }
     ensures past { IsSameSide past.old past.new }
@@ -66,7 +69,9 @@ fn reserve_step<C>(past: &mut Side<C>, future: &mut Side<C>) -> Result<(), Alloc
 }
 
 /// Makes a place in `list` for one item more, and places in `other` for all items that `list` has
-/// then: `other` will be empty when it gets them. The items stay, also on an error.
+/// with that one: `other` will be empty before it gets them. The items of both stay, also after an
+/// error. `reserve` makes places in addition to the items that are there. A list has at least as
+/// many places as items, so `places` is above the items of `other` and the subtraction is exact.
 fn reserve_one<T>(list: &mut Vec<T>, other: &mut Vec<T>) -> Result<(), AllocError>
     ensures list { (list.new.items ≡ list.old.items) × (vec_len list.new ≡ vec_len list.old) }
     ensures other { (other.new.items ≡ other.old.items) × (vec_len other.new ≡ vec_len other.old) }
@@ -85,9 +90,10 @@ fn reserve_one<T>(list: &mut Vec<T>, other: &mut Vec<T>) -> Result<(), AllocErro
     other.reserve(places.saturating_sub(other.len()))
 }
 
-/// Makes a place for the group that `gather` makes of `count` steps of the past, in each list for
-/// all steps of both. The group takes the place of one of its steps, so memory is taken only if
-/// `count` is 0. The steps stay, also on an error.
+/// Makes a place, in both lists, for the group that `gather` makes of the newest `count` steps of
+/// the past. Each list had places for all steps of both lists; with the group it has them, too. If
+/// `count` is above 0, nothing has to be done: the group gets the place of a step that it replaces.
+/// If it is 0, the group is one step more, which takes memory. The steps stay, also after an error.
 pub(crate) fn reserve_group(
     past: &mut Vec<Entry>,
     future: &mut Vec<Entry>,

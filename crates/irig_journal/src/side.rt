@@ -8,8 +8,9 @@ use crate::entry::Entry;
 use crate::size::Size;
 use std::alloc::Global;
 
-/// The steps on one side of the present: their changes in one list, and the number of them and the
-/// cursor of each step in another. Both end with the nearest.
+/// The steps on one side of the present: the changes of all steps in one list, and in another, for
+/// each step, how many of these changes are its own, and its cursor. Both lists end with the
+/// nearest. `IsWhole` says that these numbers add up to all changes.
 #[derive(Drop)]
 pub(crate) struct Side<C> {
     pub(crate) changes: Vec<C>,
@@ -17,7 +18,7 @@ pub(crate) struct Side<C> {
 }
 
 impl<C> Side<C> {
-    /// A side with no steps.
+    /// A side with no steps. It takes no memory.
     pub(crate) fn new(alloc: Global) -> Side<C>
         ensures steps { steps_on result ≡ [] }
         ensures whole { IsWhole result }

@@ -1,6 +1,9 @@
 //! The steps on both sides of the present, one after another, and past and future swapped. The past
 //! has the steps that can be undone, the future those that can be redone. Each has a list that ends
-//! with the step nearest to the present.
+//! with the step nearest to the present. `StepsLeft` shows the steps of such a list one after
+//! another: from its front if `from_oldest` is true, else from its end. `machine_of` is the machine
+//! of whole states that a journal means. A journal is ready at a state (`AreReady`) if its steps
+//! apply one after another from there, each with room for its turn.
 
 ghost use Rattle.std.specs.Prelude.{◌≡◌, ℕ, None, reverse};
 ghost use Rattle.irig_journal.specs.Journal.{AreReady, future_of, machine_of, past_of};
@@ -35,9 +38,9 @@ impl<R: Reversible> Journal<R> {
     }
 
     /// Swaps past and future: what could be undone can be redone, and the other way round. The
-    /// oldest step becomes the last one to redo. A session that is opened from a saved journal
-    /// needs it: the steps back are made as edits, undone, and then swapped. No group may be open.
-    /// This takes no memory.
+    /// oldest step becomes the last one to redo; the state stays. The opening of a saved journal
+    /// needs this swap: its steps back are made as edits and undone, so they are in the future, and
+    /// the swap brings them to the past. No group may be open. This takes no memory.
     pub fn turn_round(&mut self)
         requires no_group { self.old.floor ≡ None }
         ensures past { past_of R.delta self.new ≡ future_of R.delta self.old }

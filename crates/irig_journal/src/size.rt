@@ -6,12 +6,14 @@ ghost use Rattle.irig_journal.specs.Sizes.{count_of, is_group};
 /// How many changes a step has: one alone, or several in a group. A group may have none, or one.
 #[derive(Clone, Copy, PartialEq, Eq)]
 pub enum Size {
+    /// One change that is no group.
     Alone,
+    /// A group of this many changes.
     Group(usize),
 }
 
 impl Size {
-    /// How many changes the step has.
+    /// How many changes the step has: 1 if it is one change alone.
     pub(crate) fn count(self) -> usize
         ensures { result ≡ count_of self }
     {
@@ -21,7 +23,7 @@ impl Size {
         }
     }
 
-    /// Whether it is a group.
+    /// Whether the step is a group, also if the group has no change or only one.
     pub(crate) fn is_group(self) -> bool
         ensures { result ≡ is_group self }
     {

@@ -44,7 +44,8 @@ impl<'j, C> StepsLeft<'j, C> {
         self.entries.len()
     }
 
-    /// The next step, if one is left: the first of the list if `from_oldest`, else the last.
+    /// Removes the next step from those that are left, and returns it: the first of the list if
+    /// `from_oldest`, else the last. `None` if none is left.
     pub fn next(&mut self) -> Option<Step<'j, C>>
         ensures next { MatchOption result (self.old ≡ []) (λ s. self.old ≡ held_of s ∷ self.new) }
         ensures alone { IfSome result (λ s. s.is_group ≡ false → length s.changes.now ≡ 1) }
@@ -58,8 +59,8 @@ impl<'j, C> StepsLeft<'j, C> {
     }
 }
 
-/// The first entry if `first`, else the last one; and then all other entries. `None` if there is no
-/// entry.
+/// The first entry if `first` is true, else the last one; and with it all other entries. `None` if
+/// there is no entry.
 fn entry_at_end(entries: &[Entry], first: bool) -> Option<(&Entry, &[Entry])>
     ensures { MatchOption result (entries.now ≡ [])
         (λ p. entries.now ≡ with_end first (p.0.now ∷ []) p.1.now) }
@@ -71,8 +72,8 @@ fn entry_at_end(entries: &[Entry], first: bool) -> Option<(&Entry, &[Entry])>
     }
 }
 
-/// The first `count` changes if `first`, else the last `count`; and then all others. There are at
-/// least `count`: a step's changes are in the list.
+/// The first `count` changes if `first` is true, else the last `count`; and with them all other
+/// changes. There are at least `count`: all changes of the step are in the list.
 fn changes_at_end<C>(changes: &[C], count: usize, first: bool) -> (&[C], &[C])
     requires { count ≤ length changes.now }
     ensures parts { changes.now ≡ with_end first result.0.now result.1.now }
@@ -85,7 +86,8 @@ fn changes_at_end<C>(changes: &[C], count: usize, first: bool) -> (&[C], &[C])
     (last, left)
 }
 
-/// The step of an entry, with these changes.
+/// The step as it is shown: with these changes, and with the cursor that its entry has. It is a
+/// group if the entry says so.
 fn step_with<'j, C>(entry: Entry, changes: &'j [C]) -> Step<'j, C>
     ensures { (result.changes.now ≡ changes.now) × (result.is_group ≡ is_group entry.size)
         × (result.cursor ≡ entry.cursor) }
@@ -97,12 +99,13 @@ fn step_with<'j, C>(entry: Entry, changes: &'j [C]) -> Step<'j, C>
     }
 }
 
-/// How much the changes of steps hold, all together, in the unit that the state's `weight` has.
-/// Less than 2^64 steps hold less than 2^64 each, so the sum fits.
+/// How much the changes of all steps that are left hold together, in the unit that the state's
+/// `weight` has. There are less than 2^64 steps, and each holds less than 2^64, so the sum fits in
+/// a `u128`.
 pub(crate) fn weight_of_all<R: Reversible>(mut steps: StepsLeft<'_, R::Change>) -> u128
     ensures { result ≡ sum_by (λ h. R.weighs (R.delta h.parts)) steps.entry }
 {
-    // Read for its bound alone: less than 2^64.
+    // Read for its bound alone: there are less than 2^64 steps.
     let _len = steps.len();
     let mut sum = 0;
     while let Some(step) = steps.next() {

@@ -17,9 +17,10 @@ pub enum Change {
 }
 
 impl Change {
-    /// How many lines the change has in the text of a journal: one, and if it is a splice one more
-    /// for each pulse that it inserts; a group has one with its count, and then the lines of all
-    /// its changes.
+    /// How many lines the change has in the text of a journal. A change alone has one line, and a
+    /// splice (it replaces pulses by others) one more for each pulse that it inserts. A group has a
+    /// line that counts its changes, and the lines of all of them. The contract asks for less than
+    /// 2^63 lines, so the sum does not overflow.
     pub(crate) fn lines(&self) -> usize
         requires { length (change_lines self.now) < 2 ^ 63 }
         ensures { result ≡ length (change_lines self.now) }

@@ -1,10 +1,11 @@
 //! Writes lines of changes in the form of a saved journal, which is the history of a session as
 //! text; `docs/FORMATS.md` has the form.
 //!
-//! Each function adds to `text`, and fails only if memory runs out; `text` can end with a part of
-//! the line then. `put_word`, `put_number` and `put_numbers` write a space before each word.
-//! `put_numbered` writes a whole line: a first word and numbers. A splice replaces pulses by
-//! others. Pulses count from 1, letters from 0; times are in microseconds.
+//! Each function adds to the end of `text`, and fails only if memory runs out. After a failure
+//! `text` can end with a part of what was to be added. `put_word`, `put_number` and `put_numbers`
+//! write a space before each word. `put_numbered` and `put_formatted` write a whole line: a first
+//! word and other words. `put_lettered` writes the first word of a line and a letter. A splice
+//! replaces pulses by others. Pulses count from 1, letters from 0; times are in microseconds.
 
 ghost use Rattle.std.specs.Prelude.{◌≡◌, ◌++◌, ◌<◌, ◌∷◌, [], OnOk, codes, decimal};
 ghost use Rattle.std.specs.Fmt.{signed_decimal};
@@ -23,8 +24,8 @@ use irig_track::Pulse;
 use itoa::Buffer;
 use std::alloc::AllocError;
 
-/// Writes the first line of a change. A splice has more lines: one for each pulse that it inserts,
-/// which `put_pulse` writes.
+/// Writes the first line of a change, with its newline. Only a splice has more lines, one for each
+/// pulse that it inserts. They are not written here: `put_pulse` writes one of them.
 pub fn put_single(text: &mut Vec<u8>, single: &Single) -> Result<(), AllocError>
     ensures { OnOk result (text.new.items
         ≡ text.old.items ++ (single_line single.now ++ 10 ∷ [])) }
@@ -38,7 +39,8 @@ pub fn put_single(text: &mut Vec<u8>, single: &Single) -> Result<(), AllocError>
     }
 }
 
-/// Writes the first line of a splice: the first pulse that goes, how many go, and how many come.
+/// Writes the first line of a splice, `splice AT COUNT K`: the first pulse that goes, how many go,
+/// and how many come.
 fn put_splice(text: &mut Vec<u8>, at: u64, count: u64, put: u64) -> Result<(), AllocError>
     ensures { OnOk result (text.new.items
         ≡ text.old.items ++ (numbered (codes "splice") (at ∷ count ∷ put ∷ []) ++ 10 ∷ [])) }
@@ -47,7 +49,7 @@ fn put_splice(text: &mut Vec<u8>, at: u64, count: u64, put: u64) -> Result<(), A
 }
 
 /// Writes the line of a pulse that a splice inserts: its rise and its fall, two times with a space
-/// between. The line begins with a number, so the rise is its first word.
+/// between. The rise is given to `put_numbered` as the first word of the line.
 pub fn put_pulse(text: &mut Vec<u8>, pulse: Pulse) -> Result<(), AllocError>
     ensures { OnOk result (text.new.items ≡ text.old.items ++ (pulse_line pulse ++ 10 ∷ [])) }
 {
@@ -56,7 +58,7 @@ pub fn put_pulse(text: &mut Vec<u8>, pulse: Pulse) -> Result<(), AllocError>
     put_numbered(text, rise, &[pulse.fall])
 }
 
-/// Writes the line of a toggle, which inverts the level from time `a` to time `b`.
+/// Writes the line of a toggle, `toggle A B`: it inverts the level from time `a` to time `b`.
 fn put_toggle(text: &mut Vec<u8>, a: u64, b: u64) -> Result<(), AllocError>
     ensures { OnOk result (text.new.items
         ≡ text.old.items ++ (single_line (Toggle a b) ++ 10 ∷ [])) }
@@ -76,8 +78,8 @@ fn put_shift(text: &mut Vec<u8>, i: u64, j: u64, by: i64, marks: &Letters) -> Re
     Ok(())
 }
 
-/// Writes the front of the line of a shift: the pulses `i` to `j`, and by how many microseconds.
-/// The letters of the marks come after it.
+/// Writes the front of the line of a shift, `shift I J D`: the pulses `i` to `j`, and by how many
+/// microseconds they move. No newline is written: the letters of the marks come next.
 fn put_shifted(text: &mut Vec<u8>, i: u64, j: u64, by: i64) -> Result<(), AllocError>
     ensures { OnOk result (text.new.items ≡ text.old.items
         ++ line (codes "shift") (decimal i ∷ decimal j ∷ signed_decimal by ∷ [])) }
@@ -88,12 +90,12 @@ fn put_shifted(text: &mut Vec<u8>, i: u64, j: u64, by: i64) -> Result<(), AllocE
     put_word(text, buffer.format(by).as_bytes())
 }
 
-/// Writes a space and the letters of the marks that move, without spaces between, or `-` if none
-/// does.
+/// Writes a space and the letters of the marks that move, in the order a to z without spaces
+/// between, or `-` if no mark moves.
 fn put_moved(text: &mut Vec<u8>, marks: &Letters) -> Result<(), AllocError>
     ensures { OnOk result (text.new.items ≡ text.old.items ++ 32 ∷ moved_word marks.now) }
 {
-    // Each letter occurs at most once, so 26 bytes suffice; `count` of them are in use.
+    // Each letter occurs at most once, so 26 bytes suffice; the first `count` of them are in use.
     let mut letters = [0; 26];
     let mut count = 0;
     for letter in 0..26 {
@@ -117,8 +119,8 @@ fn put_set_format(text: &mut Vec<u8>, kind: Kind, expression: u8) -> Result<(), 
     put_formatted(text, b"setformat", kind, expression)
 }
 
-/// Writes the line that sets the mark of a letter, from 0 (0 is a), to a time, or clears it if that
-/// is `None`.
+/// Writes the line that sets a mark to a time, or clears the mark if `time` is `None`. `letter` is
+/// the place of its letter in the alphabet, from 0 (a) to 25.
 fn put_set_mark(text: &mut Vec<u8>, letter: u8, time: Option<u64>) -> Result<(), AllocError>
     requires { letter < 26 }
     ensures { OnOk result (text.new.items
@@ -130,7 +132,7 @@ fn put_set_mark(text: &mut Vec<u8>, letter: u8, time: Option<u64>) -> Result<(),
     Ok(())
 }
 
-/// Writes a space and a time, or `-` if there is none.
+/// Writes a space and the time, or a space and `-` if it is `None`.
 fn put_time(text: &mut Vec<u8>, time: Option<u64>) -> Result<(), AllocError>
     ensures { OnOk result (text.new.items ≡ text.old.items ++ 32 ∷ time_word time) }
 {

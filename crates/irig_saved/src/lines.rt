@@ -1,11 +1,15 @@
 //! Reads lines of a saved journal, which is the history of a session as text.
 //!
-//! Each function reads a line, or the rest of one, without its newline, and answers `None` if it
-//! has another form than that of `docs/FORMATS.md`. Words have one space between them. `head` is
-//! the first word of a line, in which there is no space. `word_of` gives the first word of a text
-//! and what is after the space that ends it, `None` if there is no space. A splice replaces pulses
-//! by others, a toggle inverts the level between two times, a shift moves pulses and marks. Pulses
-//! count from 1; times are in microseconds.
+//! Each function reads a line, or the rest of one, without its newline. It answers `None` if the
+//! line has another form than that of `docs/FORMATS.md`. Words have one space between them. `head`
+//! is the first word of a line; it has no space in it (`IsWordy`). `word_of` gives the first word
+//! of a text and what is after the space that ends it, `None` if there is no space. `number` gives
+//! the number that a word is in decimal, below 2^64, else `None`.
+//!
+//! A splice replaces pulses by others, a toggle inverts the level between two times, a shift moves
+//! pulses and marks. Pulses count from 1; times are in microseconds. Only the form is judged here,
+//! not whether a change is possible. `Decodes` in a contract: the answer is the value that is
+//! written as this line, or `None` if there is no such value.
 //!
 //! Where `let .. else` hands `None` on, `?` would do the same; the proof of it takes longer.
 
@@ -27,7 +31,8 @@ use crate::words::{distance, expression, moved, number, time};
 use irig_codes::{Kind, kind_named};
 use irig_track::Pulse;
 
-/// What is in a line after the word `head` and a space. `None` if the line does not begin so.
+/// What comes in a line after its first word, `head`, and a space. `None` if the line does not
+/// begin with this word and a space.
 fn behind<'a>(head: &[u8], text: &'a [u8]) -> Option<&'a [u8]>
     requires { IsWordy head.now }
     ensures { MatchOption result ((rest : List ℕ) → text.now ≡ head.now ++ 32 ∷ rest → ⊥)
@@ -39,7 +44,7 @@ fn behind<'a>(head: &[u8], text: &'a [u8]) -> Option<&'a [u8]>
     if first == head { Some(rest) } else { None }
 }
 
-/// The number after the word `head`, in a line that has just these two words.
+/// The number in a line of two words, `head` and a number. `None` for any other line.
 pub fn counted(head: &[u8], text: &[u8]) -> Option<u64>
     requires { IsWordy head.now }
     ensures { Decodes IsNumber (λ n. numbered head.now (n ∷ [])) text.now result }
@@ -50,8 +55,9 @@ pub fn counted(head: &[u8], text: &[u8]) -> Option<u64>
     number(word)
 }
 
-/// The format in a line of the word `head`, a kind of time code, such as `B`, and the number of a
-/// coded expression, 0 to 7. Whether the kind permits the expression is not judged here.
+/// The format in a line of three words: `head`, a kind of time code, such as `B`, and the number of
+/// a coded expression, 0 to 7. `None` for any other line. Whether the kind permits the expression
+/// is not judged here.
 pub fn format(head: &[u8], text: &[u8]) -> Option<(Kind, u8)>
     requires { IsWordy head.now }
     ensures { Decodes IsFormat (λ f. line head.now (words_of_format f)) text.now result }
@@ -60,8 +66,9 @@ pub fn format(head: &[u8], text: &[u8]) -> Option<(Kind, u8)>
     Some((kind_named(name)?, expression(rest)?))
 }
 
-/// The time in a line `mark x TIME`, if x is this letter, given as its byte in a text, `a` to `z`.
-/// `None` also for the line of another letter.
+/// The time in a line `mark x TIME`, if x is this letter. `None` for any other line, also for that
+/// of another letter. The letter is given as its byte in a text, `a` to `z`; the contract asks only
+/// for a byte that is a visible character, above the space.
 pub fn mark(letter_byte: u8, text: &[u8]) -> Option<u64>
     requires { (32 < letter_byte) × (letter_byte < 127) }
     ensures { Decodes IsNumber
@@ -76,7 +83,7 @@ pub fn mark(letter_byte: u8, text: &[u8]) -> Option<u64>
 }
 
 /// The number in the first word of a text, and what is after the space that ends this word. `None`
-/// also if there is no space.
+/// if the first word is no number, or no space ends it.
 fn leading(text: &[u8]) -> Option<(u64, &[u8])>
     ensures { MatchOption result
         ((n : ℕ) (rest : List ℕ) → IsNumber n → text.now ≡ decimal n ++ 32 ∷ rest → ⊥)
@@ -91,7 +98,7 @@ fn leading(text: &[u8]) -> Option<(u64, &[u8])>
     }
 }
 
-/// The two numbers of a text that has just two, with a space between.
+/// The two numbers in a text of two numbers with a space between. `None` for any other text.
 fn pair(text: &[u8]) -> Option<(u64, u64)>
     ensures { Decodes AreTwo (λ t. numbered (decimal t.0) (t.1 ∷ [])) text.now result }
 {
@@ -104,7 +111,8 @@ fn pair(text: &[u8]) -> Option<(u64, u64)>
     }
 }
 
-/// The pulse in a line that a splice has for each pulse that it inserts: its rise and its fall.
+/// The pulse in a line `RISE FALL`: a splice has one such line for each pulse that it inserts.
+/// `None` for any other line. Whether the rise is before the fall is not judged here.
 pub fn pulse(text: &[u8]) -> Option<Pulse>
     ensures { Decodes IsPulse pulse_line text.now result }
 {
@@ -114,8 +122,9 @@ pub fn pulse(text: &[u8]) -> Option<Pulse>
     Some(Pulse { rise, fall })
 }
 
-/// The first pulse that goes, how many go, and how many come, in the first line of a splice. The
-/// pulses that come are in the lines after it.
+/// The three numbers in a line `splice AT COUNT K`, the first one of a splice: the first pulse that
+/// goes, how many go, and how many come. `None` for any other line. The pulses that come are in the
+/// lines after this one.
 pub fn splice(text: &[u8]) -> Option<(u64, u64, u64)>
     ensures { Decodes AreThree (λ t. line (codes "splice") (words_of_three t)) text.now result }
 {
@@ -131,8 +140,9 @@ pub fn splice(text: &[u8]) -> Option<(u64, u64, u64)>
     }
 }
 
-/// The change in a line, if it is a change of one line: no splice and no group. Each kind begins
-/// with another word, so the order in which they are tried does not matter.
+/// The change in a line, if it is a toggle, a shift, or the setting of a format or of a mark: these
+/// have one line. `None` for any other line, also for the first one of a splice or a group. The
+/// lines of the four kinds begin with different words, so the order of the tests does not matter.
 pub fn short(text: &[u8]) -> Option<Single>
     ensures { Decodes IsShort single_line text.now result }
 {
@@ -149,7 +159,7 @@ pub fn short(text: &[u8]) -> Option<Single>
     Some(Single::Shift { i, j, by, marks })
 }
 
-/// The begin and the end of a toggle, in its line.
+/// The begin and the end of a toggle, two times, in a line `toggle A B`. `None` for any other line.
 fn toggle(text: &[u8]) -> Option<(u64, u64)>
     ensures { Decodes AreTwo (λ t. line (codes "toggle") (words_of_two t)) text.now result }
 {
@@ -159,8 +169,9 @@ fn toggle(text: &[u8]) -> Option<(u64, u64)>
     pair(words)
 }
 
-/// The letter and the time in the line that sets a mark. The time is `None` if the line clears the
-/// mark: `time` answers `Some(None)` for the word `-`.
+/// The letter and the time in a line `setmark x TIME`, which sets a mark. In `setmark x -`, which
+/// clears the mark, the time is `None`: the function `time` answers `Some(None)` for the word `-`.
+/// The whole answer is `None` for any other line.
 fn set_mark(text: &[u8]) -> Option<(Letter, Option<u64>)>
     ensures { Decodes IsMark (λ t. line (codes "setmark") (words_of_mark t)) text.now result }
 {
@@ -168,8 +179,8 @@ fn set_mark(text: &[u8]) -> Option<(Letter, Option<u64>)>
     Some((Letter::named(name)?, time(rest)?))
 }
 
-/// The first and the last pulse that move, by how much in microseconds, and the marks that move
-/// with them, in the line of a shift.
+/// What a line `shift I J D MARKS` says: the first and the last pulse that move, by how many
+/// microseconds (below 0 is earlier), and the marks that move with them. `None` for any other line.
 fn shift(text: &[u8]) -> Option<(u64, u64, i64, Letters)>
     ensures { Decodes IsShift (λ t. line (codes "shift") (words_of_shift t)) text.now result }
 {
@@ -186,8 +197,8 @@ fn shift(text: &[u8]) -> Option<(u64, u64, i64, Letters)>
     Some((i, j, by, marks))
 }
 
-/// The last two words of the line of a shift: a distance in microseconds, below 0 if earlier, and
-/// the marks that move by it.
+/// The last two words of the line of a shift: a distance in microseconds, below 0 to earlier times,
+/// and the marks that move by this distance. `None` if the text is not two such words.
 fn move_in(text: &[u8]) -> Option<(i64, Letters)>
     ensures { Decodes IsMove
         (λ t. line (signed_decimal t.0) (moved_word t.1 ∷ [])) text.now result }

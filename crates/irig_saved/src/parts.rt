@@ -1,11 +1,16 @@
 //! Parts of a saved journal, the history of a session as text. Each function reads a part from the
 //! front of a text, and returns it with the rest of the text.
 //!
-//! `Stop::At` has the rest of the text from the line on that does not belong there; `Stop::Memory`
-//! says that memory ran out. A count in the text asks for no memory: each line that was read does,
-//! so a wrong count cannot take much. `line_of` gives the first line and what is after its newline,
-//! `None` if there is no newline. `pulse`, `mark`, `counted`, `splice` and `short` (in `lines`)
-//! read one line, and answer `None` if the line has another form.
+//! A part that is not there whole is a `Stop::At`, with the rest of the text from the first line
+//! that does not belong there. If the text ends too early, this rest is empty or has no newline.
+//! `Stop::Memory` says that memory ran out. Memory is taken only for lines that were read, never
+//! for a count in the text; so a wrong count cannot take much.
+//!
+//! `line_of` gives the first line and what is after its newline, `None` if there is no newline.
+//! `pulse`, `mark`, `counted`, `splice` and `short` (in `lines`) read one line, and answer `None`
+//! if the line has another form. `counted` reads a line of a word and a number. `Parses` in a
+//! contract: the answer is the part with which the text begins, or where the text stops to be such
+//! a part. Memory can run out only if the third argument of `Parses` holds of the text.
 //!
 //! Where `match` or `let Ok(..) else` returns an error, `?` would do the same; the proof of it
 //! takes longer.
@@ -32,7 +37,8 @@ use crate::steps::Steps;
 use crate::stop::Stop;
 use std::alloc::Global;
 
-/// Reads `count` lines of pulses: those that a splice inserts.
+/// Reads `count` lines of pulses, `RISE FALL`: those that a splice inserts. It stops at the first
+/// line of another form.
 pub fn pulses(alloc: Global, count: u64, text: &[u8]) -> Result<(Pulses, &[u8]), Stop<'_>>
     ensures { Parses (ArePulses count) pulse_lines (λ _. 0 < count) text.now result }
 {
@@ -53,9 +59,10 @@ pub fn pulses(alloc: Global, count: u64, text: &[u8]) -> Result<(Pulses, &[u8]),
     Ok((pulses, rest))
 }
 
-/// Reads one change that is no group: a splice, which replaces pulses by others, has more lines
-/// than one, for its pulses, and each other kind has one line. Only the pulses of a splice take
-/// memory.
+/// Reads one change that is no group. A splice, which replaces pulses by others, has a first line
+/// and one more for each pulse that it inserts; each other kind has one line. It stops at the first
+/// line if that begins no such change, else at the first line that should be a pulse and is none.
+/// Only the pulses of a splice take memory.
 pub fn single(alloc: Global, text: &[u8]) -> Result<(Single, &[u8]), Stop<'_>>
     ensures { Parses IsSingle single_lines BeginsSplice text.now result }
 {
@@ -74,7 +81,8 @@ pub fn single(alloc: Global, text: &[u8]) -> Result<(Single, &[u8]), Stop<'_>>
     }
 }
 
-/// Reads `count` changes, none of them a group.
+/// Reads `count` changes, none of them a group, in the order of the text. It stops at the first
+/// line that belongs to no such change.
 pub fn singles(alloc: Global, count: u64, text: &[u8]) -> Result<(Singles, &[u8]), Stop<'_>>
     ensures { Parses (AreSingles count) singles_lines Any text.now result }
 {
@@ -93,8 +101,8 @@ pub fn singles(alloc: Global, count: u64, text: &[u8]) -> Result<(Singles, &[u8]
     Ok((singles, rest))
 }
 
-/// Reads a change: a group, which is a line with its count and then as many changes, or else one
-/// change alone.
+/// Reads a change: a group, which is a line `group K` and K changes, none of them a group, or else
+/// one change alone. It stops at the first line that does not belong to it.
 pub fn change(alloc: Global, text: &[u8]) -> Result<(Change, &[u8]), Stop<'_>>
     ensures { Parses IsChange change_lines Any text.now result }
 {
@@ -114,7 +122,8 @@ pub fn change(alloc: Global, text: &[u8]) -> Result<(Change, &[u8]), Stop<'_>>
     }
 }
 
-/// Reads a step: a line with the cursor of the state that the step leads to, and a change.
+/// Reads a step: a line `at C` with the cursor C of the state that the step leads to, and a change.
+/// It stops at the first line that does not belong to it.
 pub fn step(alloc: Global, text: &[u8]) -> Result<(SavedStep, &[u8]), Stop<'_>>
     ensures { Parses IsStep step_lines BeginsStep text.now result }
 {
@@ -130,7 +139,8 @@ pub fn step(alloc: Global, text: &[u8]) -> Result<(SavedStep, &[u8]), Stop<'_>>
     }
 }
 
-/// Reads `count` steps, in the order of the text.
+/// Reads `count` steps, in the order of the text. It stops at the first line that belongs to no
+/// step.
 pub fn steps(alloc: Global, count: u64, text: &[u8]) -> Result<(Steps, &[u8]), Stop<'_>>
     ensures { Parses (ManySteps count) steps_lines (BeginsSome count) text.now result }
 {
@@ -149,8 +159,8 @@ pub fn steps(alloc: Global, count: u64, text: &[u8]) -> Result<(Steps, &[u8]), S
     Ok((steps, rest))
 }
 
-/// Reads a line of the word `head` and a count, and then that many steps. There is no space in
-/// `head`.
+/// Reads a line of the word `head` and a count, and then that many steps. It stops at this line if
+/// it has another form, else where `steps` stops. There is no space in `head`.
 pub fn counted_steps<'a>(
     alloc: Global,
     head: &[u8],
@@ -168,8 +178,9 @@ pub fn counted_steps<'a>(
     steps(alloc, count, next)
 }
 
-/// Reads the lines of marks at the front of a text, which are in the order a to z. A mark without a
-/// line is `None`. A line out of this order is not read: it is in the rest.
+/// Reads the lines of marks at the front of a text, which are in the order a to z, at most one for
+/// each letter. A mark without a line is `None`. This cannot fail: the rest begins with the first
+/// line that is no mark's or is out of order.
 pub fn marks(text: &[u8]) -> (Marks, &[u8])
     ensures { (length result.0 ≡ 26) × Leads 97 result.0 text.now result.1.now }
 {
@@ -183,8 +194,9 @@ pub fn marks(text: &[u8]) -> (Marks, &[u8])
     (marks, rest)
 }
 
-/// Reads the time of one mark, if its line is at the front of a text. Else the time is `None`, and
-/// all of the text is the rest. The letter is given as its byte in a text, `a` to `z`.
+/// Reads the time of one mark, if the first line of a text is that of this mark. Else the time is
+/// `None`, and the rest is the whole text. The letter is given as its byte in a text, `a` to `z`;
+/// the contract asks only for a byte that is a visible character, above the space.
 fn marked(letter_byte: u8, text: &[u8]) -> (Option<u64>, &[u8])
     requires { (32 < letter_byte) × (letter_byte < 127) }
     ensures { Leads letter_byte (result.0 ∷ []) text.now result.1.now }

@@ -14,8 +14,8 @@ use crate::single::Single;
 use std::alloc::AllocError;
 use std::marker::Model;
 
-/// The lines that are still to be given: those of `pulses` from the pulse `next` on, from 0.
-/// `pulses` is `None` if the change is no splice, and then there are no lines.
+/// The lines that are still to be given: one for each pulse of `pulses` from index `next` on, from
+/// 0. `pulses` is `None` if the change is no splice; then there are no lines.
 #[derive(Drop)]
 pub(crate) struct PulseLines<'s> {
     pulses: Option<&'s Pulses>,
@@ -32,7 +32,7 @@ impl<'s> Model for PulseLines<'s> {
 }
 
 impl<'s> PulseLines<'s> {
-    /// No lines.
+    /// No lines: `fill` adds none.
     pub(crate) fn none() -> PulseLines<'s>
         ensures { result ≡ [] }
     {
@@ -42,7 +42,7 @@ impl<'s> PulseLines<'s> {
         }
     }
 
-    /// A line for each pulse that a change inserts; none if it is no splice.
+    /// A line for each pulse that a splice inserts; no lines for a change of another kind.
     pub(crate) fn of(single: &'s Single) -> PulseLines<'s>
         ensures { result ≡ text_of (pulse_lines (put_of single.now)) }
     {
@@ -55,10 +55,11 @@ impl<'s> PulseLines<'s> {
         }
     }
 
-    /// Adds lines to a block until it has `enough` bytes or none is left. The next call goes on
-    /// from there. Returns `true` if no line is left and the block has fewer bytes than `enough`,
-    /// so that more text can be added; `false` if the block has `enough`, whether a line is left or
-    /// not. It fails only if memory runs out.
+    /// Adds whole lines to a block until it has `enough` bytes or no line is left; the next call
+    /// continues after the last of them. Returns `true` if no line is left and the block has fewer
+    /// bytes than `enough`, so that more text can be added; `false` if the block has `enough`,
+    /// whether a line is left or not. It fails only if memory runs out; then the block can end with
+    /// a part of a line, and nothing is said of the lines that are left.
     pub(crate) fn fill(&mut self, block: &mut Vec<u8>, enough: usize) -> Result<bool, AllocError>
         ensures bytes { OnOk result (block.new.items ++ self.new ≡ block.old.items ++ self.old) }
         ensures end { IfOk result (λ ended. ended ≡ true → self.new ≡ []) }

@@ -1,5 +1,7 @@
 //! Pulses in a list that can be exchanged with those of a track. The list is a `Gap`, a gap buffer:
-//! a list with a place, at which items are put in and taken out.
+//! a list with a place, at which items are put in and taken out. Its capacity is how many items it
+//! has room for. A splice replaces pulses of a track by others. In a contract `micros` is the
+//! length of a track in microseconds, and `spare` how many places it has free.
 //!
 //! What is marked "Read for .." does nothing: it only lets the proof use what a type promises.
 
@@ -44,9 +46,9 @@ impl Pulses {
         }
     }
 
-    /// The pulses of a buffer, which must have at most half as many free places as pulses, plus
-    /// one: that bound holds of each `Pulses`. The place of the buffer goes to the end, so that
-    /// `push` adds there.
+    /// The pulses of a buffer, in its order. The buffer must have at most half as many free places
+    /// as pulses, plus one (`tight`): this bound holds of each `Pulses`. The place of the buffer is
+    /// moved to the end, so that `push` adds there.
     pub fn of(mut items: Gap<Pulse>) -> Pulses
         requires tight { 2 * items.capacity ≤ 3 * length items.items + 2 }
         ensures { result ≡ items.items }
@@ -62,7 +64,7 @@ impl Pulses {
         self.items.len()
     }
 
-    /// The pulse at `index`, from 0. There has to be one.
+    /// The pulse at `index`, from 0. The index must be below `len`.
     pub fn get(&self, index: usize) -> Pulse
         requires { index < length self.now }
         ensures { slice_get self.now index ≡ Some result }
@@ -81,7 +83,8 @@ impl Pulses {
         Ok(())
     }
 
-    /// The buffer of the pulses. It has at most half as many free places as pulses, plus one.
+    /// The buffer of the pulses, to be read. It has at most half as many free places as pulses,
+    /// plus one.
     pub fn as_gap(&self) -> &Gap<Pulse>
         ensures items { result.now.items ≡ self.now }
         ensures tight { 2 * result.now.capacity ≤ 3 * length self.now + 2 }
@@ -89,13 +92,14 @@ impl Pulses {
         &self.items
     }
 
-    /// Replaces the `count` pulses of a track from `at` on, from 0, by these pulses. Afterwards
-    /// `self` has the pulses that went, so a second call with them undoes the first. The caller has
-    /// tested that the track permits it, and made room for these pulses in it.
+    /// Replaces the `count` pulses of a track from `at` on, from 0, by the pulses of `self`.
+    /// Afterwards `self` has the pulses that went, so a second call puts them back. The caller has
+    /// tested that the track permits the splice, and made room in it for the pulses that come.
     ///
-    /// This takes no memory. `taken` is a spare buffer: it comes in empty, with places for those
-    /// that go, and goes out as the empty buffer that these pulses had. The `Span` says where the
-    /// track changed: at `at`, how many went and how many came.
+    /// This takes no memory. `taken` is a spare buffer. It comes in empty, with places for the
+    /// pulses that go, but no more free places than a `Pulses` may have; it becomes the buffer of
+    /// `self`. It goes out as the former buffer of `self`, which is empty then. The `Span` has
+    /// `at`, and how many pulses went and came.
     pub fn exchange(
         &mut self,
         track: &mut Track,

@@ -5,7 +5,8 @@
 //! forward. A step is a change and the cursor of the state that it leads to. `Stop` says why a part
 //! was not read: `At` has the rest of the text from the line at fault on, and `Memory` says that
 //! memory ran out. `line_of` gives the first line and what is after its newline, `None` if there is
-//! no newline.
+//! no newline. In a contract `IsRefused` says that a fault is the right one, `Stops` that a text is
+//! at fault from this rest on, and `FirstLine` that the value is that of the first line, or `None`.
 //!
 //! Where `match` or `let .. else` hands an error or `None` on, `?` would do the same; the proof of
 //! it takes longer.
@@ -36,15 +37,15 @@ pub enum Fault {
     Memory,
 }
 
-/// The journal whose text these bytes are: all of it from the line that names it, which is line 1,
-/// up to the newline of its last line. Memory is taken only for lines that were read, whatever the
-/// counts among them say.
+/// The journal whose text these bytes are: all of it from line 1, which names it, up to the newline
+/// of its last line. Only the form is judged, not whether the steps apply. Memory is taken only for
+/// lines that were read, whatever the counts among them say.
 ///
-/// An error has the first line with which the text begins no journal. If a line is missing, that is
-/// the line at which the text ends; if there is text after the last line, that is its line.
-/// `Fault::Memory` comes only after the first lines of a journal that has a step: its head, its
-/// marks, how many steps back there are, and one line more. Whether the steps apply is not judged
-/// here.
+/// `Fault::Line` has the number, from 1, of the first line at fault: the lines before it begin some
+/// journal, and with it they begin none. If lines are missing, it is the line at which the text
+/// ends; if there is text after the last line, it is the line of that text. `Fault::Memory` comes
+/// only if the text begins with the lines of a journal that has a step: its head, its marks, how
+/// many steps back there are, and one line more.
 pub fn parse(alloc: Global, text: &[u8]) -> Result<Saved, Fault>
     requires { length text.now < 2 ^ 63 }
     ensures exact { MatchResult result
@@ -61,7 +62,8 @@ pub fn parse(alloc: Global, text: &[u8]) -> Result<Saved, Fault>
 }
 
 /// The number, from 1, of the line of `text` with which `rest` begins. `rest` is an end of `text`,
-/// from the begin of a line on, so the difference of their lengths is not below 0.
+/// from the begin of a line on, so it is no longer than `text`. The contract does not ask for that,
+/// so the difference of the lengths saturates at 0.
 fn line_at(text: &[u8], rest: &[u8]) -> usize
     requires { length text.now < 2 ^ 63 }
     ensures { result
@@ -72,9 +74,9 @@ fn line_at(text: &[u8], rest: &[u8]) -> usize
     1 + text[..before].iter().filter(|byte| **byte == b'\n').count()
 }
 
-/// Reads a journal from the front of a text, and returns it with what is after it. After a whole
-/// text that must be nothing, which `parse` tests. `Stop` says at which line the text begins no
-/// journal, or that memory ran out.
+/// Reads a journal from the front of a text, and returns it with the text after it; `parse` tests
+/// that there is none. `Stop::At` has the text from the first line at fault on, with which it
+/// begins no journal; `Stop::Memory` says that memory ran out.
 fn saved(alloc: Global, text: &[u8]) -> Result<(Saved, &[u8]), Stop<'_>>
     ensures { Parses IsSaved saved_lines ReachesSteps text.now result }
 {
@@ -82,7 +84,7 @@ fn saved(alloc: Global, text: &[u8]) -> Result<(Saved, &[u8]), Stop<'_>>
         Ok(head) => head,
         Err(rest) => return Err(Stop::At(rest)),
     };
-    // This cannot fail: a line that is no mark's is left to the next part.
+    // `marks` cannot fail: a line that is no mark's is left to the next part.
     let (marks, rest) = marks(rest);
     let (past, rest) = match counted_steps(alloc, b"past", rest) {
         Ok(read) => read,
@@ -105,8 +107,8 @@ fn saved(alloc: Global, text: &[u8]) -> Result<(Saved, &[u8]), Stop<'_>>
 
 /// Reads the first three lines of a text: the name of a journal, its format and its cursor. Returns
 /// the format as a kind and an expression, 0 to 7, the cursor, and what is after the three lines.
-/// Whether the kind permits the expression is not judged here. An error has the rest from the first
-/// line with which the text begins no journal.
+/// Whether the kind permits the expression is not judged here. An error has the text from the first
+/// of these lines on that has another form or no newline.
 fn head(text: &[u8]) -> Result<((Kind, u8), u64, &[u8]), &[u8]>
     ensures { MatchResult result
         (λ r. IsFormat r.0 × IsNumber r.1 × (text.now ≡ head_text r.0 r.1 r.2.now))
@@ -124,8 +126,8 @@ fn head(text: &[u8]) -> Result<((Kind, u8), u64, &[u8]), &[u8]>
     }
 }
 
-/// What is after the line `irig-journal-1`, which names a journal. `None` if the text does not
-/// begin with this line.
+/// What is after the first line of a text, if that is `irig-journal-1`, which names a journal.
+/// `None` if the text does not begin with this line.
 fn named(text: &[u8]) -> Option<&[u8]>
     ensures { MatchOption result
         ((more : List ℕ) → text.now ≡ codes "irig-journal-1" ++ 10 ∷ more → ⊥)
@@ -141,8 +143,8 @@ fn named(text: &[u8]) -> Option<&[u8]>
     }
 }
 
-/// The kind and expression in the first line of a text, and what is after the line. `None` if it is
-/// no line of a format.
+/// The kind and expression in the first line of a text, `format X N`, and what is after the line.
+/// `None` if this line has another form or no newline.
 fn format_line(text: &[u8]) -> Option<((Kind, u8), &[u8])>
     ensures { FirstLine IsFormat (λ f. line (codes "format") (words_of_format f))
         text.now result }
@@ -156,8 +158,8 @@ fn format_line(text: &[u8]) -> Option<((Kind, u8), &[u8])>
     }
 }
 
-/// The cursor in the first line of a text, a pulse from 1, or 0, and what is after the line. `None`
-/// if it is no line of a cursor.
+/// The cursor in the first line of a text, `cursor C`, and what is after the line. C is the number
+/// of a pulse, from 1, or 0. `None` if this line has another form or no newline.
 fn cursor_line(text: &[u8]) -> Option<(u64, &[u8])>
     ensures { FirstLine IsNumber (λ n. numbered (codes "cursor") (n ∷ [])) text.now result }
 {

@@ -44,7 +44,8 @@ pub enum Single {
 
 impl Single {
     /// How many lines the change has in the text of a saved journal, the history of a session: one,
-    /// and a splice one more for each pulse that it inserts.
+    /// and a splice one more for each pulse that it inserts. The contract asks for less than 2^63
+    /// lines, so the sum does not overflow.
     pub(crate) fn lines(&self) -> usize
         requires { length (single_lines self.now) < 2 ^ 63 }
         ensures { result ≡ length (single_lines self.now) }

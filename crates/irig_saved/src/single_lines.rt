@@ -30,7 +30,7 @@ impl<'s> Model for SingleLines<'s> {
 }
 
 impl<'s> SingleLines<'s> {
-    /// No lines.
+    /// No lines: `fill` adds none.
     pub fn none() -> SingleLines<'s>
         ensures { result ≡ [] }
     {
@@ -40,7 +40,8 @@ impl<'s> SingleLines<'s> {
         }
     }
 
-    /// All lines of a change.
+    /// All lines of a change that is no group: its first line, and those of the pulses that it
+    /// inserts if it is a splice.
     pub fn of(single: &'s Single) -> SingleLines<'s>
         ensures { result ≡ text_of (single_lines single.now) }
     {
@@ -50,11 +51,15 @@ impl<'s> SingleLines<'s> {
         }
     }
 
-    /// Adds lines to a block until it has `enough` bytes or none is left. The first line of a
-    /// change is added even if the block has `enough`: it has at most 96 bytes (`shift`, three
-    /// numbers of up to 20 bytes, and 26 letters). Returns `true` if no line is left and the block
-    /// has fewer bytes than `enough`, so that more text can be added; `false` if the block has
-    /// `enough`, whether a line is left or not. It fails only if memory runs out.
+    /// Adds whole lines to a block until it has `enough` bytes or no line is left; the next call
+    /// continues after the last of them. The first line of a change is added even if the block has
+    /// `enough`; it has at most 96 bytes: `shift`, three numbers of up to 20 bytes, 26 letters, 4
+    /// spaces and the newline.
+    ///
+    /// Returns `true` if no line is left and the block has fewer bytes than `enough`, so that more
+    /// text can be added; `false` if the block has `enough`, whether a line is left or not. It
+    /// fails only if memory runs out; then the block can end with a part of a line, and nothing is
+    /// said of the lines that are left.
     pub fn fill(&mut self, block: &mut Vec<u8>, enough: usize) -> Result<bool, AllocError>
         ensures bytes { OnOk result (block.new.items ++ self.new ≡ block.old.items ++ self.old) }
         ensures end { IfOk result (λ ended. ended ≡ true → self.new ≡ []) }

@@ -24,7 +24,7 @@ impl Model for Singles {
 }
 
 impl Singles {
-    /// No changes.
+    /// A list of no changes. It takes no memory.
     pub fn new(alloc: Global) -> Singles
         ensures { result ≡ [] }
     {
@@ -49,14 +49,15 @@ impl Singles {
         Ok(())
     }
 
-    /// The changes as a `Vec`, in order.
+    /// The changes as a `Vec`, in order, for a caller that needs them one by one.
     pub fn into_vec(self) -> Vec<Single>
         ensures { result.items ≡ self }
     {
         self.items
     }
 
-    /// How many lines the changes have together in the text of a saved journal.
+    /// How many lines the changes have together in the text of a saved journal. The contract asks
+    /// for less than 2^63, so the sum does not overflow.
     pub(crate) fn lines(&self) -> usize
         requires { length (singles_lines self.now) < 2 ^ 63 }
         ensures { result ≡ length (singles_lines self.now) }

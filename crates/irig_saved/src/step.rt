@@ -6,7 +6,7 @@ ghost use Rattle.irig_saved.specs.SavedText.{step_lines};
 
 use crate::change::Change;
 
-/// A change, and where the cursor is after it.
+/// A change, and where the cursor is after an undo or a redo has made it.
 #[derive(Drop)]
 pub struct SavedStep {
     /// The cursor, a pulse from 1, or 0 before the first.
@@ -16,7 +16,8 @@ pub struct SavedStep {
 }
 
 impl SavedStep {
-    /// How many lines it has in the text of a journal: one for its cursor, and those of its change.
+    /// How many lines the step has in the text of a journal: one for its cursor, and those of its
+    /// change. The contract asks for less than 2^63 lines, so the sum does not overflow.
     pub fn lines(&self) -> usize
         requires { length (step_lines self.now) < 2 ^ 63 }
         ensures { result ≡ length (step_lines self.now) }

@@ -26,7 +26,7 @@ impl Model for Steps {
 }
 
 impl Steps {
-    /// No steps.
+    /// A list of no steps. It takes no memory.
     pub fn new(alloc: Global) -> Steps
         ensures { result ≡ [] }
     {
@@ -58,7 +58,7 @@ impl Steps {
         Ok(())
     }
 
-    /// Removes the last step and returns it; `None` if there is none.
+    /// Removes the last step and returns it; `None` if there is no step.
     pub fn pop(&mut self) -> Option<SavedStep>
         ensures { MatchOption result ((self.old ≡ []) × (self.new ≡ []))
             (λ step. self.old ≡ self.new ++ step ∷ []) }
@@ -73,7 +73,8 @@ impl Steps {
         self.items.reverse();
     }
 
-    /// How many lines the steps have together in the text of a saved journal.
+    /// How many lines the steps have together in the text of a saved journal. The contract asks for
+    /// less than 2^63, so the sum does not overflow.
     pub fn lines(&self) -> usize
         requires { length (steps_lines self.now) < 2 ^ 63 }
         ensures { result ≡ length (steps_lines self.now) }

@@ -1,8 +1,8 @@
-//! Writes words of a line of a saved journal, which is the history of a session as text: they have
-//! one space between them.
+//! Writes words of a line of a saved journal, which is the history of a session as text. The words
+//! of a line have one space between them.
 //!
-//! Each function adds to `text`, and fails only if memory runs out; `text` can end with a part of
-//! its words then.
+//! Each function adds to the end of `text`, and fails only if memory runs out. After a failure
+//! `text` can end with a part of what was to be added.
 
 ghost use Rattle.std.specs.Prelude.{◌≡◌, ◌+◌, ◌++◌, ◌<◌, ◌∷◌, [], OnOk, map, decimal};
 ghost use Rattle.irig_codes.specs.Words.{kind_word};
@@ -39,7 +39,8 @@ pub(crate) fn put_numbers(text: &mut Vec<u8>, numbers: &[u64]) -> Result<(), All
     Ok(())
 }
 
-/// Writes a line that begins with the word `head` and has numbers after it, and its newline.
+/// Writes a whole line: the word `head`, each number after a space, and the newline. Without
+/// numbers the line is `head` alone.
 pub(crate) fn put_numbered(
     text: &mut Vec<u8>,
     head: &[u8],
@@ -54,8 +55,8 @@ pub(crate) fn put_numbered(
     Ok(())
 }
 
-/// Writes the word `head`, which begins a line, a space and a letter, given by its place from 0 (0
-/// is a). The line goes on: no newline is written.
+/// Writes the first two words of a line: `head`, and after a space a letter. `letter` is its place
+/// in the alphabet, from 0 (a) to 25. No newline is written: the caller adds more words.
 pub(crate) fn put_lettered(text: &mut Vec<u8>, head: &[u8], letter: u8) -> Result<(), AllocError>
     requires { letter < 26 }
     ensures { OnOk result (text.new.items
@@ -65,8 +66,8 @@ pub(crate) fn put_lettered(text: &mut Vec<u8>, head: &[u8], letter: u8) -> Resul
     put_word(text, &[b'a' + letter])
 }
 
-/// Writes a line of the word `head`, the kind of time code of a format, such as `B`, and the number
-/// of its coded expression, 0 to 7, and its newline.
+/// Writes a whole line: the word `head`, the kind of time code of a format, such as `B`, the number
+/// of its coded expression, 0 to 7, and the newline.
 pub(crate) fn put_formatted(
     text: &mut Vec<u8>,
     head: &[u8],

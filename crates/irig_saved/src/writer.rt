@@ -1,10 +1,11 @@
 //! Writes lines of a saved journal, the history of a session as text: those before its first step,
 //! and those before the changes of a step. `docs/FORMATS.md` has their form.
 //!
-//! Each function adds to `text`, and fails only if memory runs out; `text` can end with a part of
-//! its lines then. `put_number` writes a space first; `put_numbered` and `put_formatted` write a
-//! whole line. A cursor is the number of a pulse, from 1, or 0 before the first. A mark is a time
-//! in microseconds. `past` and `count` are how many steps or changes come.
+//! Each function adds to the end of `text`, and fails only if memory runs out. After a failure
+//! `text` can end with a part of what was to be added. `put_number` writes a space first;
+//! `put_numbered` and `put_formatted` write a whole line: a first word and other words. A cursor is
+//! the number of a pulse, from 1, or 0 before the first. A mark is a time in microseconds, or
+//! `None` if it is not set. `past` and `count` are how many steps or changes come after the line.
 
 ghost use Rattle.std.specs.Prelude.{◌≡◌, ◌++◌, ◌+◌, ◌<◌, ◌∷◌, [], OnOk, codes, decimal};
 ghost use Rattle.irig_codes.specs.Words.{kind_word};
@@ -16,8 +17,8 @@ use crate::word_writer::{put_formatted, put_lettered, put_number, put_numbered};
 use irig_codes::{Format, Kind};
 use std::alloc::AllocError;
 
-/// Writes the lines before the steps: the name, the format, the cursor, the marks that are set, and
-/// how many steps of the past come, `past`.
+/// Writes all lines of a journal before its first step: the name, the format, the cursor, one for
+/// each mark that is set, and `past`, how many steps of the past come next.
 pub fn put_head(
     text: &mut Vec<u8>,
     format: Format,
@@ -36,9 +37,9 @@ pub fn put_head(
     put_past(text, past)
 }
 
-/// Writes the lines of a step that are before those of its changes: the cursor of the state that
-/// the step leads to, and if it is a group, how many changes it has. Without `is_group` the number
-/// `changes` is not used.
+/// Writes the lines of a step that are before those of its changes: `at C` with the cursor of the
+/// state that the step leads to, and if `is_group`, `group K` with the number of its changes,
+/// `changes`. Else `changes` is not used.
 pub fn put_step(
     text: &mut Vec<u8>,
     cursor: u64,
@@ -55,7 +56,8 @@ pub fn put_step(
     Ok(())
 }
 
-/// Writes the line before the steps of the future, which a redo takes: how many there are.
+/// Writes the line before the steps of the future, those that can be redone: `future Q` with
+/// `count`, how many there are.
 pub fn put_future(text: &mut Vec<u8>, count: u64) -> Result<(), AllocError>
     ensures { OnOk result (text.new.items
         ≡ text.old.items ++ count_text (codes "future") count) }
@@ -71,8 +73,8 @@ fn put_name(text: &mut Vec<u8>) -> Result<(), AllocError>
     put_numbered(text, b"irig-journal-1", &[])
 }
 
-/// Writes the line of the format: its kind of time code, such as `B`, and the number of its coded
-/// expression, 0 to 7.
+/// Writes the line of the format, `format X N`: its kind of time code, such as `B`, and the number
+/// of its coded expression, 0 to 7.
 fn put_format(text: &mut Vec<u8>, kind: Kind, expression: u8) -> Result<(), AllocError>
     ensures { OnOk result (text.new.items ≡ text.old.items
         ++ (line (codes "format") (kind_word kind ∷ decimal expression ∷ []) ++ 10 ∷ [])) }
@@ -80,7 +82,7 @@ fn put_format(text: &mut Vec<u8>, kind: Kind, expression: u8) -> Result<(), Allo
     put_formatted(text, b"format", kind, expression)
 }
 
-/// Writes the line of the cursor.
+/// Writes the line of the cursor, `cursor C`.
 fn put_cursor(text: &mut Vec<u8>, cursor: u64) -> Result<(), AllocError>
     ensures { OnOk result (text.new.items
         ≡ text.old.items ++ (numbered (codes "cursor") (cursor ∷ []) ++ 10 ∷ [])) }
@@ -88,7 +90,7 @@ fn put_cursor(text: &mut Vec<u8>, cursor: u64) -> Result<(), AllocError>
     put_numbered(text, b"cursor", &[cursor])
 }
 
-/// Writes a line for each mark that is set, a to z. A mark is a time in microseconds.
+/// Writes a line for each mark that is set, in the order a to z; nothing for the others.
 fn put_marks(text: &mut Vec<u8>, marks: &Marks) -> Result<(), AllocError>
     ensures { OnOk result (text.new.items
         ≡ text.old.items ++ text_of (mark_lines 97 marks.now)) }
@@ -99,7 +101,8 @@ fn put_marks(text: &mut Vec<u8>, marks: &Marks) -> Result<(), AllocError>
     Ok(())
 }
 
-/// Writes the line of a mark; nothing if the mark is not set. A letter counts from 0: 0 is a.
+/// Writes the line of a mark, `mark x TIME`; nothing if `time` is `None`. `letter` is the place of
+/// x in the alphabet, from 0 (a) to 25.
 fn put_mark(text: &mut Vec<u8>, letter: u8, time: Option<u64>) -> Result<(), AllocError>
     requires { letter < 26 }
     ensures { OnOk result (text.new.items
@@ -114,7 +117,8 @@ fn put_mark(text: &mut Vec<u8>, letter: u8, time: Option<u64>) -> Result<(), All
     Ok(())
 }
 
-/// Writes the line before the steps of the past, which an undo takes: how many there are.
+/// Writes the line before the steps of the past, those that can be undone: `past P` with `count`,
+/// how many there are.
 fn put_past(text: &mut Vec<u8>, count: u64) -> Result<(), AllocError>
     ensures { OnOk result (text.new.items
         ≡ text.old.items ++ (numbered (codes "past") (count ∷ []) ++ 10 ∷ [])) }
@@ -122,7 +126,7 @@ fn put_past(text: &mut Vec<u8>, count: u64) -> Result<(), AllocError>
     put_numbered(text, b"past", &[count])
 }
 
-/// Writes the first line of a step: the cursor of the state that it leads to.
+/// Writes the first line of a step: `at C` with the cursor of the state that the step leads to.
 fn put_at(text: &mut Vec<u8>, cursor: u64) -> Result<(), AllocError>
     ensures { OnOk result (text.new.items
         ≡ text.old.items ++ (numbered (codes "at") (cursor ∷ []) ++ 10 ∷ [])) }
@@ -130,7 +134,7 @@ fn put_at(text: &mut Vec<u8>, cursor: u64) -> Result<(), AllocError>
     put_numbered(text, b"at", &[cursor])
 }
 
-/// Writes the line before the changes of a group: how many there are.
+/// Writes the line before the changes of a group: `group K` with `count`, how many there are.
 fn put_group(text: &mut Vec<u8>, count: u64) -> Result<(), AllocError>
     ensures { OnOk result (text.new.items
         ≡ text.old.items ++ (numbered (codes "group") (count ∷ []) ++ 10 ∷ [])) }

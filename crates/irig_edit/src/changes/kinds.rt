@@ -4,6 +4,7 @@
 //! A toggle inverts the level between two times, and a shift moves pulses, with marks among them. A
 //! mark is a time that has one of the letters a to z as its name. Times are in microseconds. A
 //! `Span` says which pulses a turn touched: from pulse `at` on, from 0, `old` pulses became `new`.
+//! In a contract `micros` is the length of the track, and `spare` how many places it has free.
 //!
 //! What is marked "Read for .." does nothing: it only lets the proof use what a type promises.
 
@@ -22,9 +23,10 @@ use irig_codes::{Format, Kind};
 use irig_saved::{Letters, Marks};
 use irig_track::{Span, Track};
 
-/// Turns a toggle: inverts the level from time `a` to time `b`. Returns the pulses that it touched.
-/// The same toggle leads back, so nothing has to be left. The caller has tested that it can be
-/// made, and made room for one pulse more.
+/// Turns a toggle: inverts the level from time `a` to time `b`. Returns which pulses it touched:
+/// those that rise at or before `b` and fall at or after `a`. The same toggle leads back, so no
+/// other change has to be left. The caller has tested that the toggle can be made, and made room
+/// for one pulse more.
 pub(crate) fn turn_toggle(track: &mut Track, a: u64, b: u64) -> Span
     requires can { CanToggle track.old.micros a b track.old.pulses }
     requires spare { 0 < track.old.spare }
@@ -45,10 +47,11 @@ pub(crate) fn turn_toggle(track: &mut Track, a: u64, b: u64) -> Span
     span
 }
 
-/// Turns a shift of the pulses `i` to `j`, both included and from 0, by `by`, below 0 if they come
-/// earlier. The marks of the letters that are true in `letters` move with them. `by` becomes its
-/// opposite, which leads back. Returns the pulses that it touched. The caller has tested that the
-/// shift can be made: so `by` is no longer than the track, and its opposite does not overflow.
+/// Turns a shift of the pulses `i` to `j`, both included and from 0, by `by`, below 0 to earlier
+/// times. The marks of the letters that are true in `letters` move with them. `by` becomes its
+/// opposite, which leads back. Returns which pulses it touched: those that moved. The caller has
+/// tested that the shift can be made: so `by` is no longer than the track, and its opposite does
+/// not overflow.
 pub(crate) fn turn_shift(
     track: &mut Track,
     marks: &mut Marks,
@@ -77,8 +80,9 @@ pub(crate) fn turn_shift(
     span
 }
 
-/// Turns the setting of a mark: the mark and `time` are swapped, so `time` is then what leads back.
-/// `None` is a mark that is not set. `letter` is a number from 0: 0 is a.
+/// Turns the setting of a mark: sets the mark of a letter to `time`. Afterwards `time` is the
+/// former mark, which leads back. `None` is a mark that is not set. `letter` is a number from 0 (a)
+/// to 25.
 pub(crate) fn turn_mark(marks: &mut Marks, letter: usize, time: &mut Option<u64>)
     requires { letter < 26 }
     ensures marks { marks.new ≡ slice_set marks.old letter time.old }
@@ -89,8 +93,8 @@ pub(crate) fn turn_mark(marks: &mut Marks, letter: usize, time: &mut Option<u64>
     *time = before;
 }
 
-/// The format of a kind of time code, such as B, and the number of a coded expression, 0 to 7. The
-/// caller has tested that the kind permits it, so there is no error.
+/// The format that has this kind of time code, such as B, and this coded expression, 0 to 7. The
+/// caller has tested that the kind permits the expression, so `Format::new` has no error.
 pub(crate) fn permitted(kind: Kind, expression: u8) -> Format
     requires { IsTrue (is_permitted kind expression) }
     ensures { (result.kind ≡ kind) × (result.expression ≡ expression) }

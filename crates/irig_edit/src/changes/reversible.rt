@@ -69,19 +69,21 @@ impl Reversible for Present {
         let _track = self.track();
     }
 
-    // Whether the change of the turn, which is one single change (a group is several turns), can be
-    // made to the state as it is. The state stays.
+    // Whether the single change of the turn can be made to the state as it is. (A group is several
+    // turns, each asked for on its own.) The state stays.
     fn applies(&self, turn: &Turn) -> bool {
         self.allows(&turn.single)
     }
 
-    // Makes the room that the turn and its turn back take. State and change stay what they are. It
-    // fails only if memory runs out.
+    // Makes the room that the turn and its turn back take. State and change stay what they are. The
+    // change must be one that can be made. It fails only if memory runs out; places that were made
+    // until then stay.
     fn prepare(&mut self, turn: &mut Turn) -> Result<(), AllocError> {
         self.room_for(turn)
     }
 
-    // Makes the change, and leaves the one that leads back in `turn`. It takes no memory.
+    // Makes the change to the state, and leaves the change that leads back in `turn`. The change
+    // can be made and `prepare` has made room for it, so this takes no memory and cannot fail.
     fn turn(&mut self, turn: &mut Turn) {
         self.make_turn(turn);
     }

@@ -27,7 +27,8 @@ use std::alloc::AllocError;
 
 /// Whether a change can be made.
 impl Present {
-    /// Whether the level can be inverted from `a` to `b`, in microseconds, within the limits.
+    /// Whether the level can be inverted from `a` to `b`, in microseconds, within the limits. It is
+    /// false, too, unless `a < b` and `b` is within the length.
     pub(crate) fn can_toggle(&self, a: u64, b: u64) -> bool
         ensures { IsTrue result ↔ CanToggle self.now.state.micros a b self.now.state.pulses }
     {
@@ -47,7 +48,7 @@ impl Present {
     }
 
     /// Whether `count` pulses from `at` on, from 0, can be replaced by those of `put` within the
-    /// limits.
+    /// limits. It is false, too, if the pulses that would go are not all there.
     fn can_splice(&self, at: usize, count: usize, put: &Pulses) -> bool
         ensures { IsTrue result ↔ CanSplice self.now.state.micros at count put.now
             self.now.state.pulses }
@@ -56,8 +57,9 @@ impl Present {
     }
 
     /// Whether the pulses `i` to `j`, both included and from 0, can be moved by `by` microseconds
-    /// within the limits, and the marks of the letters that are true in `letters` with them: each
-    /// has to be set and to stay within the length.
+    /// within the limits, and the marks of the letters that are true in `letters` with them. Each
+    /// of these marks has to be set and to stay within the length. It is false, too, if one of the
+    /// pulses is not there.
     fn can_move(&self, i: usize, j: usize, by: i64, letters: &Letters) -> bool
         ensures { IsTrue result ↔ CanShift self.now.state.micros i j by self.now.state.pulses
             × AllMayMove self.now.state.micros by letters.now self.now.state.marks
@@ -68,10 +70,10 @@ impl Present {
         self.can_shift(i, j, by) && all_may_move(&self.marks, letters, by, self.track.length())
     }
 
-    /// Whether a single change, whose pulses count from 1, can be made within the limits. One that
-    /// names a pulse 0 cannot: a saved journal, the history of a session as text, can have it, and
-    /// 0 less 1 would wrap. Whether all other pulses are there is tested by `can_splice` and
-    /// `can_move`.
+    /// Whether a single change, whose pulses count from 1, can be made within the limits. A change
+    /// that names a pulse 0 cannot: a saved journal, the history of a session as text, can have
+    /// such a change, and 0 less 1 would wrap. `can_splice` and `can_move` test whether the pulses
+    /// are there. A format has to be permitted, and the time of a mark has to be within the length.
     pub(crate) fn allows(&self, single: &Single) -> bool
         ensures { IsTrue result ↔ FitsSingle self.now.state single.now }
     {
@@ -92,9 +94,10 @@ impl Present {
 
 /// Room for turns.
 impl Present {
-    /// Makes room for a turn of a single change and for its turn back: for records of frames, for
-    /// pulses that come, and for pulses that go. The change stays what it is, and must be one that
-    /// can be made. It fails only if memory runs out; what was reserved until then stays.
+    /// Makes room for a turn of a single change and for its turn back: in the index for records of
+    /// frames, in the track for pulses that come, and in `turn` for pulses that go. The change must
+    /// be one that can be made; it is not made here. It fails only if memory runs out; what was
+    /// reserved until then stays.
     pub(crate) fn room_for(&mut self, turn: &mut Turn) -> Result<(), AllocError>
         requires fits { FitsSingle self.old.state (single_of turn.old) }
         ensures known { IsState self.old.state }
@@ -112,12 +115,14 @@ impl Present {
         self.index.reserve(records)
     }
 
-    /// How many records a turn of a single change adds, at most, to those there are. A frame begins
-    /// with a marker, a position identifier after another one. So a change can bring frames that
-    /// begin in its new pulses, and two more, by its first new pulse with the one before it and by
-    /// the pulse after it. All numbers here are upper bounds, which do not have to be reached.
-    /// `markers_among` counts the markers of new pulses as if they were a track of their own. A
-    /// shift keeps the distances among its pulses, so it brings only those two.
+    /// How many records a turn of a single change adds, at most, to those there are; it is an upper
+    /// bound, which does not have to be reached. The change must be one that can be made.
+    ///
+    /// A frame begins with a marker, a position identifier after another one. So a change can bring
+    /// frames that begin in its new pulses, and two more: at its first new pulse, with the pulse
+    /// before it, and at the pulse after its last one. `markers_among` counts the markers of new
+    /// pulses as if they were a track of their own. A shift keeps the distances among its pulses,
+    /// so it brings only those two. A mark brings none.
     fn records_for(&self, single: &Single) -> usize
         requires fits { FitsSingle self.now.state single.now }
         ensures records { result ≡ records_for self.now.state single.now }
@@ -129,13 +134,15 @@ impl Present {
             Single::Toggle { a, b } => {
                 // A toggle touches at most one pulse more than those that rise after `a` up to `b`,
                 // and leaves one more than it touches: with the 2, that is 4. The track gets one
-                // pulse more at most: with the 2, that is 3 more than it has.
+                // pulse more at most: with the 2, that is 3 more than it has. `a` is before `b`, so
+                // the difference does not saturate.
                 let between = self.find(*b).saturating_sub(self.find(*a));
                 (between + 4).min(pulses + 3)
             }
             Single::Shift { .. } => 2,
             Single::SetFormat { kind, expression } => {
-                // All frames are read again, so their new count is what matters.
+                // All frames are read again, so their new count is what matters. If it is less than
+                // the present one, no record is added: 0.
                 let format = permitted(*kind, *expression);
                 Index::count(&mut self.track.lens(), format).saturating_sub(self.index.len())
             }
@@ -143,9 +150,10 @@ impl Present {
         }
     }
 
-    /// Makes places in the track for the pulses that a single change inserts, beyond those that go.
-    /// A toggle brings one pulse more than it takes, at most, and needs one more place while it is
-    /// made. It fails only if memory runs out.
+    /// Makes places in the track for the pulses that a single change inserts, beyond the places of
+    /// those that it removes; none if it removes more. A toggle leaves at most one pulse more than
+    /// before, and needs one more place while it is made: 2. Other changes need none. It fails only
+    /// if memory runs out. The state stays.
     fn reserve_put(&mut self, single: &Single) -> Result<(), AllocError>
         ensures state { self.new.state ≡ self.old.state }
         ensures index { self.new.index ≡ self.old.index }

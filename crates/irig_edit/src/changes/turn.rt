@@ -11,8 +11,10 @@ use irig_saved::Single;
 use irig_track::Pulse;
 use std::alloc::AllocError;
 
-/// A single change of a state, with places for the pulses that go by its turn. The turn leaves the
-/// one that leads back.
+/// A single change of a state, with places for the pulses that its turn removes. The turn leaves
+/// the change that leads back in it. `goes` in a contract is how many pulses the turn removes: the
+/// `count` of a splice, 0 for other changes. `tight` bounds the capacity of `taken`: one and a half
+/// times that number, plus one.
 #[derive(Drop)]
 pub struct Turn {
     /// The change.
@@ -24,7 +26,8 @@ pub struct Turn {
 }
 
 impl Turn {
-    /// How many pulses the change holds in memory: those that a splice inserts.
+    /// How many pulses the change holds in memory: those that a splice inserts; 0 for other
+    /// changes. The places of `taken` do not count.
     pub(crate) fn held(&self) -> usize
         ensures { result ≡ held_in self.now.single }
     {
@@ -37,8 +40,9 @@ impl Turn {
         }
     }
 
-    /// Makes places for the pulses that go: a splice removes `count`; other changes need none. It
-    /// fails only if memory runs out.
+    /// Makes places in `taken` for the pulses that the turn removes: `count` of them for a splice;
+    /// other changes need none. The change stays. It fails only if memory runs out, never if the
+    /// places are there already.
     pub(crate) fn reserve_taken(&mut self) -> Result<(), AllocError>
         ensures same { self.new.single ≡ self.old.single }
         ensures takes { OnOk result (goes self.new.single ≤ self.new.taken.capacity) }

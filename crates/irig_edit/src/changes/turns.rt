@@ -4,8 +4,10 @@
 //! the change was found possible, and room was made for it (`room`), so nothing fails here. A
 //! splice replaces pulses by others, a toggle inverts the level between two times, and a shift
 //! moves pulses. The index holds the frames of the track; a span says which pulses a turn touched,
-//! and `repair` reads the frames again that these may have changed. Times are in microseconds. A
-//! change counts pulses from 1, a track from 0.
+//! and `repair` reads the frames again that these may have changed. A look is one read of a pulse
+//! for this; the clauses `looks` bound their number by the pulses that a turn touched. The places
+//! of a state (`places_in`) are how many pulses and frames it has room for. Times are in
+//! microseconds. A change counts pulses from 1, a track from 0.
 //!
 //! What is marked "Read for .." does nothing: it only lets the proof use what a type promises.
 
@@ -33,7 +35,8 @@ use irig_track::Pulse;
 
 /// The turns that move pulses or frames.
 impl Present {
-    /// Turns a single change, which has room for its turn back afterwards. This takes no memory.
+    /// Turns the single change of `turn`: makes it, with the frames repaired, and leaves the change
+    /// that leads back in `turn`, with room for its own turn. This takes no memory.
     pub(crate) fn make_turn(&mut self, turn: &mut Turn)
         requires fits { FitsSingle self.old.state (single_of turn.old) }
         requires room { HasRoomFor (places_in self.old) self.old.state turn.old }
@@ -50,8 +53,10 @@ impl Present {
         self.turn_single(&mut turn.single, &mut turn.taken);
     }
 
-    /// Turns a single change by its kind. `taken` has places for the pulses that a splice removes.
-    /// A change that was found possible names no pulse 0, so the less 1 does not wrap.
+    /// Turns a single change by its kind, and leaves the change that leads back in `single`.
+    /// `taken` is empty, with places for the pulses that a splice removes; afterwards it is empty
+    /// again. A change that was found possible names no pulse 0, so `at - 1` does not wrap. A mark
+    /// has nothing to do with frames, so `turn_mark` alone is enough for it.
     fn turn_single(&mut self, single: &mut Single, taken: &mut Gap<Pulse>)
         requires fits { FitsSingle self.old.state single.old }
         requires empty { taken.old.items ≡ [] }
@@ -80,9 +85,10 @@ impl Present {
         }
     }
 
-    /// Turns a splice: replaces `count` pulses from `at` on, from 0, by those of `put`. Then `put`
-    /// holds the pulses that went, and `count` how many came, which leads back. `taken` is empty,
-    /// with places for the pulses that go.
+    /// Turns a splice: replaces `count` pulses from `at` on, from 0, by those of `put`. Afterwards
+    /// `put` holds the pulses that went and `count` says how many came: the splice of these leads
+    /// back. `taken` is empty, with places for the pulses that go; afterwards it is empty again,
+    /// with places for those that came.
     fn splice(&mut self, at: usize, count: &mut u64, put: &mut Pulses, taken: &mut Gap<Pulse>)
         requires can { CanSplice self.old.state.micros at count.old put.old
             self.old.state.pulses }
@@ -106,8 +112,9 @@ impl Present {
         self.index.repair(&mut self.track.lens(), self.format, span);
     }
 
-    /// Turns a toggle from time `a` to time `b`; the same toggle leads back. While it is made there
-    /// can be one pulse more than before and after, so there has to be room for one.
+    /// Turns a toggle: inverts the level from time `a` to time `b`; the same toggle leads back.
+    /// While it is made there can be one pulse more than before and afterwards, so the track must
+    /// have a free place.
     fn toggle(&mut self, a: u64, b: u64)
         requires can { CanToggle self.old.state.micros a b self.old.state.pulses }
         requires before { HoldsState (places_in self.old) 1 self.old.state }
@@ -123,9 +130,9 @@ impl Present {
         self.index.repair(&mut self.track.lens(), self.format, span);
     }
 
-    /// Turns a shift. The caller has seen that `single` is one, so no other kind comes. Its
-    /// distance becomes its opposite, which leads back. It is written after the shift, which still
-    /// reads the marks in `single`.
+    /// Turns a shift. The caller has seen that `single` is a shift, so no other kind comes. The
+    /// distance in `single` becomes its opposite, which leads back. It is set only after the pulses
+    /// have moved: until then `marks` in `single` is borrowed.
     fn turn_shift(&mut self, single: &mut Single)
         requires shift { IsShift single.old }
         requires fits { FitsSingle self.old.state single.old }
@@ -172,9 +179,9 @@ impl Present {
         back
     }
 
-    /// Turns the setting of a format, a kind of time code and the number of its coded expression:
-    /// `kind` and `expression` become those of the former format, which leads back. All frames are
-    /// read again in the new format.
+    /// Turns the setting of a format: a kind of time code and the number of its coded expression,
+    /// which the kind permits. Afterwards `kind` and `expression` are those of the former format,
+    /// which leads back. All frames are read again in the new format, so the looks have no bound.
     fn set_format(&mut self, kind: &mut Kind, expression: &mut u8)
         requires permitted { IsTrue (is_permitted kind.old expression.old) }
         requires holds { HoldsState (places_in self.old) 0 (state self.old.state.micros

@@ -5,6 +5,10 @@
 //! refuses nothing, `splice` replaces `count` pulses from `first` on by the list `put`, as a step
 //! that leaves the cursor at `cursor`; these are its arguments, in this order. A step is what one
 //! undo reverses; the cursor is the number of a pulse, or 0 before the first.
+//!
+//! In a contract `judgement_of` is the first refusal of the edit, if it has one. `Plans` says that
+//! it has none, and what `splice` gets then. `Steps` says that the call makes the edit or is
+//! refused; `LooksAfter` bounds how often it reads a pulse to keep the frames true.
 
 ghost use Rattle.std.specs.Prelude.{◌≡◌, ◌+◌, ◌-◌, ◌≤◌, [], Some, MatchResult, OnOk};
 ghost use Rattle.irig_edit.specs.Edits.Becoming.{Plans, judgement_of};
@@ -34,8 +38,8 @@ fn plan(present: &Present, i: usize, j: usize) -> Result<usize, Refusal>
 }
 
 impl Session {
-    /// Removes the pulses `i` to `j`, both included and from 1. The cursor goes to the pulse after
-    /// them, or if there is none to the last one, or to 0 if none is left.
+    /// Removes the pulses `i` to `j`, both included and from 1. The cursor goes to the pulse that
+    /// was after them; if there was none, to the last pulse that is left, or to 0 if none is left.
     ///
     /// E2 unless the pulses are there and `i` is not above `j`.
     pub fn delete(&mut self, i: usize, j: usize) -> Result<(), Refusal>

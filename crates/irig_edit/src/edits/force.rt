@@ -1,4 +1,4 @@
-//! A pulse gets the width of an element.
+//! A pulse gets the width of an element: of a zero, a one or a position identifier.
 //!
 //! Pulses count from 1, and times are in microseconds. `plan` judges the edit and changes nothing.
 //! Its refusals: E1 is `OutOfRange`, E2 `NoPulse`, E3 `Touching`. If memory runs out, E11, nothing
@@ -6,6 +6,10 @@
 //! the list `put`, as a step that leaves the cursor at `cursor`; these are its arguments, in this
 //! order. A step is what one undo reverses; the cursor is the number of a pulse, or 0 before the
 //! first.
+//!
+//! In a contract `judgement_of` is the first refusal of the edit, if it has one. `Plans` says that
+//! it has none, and what `splice` gets then. `Steps` says that the call makes the edit or is
+//! refused; `LooksAfter` bounds how often it reads a pulse to keep the frames true.
 
 ghost use Rattle.std.specs.Prelude.{◌≡◌, ◌≤◌, [], ◌∷◌, Some, MatchResult, length};
 ghost use Rattle.irig_edit.specs.Edits.Becoming.{Plans, judgement_of};
@@ -20,9 +24,10 @@ use crate::state::present::Present;
 use irig_codes::{Element, nominal};
 use irig_track::Pulse;
 
-/// What becomes of pulse `i`: the same rise, and a fall that gives it the nominal width of an
-/// element. It is refused if the pulse is not there, or the fall comes after the length or meets
-/// the next pulse. `NoPulse` is tested first, as only a pulse that is there gets a fall.
+/// The pulse that replaces pulse `i`: the same rise, and a fall that gives it the nominal width of
+/// an element. `NoPulse` if pulse `i` is not there; `OutOfRange` if the new fall is after the
+/// length; `Touching` if it is at or after the next rise. `NoPulse`, E2, is tested before E1, since
+/// only a pulse that is there has a new fall.
 fn plan(present: &Present, i: usize, element: Element) -> Result<Pulse, Refusal>
     ensures { MatchResult result
         (λ p. Plans (Force i element) present.now.state i 1 (p ∷ []) i)
@@ -43,8 +48,8 @@ fn plan(present: &Present, i: usize, element: Element) -> Result<Pulse, Refusal>
     Ok(Pulse { rise, fall })
 }
 
-/// Whether there is a pulse after pulse `i`, and it rises at or before a time, in microseconds:
-/// then a pulse that falls at that time would touch it.
+/// Whether there is a pulse after pulse `i`, and this next pulse rises at or before a time, in
+/// microseconds: if pulse `i` fell at that time, it would touch the next one.
 fn meets_next(present: &Present, i: usize, time: u64) -> bool
     requires { i ≤ length present.now.state.pulses }
     ensures { result ≡ meets_next i time present.now.state }

@@ -17,8 +17,8 @@ use irig_saved::Pulses;
 use irig_track::Pulse;
 use std::alloc::{AllocError, Global};
 
-/// How long this many frames of a format, 10,000 at most (the limit of `regen`), are together, in
-/// microseconds: 100 intervals each.
+/// How long this many frames of a format are together, in microseconds: 100 intervals each. There
+/// are at most 10,000, the limit of `regen`, and an interval has at most 100,000 microseconds.
 pub(crate) fn span(format: Format, frames: u64) -> u64
     requires { frames ≤ 10000 }
     ensures value { result ≡ 100 * frames * interval_of format.kind }
@@ -27,11 +27,14 @@ pub(crate) fn span(format: Format, frames: u64) -> u64
     100 * frames * format.interval()
 }
 
-/// The pulses of `frames` frames, one after the other, from `start` on: at most 10,000, which end
-/// within the longest length, 2^40 microseconds. The first frame carries the moment, each later one
-/// a frame period more than the one before it; all carry the control functions `control`, whose
-/// lowest bit is the first control element. `fields` gives the fields of frame `k`, and `encode`
-/// its 100 elements. It fails only if memory runs out.
+/// The pulses of `frames` frames, one after the other, from `start` on. The caller has tested what
+/// the contract asks for: at most 10,000 frames, which end within 2^40 microseconds, the longest
+/// track; a frame can begin at the moment; the format has an element for each bit of `control`.
+///
+/// The first frame carries the moment, each later one a frame period more than the one before it;
+/// all carry the control functions `control`, whose lowest bit is the first control element.
+/// `fields` gives the fields of frame `k`, and `encode` its 100 elements. It fails only if memory
+/// runs out.
 pub(crate) fn pulses_of(
     alloc: Global,
     format: Format,
@@ -55,8 +58,10 @@ pub(crate) fn pulses_of(
     Ok(Pulses::of(pulses))
 }
 
-/// Adds the pulses of frame `k`, from 0, after those of `pulses`, by its elements: `nominal` is the
-/// width of one. Frame 0 begins at `start`, in microseconds. The buffer has room for them.
+/// Adds the 100 pulses of frame `k`, from 0, after those of `pulses`. Frame 0 begins at `start`, in
+/// microseconds, so pulse `element` of frame `k` rises `100 * k + element` intervals later; its
+/// width is the nominal one of its element. The buffer has room for them, and its place is at the
+/// end, so `put` adds there.
 fn put_frame(pulses: &mut Gap<Pulse>, format: Format, start: u64, k: u64, elements: &[Element; 100])
     requires last { pulses.old.place ≡ length pulses.old.items }
     requires room { length pulses.old.items + 100 ≤ pulses.old.capacity }

@@ -6,6 +6,10 @@
 //! the list `put`, as a step that leaves the cursor at `cursor`; these are its arguments, in this
 //! order. A step is what one undo reverses; the cursor is the number of a pulse, or 0 before the
 //! first.
+//!
+//! In a contract `judgement_of` is the first refusal of the edit, if it has one. `Plans` says that
+//! it has none, and what `splice` gets then. `Steps` says that the call makes the edit or is
+//! refused; `LooksAfter` bounds how often it reads a pulse to keep the frames true.
 
 ghost use Rattle.std.specs.Prelude.{◌≡◌, [], ◌∷◌, Some, MatchResult};
 ghost use Rattle.irig_track.specs.Edges.{pulse};
@@ -19,10 +23,11 @@ use crate::session::session::Session;
 use crate::state::present::Present;
 use irig_track::Pulse;
 
-/// The number that a pulse from time `a` to time `b` gets, if it can be inserted: one more than how
-/// many pulses rise at or before `b`. No other pulse may have a part from `a` to `b`, the ends
-/// included, so all these are before it. `room` is how many more pulses the limit of 2^22 permits.
-/// The checks come in the order of the refusals' numbers.
+/// The number that a new pulse from time `a` to time `b` gets, if it can be inserted. `OutOfRange`
+/// unless `a < b` and `b` is within the length; `Touching` if a pulse has a part from `a` to `b`,
+/// the ends included; `TooMany` if `room`, how many more pulses the limit of 2^22 permits, is 0.
+/// The first that holds in this order is the answer. If none holds, all pulses that rise at or
+/// before `b` are before the new one, so its number is one more than their count (`find`).
 fn plan(present: &Present, a: u64, b: u64) -> Result<usize, Refusal>
     ensures { MatchResult result
         (λ i. Plans (Insert a b) present.now.state i 0 (pulse a b ∷ []) i)
@@ -42,7 +47,8 @@ fn plan(present: &Present, a: u64, b: u64) -> Result<usize, Refusal>
 }
 
 impl Session {
-    /// Inserts a pulse that rises at `a` and falls at `b`, in microseconds. The cursor goes to it.
+    /// Inserts a pulse that rises at `a` and falls at `b`, in microseconds. The cursor goes to this
+    /// new pulse.
     ///
     /// E1 unless `a < b` and `b` is within the length; E3 if an edge lies from `a` to `b` or the
     /// level at `a` is high; E5 if there are 2^22 pulses.

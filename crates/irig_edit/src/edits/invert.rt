@@ -5,6 +5,10 @@
 //! If `plan` refuses nothing, `change` makes a single change, as a step that leaves the cursor at
 //! its second argument. A step is what one undo reverses; the cursor is the number of a pulse, or 0
 //! before the first.
+//!
+//! In a contract `judgement_of` is the first refusal of the edit, if it has one. `Steps` says that
+//! the call makes the edit or is refused; `LooksAfter` bounds how often it reads a pulse to keep
+//! the frames true.
 
 ghost use Rattle.std.specs.Prelude.{◌≡◌, None, Some, IfErr, OnOk};
 ghost use Rattle.irig_track.specs.Toggles.{CanToggle};
@@ -17,9 +21,9 @@ use crate::session::session::Session;
 use crate::state::present::Present;
 use irig_saved::Single;
 
-/// Whether the level can be inverted from time `a` to time `b`: they are in order and within the
-/// length, and there are not too many pulses afterwards. With such times, `can_toggle` is false
-/// only for that last reason.
+/// `Ok` if the level can be inverted from time `a` to time `b`. `OutOfRange` unless `a < b` and `b`
+/// is within the length; `TooMany` if there would be more than 2^22 pulses. With times that are
+/// right, `can_toggle` is false only if there would be too many pulses.
 fn plan(present: &Present, a: u64, b: u64) -> Result<(), Refusal>
     ensures refused { IfErr result (λ e. judgement_of (Invert a b) present.now.state ≡ Some e) }
     ensures allowed { OnOk result (judgement_of (Invert a b) present.now.state ≡ None) }
@@ -36,9 +40,10 @@ fn plan(present: &Present, a: u64, b: u64) -> Result<(), Refusal>
 }
 
 impl Session {
-    /// Inverts the level from `a` to `b`, in microseconds: an edge that is at one of them goes, and
-    /// if none is there one comes. The cursor goes to the last pulse that rises at or before `b`,
-    /// which is known only after the change; so the change leaves it at 0 first.
+    /// Inverts the level from `a` to `b`, in microseconds: if there is an edge at one of these
+    /// times it goes, and if there is none, one comes. The cursor goes to the last pulse that rises
+    /// at or before `b`, or to 0 if there is none. Its number is known only after the change, so
+    /// `change` sets the cursor to 0 first.
     ///
     /// E1 unless `a < b` and `b` is within the length; E5 if there would be more than 2^22 pulses.
     pub fn invert(&mut self, a: u64, b: u64) -> Result<(), Refusal>

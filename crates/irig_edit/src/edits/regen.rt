@@ -8,6 +8,10 @@
 //! carries. A step is what one undo reverses; the cursor is the number of a pulse, or 0 before the
 //! first.
 //!
+//! In a contract `judgement_of` is the first refusal of the edit, if it has one. `Plans` says that
+//! it has none, and what `splice` gets then. `Steps` says that the call makes the edit or is
+//! refused; `LooksAfter` bounds how often it reads a pulse to keep the frames true.
+//!
 //! What is marked "Read for .." does nothing: it only lets the proof use what a type promises.
 
 ghost use Rattle.std.specs.Prelude.{◌≡◌, ◌+◌, ◌-◌, ◌*◌, ◌^◌, ◌<◌, ◌≤◌, None, Some, IfOk, OnOk};
@@ -28,15 +32,16 @@ use crate::state::present::Present;
 use irig_codes::control_count;
 use irig_moment::Moment;
 
-/// The pulses that rise in a stretch of time: the number of the first, from 1, and how many.
+/// The pulses that rise in a stretch of time: the number of the first, from 1, and how many there
+/// are. If there are none, `first` is the number that a new pulse there gets.
 #[derive(Clone, Copy)]
 struct Stretch {
     first: usize,
     count: usize,
 }
 
-/// The time at which frames from `start` on end, if there are `frames` of them. `None` unless they
-/// are 1 to 10,000, this project's own limit, and end within the length.
+/// The time at which `frames` frames from `start` on end. `None` unless `frames` is 1 to 10,000,
+/// this project's own limit, and the frames end within the length.
 fn end_of(present: &Present, start: u64, frames: u64) -> Option<u64>
     ensures { result ≡ (if are_frames start frames present.now.state
         then Some (frames_end present.now.state.format start frames) else None) }
@@ -53,7 +58,7 @@ fn end_of(present: &Present, start: u64, frames: u64) -> Option<u64>
 }
 
 /// How many pulses rise before a time, in microseconds. `find` counts those that rise at or before
-/// a time, so it is asked for the microsecond before; before 0 there is none.
+/// a time, so it is asked for the microsecond before. No pulse rises before 0.
 fn rising_before(present: &Present, time: u64) -> usize
     ensures count { result ≡ length (rising_before time present.now.state.pulses) }
     ensures within { result ≤ length present.now.state.pulses }
@@ -64,9 +69,9 @@ fn rising_before(present: &Present, time: u64) -> usize
     if time == 0 { 0 } else { present.find(time - 1) }
 }
 
-/// Whether a pulse rises before `time` and falls at `time` or later, so that a pulse that rises at
-/// `time` would touch it. `risen` is how many pulses rise before `time`: only the last of these can
-/// fall so late.
+/// Whether a pulse rises before `time` and falls at `time` or later: a new pulse that rises at
+/// `time` would touch it. `risen` is how many pulses rise before `time`, which the caller has
+/// counted. Only the last of these can fall at `time` or later.
 fn is_met(present: &Present, risen: usize, time: u64) -> bool
     requires count { risen ≡ length (rising_before time present.now.state.pulses) }
     requires within { risen ≤ length present.now.state.pulses }
@@ -78,11 +83,15 @@ fn is_met(present: &Present, risen: usize, time: u64) -> bool
 }
 
 /// The pulses that `frames` frames from `start` on replace: those that rise from the start up to
-/// the end of the frames, which is not included. The checks come in the order of the refusals'
-/// numbers. A pulse at the end needs no check: the last new pulse falls before it. `room` is how
-/// many more pulses the limit of 2^22 permits; those that go make room, too. No frame begins at a
-/// moment for which `starts` is false. `control_count` is how many bits the format has for
-/// `control`: no higher bit may be set.
+/// the end of the frames, which is not included. Else the first refusal in this order:
+///
+/// - `OutOfRange` unless there are 1 to 10,000 frames, which end within the length.
+/// - `Touching` if a pulse from before the start falls at it or later. A pulse at the end needs no
+///   test: the last new pulse falls before the end.
+/// - `TooMany` if there would be more than 2^22 pulses. `room` is how many more the track may have;
+///   the `count` pulses that go make room, too. A frame has 100.
+/// - `BadTime` if no frame of the format begins at the moment (`starts`).
+/// - `BadControl` if `control` has a bit above those that the format carries (`control_count`).
 fn plan(
     present: &Present,
     start: u64,
@@ -126,10 +135,10 @@ fn plan(
 }
 
 impl Session {
-    /// Fills the time from a start on, in microseconds, with frames of nominal pulses: the pulses
-    /// that rise in it go. The first frame carries the moment, each later one a frame period more,
-    /// and all have the control functions `control`, whose lowest bit is the first control element.
-    /// The cursor goes to the last new pulse.
+    /// Fills the time from `start` on, in microseconds, with frames in the session's format, of
+    /// pulses of nominal width. The pulses that rise in that time go. The first frame carries the
+    /// moment, each later one a frame period more, and all have the control functions `control`,
+    /// whose lowest bit is the first control element. The cursor goes to the last new pulse.
     ///
     /// E1 unless there are 1 to 10,000 frames, which end within the length; E3 if a pulse rises
     /// before the start and falls at it or after it; E5 if there would be more than 2^22 pulses; E7
@@ -149,7 +158,7 @@ impl Session {
         let stretch = plan(&self.present, start, frames, moment, control)?;
         let format = self.present.format();
         let put = pulses_of(self.alloc, format, start, frames, moment, control)?;
-        // The pulses before the stretch, and 100 of each frame: the last new pulse.
+        // The number of the last new pulse: after those before the stretch come 100 a frame.
         let cursor = stretch.first - 1 + 100 * frames as usize;
         self.splice(stretch.first, stretch.count, put, cursor)
     }

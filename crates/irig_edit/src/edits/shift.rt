@@ -5,6 +5,10 @@
 //! changes either. If `plan` refuses nothing, `change` makes a single change, as a step that leaves
 //! the cursor at its second argument. A step is what one undo reverses; the cursor is the number of
 //! a pulse, or 0 before the first.
+//!
+//! In a contract `judgement_of` is the first refusal of the edit, if it has one. `Steps` says that
+//! the call makes the edit or is refused; `LooksAfter` bounds how often it reads a pulse to keep
+//! the frames true.
 
 ghost use Rattle.std.specs.Prelude.{◌≡◌, ◌-◌, ◌≤◌, None, Some, IfOk, IfErr, OnOk, length};
 ghost use Rattle.irig_track.specs.Shifts.{CanShift};
@@ -20,9 +24,10 @@ use crate::session::session::Session;
 use crate::state::present::Present;
 use irig_saved::Single;
 
-/// Whether the pulses `i` to `j`, moved by `by`, leave the track: the first would rise before 0, or
-/// the last fall after the length. Each side of a comparison is a time or a sum, since a difference
-/// could go below 0. No sum overflows: times are at most 2^40, and a distance at most 2^63.
+/// Whether the pulses `i` to `j`, moved by `by` microseconds, would leave the track: the first
+/// would rise before 0, or the last would fall after the length. Each side of a comparison is a
+/// time or a sum, since a difference could go below 0. No sum overflows: times are at most 2^40,
+/// and a distance at most 2^63.
 fn leaves(present: &Present, i: usize, j: usize, by: i64) -> bool
     requires { (1 ≤ i) × (i ≤ j) × (j ≤ length present.now.state.pulses) }
     ensures { result ≡ leaves i j by present.now.state }
@@ -38,9 +43,11 @@ fn leaves(present: &Present, i: usize, j: usize, by: i64) -> bool
     }
 }
 
-/// Whether the pulses `i` to `j` can be moved by `by`; if not, why. `NoPulse` is tested first, as
-/// `leaves` reads the pulses. `can_shift`, which counts pulses from 0, tests all limits at once;
-/// the other reasons are tested before it, so if it says no, the pulses would touch others.
+/// `Ok` if the pulses `i` to `j` can be moved by `by` microseconds. `NoPulse` unless they are there
+/// and `i` is not above `j`; `OutOfRange` if they would leave the track; `Touching` if they would
+/// touch others. `NoPulse`, E2, is tested before E1, since `leaves` reads the pulses. `can_shift`,
+/// which counts pulses from 0, tests all limits: after the other tests it is false only if the
+/// pulses would touch others.
 fn judge(present: &Present, i: usize, j: usize, by: i64) -> Result<(), Refusal>
     ensures refused { IfErr result (λ e. judgement_of (Shift i j by) present.now.state ≡ Some e) }
     ensures allowed { OnOk result (judgement_of (Shift i j by) present.now.state ≡ None) }
@@ -61,8 +68,10 @@ fn judge(present: &Present, i: usize, j: usize, by: i64) -> Result<(), Refusal>
     }
 }
 
-/// The change that moves the pulses `i` to `j` by `by`, and the marks from the rise of the first to
-/// the fall of the last, both included, with them; or why they cannot be moved.
+/// The change that moves the pulses `i` to `j` by `by` microseconds, and with them each mark from
+/// the rise of the first to the fall of the last, both included. The refusals are those of `judge`:
+/// `NoPulse`, `OutOfRange`, `Touching`. In the contract `Becomes` says that this change leads to
+/// what the edit asks for, and `change_by` is the change that the edit makes.
 fn plan(present: &Present, i: usize, j: usize, by: i64) -> Result<Single, Refusal>
     ensures refused { IfErr result (λ e. judgement_of (Shift i j by) present.now.state ≡ Some e) }
     ensures allowed { OnOk result (judgement_of (Shift i j by) present.now.state ≡ None) }
@@ -86,8 +95,8 @@ impl Session {
     /// earlier times. Each mark from the rise of the first to the fall of the last moves with them.
     /// The cursor goes to pulse `j`.
     ///
-    /// E1 if the moved pulses leave the track; E2 unless the pulses are there; E3 if they meet the
-    /// pulse before them or the one after.
+    /// E1 if the moved pulses would leave the track; E2 unless the pulses are there and `i` is not
+    /// above `j`; E3 if they would touch the pulse before them or the one after.
     pub fn shift(&mut self, i: usize, j: usize, by: i64) -> Result<(), Refusal>
         ensures step { Steps (Make (Shift i j by)) self.old result self.new }
         ensures looks { LooksAfter (Make (Shift i j by)) self.old result self.new }

@@ -6,6 +6,10 @@
 //! from `first` on by the list `put`, as a step that leaves the cursor at `cursor`; these are its
 //! arguments, in this order. A step is what one undo reverses; the cursor is the number of a pulse,
 //! or 0 before the first.
+//!
+//! In a contract `judgement_of` is the first refusal of the edit, if it has one. `Plans` says that
+//! it has none, and what `splice` gets then. `Steps` says that the call makes the edit or is
+//! refused; `LooksAfter` bounds how often it reads a pulse to keep the frames true.
 
 ghost use Rattle.std.specs.Prelude.{◌≡◌, ◌+◌, [], ◌∷◌, Some, MatchResult};
 ghost use Rattle.irig_track.specs.Edges.{pulse};
@@ -19,9 +23,10 @@ use crate::session::session::Session;
 use crate::state::present::Present;
 use irig_track::Pulse;
 
-/// Pulse `i` as it is, if it can be made low from time `a` to time `b`: both lie inside of it, not
-/// at its edges, and there is room for one pulse more: `room` is how many the limit of 2^22 still
-/// permits. The checks come in the order of the refusals' numbers.
+/// Pulse `i` as it is, if it can be made low from time `a` to time `b`. `OutOfRange` unless `a < b`
+/// and `b` is within the length; `NoPulse` unless pulse `i` is there; `NotInside` unless both times
+/// lie inside of it, not at its edges; `TooMany` if `room`, how many more pulses the limit of 2^22
+/// permits, is 0. The first that holds in this order is the answer.
 fn plan(present: &Present, i: usize, a: u64, b: u64) -> Result<Pulse, Refusal>
     ensures { MatchResult result
         (λ p. Plans (Split i a b) present.now.state i 1
@@ -46,8 +51,8 @@ fn plan(present: &Present, i: usize, a: u64, b: u64) -> Result<Pulse, Refusal>
 }
 
 impl Session {
-    /// Makes the level low from `a` to `b`, in microseconds, inside of pulse `i`, from 1. The
-    /// cursor goes to the second part.
+    /// Makes the level low from `a` to `b`, in microseconds, inside of pulse `i`, from 1. So the
+    /// pulse becomes two, and the cursor goes to the second of them.
     ///
     /// E1 unless `a < b` and `b` is within the length; E2 unless the pulse is there; E4 unless both
     /// times lie inside of it, not at its edges; E5 if there are 2^22 pulses.

@@ -3,7 +3,8 @@
 //!
 //! The text of a journal: line 1 names it, line 2 is the format, line 3 the cursor, and from line 4
 //! on each mark that is set has a line. Then comes the line that counts the steps back. Marks are
-//! times in microseconds.
+//! times in microseconds. In a contract `head_fault` and `mark_beyond` are the first line at fault
+//! before the steps, if there is one; `IsBad` is `BadJournal` with such a line, or `OutOfMemory`.
 //!
 //! Where `match` hands an error on, `?` would do the same; the proof of it takes longer.
 
@@ -23,10 +24,11 @@ use irig_saved::{Marks, Saved};
 use irig_vcd::VcdFault;
 use std::alloc::Global;
 
-/// The state of a recording with format, cursor and marks of a journal, as a `Walk` with no steps
-/// yet (a state with its cursor and its steps); and the number, from 1, of the line after its
-/// marks. `BadJournal` has the number of the line at fault, from 1. Format, cursor and marks are
-/// judged before memory is taken; after that the only error is `OutOfMemory`.
+/// The state of a recording with the format, cursor and marks of a journal, as a `Walk` (a state
+/// with its cursor and its steps), which has no steps yet; and the number, from 1, of the journal's
+/// line after its marks. `BadJournal`, with the number of the first line at fault, if the format is
+/// not permitted, or the cursor or a mark is beyond the recording. All this is judged before memory
+/// is taken; after that the only error is `OutOfMemory`.
 pub(crate) fn start(
     alloc: Global,
     recording: Recording,
@@ -58,7 +60,7 @@ pub(crate) fn start(
 /// Judges the lines of a journal before its steps. Returns its format, and the number of the line
 /// after its marks, from 1. The format has to be permitted, the cursor at most the number of pulses
 /// and no mark beyond the length. Else the error is the number of the first line at fault, from 1:
-/// 2 is that of the format, 3 that of the cursor.
+/// 2 for the format, 3 for the cursor, from 4 on for a mark.
 fn head_of(recording: &Recording, saved: &Saved) -> Result<(Format, usize), usize>
     ensures { MatchResult result
         (λ head. (head_fault (state_of recording.now saved.now) saved.now ≡ None)
@@ -98,9 +100,10 @@ impl Present {
     }
 }
 
-/// The number, from 1, of the line after those of the marks; the first of them is line 4, and a
-/// mark that is not set has no line. If a mark is beyond the length `micros`, in microseconds, the
-/// error is the number of the first such line.
+/// The number, from 1, of the line that comes after the lines of the marks. The marks have one line
+/// each from line 4 on, but a mark that is not set has none; without marks the answer is 4. If a
+/// mark is beyond the length `micros`, in microseconds, the error is the number of its line: the
+/// first such line if there are several.
 fn line_behind(marks: &Marks, micros: u64) -> Result<usize, usize>
     ensures { MatchResult result
         (λ line. (mark_beyond micros 4 marks.now ≡ None)

@@ -2,9 +2,14 @@
 //!
 //! A journal is the history of a session, saved as text (`Saved` once it is read): a format, a
 //! cursor, marks, and the steps back and forward. V13 is `VcdFault::BadJournal`, with the number of
-//! the journal's line at fault, from 1. `wire` is the name of the dump's wire to read; if none is
-//! given, the dump has to have one wire of one bit. A dump and the text of a journal have at most
-//! 2^28 bytes here.
+//! the journal's line at fault, from 1. `OutOfMemory` says that memory ran out. `wire` is the name
+//! of the dump's wire to read; if none is given, the dump has to have one wire of one bit. A dump
+//! and the text of a journal have at most 2^28 bytes here, and so at most that many lines.
+//!
+//! In a contract `IsBad` is V13 at such a line, or `OutOfMemory`. Its clauses `memory` say when
+//! memory can run out: `ReachesSteps` if the text begins a journal that has a step; `HasHead` if
+//! format, cursor and marks of the journal are right, or there is no journal; `MayBeShort` if the
+//! dump has no fault and one of these two holds.
 //!
 //! Where `match` hands an error on, `?` would do the same; the proof of it takes longer.
 
@@ -31,12 +36,13 @@ use std::alloc::Global;
 
 impl Session {
     /// The session of a dump's wire. A dump without a journal opens in `format`, with the cursor at
-    /// the last pulse, no mark and no step; else format, marks, cursor, past and future are those
-    /// of the journal. The bytes are dropped before the session takes its memory.
+    /// the last pulse, no mark and no step. If it has a journal, format, marks, cursor, past and
+    /// future are those of the journal, and `format` is not used. The bytes are dropped before the
+    /// session takes its memory.
     ///
     /// An error is a fault of the dump, or V13 with the number of the line at fault of the journal,
     /// from 1. `OutOfMemory` comes only if the wire has an edge before the first fault of the dump,
-    /// or as `open_parts` says.
+    /// or if the dump has no fault: then for the steps of its journal or for the session.
     pub fn open_dump(
         alloc: Global,
         bytes: Vec<u8>,
@@ -59,13 +65,14 @@ impl Session {
         }
     }
 
-    /// The session of a recording and the text of the journal, as `irig_vcd` reads them from a
-    /// dump: `open_dump` without its bytes. Without a journal it opens in `format`. The text is
-    /// dropped before the session takes its memory.
+    /// The session of a recording and the text of its journal, as `irig_vcd` reads both from a
+    /// dump. Without a journal it opens in `format`, with the cursor at the last pulse, no mark and
+    /// no step. If there is one, format, marks, cursor, past and future are those of the journal.
+    /// The text is dropped before the session takes its memory.
     ///
-    /// V13 with the number of the line at fault of the journal, from 1. `OutOfMemory` comes only
-    /// while the lines of its steps are read, or after all its lines, its format, cursor and marks
-    /// are found right.
+    /// V13 with the number of the line at fault of the journal, from 1. `OutOfMemory` can come if
+    /// there is no journal. With one it comes only while the lines of its steps are read, or after
+    /// the form of all lines, the format, the cursor and the marks are found right.
     pub fn open_parts(
         alloc: Global,
         recording: Recording,
@@ -89,8 +96,9 @@ impl Session {
     }
 }
 
-/// The recording of a dump, and the journal that it carries, `None` if it has none. Only the form
-/// of the journal is judged: none of its steps was tried.
+/// Reads a dump: the recording of its wire, and the journal that it carries, `None` if it has none.
+/// The dump is judged, and the form of the journal's lines (V13), but none of its steps is tried.
+/// The text of the journal is a part of `bytes`, which are dropped at the end.
 fn parts_of(
     alloc: Global,
     bytes: Vec<u8>,
@@ -118,9 +126,9 @@ fn parts_of(
     }
 }
 
-/// Reads the text of a journal. V13 with the number of the line at fault if the text has not the
-/// form of one; its steps are not tried. A `Fault` of `parse` is that number, or that memory ran
-/// out.
+/// Reads the text of a journal. V13 with the number of the first line at fault if the text does not
+/// have the form of a journal, `OutOfMemory` if memory runs out; the steps are not tried. A `Fault`
+/// of `parse` says one of these two in its own type.
 fn journal_of(alloc: Global, text: &[u8]) -> Result<Saved, VcdFault>
     requires short { length text.now ≤ 2 ^ 28 }
     ensures saved { IfOk result (IsTextOf text.now) }
@@ -135,8 +143,9 @@ fn journal_of(alloc: Global, text: &[u8]) -> Result<Saved, VcdFault>
     }
 }
 
-/// Reads the text of a journal, if there is one; `None` if there is no text. V13 if it has not the
-/// form of one, `OutOfMemory` if memory runs out; its steps are not tried.
+/// Reads the text of a journal; `Ok(None)` if there is no text. V13 with the number of the first
+/// line at fault if the text does not have the form of a journal, `OutOfMemory` if memory runs out;
+/// the steps are not tried. The text is dropped at the end.
 fn saved_of(alloc: Global, text: Option<Vec<u8>>) -> Result<Option<Saved>, VcdFault>
     requires short { IfSome text (λ text. length text.items ≤ 2 ^ 28) }
     ensures saved { IfOk result (IsJournalOf (bytes_of text)) }
@@ -153,9 +162,9 @@ fn saved_of(alloc: Global, text: Option<Vec<u8>>) -> Result<Option<Saved>, VcdFa
     }
 }
 
-/// The session of a recording with the journal, if there is one: then the journal's format counts,
-/// not `format`. Else it is a session in `format`, with no steps; this fails only if memory runs
-/// out.
+/// The session of a recording with its journal, if there is one: then the format is the journal's,
+/// and `format` is not used. V13 if the journal does not fit the recording. Without a journal it is
+/// a session in `format`, with no steps; then the only error is `OutOfMemory`.
 fn session_with(
     alloc: Global,
     recording: Recording,
@@ -176,10 +185,10 @@ fn session_with(
     }
 }
 
-/// The session of a recording with a journal. V13 if its format, cursor or marks do not fit the
-/// recording, or one of its steps cannot be made. `start` judges the lines before the steps, and
-/// gives the state as a `Walk`, whose `open` takes the steps; `line` is the first line that `start`
-/// has not judged.
+/// The session of a recording with a journal. V13 if the journal's format, cursor or marks do not
+/// fit the recording, or one of its steps cannot be made; `OutOfMemory` if memory runs out. `start`
+/// judges the lines before the steps, and gives the state as a `Walk`, whose `open` takes the
+/// steps; `line` is the number of the first line that `start` has not judged.
 fn session_of(alloc: Global, recording: Recording, saved: Saved) -> Result<Session, VcdFault>
     requires short { length (saved_lines saved) ≤ 2 ^ 28 }
     ensures opened { IfOk result (IsAccepted (state_of recording saved) saved) }

@@ -4,11 +4,11 @@
 //! state that was read: steps back lead to former states, steps forward to states that were undone.
 //! To take a step is to make its change as an edit, if it is possible. After all are taken they are
 //! undone again, so that they lie ahead, to be redone. V13 is `VcdFault::BadJournal`. A `Walk` is a
-//! state with its cursor and its steps.
+//! state with its cursor and steps. After an error nothing is said of what is left in it.
 //!
 //! What is marked "Read for .." does nothing: it only lets the proof use what a type promises.
-//!
 //! Where `match` hands an error on, `?` would do the same; the proof of it takes longer.
+//! `CanTakeAll`: all these steps can be taken. `IsBad`: V13 at such a line, or `OutOfMemory`.
 
 ghost use Rattle.std.specs.Prelude.{◌≡◌, ◌+◌, ◌≤◌, ◌<◌, ◌^◌, ◌++◌, List, [], Err, IfErr, IfOk};
 ghost use Rattle.std.specs.Prelude.{MatchBool, MatchResult, None, OnOk, length, reverse};
@@ -38,8 +38,8 @@ use std::alloc::{AllocError, Global};
 /// are taken.
 #[derive(Drop)]
 pub(crate) enum NotTaken {
-    /// A step cannot be taken: the steps taken before it have `before` lines, and with its own
-    /// lines they are `behind`.
+    /// A step cannot be taken: the steps taken before this one have `before` lines, and with the
+    /// lines of this one they are `behind`.
     At { before: usize, behind: usize },
     /// Memory ran out.
     Memory,
@@ -47,8 +47,8 @@ pub(crate) enum NotTaken {
 
 impl Walk {
     /// Takes steps, the last of the list first, and undoes them again: the state is as before, and
-    /// they are ahead. Before the call there must be no step ahead. After an error the walk is of
-    /// no more use: nothing is said of its state.
+    /// the steps are ahead. Before the call there must be no step ahead. An error says which step
+    /// cannot be taken (`NotTaken::At`), or that memory ran out.
     fn follow(&mut self, alloc: Global, steps: Steps) -> Result<(), NotTaken>
         requires ahead { self.old.future ≡ [] }
         requires lines { length (steps_lines (reverse steps)) < 2 ^ 63 }
@@ -67,7 +67,7 @@ impl Walk {
 
     /// Takes the steps of a journal, first those back, and makes the session. `line` is the number,
     /// from 1, of the line after the journal's marks, which counts the steps back. V13 has the line
-    /// of the step that cannot be taken.
+    /// of the step that cannot be taken; the only other error is `OutOfMemory`.
     pub(crate) fn open(
         mut self,
         alloc: Global,
@@ -85,8 +85,7 @@ impl Walk {
             → CanBegin self.state (steps_of (reverse saved.past ++ saved.future)) }
     {
         let Saved { past, future, .. } = saved;
-        // Now `line` is the line that counts the steps forward: it is after those of the steps
-        // back.
+        // Now `line` is the line after the steps back, which counts the steps forward.
         let line = line + past.lines() + 1;
         match self.follow_both(alloc, past, future, line) {
             Ok(()) => Ok(self.into_session(alloc)),
@@ -94,12 +93,12 @@ impl Walk {
         }
     }
 
-    /// Takes the steps back of a journal, undoes them, and swaps past and future, so that these are
-    /// the past. Then it takes the steps forward and undoes them, too, so that these are ahead.
+    /// Takes the steps back of a journal, undoes them, and swaps past and future, so they are the
+    /// past. Then it takes the steps forward and undoes them, too: they are ahead, to be redone.
     ///
-    /// `line` is the number, from 1, of the line that counts the steps forward. The newest step
-    /// back ends just before it, so the line of a fault there is found by counting back from it.
-    /// For a step forward it is found by counting on.
+    /// `line` is the number, from 1, of the line that counts the steps forward. V13 has the first
+    /// line of the step that cannot be taken; else `OutOfMemory`. A step back begins `behind` lines
+    /// above `line` (they are there, so nothing saturates), one forward `before` after `line + 1`.
     fn follow_both(
         &mut self,
         alloc: Global,
@@ -124,7 +123,7 @@ impl Walk {
             Err(NotTaken::Memory) => return Err(VcdFault::OutOfMemory),
         }
         self.turn_round();
-        // The next redo is the first of the list, and the last is taken first.
+        // `follow` takes the last of a list first, and the first of this list is the next redo.
         future.reverse();
         match self.follow(alloc, future) {
             Ok(()) => Ok(()),
@@ -133,8 +132,9 @@ impl Walk {
         }
     }
 
-    /// Takes steps, the last of the list first. An error counts the lines of the steps taken before
-    /// the one that cannot be taken, without its own (`before`) and with them (`behind`).
+    /// Takes steps, the last of the list first; they are in the past then. If one cannot be taken,
+    /// `NotTaken::At` counts the lines of the steps that were taken before it (`before`), and the
+    /// same with its own lines (`behind`). `NotTaken::Memory` says that memory ran out.
     fn take_all(&mut self, alloc: Global, mut steps: Steps) -> Result<(), NotTaken>
         requires ahead { self.old.future ≡ [] }
         requires lines { length (steps_lines (reverse steps)) < 2 ^ 63 }
@@ -155,7 +155,7 @@ impl Walk {
         Ok(())
     }
 
-    /// Undoes `count` steps, which are ahead then, to be redone. The caller has taken that many.
+    /// Undoes the newest `count` steps; they are ahead then. The caller has taken that many.
     fn go_back(&mut self, count: usize)
         ensures { (h : History State Change) → (ds : List (Step Change))
             → IsState h.state → CanTakeAll h.state ds → self.old ≡ gone_along h ds
@@ -168,9 +168,8 @@ impl Walk {
     }
 
     /// Takes a step, and returns whether it can be taken: its changes are possible, and its cursor
-    /// is at most the number of pulses afterwards. If not, nothing is said of the state that is
-    /// left. It fails only if memory runs out, and asks for memory only after its first change is
-    /// found possible.
+    /// is at most the number of pulses afterwards. If `false`, nothing is said of the state left.
+    /// It fails only if memory runs out, and never before its first change is found possible.
     fn take(&mut self, alloc: Global, step: SavedStep) -> Result<bool, AllocError>
         requires ahead { self.old.future ≡ [] }
         ensures { MatchResult result
@@ -191,8 +190,7 @@ impl Walk {
     }
 
     /// Makes the change of a step, alone or a group, and returns whether it can be made; the cursor
-    /// stays where it is. If it cannot, nothing is said of the state that is left. It fails only if
-    /// memory runs out.
+    /// stays. If `false`, nothing is said of the state left. It fails only if memory runs out.
     fn make(&mut self, alloc: Global, change: Change) -> Result<bool, AllocError>
         requires ahead { self.old.future ≡ [] }
         ensures { MatchResult result
@@ -207,7 +205,8 @@ impl Walk {
         }
     }
 
-    /// Makes a single change if it can be made, as one step; returns whether it can be made.
+    /// Makes a single change as one step if it can be made; else returns `false`, and the state
+    /// stays. It fails only if memory runs out.
     fn make_one(&mut self, alloc: Global, single: Single) -> Result<bool, AllocError>
         ensures { MatchResult result
             (λ made. MatchBool made
@@ -222,8 +221,9 @@ impl Walk {
         Ok(true)
     }
 
-    /// Makes single changes in their order, and makes one step of them, a group. Returns whether
-    /// all can be made. The list is turned round, since a change is taken from its end.
+    /// Makes single changes in their order, and one step of them, a group. Returns whether all can
+    /// be made; if `false`, some of them may be made. It fails only if memory runs out. The list is
+    /// reversed first, since `pop` takes from its end.
     fn make_all(&mut self, alloc: Global, mut singles: Vec<Single>) -> Result<bool, AllocError>
         requires ahead { self.old.future ≡ [] }
         ensures { MatchResult result

@@ -1,5 +1,5 @@
 //! A state on its way along the steps of a saved journal, from which a session is opened. A step is
-//! what one undo reverses.
+//! what one undo reverses. The cursor is the number of a pulse, from 1, or 0 before the first.
 //!
 //! What is marked "Read for .." does nothing: it only lets the proof use what a type promises.
 
@@ -23,7 +23,7 @@ use std::marker::Model;
 
 /// A state with its cursor, and the steps that lead back and forward from it. No group is open.
 ///
-/// If a call runs out of memory, nothing is said of what it leaves.
+/// After a call that ran out of memory, nothing is said of the walk: it is of no more use.
 #[derive(Drop)]
 pub(crate) struct Walk {
     pub(crate) present: Present,
@@ -46,7 +46,7 @@ impl Model for Walk {
 }
 
 impl Walk {
-    /// A state with this cursor, with no steps back or forward.
+    /// The walk at a state with this cursor, with no steps back or forward. It takes no memory.
     pub(crate) fn new(alloc: Global, present: Present, cursor: usize) -> Walk
         ensures { result ≡ walk present.state cursor [] [] }
     {
@@ -65,10 +65,10 @@ impl Walk {
         self.present.track().len()
     }
 
-    /// Makes a single change, which has to be possible, as a new step that can be undone. The
-    /// cursor stays: the caller moves it with `go` if the step says so. It fails only if memory
-    /// runs out: `record` has no other error. A `Turn` is a change with places for the pulses that
-    /// go.
+    /// Makes a single change, which has to be possible, as a new step that can be undone; no step
+    /// can be redone then. The cursor stays: the caller moves it with `go` if the step says so. It
+    /// fails only if memory runs out: `record` has no other error. A `Turn` is a change with places
+    /// for the pulses that the change removes.
     pub(crate) fn change(&mut self, alloc: Global, single: Single) -> Result<(), AllocError>
         requires { FitsSingle self.old.state single }
         ensures { OnOk result (self.new ≡ changed self.old (One single)) }
@@ -81,9 +81,10 @@ impl Walk {
         }
     }
 
-    /// Makes one group of the newest `count` steps that can be undone. No step of a group moved the
-    /// cursor, so it is still that of the state before the group, and an undo leads to it. It takes
-    /// memory only if `count` is 0, and fails only if that runs out.
+    /// Makes one group of the newest `count` steps that can be undone. There must be that many. The
+    /// caller has moved the cursor in none of them, so the present cursor is that of the state
+    /// before the group, which an undo of the group gives back. If `count` is 0, a group without
+    /// changes is added: only that takes memory, and it fails only if memory runs out.
     pub(crate) fn gather(&mut self, count: usize) -> Result<(), AllocError>
         requires { count ≤ length self.old.past }
         ensures { OnOk result (self.new ≡ walk self.old.state self.old.cursor
@@ -96,19 +97,20 @@ impl Walk {
         }
     }
 
-    /// Moves the cursor to a pulse, from 1, or to 0, before the first. The caller has seen that the
-    /// pulse is there.
+    /// Moves the cursor to a pulse, from 1, or to 0, before the first. The caller has tested that
+    /// there is such a pulse; it is not tested here.
     pub(crate) fn go(&mut self, cursor: usize)
         ensures { self.new ≡ walk self.old.state cursor self.old.past self.old.future }
     {
         self.cursor = cursor;
     }
 
-    /// Undoes the newest step, if there is one. This takes no memory.
+    /// Undoes the newest step, which is ahead then, to be redone. If there is no step, nothing
+    /// happens. This takes no memory.
     pub(crate) fn undo(&mut self)
         ensures { self.old.past ≢ [] → stepped_back turned self.old ≡ Some self.new }
     {
-        // It is refused only if there is no step, as no group is open.
+        // An error says that there is no step: no other is possible, as no group is open.
         let _undone = self.journal.undo(&mut self.present, &mut self.cursor);
     }
 
@@ -120,9 +122,9 @@ impl Walk {
         self.journal.turn_round();
     }
 
-    /// The session with this state and these steps. `last_looks` is 0: it counts the pulses that
-    /// the last edit of the session read to keep the frames true, and the session has made none
-    /// yet.
+    /// The session with the state, the cursor and the steps of this walk. The cursor must be at
+    /// most the number of pulses. `last_looks` is 0: it counts how often the last edit of the
+    /// session read a pulse to keep the frames true, and the session has made no edit yet.
     pub(crate) fn into_session(self, alloc: Global) -> Session
         requires cursor { self.cursor ≤ length self.state.pulses }
         requires steps { CanTakeAll self.state self.past × CanTakeAll self.state self.future }

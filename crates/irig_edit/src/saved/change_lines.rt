@@ -32,8 +32,8 @@ impl<'s> Model for ChangeLines<'s> {
 }
 
 impl<'s> ChangeLines<'s> {
-    /// The lines of all these changes, the last first. No change has begun, so `single` has no
-    /// lines yet.
+    /// The lines of all these changes, the last change first. No change has begun, so `single` has
+    /// no lines yet. It takes no memory.
     pub(crate) fn new(turns: &'s [Turn]) -> ChangeLines<'s>
         ensures { result ≡ changes_text (reverse turns.now) }
     {
@@ -43,10 +43,10 @@ impl<'s> ChangeLines<'s> {
         }
     }
 
-    /// Adds lines to a block until it has `enough` bytes or none is left. The next call goes on
-    /// from there. Returns `true` if no line is left and the block has fewer bytes than `enough`;
-    /// `false` if the block has `enough`, whether a line is left or not. It fails only if memory
-    /// runs out.
+    /// Adds lines to a block until it has `enough` bytes or no line is left; the next call goes on
+    /// after the last of them. Returns `true` if no line is left and the block has fewer bytes than
+    /// `enough`; `false` if the block has `enough`, whether a line is left or not. It fails only if
+    /// memory runs out; then nothing is said of the lines that are left.
     pub(crate) fn fill(&mut self, block: &mut Vec<u8>, enough: usize) -> Result<bool, AllocError>
         ensures bytes { OnOk result (block.new.items ++ self.new ≡ block.old.items ++ self.old) }
         ensures end { IfOk result (λ ended. ended ≡ true → self.new ≡ []) }

@@ -1,5 +1,5 @@
-//! How far a saved session's text has come: the dump, and in a comment after it the journal, which
-//! has the steps.
+//! How far a saved session's text has been given: first the dump, and in a comment after it the
+//! journal, which has the steps back and then the steps forward.
 
 ghost use Rattle.std.specs.Prelude.{◌≡◌, ◌↔◌, IsTrue};
 ghost use Rattle.irig_edit.specs.Saved.Stages.{next_stage};
@@ -19,14 +19,15 @@ pub(crate) enum Stage {
 }
 
 impl Stage {
-    /// Whether the text has ended.
+    /// Whether the whole text has been given: nothing comes next.
     pub(crate) fn is_over(self) -> bool
         ensures { IsTrue result ↔ self ≡ Over }
     {
         matches!(self, Stage::Over)
     }
 
-    /// The stage that comes after this one; after the end it stays.
+    /// The stage that comes after this one: the dump, the steps back, the steps forward, `Over`.
+    /// After `Over` comes `Over`.
     pub(crate) fn next(self) -> Stage
         ensures { result ≡ next_stage self }
     {

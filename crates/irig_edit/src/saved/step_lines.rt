@@ -2,7 +2,8 @@
 //!
 //! A step is a change, or a group of them, and the cursor of the state that it leads to. A line is
 //! one of the text of a saved journal. A block is a buffer of the caller, to which each call adds
-//! lines.
+//! lines. In a contract `deltas_of` says what the changes of steps do, and `steps_text` is the text
+//! of such steps.
 //!
 //! Where `match` hands an error on, `?` would do the same; the proof of it takes longer.
 
@@ -38,7 +39,8 @@ impl<'s> Model for StepLines<'s> {
 }
 
 impl<'s> StepLines<'s> {
-    /// The lines of all steps, one after another. No step has begun, so no change has lines yet.
+    /// The lines of all these steps, one step after another. No step has begun, so `changes` has no
+    /// lines yet. It takes no memory.
     pub(crate) fn new(steps: StepsLeft<'s, Turn>) -> StepLines<'s>
         ensures { result ≡ steps_text (deltas_of steps.entry) }
     {
@@ -48,10 +50,10 @@ impl<'s> StepLines<'s> {
         }
     }
 
-    /// Adds lines to a block until it has `enough` bytes or none is left. The next call goes on
-    /// from there. Returns `true` if no line is left and the block has fewer bytes than `enough`;
-    /// `false` if the block has `enough`, whether a line is left or not. It fails only if memory
-    /// runs out.
+    /// Adds lines to a block until it has `enough` bytes or no line is left; the next call goes on
+    /// after the last of them. Returns `true` if no line is left and the block has fewer bytes than
+    /// `enough`; `false` if the block has `enough`, whether a line is left or not. It fails only if
+    /// memory runs out; then nothing is said of the lines that are left.
     pub(crate) fn fill(&mut self, block: &mut Vec<u8>, enough: usize) -> Result<bool, AllocError>
         ensures bytes { OnOk result (block.new.items ++ self.new ≡ block.old.items ++ self.old) }
         ensures end { IfOk result (λ ended. ended ≡ true → self.new ≡ []) }
@@ -72,10 +74,10 @@ impl<'s> StepLines<'s> {
     }
 }
 
-/// Writes the first lines of the next step to the block, and puts the lines of its changes into
-/// `changes`, which had none left. Returns `true` if no step was left; then nothing is written. If
-/// the number of steps is not 0 there is a next one, so `unwrap` finds it. It fails only if memory
-/// runs out.
+/// Writes the first lines of the next step, those before its changes, to the block, and makes
+/// `changes`, which had no line left, the lines of its changes. Removes this step from `left`, and
+/// returns `false`. If no step is left it returns `true`, and nothing is written; otherwise there
+/// is a next step, so `unwrap` finds it. It fails only if memory runs out.
 fn begin_next<'s>(
     changes: &mut ChangeLines<'s>,
     left: &mut StepsLeft<'s, Turn>,
@@ -95,9 +97,9 @@ fn begin_next<'s>(
     Ok(false)
 }
 
-/// Writes the first line of a step, which has its cursor, and if it is a group the second, which
-/// counts its changes. Returns the lines of the changes, which are still to be written. It fails
-/// only if memory runs out.
+/// Writes the first line of a step `kept` by the journal, with the step's cursor, and if it is a
+/// group, a second line that counts its changes. Returns the lines of the changes, which are still
+/// to be written. It fails only if memory runs out.
 fn begin_step<'s>(text: &mut Vec<u8>, kept: Step<'s, Turn>) -> Result<ChangeLines<'s>, AllocError>
     requires alone { kept.is_group ≡ false → length kept.changes.now ≡ 1 }
     ensures { IfOk result (λ left. text.new.items ++ left ≡ text.old.items ++ text_of (step_lines

@@ -1,8 +1,12 @@
 //! The text of a saved session, in parts: the dump, the lines of the journal before its steps, the
-//! steps back, the steps forward, and the end. A stage is how far it has come. A block is a buffer
-//! of the caller, to which each call adds text. A journal is the history of a session. `past_steps`
-//! gives the steps back with the oldest first, `future_steps` those forward with the next redo
-//! first: in this order they are saved.
+//! steps back, the steps forward, and the end. A stage is which of the dump, the steps back and the
+//! steps forward comes next. A block is a buffer of the caller, to which each call adds text. A
+//! journal is the history of a session. `past_steps` gives the steps back with the oldest first,
+//! `future_steps` those forward with the next redo first: in this order they are saved. After an
+//! error the text is given up: nothing is said of what is left of it.
+//!
+//! In a contract `opening_text` is the text between the dump and the steps back, `middle_text` the
+//! line between them and the steps forward, and `parts_left` all text from a stage on.
 //!
 //! Where `match` hands an error on, `?` would do the same; the proof of it takes longer.
 
@@ -22,7 +26,8 @@ use irig_track::TrackText;
 use std::alloc::AllocError;
 use std::marker::Model;
 
-/// The text of a saved session, in parts: the track's dump, and the journal after it.
+/// The text of a saved session, in parts: the track's dump, and the journal after it. `dump`,
+/// `back` (the steps back) and `on` (the steps forward) give what is left of their parts.
 #[derive(Drop)]
 pub struct SavedText<'s> {
     dump: TrackText<'s>,
@@ -70,10 +75,11 @@ impl<'s> SavedText<'s> {
 impl Text for SavedText<'_> {
     ghost rest = { λ t. t };
 
-    // Adds text to the block until it has `enough` bytes or the text ends. Returns whether the text
-    // has ended; the next call goes on from there. It fails only if memory runs out.
+    // Adds text to the block until it has `enough` bytes or the text ends. Returns `true` if the
+    // text has ended; `false` if not: then the block has `enough`, and the next call continues. It
+    // fails only if memory runs out.
     fn fill(&mut self, block: &mut Vec<u8>, enough: usize) -> Result<bool, AllocError> {
-        // Each pass ends a stage, unless the block is full.
+        // Each pass ends a stage, unless the block is full: then the answer is `Ok(false)`.
         while !self.stage.is_over() {
             let filled = fill_stage(
                 self.stage,
@@ -102,9 +108,10 @@ impl Text for SavedText<'_> {
     }
 }
 
-/// Adds the dump or the steps of a stage to a block until it has `enough` bytes. Returns `true` if
-/// none of the stage is left and the block has fewer bytes than `enough`; `false` if the block has
-/// `enough`, whether any of the stage is left or not. It fails only if memory runs out.
+/// Adds what a stage has, the dump or steps, to a block until it has `enough` bytes. Returns `true`
+/// if none of the stage is left and the block has fewer bytes than `enough`; `false` if the block
+/// has `enough`, whether any of the stage is left or not. After the last stage nothing is added and
+/// the answer is `true`. It fails only if memory runs out.
 fn fill_stage(
     stage: Stage,
     dump: &mut TrackText<'_>,
@@ -121,7 +128,7 @@ fn fill_stage(
     ensures full { IfOk result (λ ended. ended ≡ false → enough ≤ vec_len block.new) }
 {
     match stage {
-        // `dump.fill` says only whether the dump has ended, also in a full block.
+        // `dump.fill` returns `true` if the dump has ended, even if the block is full.
         Stage::Dump => Ok(dump.fill(block, enough)? && block.len() < enough),
         Stage::Back => back.fill(block, enough),
         Stage::On => on.fill(block, enough),
@@ -129,9 +136,10 @@ fn fill_stage(
     }
 }
 
-/// Writes what comes between a stage and the next, and makes that the stage: after the dump the
-/// lines of the journal before its steps, after the steps back the line that counts the steps
-/// forward, and after these `$end`. It fails only if memory runs out.
+/// Writes what comes after a stage, and makes `stage` the next one. After the dump come the lines
+/// of the journal before its steps, after the steps back the line that counts the steps forward,
+/// and after the steps forward `$end`; after the last stage nothing. It fails only if memory runs
+/// out.
 fn end_stage(
     stage: &mut Stage,
     text: &mut Vec<u8>,
@@ -153,8 +161,9 @@ fn end_stage(
     }
 }
 
-/// Writes the beginning of the comment that holds the journal: its format, cursor and marks, up to
-/// the line that counts the steps back. It fails only if memory runs out.
+/// Writes the beginning of the comment that holds the journal: `$comment`, the journal's name,
+/// format, cursor and marks, and the line that counts the steps back. It fails only if memory runs
+/// out.
 fn put_opening(
     text: &mut Vec<u8>,
     present: &Present,

@@ -32,7 +32,8 @@ impl Session {
         self.present.track().len()
     }
 
-    /// The pulse with a number, from 1. Its times are in microseconds. There has to be one.
+    /// The pulse with a number, from 1: its rise and its fall, in microseconds. The number must be
+    /// one of a pulse of the track.
     pub fn pulse(&self, number: usize) -> Pulse
         requires { (1 ≤ number) × (number ≤ length self.now.state.pulses) }
         ensures { slice_get self.now.state.pulses (number - 1) ≡ Some result }
@@ -40,7 +41,8 @@ impl Session {
         self.present.pulse(number)
     }
 
-    /// How many pulses rise at or before a time, in microseconds.
+    /// How many pulses rise at or before a time, in microseconds. So it is the number of the last
+    /// of them, from 1, or 0 if no pulse rises that early.
     pub fn find(&self, time: u64) -> usize
         ensures { result ≡ risen_by time self.now.state.pulses }
     {
@@ -54,8 +56,8 @@ impl Session {
         self.present.format()
     }
 
-    /// The time of a mark in microseconds; `None` if it is not set. The letter is a byte of a text,
-    /// `a` to `z`.
+    /// The time of a mark in microseconds; `None` if the mark is not set. `letter` names the mark,
+    /// as a byte of a text, `a` to `z`.
     pub fn mark_time(&self, letter: u8) -> Option<u64>
         requires { (97 ≤ letter) × (letter ≤ 122) }
         ensures { slice_get self.now.state.marks (letter - 97) ≡ Some result }
@@ -84,9 +86,9 @@ impl Session {
         self.journal.steps_forward()
     }
 
-    /// How many pulses the steps back hold in memory, and how many the steps forward hold. An edit
-    /// in the past holds those that it removed, since an undo puts them back; one in the future
-    /// holds those that it inserts. The journal calls these counts weights.
+    /// How many pulses the steps back hold in memory, and how many the steps forward hold. The step
+    /// that undoes an edit holds the pulses that the edit removed, since it brings them back; the
+    /// step that redoes an edit holds those that it inserts. The journal calls such counts weights.
     pub fn held(&self) -> (u128, u128)
         ensures past { result.0 ≡ weight_of weight_of_change self.now.past }
         ensures future { result.1 ≡ weight_of weight_of_change self.now.future }
@@ -102,14 +104,15 @@ impl Session {
         self.last_looks
     }
 
-    /// How many frames the track has, in its format.
+    /// How many frames the track has, broken ones included, if it is read in the session's format.
     pub fn frames(&self) -> usize
         ensures { result ≡ length (frames_of self.now.state) }
     {
         self.present.index().len()
     }
 
-    /// The frame with a number, from 1, in the order of time. There has to be one.
+    /// The frame with a number, from 1 to `frames`, in the order of time: the number of the pulse
+    /// with which it begins, from 1, and what it says or why it is broken.
     pub fn frame(&self, number: usize) -> Frame
         requires { (1 ≤ number) × (number ≤ length (frames_of self.now.state)) }
         ensures { IfSome (slice_get (frames_of self.now.state) (number - 1))
@@ -122,8 +125,9 @@ impl Session {
         }
     }
 
-    /// The text of the track's dump. `whole` collects its parts; it asks for `text_room` bytes at
-    /// first, and for more if they do not suffice. It fails only if memory runs out.
+    /// The text of the track's dump, without a journal. `whole` collects its parts in one `Vec`; it
+    /// asks for memory for `text_room` bytes at first, in which a dump fits. It fails only if
+    /// memory runs out.
     pub fn text(&self) -> Result<Vec<u8>, AllocError>
         ensures { IfOk result (λ text.
             text.items ≡ file_text (recording_of self.now.state)) }
@@ -131,7 +135,7 @@ impl Session {
         whole(self.alloc, self.present.text_room(), &mut self.text_parts())
     }
 
-    /// The text of the track's dump, in parts. It takes no memory.
+    /// The text that `text` returns, the track's dump, to be given in parts. This takes no memory.
     pub fn text_parts(&self) -> TrackText<'_>
         ensures { result ≡ file_text (recording_of self.now.state) }
     {

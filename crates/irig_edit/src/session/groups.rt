@@ -4,8 +4,9 @@
 //! `NoGroup`. The journal keeps the steps, and whether a group is open. Each of the three calls has
 //! one refusal in the journal, so `Err(_)` is that one.
 //!
-//! A look is one read of a pulse to keep the frames true; `last_looks` is how many the last change,
-//! undo, redo or abort took.
+//! A look is one read of a pulse to keep the frames true; `last_looks` is how many the last
+//! accepted change, undo, redo or abort took. In a contract `Steps` says what a call does to the
+//! states and steps of the session, or why it is refused; `LooksAfter` bounds its looks.
 
 ghost use Rattle.irig_edit.specs.Session.Calls.Call.{Begin, End, Abort};
 ghost use Rattle.irig_edit.specs.Session.Session.{LooksAfter, Steps};
@@ -14,10 +15,10 @@ use crate::session::refusal::Refusal;
 use crate::session::session::Session;
 
 impl Session {
-    /// Opens a group: what is edited up to its end becomes one step. The journal notes the cursor,
-    /// which an abort gives back. This takes no memory.
+    /// Opens a group: all edits up to its end become one step. The journal notes the cursor, which
+    /// an abort gives back. This takes no memory.
     ///
-    /// E12 if a group is open.
+    /// E12 if a group is open already.
     pub fn begin(&mut self) -> Result<(), Refusal>
         ensures step { Steps Begin self.old result self.new }
         ensures looks { LooksAfter Begin self.old result self.new }
@@ -28,8 +29,9 @@ impl Session {
         }
     }
 
-    /// Closes the open group: its steps become one; without a step none is made. The present stays,
-    /// and so does what can be redone. This takes no memory.
+    /// Closes the open group: its steps become one. A single step stays as it is, and without a
+    /// step none is made. The present stays, and so do the steps that can be redone. This takes no
+    /// memory.
     ///
     /// E13 if no group is open.
     pub fn end(&mut self) -> Result<(), Refusal>
@@ -42,8 +44,8 @@ impl Session {
         }
     }
 
-    /// Closes the open group and undoes its steps for good: the present is that of its begin, with
-    /// the cursor of that time, and nothing is left to redo. This takes no memory.
+    /// Closes the open group and undoes its steps for good: track, format, marks and cursor are
+    /// those of its begin, and nothing is left to redo. This takes no memory.
     ///
     /// E13 if no group is open.
     pub fn abort(&mut self) -> Result<(), Refusal>

@@ -1,4 +1,6 @@
-//! What a session keeps, taken apart by patterns: a type that keeps more does not compile here.
+//! What a session keeps, taken apart by patterns. The functions do nothing as they run: they only
+//! have to compile. Each pattern names all fields of a type, and each `let` the type of a field. If
+//! one of these types keeps more, such as a former state, this file no longer compiles.
 
 use crate::changes::turn::Turn;
 use crate::session::session::Session;
@@ -11,10 +13,9 @@ use irig_saved::{Letter, Letters, Marks, Pulses, Single};
 use irig_track::{Pulse, Track};
 use std::alloc::Global;
 
-/// Takes a session apart: it keeps an allocator, one state, a cursor, a journal of changes and a
-/// count of looks, and no former state. The function does nothing but compile. Each pattern names
-/// all fields, so with a new field it no longer compiles. One step is enough, as only types matter:
-/// `next` gives the oldest.
+/// Shows what a session keeps: an allocator, one state, a cursor, a journal of changes and a count
+/// of looks, and no former state. What the journal keeps is shown by one of its steps, as only
+/// types matter: `next` gives the oldest of the past, if there is one.
 pub fn take_apart(session: &Session) {
     let Session {
         alloc,
@@ -33,7 +34,7 @@ pub fn take_apart(session: &Session) {
     }
 }
 
-/// A state keeps a track, a format, marks and the index of its frames.
+/// Shows what a state keeps: a track, a format, marks and the index of its frames.
 fn state_parts(present: &Present) {
     let Present {
         track,
@@ -47,7 +48,8 @@ fn state_parts(present: &Present) {
     let _index: &Index = index;
 }
 
-/// A step keeps its single changes, whether they are a group, and a cursor. One change is enough.
+/// Shows what a step keeps: its single changes, whether they are a group, and a cursor. One change
+/// is enough to show, as only types matter.
 fn step_parts(step: &Step<'_, Turn>) {
     let Step {
         changes,
@@ -61,15 +63,15 @@ fn step_parts(step: &Step<'_, Turn>) {
     }
 }
 
-/// A turn keeps a single change, and a buffer for the pulses that go.
+/// Shows what a turn keeps: a single change, and a buffer for the pulses that the change removes.
 fn turn_parts(turn: &Turn) {
     let Turn { single, taken } = turn;
     let _taken: &Gap<Pulse> = taken;
     single_parts(single);
 }
 
-/// A single change is of one of these kinds. It keeps numbers, a kind of format or letters, and a
-/// splice the pulses that it inserts: no track.
+/// Shows what a single change keeps: it is of one of these kinds, and keeps numbers, a kind of
+/// format or letters, and a splice the pulses that it inserts. None keeps a track.
 fn single_parts(single: &Single) {
     match single {
         Single::Splice { at, count, put } => {

@@ -44,7 +44,7 @@ pub enum Refusal {
 impl From<AllocError> for Refusal {
     ghost from_gives = { λ _ e. e ≡ OutOfMemory };
 
-    // Memory ran out: E11.
+    // An `AllocError` says that memory ran out, which is E11. So `?` of an edit can return it.
     fn from(_e: AllocError) -> Refusal {
         Refusal::OutOfMemory
     }

@@ -2,8 +2,13 @@
 //!
 //! A step is what one undo reverses; the journal keeps the steps. E and a number names a `Refusal`,
 //! which has the numbers. A look is one read of a pulse to keep the frames true; `last_looks` is
-//! how many the last change, undo, redo or abort took. `looks` counts all looks so far, and
-//! `looks_since(before)` those since that count was `before`.
+//! how many the last accepted change, undo, redo or abort took. `looks` counts all looks so far,
+//! and `looks_since(before)` those since that count was `before`.
+//!
+//! In a contract `Steps` says what a call does to the states and steps of the session, or why it is
+//! refused, and `LooksAfter` bounds its looks. `edit` is a call that edits; `judgement_of` is the
+//! first refusal of an edit, if it has one; `Plans`, `Becomes` and `change_by` say to what pulses,
+//! state and change an edit leads.
 
 ghost use Rattle.std.specs.Prelude.{◌≡◌, ◌≤◌, ◌<◌, ◌-◌, length, IfOk, OnOk, OnErr, IsErrOf, None};
 ghost use Rattle.std.specs.Prelude.{Ok};
@@ -59,8 +64,8 @@ impl Model for Session {
 }
 
 impl Session {
-    /// The session of a recording in a format. The cursor is at the last pulse, no mark is set, and
-    /// no step can be undone. It fails only if memory runs out.
+    /// The session of a recording in a format. The cursor is at the last pulse, or 0 if there is
+    /// none; no mark is set, and no step can be undone or redone. It fails only if memory runs out.
     pub fn open(alloc: Global, recording: Recording, format: Format) -> Result<Session, AllocError>
         ensures { IfOk result (λ s. (s ≡ started s.looks s.state)
             × (recording_of s.state ≡ recording) × (s.state.format ≡ format)
@@ -105,11 +110,11 @@ impl Session {
         self.change(Single::SetMark { letter, time }, cursor)
     }
 
-    /// Undoes the newest step: track, format, marks and cursor are those before it. This takes no
-    /// memory.
+    /// Undoes the newest step: track, format, marks and cursor are those before this step, which
+    /// can be redone then. This takes no memory.
     ///
-    /// E9, `NothingToUndo`, if there is none; E14, `GroupFloor`, if it was made before the open
-    /// group was begun.
+    /// E9, `NothingToUndo`, if there is no step; E14, `GroupFloor`, if the newest step was made
+    /// before the open group was begun.
     pub fn undo(&mut self) -> Result<(), Refusal>
         ensures step { Steps Undo self.old result self.new }
         ensures looks { LooksAfter Undo self.old result self.new }
@@ -129,7 +134,7 @@ impl Session {
     /// Redoes the step that was undone last: track, format, marks and cursor are those at the undo.
     /// This takes no memory.
     ///
-    /// E10, `NothingToRedo`, if there is none: the journal has no other refusal of a redo.
+    /// E10, `NothingToRedo`, if there is no such step: the journal has no other refusal of a redo.
     pub fn redo(&mut self) -> Result<(), Refusal>
         ensures step { Steps Redo self.old result self.new }
         ensures looks { LooksAfter Redo self.old result self.new }
@@ -159,8 +164,8 @@ impl Session {
     }
 
     /// Replaces `count` pulses from `first` on, from 1, by the pulses of `put`, as a step that
-    /// leaves the cursor at `cursor`, a pulse from 1, or 0. The edit that calls this has tested all
-    /// else, so the only refusal is E11: memory runs out.
+    /// leaves the cursor at `cursor`, a pulse from 1, or 0. The edit that calls this has tested
+    /// that it is possible, so the only refusal is E11: memory runs out, and nothing changes.
     pub(crate) fn splice(
         &mut self,
         first: usize,
@@ -182,10 +187,10 @@ impl Session {
     }
 
     /// Makes a change, which the caller has found possible, as a step that leaves the cursor at
-    /// `cursor`, a pulse from 1, or 0. The memory that its undo and its redo take is asked for
-    /// here. If it runs out, which is the only error of `record`, the answer is E11 and nothing has
-    /// changed. A `Turn` is the change with places for the pulses that go; `place` is the cursor
-    /// that an undo gives back.
+    /// `cursor`, a pulse from 1, or 0. All steps that could be redone are dropped. The memory for
+    /// an undo and a redo of the change is asked for here. If memory runs out, which is the only
+    /// error of `record`, the answer is E11 and nothing has changed. A `Turn` is the change with
+    /// places for the pulses that go; `place` is the present cursor, which an undo gives back.
     pub(crate) fn change(&mut self, single: Single, cursor: usize) -> Result<(), Refusal>
         requires fits { Fits self.old.state (One single) }
         requires cursor { cursor ≤ length (turned self.old.state (One single)).0.pulses }

@@ -1,8 +1,9 @@
 //! The present state, with its frames.
 //!
-//! Pulses count from 1 here, and times are in microseconds; the track counts pulses from 0. The
-//! index holds the frames; a look is one read of a pulse to keep the index true. A lens (`lens`)
-//! shows the pulses of the track, and counts the looks.
+//! Pulses count from 1 here, and times are in microseconds; the track counts pulses from 0, and its
+//! length is `micros` in a contract. The index holds the frames; a look is one read of a pulse to
+//! keep the index true. The index counts the looks. A lens (`lens`) shows it the pulses of the
+//! track. `IsState` says that track and marks keep their limits.
 
 ghost use Rattle.std.specs.Prelude.{◌≡◌, ◌<◌, ◌≤◌, ◌+◌, ◌-◌, ◌*◌, ◌^◌, length, map, ◌↔◌, IsTrue};
 ghost use Rattle.std.specs.Prelude.{IfOk, Some, slice_get};
@@ -44,7 +45,8 @@ impl Model for Present {
 }
 
 impl Present {
-    /// The state of a recording in a format, with no mark set. It fails only if memory runs out.
+    /// The state of a recording in a format, with no mark set; its frames are read. It fails only
+    /// if memory runs out.
     pub(crate) fn open(
         alloc: Global,
         recording: Recording,
@@ -64,9 +66,9 @@ impl Present {
     }
 
     /// How many bytes to ask for at first for the text of the track's dump. A pulse has two edges,
-    /// each of at most 18 bytes: `#`, a time of 13 digits, the value with its code, and two line
-    /// ends. 4,096 more, this project's own choice, are for the header, the length and some lines
-    /// of a journal. If the text is longer, it takes more.
+    /// each of at most 18 bytes: `#`, a time of up to 13 digits, a newline, `1!` or `0!` and a
+    /// newline. 4,096 more, this project's own choice, are for the header, the length and some
+    /// lines of a journal. A text with a longer journal asks for more later.
     pub(crate) fn text_room(&self) -> usize
         ensures { result ≡ 36 * length self.now.state.pulses + 4096 }
     {
@@ -76,7 +78,7 @@ impl Present {
 
 /// The track.
 impl Present {
-    /// The pulses and the length.
+    /// The track: its pulses and its length.
     pub(crate) fn track(&self) -> &Track
         ensures micros { result.now.micros ≡ self.now.state.micros }
         ensures pulses { result.now.pulses ≡ self.now.state.pulses }
@@ -85,7 +87,9 @@ impl Present {
         &self.track
     }
 
-    /// How many pulses rise at or before a time, in microseconds.
+    /// How many pulses rise at or before a time, in microseconds. So it is the number of the last
+    /// of them, from 1, or 0 if no pulse rises that early. `Index::find` searches the track alone,
+    /// by a lens; the looks of this search are not kept.
     pub(crate) fn find(&self, time: u64) -> usize
         ensures count { result ≡ risen_by time self.now.state.pulses }
         ensures within { result ≤ length self.now.state.pulses }
@@ -94,7 +98,7 @@ impl Present {
         Index::find(&mut self.track.lens(), time)
     }
 
-    /// The pulse with a number, from 1.
+    /// The pulse with a number, from 1. There has to be one.
     pub(crate) fn pulse(&self, number: usize) -> Pulse
         requires first { 1 ≤ number }
         requires last { number ≤ length self.now.state.pulses }
@@ -107,9 +111,9 @@ impl Present {
         track.pulse(number - 1)
     }
 
-    /// Whether a pulse rises at or before `b` and falls at or after `a`, in microseconds, so that
-    /// one from `a` to `b` would touch it. Only the last pulse that rises by `b` is looked at, as
-    /// the others fall earlier.
+    /// Whether a pulse rises at or before `b` and falls at or after `a`, in microseconds: a new
+    /// pulse from `a` to `b` would touch it. Only the last pulse that rises at or before `b` is
+    /// tested, as all earlier ones fall before it rises.
     pub(crate) fn is_touched(&self, a: u64, b: u64) -> bool
         requires { a < b }
         ensures { result ≡ is_touched a b self.now.state }
@@ -121,14 +125,14 @@ impl Present {
 
 /// Format, marks and frames.
 impl Present {
-    /// The format.
+    /// The format in which the frames are read.
     pub(crate) fn format(&self) -> Format
         ensures { result ≡ self.now.state.format }
     {
         self.format
     }
 
-    /// The mark of a letter, from 0: a time in microseconds, or `None`.
+    /// The mark of a letter, from 0 (0 is a): a time in microseconds, or `None` if it is not set.
     pub(crate) fn mark(&self, letter: usize) -> Option<u64>
         requires { letter < 26 }
         ensures { slice_get self.now.state.marks letter ≡ Some result }
@@ -137,15 +141,16 @@ impl Present {
         mark
     }
 
-    /// The letters whose marks are from `low` to `high`, both included, in microseconds.
+    /// For each letter whether its mark is set and from `low` to `high`, both included, in
+    /// microseconds.
     pub(crate) fn letters_from(&self, low: u64, high: u64) -> Letters
         ensures { result ≡ map (stands low high) self.now.state.marks }
     {
         letters_from(&self.marks, low, high)
     }
 
-    /// Whether a mark can be set to a time, in microseconds: it has to be within the length. A mark
-    /// can always be cleared, by `None`.
+    /// Whether a mark can be set to a time, in microseconds: the time must not be after the end of
+    /// the track. `None` clears a mark, which is always possible.
     pub(crate) fn may_mark(&self, time: Option<u64>) -> bool
         ensures { IsTrue result ↔ IsMark self.now.state.micros time }
     {
@@ -155,24 +160,23 @@ impl Present {
         }
     }
 
-    /// The frames of the track.
+    /// The index, which holds the frames of the track.
     pub(crate) fn index(&self) -> &Index
         ensures { result.now.records ≡ frames_of self.now.state }
     {
         &self.index
     }
 
-    /// How many looks at pulses its index of frames has counted so far.
+    /// How many looks at pulses the index of this state has counted so far.
     pub(crate) fn looks(&self) -> u64
         ensures { result ≡ self.now.index.looks }
     {
         self.index.looks()
     }
 
-    /// How many more looks it has counted than `before`.
-    ///
-    /// "It" is the index of frames. `before` is what `looks` returned some time before; the count
-    /// never falls, so nothing is cut off at 0.
+    /// How many looks at pulses the index of this state has counted since the count was `before`,
+    /// which `looks` returned some time ago. The count never falls, so the difference does not
+    /// saturate at 0.
     pub(crate) fn looks_since(&self, before: u64) -> u64
         ensures { result ≡ self.now.index.looks - before }
     {
