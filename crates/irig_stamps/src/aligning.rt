@@ -3,8 +3,8 @@
 //! the code of the recording. A frame is believed if another one near it supports its time, or with
 //! `settings.alone` if it has a time at all: moments have their times from believed frames alone. A
 //! `Lens` shows the pulses of a recording as those of a track, which is all its pulses in order,
-//! and a `FrameLens` its frames. `settings` say how lines are read and printed, and a `RunFault`
-//! says why this was broken off.
+//! and a `FrameLens` its frames. `settings` say how lines are read and printed; their bounds keep
+//! each year in four digits, and each sum in its type. A `RunFault` says why this was broken off.
 
 ghost use Rattle.std.specs.Prelude.{◌≡◌, ◌≤◌, ◌<◌, ◌^◌, ℕ, List, Option, IfOk, IfSome};
 ghost use Rattle.std.specs.Io.KnownBytes.{Consumes};
@@ -29,9 +29,10 @@ use std::io::{Read, Write};
 
 /// Reads lines to their end and prints each with its time before it: the time of year that a
 /// recording has at the line's recorder's time. Returns whether the column of each line has a
-/// number, lines of the header not counted, whether any frame is believed, and how many frames have
-/// a time and are not. What was printed before an error stays. The column is `settings.column`, or
-/// if `settings.named` is there, the one with that name in the header.
+/// number, lines of the header not counted (`numbered`); and of the frames that have a time,
+/// whether one is believed, and how many are not (`standing`). The column is `settings.column`, or
+/// if `settings.named` is there, the one with that name in the last line of the header. What was
+/// printed before an error stays printed.
 pub fn align<R: Read, W: Write>(
     alloc: Global,
     recording: LongRecording,
@@ -54,8 +55,9 @@ pub fn align<R: Read, W: Write>(
     align_named(alloc, &recording, lines, out, format, settings, name)
 }
 
-/// As `align`, if the number of the column, from 0, is known: `settings.column`. No byte of the
-/// lines was read before that, so `align_track` gets none.
+/// Reads the lines and prints each with its time before it, if the number of the column, from 0, is
+/// known: `settings.column`. The results and errors are those of `align`. No byte of the lines was
+/// read before, so `align_track` gets none.
 fn align_numbered<R: Read, W: Write>(
     alloc: Global,
     recording: &LongRecording,
@@ -76,9 +78,11 @@ fn align_numbered<R: Read, W: Write>(
     align_track(alloc, &mut pulses, b"", lines, out, format, settings)
 }
 
-/// As `align`, if the column is the one with this name in the last line of the header. What `find`
-/// read of the lines to find it (`before`) is handed on, since it cannot be read again. An error if
-/// no column has the name, or two have.
+/// Reads the lines and prints each with its time before it, if the column is the one with this name
+/// in the last line of the header. The results are those of `align`. What `find` read of the lines
+/// to find the column (`before`) is handed on, since it cannot be read again. If `find` does not
+/// find it, as no column has the name, two have it, or there is no such line, its error is
+/// returned, and nothing is printed.
 fn align_named<R: Read, W: Write>(
     alloc: Global,
     recording: &LongRecording,
@@ -110,10 +114,11 @@ fn align_named<R: Read, W: Write>(
     align_track(alloc, &mut pulses, before, lines, out, format, &settings)
 }
 
-/// As `align` on a lens, if the bytes `before` were read of the lines already. First it finds for
-/// the whole track its frames (`records`), which of them are believed (`held`), the day of the
-/// first of these, how many others have a time, and what is known of the track's times. Then the
-/// lines are read and printed.
+/// Reads the lines and prints each with its time before it, by the track that a lens shows. The
+/// bytes `before` were read of the lines already. First it finds the track's frames (`records`),
+/// which of them are believed (`held`), the day of the first of these, how many others have a time,
+/// and what is known of the times of pulses. If memory runs out there, nothing is read or printed
+/// here. Then the lines are read and printed (`run`). The results and errors are those of `align`.
 fn align_track<R: Read, W: Write>(
     alloc: Global,
     pulses: &mut Lens<'_>,

@@ -9,7 +9,7 @@ ghost use Rattle.irig_stamps.specs.Columns.{column_of, passed, word_at, part_at,
 
 use crate::cutting::{Until, cut};
 
-/// Column `k` of a line. No byte if the line has no such column.
+/// Column `k` of a line, from 0. No byte if the line has no such column.
 pub fn column(comma: Option<u8>, k: usize, line: &[u8]) -> &[u8]
     ensures { result.now ≡ column_of comma k line.now }
 {
@@ -19,9 +19,9 @@ pub fn column(comma: Option<u8>, k: usize, line: &[u8]) -> &[u8]
     }
 }
 
-/// Column `k` of a line, from 0, if white space parts them. White space at the start of the line
-/// makes no column. The `k` columns before it are passed first, each with the white space before
-/// it.
+/// Column `k` of a line, from 0, if white space parts columns. White space at the start of the line
+/// makes no column. The `k` columns before column `k` are passed first, each with the white space
+/// before it. No byte if the line has no column `k`.
 fn word(k: usize, line: &[u8]) -> &[u8]
     ensures { result.now ≡ word_at k line.now }
 {
@@ -35,8 +35,9 @@ fn word(k: usize, line: &[u8]) -> &[u8]
     word
 }
 
-/// Column `k` of a line, from 0, if a byte parts them. The `k` columns before it are passed first,
-/// each with the byte after it.
+/// Column `k` of a line, from 0, if the byte `comma` parts columns. The `k` columns before column
+/// `k` are passed first, each with the byte after it. No byte if the line has no column `k`, or if
+/// nothing is between the bytes round it.
 fn part(comma: u8, k: usize, line: &[u8]) -> &[u8]
     ensures { result.now ≡ part_at comma k line.now }
 {
@@ -49,8 +50,9 @@ fn part(comma: u8, k: usize, line: &[u8]) -> &[u8]
     part
 }
 
-/// What is left of a line after its first column. A byte that parts it from the next one is passed,
-/// too. White space that parts them is not: the next column is looked for after it (`Text`).
+/// What is left of a line after its first column; no byte if nothing comes after it. If a byte
+/// parts columns, the one after the column is passed, too. If white space does, it is still there:
+/// `word` passes it before the next column.
 pub fn passed(comma: Option<u8>, line: &[u8]) -> &[u8]
     ensures { result.now ≡ passed comma line.now }
 {
@@ -60,7 +62,8 @@ pub fn passed(comma: Option<u8>, line: &[u8]) -> &[u8]
     }
 }
 
-/// What is after the first column, if white space parts them: the white space is still there.
+/// What is after the first column, if white space parts columns: the white space after that column
+/// is still there.
 fn after_word(line: &[u8]) -> &[u8]
     ensures { result.now ≡ passed None line.now }
 {
@@ -69,7 +72,7 @@ fn after_word(line: &[u8]) -> &[u8]
     left
 }
 
-/// What is after the first column and the byte after it, if a byte parts them.
+/// What is after the first column and the byte after it, if the byte `comma` parts columns.
 fn after_part(comma: u8, line: &[u8]) -> &[u8]
     ensures { result.now ≡ passed (Some comma) line.now }
 {

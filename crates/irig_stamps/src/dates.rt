@@ -11,7 +11,7 @@ use jiff_core::civil::days_in_month;
 /// The year of a time. If frames carry one, of two digits, it is in the century of the settings.
 /// Else it is the year of the first believed frame, `settings.year`, or the next one if the day is
 /// before that frame's, `settings.first_day`: a track is taken to be shorter than a year. `None` if
-/// neither is known.
+/// the frames carry none and `settings.year` is `None`. The bounds keep the result in four digits.
 pub fn year_in(settings: &Settings<'_>, time: &Time) -> Option<u32>
     requires century { settings.now.century ≤ 99 }
     requires year { IfSome settings.now.year (λ y. y ≤ 9998) }
@@ -27,7 +27,8 @@ pub fn year_in(settings: &Settings<'_>, time: &Time) -> Option<u32>
 
 /// The year of a day, from 1, if frames carry no year: that of the first believed frame
 /// (`settings.year`), or the next one if the day is before the day of that frame, since a track is
-/// taken to be shorter than a year. `None` if `settings.year` is not known.
+/// taken to be shorter than a year. `None` if `settings.year` is not known. That year is at most
+/// 9998, so that the next one has four digits, too.
 fn counted_on(settings: &Settings<'_>, days: u32) -> Option<u32>
     requires year { IfSome settings.now.year (λ y. y ≤ 9998) }
     ensures value { result ≡ counted_on settings.now days }

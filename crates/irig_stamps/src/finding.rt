@@ -44,7 +44,8 @@ struct Header {
 }
 
 /// Reads the header of the lines, and finds the column with a name in its last line. What was read
-/// is returned with the column, since it can reach past the header and cannot be read again.
+/// is returned with the column, since it can reach past the header and cannot be read again. Any of
+/// the faults of the head of this file can be the error.
 pub fn find<R: Read>(
     alloc: Global,
     lines: &mut R,
@@ -67,8 +68,9 @@ pub fn find<R: Read>(
     }
 }
 
-/// Reads lines until those of the header have ended, or to their end. Returns what was read: the
-/// last read can reach past the header. After 2^32 reads without an end it is `TooManyReads`.
+/// Reads lines until those of the header have ended, or until nothing is left to read: `find_in`
+/// sees then whether the header is there. Returns what was read: the last read can reach past the
+/// header. `TooManyReads` after 2^32 reads without an end; other errors are those of `read_more`.
 fn read_header<R: Read>(
     alloc: Global,
     lines: &mut R,
@@ -96,8 +98,9 @@ fn read_header<R: Read>(
 }
 
 /// Reads a part of the lines into the buffer, and adds it to the header. Returns whether the header
-/// needs no more reads: all its lines have ended, or nothing is left to read. The limit is looked
-/// at after that, so a header that ends in the last read is not too long.
+/// needs no more reads: all its lines have ended, or nothing is left to read. If it needs more and
+/// has 1 MiB or more, it is `LongHeader`: so a header that ends in this read is not too long.
+/// `ReadFailed` if the read fails, `OutOfMemory` if memory runs out.
 fn read_more<R: Read>(
     lines: &mut R,
     buffer: &mut [u8; READ_LIMIT],
@@ -162,7 +165,7 @@ fn find_in(settings: &Settings<'_>, name: &[u8], bytes: &[u8]) -> Result<usize, 
     if ended + 1 < settings.header {
         return Err(RunFault::NoHeader);
     }
-    // A newline as the byte that parts columns: so column `k` is line `k`.
+    // With a newline as the byte that parts columns, column `k` is line `k`, from 0.
     let line = column(Some(b'\n'), (settings.header - 1) as usize, bytes);
     // A last line without a newline is there only if it has a byte.
     if ended < settings.header && line.is_empty() {
@@ -171,9 +174,9 @@ fn find_in(settings: &Settings<'_>, name: &[u8], bytes: &[u8]) -> Result<usize, 
     place_of(settings.comma, name, line)
 }
 
-/// The column of a line with a name, from 0, of the first 65,536; `NoColumn` if none has it,
+/// The column of a line, from 0, that has a name, of the first 65,536; `NoColumn` if none has it,
 /// `TwoColumns` if two do, so all of them are looked at. Each turn of the loop looks at the first
-/// column of what is left, and passes it.
+/// column of what is left, and passes it; columns that the line does not have are empty.
 fn place_of(comma: Option<u8>, name: &[u8], line: &[u8]) -> Result<usize, RunFault>
     ensures { IsPlace (has_name comma name.now line.now) 65536 result }
 {
@@ -193,8 +196,9 @@ fn place_of(comma: Option<u8>, name: &[u8], line: &[u8]) -> Result<usize, RunFau
     }
 }
 
-/// The column, from 0, that has the name, of those up to `place`: `found` is the one before
-/// `place`, and `named` says whether `place` has it. `TwoColumns` if both have.
+/// The column, from 0, that has the name, of those up to `place`; `None` if none has it. `found` is
+/// that of the columns before `place`, and `named` says whether column `place` has the name.
+/// `TwoColumns` if one before `place` has it, and `place` too.
 fn one_more(found: Option<usize>, place: usize, named: bool) -> Result<Option<usize>, RunFault>
     ensures { (has : ℕ → Bool) → named ≡ has place → IsSoFar has place found
         → IsNext has (place + 1) result }

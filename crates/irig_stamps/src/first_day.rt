@@ -1,8 +1,8 @@
-//! The day of the first frame that is believed, and how many frames are not. Each record is a frame
-//! of the track; its verdict says whether the frame is fine, and what its elements say. `held` says
-//! of each record, at the same place, from 0, whether its frame is believed: whether another frame
-//! near it supports its time. `timed` gives the fields of a frame that has a time: it is fine and
-//! ends within its minute.
+//! The day of the first frame that is believed, and how many frames have a time and are not. Each
+//! record is a frame of the track; its verdict says whether the frame is fine, and what its
+//! elements say. `held` says of each record, at the same place, from 0, whether its frame is
+//! believed: whether another frame near it supports its time. `timed` gives the fields of a frame
+//! that has a time: it is fine and ends within its minute.
 
 ghost use Rattle.std.specs.Prelude.{◌≡◌, ◌≤◌, ◌<◌, Some, slice_get, length};
 ghost use Rattle.irig_index.specs.declared.record.Record.{Record};
@@ -12,7 +12,7 @@ ghost use Rattle.irig_stamps.specs.Dates.{doubt_of, doubted, first_day, if_held}
 use irig_codes::{Fields, Format};
 use irig_times::{FrameLens, timed};
 
-/// The day of the year, from 1, of the first frame that is believed; `None` if none is.
+/// The day of the year, from 1, of the first frame that is believed; `None` if no frame is.
 pub fn first_day(records: &mut FrameLens<'_>, held: &[bool], format: Format) -> Option<u32>
     ensures day { result ≡ first_day format held.now 0 records.old.records }
     ensures same { records.new.records ≡ records.old.records }
@@ -69,7 +69,8 @@ pub fn doubted(records: &mut FrameLens<'_>, held: &[bool], format: Format) -> us
     count
 }
 
-/// 1 if the frame of the record at a place has a time and is not believed, else 0.
+/// 1 if the frame of the record at a place has a time and is not believed, else 0: what it adds to
+/// the count of `doubted`.
 fn doubt_of(records: &mut FrameLens<'_>, held: &[bool], format: Format, place: usize) -> usize
     requires { place < length records.old.records }
     ensures doubt { (r : Record) → slice_get records.old.records place ≡ Some r

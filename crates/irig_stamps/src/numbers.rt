@@ -1,11 +1,12 @@
 //! The decimal number in a column. The result is the column's number times 10^`places`, as a whole
-//! number: rounded up if `up`, else down. A `Picos` is such a result, as its sign and its size.
-//! Each function returns `None` if the text is no number, and 2^120 for each greater one, since no
-//! recorder's time that far from zero has a time. `whole` and `fraction` are digits in ASCII,
-//! before the point and after it. `point_after` gives the size of a number without an exponent,
-//! `to_the_left` and `to_the_right` that of one with a minus or without, and `digits` the value of
-//! digits. White space is a space, a tab or a carriage return. `cut` parts a text before the first
-//! byte that is no white space (`Text`), or no digit (`Other`).
+//! number. A `Picos` is such a result: its sign, and its size, the number without the sign. A size
+//! is rounded up if `up`, else down. Each function returns `None` if the text is no number, and the
+//! size 2^120 for each greater one, since no recorder's time that far from zero has a time. `whole`
+//! and `fraction` are digits in ASCII, before the point and after it. `point_after` gives the size
+//! of a number without an exponent, `to_the_left` and `to_the_right` that of one whose exponent has
+//! a minus or none, and `digits` the value of digits. White space is a space, a tab or a carriage
+//! return. `cut` parts a text before the first byte that is no white space (`Text`), or no digit
+//! (`Other`).
 
 ghost use Rattle.std.specs.Prelude.{◌≡◌, ◌^◌, ℕ, List, min, option_map, false, true};
 ghost use Rattle.irig_stamps.specs.Columns.{before, onward};
@@ -19,8 +20,9 @@ use crate::picos::Picos;
 use crate::point::{digits, point_after, to_the_left, to_the_right};
 
 /// The number in a column, if it is one: maybe a sign, digits, maybe a point and digits, and maybe
-/// an exponent, with white space round it. A unit of the column is 10^`places` picoseconds, and the
-/// result is in picoseconds, rounded down; 2^120 if it is greater.
+/// an exponent, with white space round it; else `None`. A unit of the column is 10^`places`
+/// picoseconds, and the result is in picoseconds, rounded down, also if it is negative. Its size is
+/// 2^120 if it is greater.
 pub fn number(places: usize, text: &[u8]) -> Option<Picos>
     ensures { result ≡ option_map capped (number_in places text.now) }
 {
@@ -29,7 +31,7 @@ pub fn number(places: usize, text: &[u8]) -> Option<Picos>
 }
 
 /// The number of a text that begins with its sign or its first digit: the white space before it is
-/// passed already.
+/// passed already. `None` if the text is no number.
 fn signed(places: usize, text: &[u8]) -> Option<Picos>
     ensures { result ≡ option_map capped (signed places text.now) }
 {
@@ -40,15 +42,15 @@ fn signed(places: usize, text: &[u8]) -> Option<Picos>
     }
 }
 
-/// The number after a minus. Its size, without the sign, is rounded up, so the number is rounded
-/// down.
+/// The number whose minus was before this text. Its size is rounded up, so the number itself is
+/// rounded down.
 fn negative(places: usize, text: &[u8]) -> Option<Picos>
     ensures { result ≡ option_map capped (below (size_in true places text.now)) }
 {
     below(size_in(true, places, text))
 }
 
-/// The number after a plus, or without a sign. It is rounded down.
+/// The number whose plus was before this text, or that has no sign. It is rounded down.
 fn positive(places: usize, text: &[u8]) -> Option<Picos>
     ensures { result ≡ option_map capped (above (size_in false places text.now)) }
 {
@@ -93,7 +95,8 @@ pub fn whole(text: &[u8]) -> Option<u128>
     Some(digits(0, whole))
 }
 
-/// The size of a number without a sign; `None` if the text does not begin with a digit.
+/// The size of the number that a text without a sign is; `None` if the text does not begin with a
+/// digit, or is no number after that.
 fn size_in(up: bool, places: usize, text: &[u8]) -> Option<u128>
     ensures { result ≡ option_map (λ v. min v (2 ^ 120)) (size_in up places text.now) }
 {
@@ -104,8 +107,9 @@ fn size_in(up: bool, places: usize, text: &[u8]) -> Option<u128>
     with_fraction(up, places, whole, rest)
 }
 
-/// The size of a number with the digits `whole` before its point. `rest` is what is after them. If
-/// that is a point, a digit has to come after it: without one it is `None`.
+/// The size of a number with the digits `whole` before its point. `rest` is what is after them:
+/// nothing, a point, an exponent or white space; else `None`. A point must have a digit after it:
+/// without one it is `None`, too.
 fn with_fraction(up: bool, places: usize, whole: &[u8], rest: &[u8]) -> Option<u128>
     ensures { result ≡ option_map (λ v. min v (2 ^ 120))
         (with_fraction up places whole.now rest.now) }
@@ -124,7 +128,7 @@ fn with_fraction(up: bool, places: usize, whole: &[u8], rest: &[u8]) -> Option<u
 }
 
 /// The size of a number with these digits before its point and after it. `rest` is what is after
-/// both: an exponent, white space or nothing. With anything else it is no number.
+/// both: nothing, an exponent or white space. With anything else it is no number: `None`.
 fn with_exponent(
     up: bool,
     places: usize,
@@ -143,7 +147,8 @@ fn with_exponent(
 }
 
 /// The size of a number with these digits. `rest` is what is after the e of its exponent: maybe a
-/// sign, and digits. Without a sign the point moves to the right, as with a plus.
+/// sign, digits, and maybe white space; else `None`. Without a sign the point moves to the right,
+/// as with a plus.
 fn after_e(up: bool, places: usize, whole: &[u8], fraction: &[u8], rest: &[u8]) -> Option<u128>
     ensures { result ≡ option_map (λ v. min v (2 ^ 120))
         (after_e up places whole.now fraction.now rest.now) }
@@ -182,7 +187,7 @@ fn powered(
     }
 }
 
-/// A value, if only white space is left; else `None`.
+/// A value, if the text that is left is only white space or nothing; else `None`.
 fn if_blank(text: &[u8], value: u128) -> Option<u128>
     ensures { result ≡ if_blank text.now value }
 {

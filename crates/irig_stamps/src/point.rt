@@ -1,7 +1,8 @@
 //! The point of a decimal number, moved. `whole` is the digits before the point and `fraction`
-//! those after it, as ASCII. The result is a whole number: what is after the moved point is
-//! dropped, or rounds it up by one if `up` and it is not 0. `cut` with `Weight` parts digits before
-//! the first that is no zero.
+//! those after it, as ASCII. The result is a whole number: digits after the moved point are
+//! dropped. If `up` and one of them is not 0, the result is one more. `power`, an exponent of 10,
+//! is at most 2^120, which stands for each greater one, too. `cut` with `Weight` parts digits
+//! before the first that is not 0.
 
 ghost use Rattle.std.specs.Prelude.{◌≡◌, ◌≤◌, ◌^◌, ◌+◌, ◌*◌, ◌-◌, ◌∷◌, ℕ, suc, List, min};
 ghost use Rattle.std.specs.Prelude.{drop, false, true, ◌&&◌, ◌||◌};
@@ -44,7 +45,7 @@ pub fn to_the_left(up: bool, places: usize, power: u128, whole: &[u8], fraction:
 }
 
 /// The number times 10^`right`; 2^120 if it is greater. The point goes to the right: the first
-/// `right` digits of the fraction come before it, and the rest after it.
+/// `right` digits of the fraction come before it, with zeros if it has fewer, and the rest after.
 pub fn point_after(up: bool, right: usize, whole: &[u8], fraction: &[u8]) -> u128
     ensures { result ≡ min (rounded up right 0 whole.now fraction.now) (2 ^ 120) }
 {
@@ -54,7 +55,8 @@ pub fn point_after(up: bool, right: usize, whole: &[u8], fraction: &[u8]) -> u12
 }
 
 /// The number divided by 10^`left`; 2^120 if it is greater. The point goes to the left: the last
-/// `left` digits of `whole`, and all of the fraction, come after it.
+/// `left` digits of `whole`, and all of the fraction, come after it. If `whole` has no more digits
+/// than that, none is before it, and the result is 0, or 1 if it is rounded up.
 fn point_before(up: bool, left: u128, whole: &[u8], fraction: &[u8]) -> u128
     ensures { result ≡ min (rounded up 0 left whole.now fraction.now) (2 ^ 120) }
 {
@@ -64,15 +66,15 @@ fn point_before(up: bool, left: u128, whole: &[u8], fraction: &[u8]) -> u128
     with_one(more, value)
 }
 
-/// Whether a number is rounded up, if `digits` and `others` are after its point: if `up` says so
-/// and one of them is not 0.
+/// Whether a number is rounded up, if `digits` and then `others` are after its point: if `up` says
+/// so and one of these digits is not 0.
 fn exceeds(up: bool, digits: &[u8], others: &[u8]) -> bool
     ensures { result ≡ (up && (has_weight digits.now || has_weight others.now)) }
 {
     up && (has_weight(digits) || has_weight(others))
 }
 
-/// The value plus 1 if `more`, at most 2^120; else the value as it is.
+/// The value plus 1 if `more`, at most 2^120; else the value as it is, which is at most 2^120, too.
 fn with_one(more: bool, value: u128) -> u128
     requires { value ≤ 2 ^ 120 }
     ensures { result ≡ min (with_one more value) (2 ^ 120) }
@@ -80,7 +82,7 @@ fn with_one(more: bool, value: u128) -> u128
     if more { MOST.min(value + 1) } else { value }
 }
 
-/// What is after the first `count` digits; nothing if there are no more.
+/// The digits after the first `count`; none if there are no more than `count`.
 fn after(count: usize, digits: &[u8]) -> &[u8]
     ensures { result.now ≡ drop count digits.now }
 {
@@ -95,8 +97,9 @@ fn has_weight(digits: &[u8]) -> bool
     !left.is_empty()
 }
 
-/// A value with one more decimal digit, in ASCII, after it; 2^120 if it is greater. A value above a
-/// tenth of that is looked at first, so that nothing overflows.
+/// A value with one more decimal digit, in ASCII, after it: 10 times the value, and the digit. If
+/// that is greater than 2^120, it is 2^120. A value above a tenth of 2^120 is looked at first, so
+/// that nothing overflows.
 fn more(value: u128, digit: u8) -> u128
     requires { value ≤ 2 ^ 120 }
     ensures value { result ≡ min (10 * value + (digit - 48)) (2 ^ 120) }
@@ -109,7 +112,8 @@ fn more(value: u128, digit: u8) -> u128
     }
 }
 
-/// A value with more decimal digits, in ASCII, after it; 2^120 if it is greater.
+/// A value with more decimal digits, in ASCII, after it: 7 with `35` is 735. 2^120 if that is
+/// greater. From 0 it is the value of the digits alone.
 pub fn digits(value: u128, digits: &[u8]) -> u128
     requires { value ≤ 2 ^ 120 }
     ensures { result ≡ min (digits_after value digits.now) (2 ^ 120) }
@@ -121,8 +125,8 @@ pub fn digits(value: u128, digits: &[u8]) -> u128
     value
 }
 
-/// A value with the first `places` digits of a fraction after it, zeros if it has fewer; 2^120 if
-/// it is greater.
+/// A value with the first `places` digits of a fraction after it, and zeros for digits that the
+/// fraction does not have: 7 with 3 places of `35` is 7350. 2^120 if that is greater.
 fn padded(value: u128, places: usize, fraction: &[u8]) -> u128
     requires { value ≤ 2 ^ 120 }
     ensures { result ≡ min (digits_after value (padded places fraction.now)) (2 ^ 120) }
@@ -137,7 +141,8 @@ fn padded(value: u128, places: usize, fraction: &[u8]) -> u128
     value
 }
 
-/// The first digit of a fraction, and those after it. After the last one come zeros without end.
+/// The first digit of a fraction, in ASCII, and those after it. After the last one come zeros
+/// without end: of an empty fraction it gives 0, and the empty fraction again.
 fn first(fraction: &[u8]) -> (u8, &[u8])
     ensures { (n : ℕ) → padded (suc n) fraction.now ≡ result.0 ∷ padded n result.1.now }
 {

@@ -2,8 +2,8 @@
 //! the number in one of its columns. `state` is how far they were read, and `text` is what comes
 //! out for them and is not printed yet. `pulses` is the track's pulses, and `known` which of them
 //! have a time. `format` is the code of the track, and `settings` say how lines are read and times
-//! are written. A `RunFault` says why the run is broken off, and a `TakeFault` why bytes are not
-//! taken (`take_part`).
+//! are written; their bounds keep years in four digits and sums in their types. A `RunFault` says
+//! why the run is broken off, and a `TakeFault` why bytes are not taken (`take_part`).
 
 ghost use Rattle.std.specs.Prelude.{◌≡◌, ◌≤◌, ◌<◌, ◌^◌, [], ℕ, List, Option, true, false, OnOk, IfOk};
 ghost use Rattle.std.specs.Prelude.{IfSome};
@@ -25,8 +25,8 @@ use std::alloc::Global;
 use std::io::{Read, Write};
 
 /// Takes `before`, the bytes of the lines that were read already, reads the rest to its end, and
-/// prints each line with its time before it. Returns whether the column of each has a number, but
-/// for the header; or why the run is broken off, after what was printed until then.
+/// prints each line with its time before it. Returns whether the column of each line has a number,
+/// but for the header; or why the run is broken off. What was printed until then stays.
 pub fn run<R: Read, W: Write>(
     alloc: Global,
     before: &[u8],
@@ -105,8 +105,9 @@ fn run_on<R: Read, W: Write>(
     Err(RunFault::TooManyReads)
 }
 
-/// Reads a part of the lines and prints what comes out for it. Returns whether nothing was left to
-/// read: then the last line, if no newline ended it, is ended.
+/// Reads a part of the lines and prints what comes out for it. Returns `true` if nothing was left
+/// to read: then the last line, if no newline ended it, is ended and printed. Else `false`. An
+/// error is `ReadFailed` if the read fails, else that of `end` or `put_part`.
 fn run_read<R: Read, W: Write>(
     lines: &mut R,
     out: &mut W,

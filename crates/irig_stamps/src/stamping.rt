@@ -1,9 +1,9 @@
 //! A line with its time before it. `count` is how many lines are before it. `pulses` is the track's
-//! pulses, `known` which of them have a time, in parts, and `whys` why the others have none.
-//! `time_by` and `why_at` give the time of year of a moment, and why it has none; the moment is in
-//! picoseconds after the start of the track. `format` is the track's code. A recorder's time is in
-//! picoseconds from the recorder's zero. The column that is read is `settings.column`, parted by
-//! `settings.comma`, or by white space if that is `None`. An `AllocError` says that memory ran out.
+//! pulses, `known` which of them have a time, in parts, and `whys` why the others have none. A
+//! moment is in picoseconds after the start of the track, a recorder's time in those from its zero.
+//! `time_by` and `why_at` give the time of year of a moment, and why it has none. The column that
+//! is read is `settings.column`, parted by `settings.comma`, or by white space if that is `None`.
+//! An `AllocError` says that memory ran out; a text can have a part of what was to be added then.
 
 ghost use Rattle.std.specs.Prelude.{◌≡◌, ◌↔◌, ◌<◌, ◌≤◌, ◌^◌, ◌-◌, ◌++◌, ◌∷◌, [], ℕ, List, Some, min, Option};
 ghost use Rattle.std.specs.Prelude.{IfOk, IfSome, OnOk, is_some, option_map, unwrap_or};
@@ -33,10 +33,10 @@ const LATE: u128 = 4_611_686_018_427_387_904;
 /// A moment after the end of each track, in picoseconds after its start: 2^62, as `LATE`.
 const END: u64 = 4_611_686_018_427_387_904;
 
-/// The moment of a recorder's time after the start of the track, as two numbers in picoseconds: it
-/// is the first less the second. The offset is the recorder's time at the start, so it is taken
-/// off. The time and the offset can be below zero (`negative`, `early`); the two numbers are not.
-/// No sum reaches the end of its type: a time has at most 2^120, and an offset 2^119.
+/// How long after the start of the track a recorder's time is, as two numbers in picoseconds: the
+/// first less the second. The offset is the recorder's time at the start, so it is subtracted. The
+/// time and the offset can be below zero (`negative`, `early`); the two numbers are not. No sum
+/// reaches the end of its type: a time has at most 2^120, as `number` gives it, an offset 2^119.
 fn span(settings: &Settings<'_>, picos: Picos) -> (u128, u128)
     requires { settings.now.offset ≤ 2 ^ 119 }
     ensures added { result.0 ≡ min (added settings.now picos) (2 ^ 128 - 1) }
@@ -50,9 +50,9 @@ fn span(settings: &Settings<'_>, picos: Picos) -> (u128, u128)
     }
 }
 
-/// The time of year at a recorder's time; `None` if the moment has none, or is before the track
-/// starts. A size of 2^120 picoseconds means that or more (`number`), which is too far from zero to
-/// have a time.
+/// The time of year at a recorder's time; `None` if the moment has none, is before the track starts
+/// or is later than any track is long (`LATE`). A size of 2^120 picoseconds means that or more
+/// (`number`), which is too far from zero to have a time.
 fn time_of(
     pulses: &mut Lens<'_>,
     parts: &[Part],
@@ -81,8 +81,8 @@ fn time_of(
     time_by(pulses, parts, format, settings.century, since as u64)
 }
 
-/// Why a recorder's time has no time of year, if it has none. If it has one, the answer means
-/// nothing: it is not asked for then.
+/// Why a recorder's time has no time of year: `Before` if it is before the track starts, else what
+/// `why_at` says of its moment. Callers ask only if it has none; else the answer means nothing.
 fn why_of(
     pulses: &mut Lens<'_>,
     whys: &Whys,
@@ -121,7 +121,7 @@ fn why_word<'a>(why: Why) -> &'a [u8]
         Why::After => b"after",
         // Pulses are missing there, or not in step.
         Why::Hole => b"hole",
-        // The time jumps between two believed frames, though all pulses are in step.
+        // The time jumps there: a clock was set, or intervals were lost.
         Why::Step => b"step",
         // A frame there has a time and is not believed.
         Why::Unbelieved => b"unbelieved",
@@ -130,8 +130,8 @@ fn why_word<'a>(why: Why) -> &'a [u8]
     }
 }
 
-/// The word for no time: a hyphen, or if `--why` asked for it (then `known.whys` is there) the word
-/// why there is none.
+/// The word for a recorder's time that has no time of year: if `--why` asked for it (then
+/// `known.whys` is there) the word why it has none, else a hyphen.
 fn none_word<'a>(
     pulses: &mut Lens<'_>,
     known: &Known,
@@ -160,9 +160,9 @@ enum Told<'a> {
     Word(&'a [u8]),
 }
 
-/// What is printed for a recorder's time (`number`, in picoseconds): its time of year; or if it has
-/// none, a word that says why, if that is asked for, else a hyphen. A hyphen, too, for `None`: the
-/// column has no number.
+/// What is printed for a recorder's time (`number`, in picoseconds): its time of year. If it has
+/// none, the word of `none_word`: why, if `settings.why` asks for it, else a hyphen. A hyphen, too,
+/// if `number` is `None`, as the column has no number.
 fn told_of<'a>(
     pulses: &mut Lens<'_>,
     known: &Known,
@@ -199,8 +199,8 @@ fn put_told(text: &mut Vec<u8>, settings: &Settings<'_>, told: Told<'_>) -> Resu
     }
 }
 
-/// Adds a separator, a line and a newline to a text, after the time. The separator is `comma`, or a
-/// tab if white space parts columns.
+/// Adds a separator, a line and a newline to a text, which ends with the line's time or word. The
+/// separator is `comma`, or a tab if white space parts columns (`None`).
 fn put_line(text: &mut Vec<u8>, comma: Option<u8>, line: &[u8]) -> Result<(), AllocError>
     ensures { OnOk result
         (text.new.items ≡ text.old.items ++ (unwrap_or comma 9 ∷ line.now ++ 10 ∷ [])) }
@@ -210,8 +210,8 @@ fn put_line(text: &mut Vec<u8>, comma: Option<u8>, line: &[u8]) -> Result<(), Al
     text.extend_from_slice(b"\n")
 }
 
-/// What is in the column of times in a line of the header that `count` lines are before: the
-/// column's name in the last line of the header, else a hyphen.
+/// What comes before a line of the header, in the new column of times: that column's name before
+/// the last line of the header, a hyphen before each other one. `count` lines are before the line.
 fn header_word<'a>(settings: &Settings<'a>, count: u64) -> &'a [u8]
     requires { count < settings.now.header }
     ensures { header_word settings.now count ≡ Some result.now }
@@ -224,8 +224,8 @@ fn header_word<'a>(settings: &Settings<'a>, count: u64) -> &'a [u8]
     }
 }
 
-/// Adds a line to a text with its time before it. Returns whether the column of the recorder's time
-/// has a number: a line without one is printed, too, with a hyphen.
+/// Adds a line to a text with what `told_of` gives before it: its time, or a word. Returns whether
+/// the column of the recorder's time has a number: a line without one gets a hyphen.
 fn stamp(
     text: &mut Vec<u8>,
     pulses: &mut Lens<'_>,
@@ -253,8 +253,8 @@ fn stamp(
     Ok(number.is_some())
 }
 
-/// Adds to a text what comes out for a line that `count` lines are before. Returns whether its
-/// column has a number; a line of the header needs none.
+/// Adds to a text what comes out for a line: in the header the word of `header_word` and the line,
+/// else what `stamp` adds. Returns whether its column has a number; true in the header.
 pub fn line_out(
     text: &mut Vec<u8>,
     pulses: &mut Lens<'_>,

@@ -2,7 +2,8 @@
 //! `held` says of each, at the same place, from 0, whether it is believed: whether another frame
 //! near it supports its time, or with `settings.alone` whether it has a time at all. A frame's
 //! period is its duration. `settings` say how a time is written, and `format` is the track's code.
-//! An `AllocError` says that memory ran out.
+//! Their bounds keep each year in four digits. An `AllocError` says that memory ran out; a text can
+//! have a part of what was to be added then.
 
 ghost use Rattle.std.specs.Prelude.{◌≡◌, ◌≤◌, ◌<◌, ◌++◌, ℕ, List, Some, slice_get, length, IfOk};
 ghost use Rattle.std.specs.Prelude.{IfSome, OnOk, Option};
@@ -28,8 +29,9 @@ use std::alloc::{AllocError, Global};
 use std::io::Write;
 
 /// Prints the table of a recording: a row for each frame that has a time. Returns whether one of
-/// them is believed, and how many are not. The table is made before it is printed, so nothing is
-/// printed if memory runs out (`OutOfMemory`). `PrintFailed` if the output fails.
+/// these frames is believed, and how many are not. The table is made before it is printed, so
+/// nothing is printed if memory runs out (`OutOfMemory`). `PrintFailed` if the output fails: a
+/// front of the table can be printed then.
 pub fn list<W: Write>(
     alloc: Global,
     recording: LongRecording,
@@ -45,8 +47,9 @@ pub fn list<W: Write>(
     list_track(alloc, &mut Lens::of(&recording), out, format, settings)
 }
 
-/// As `list`, on a lens. First it finds which frames are believed (`held`), the day of the first of
-/// them, which decides their year, and how many others have a time.
+/// Prints the table of the track that a lens shows, with the results and errors of `list`. First it
+/// finds which frames are believed (`held`), on which day the first of them is, and how many frames
+/// have a time and are not believed. The year of a frame without one depends on that first day.
 fn list_track<W: Write>(
     alloc: Global,
     pulses: &mut Lens<'_>,
@@ -69,7 +72,7 @@ fn list_track<W: Write>(
     };
     let day = first_day(&mut records, &held, format);
     let doubted = doubted(&mut records, &held, format);
-    // 0 if no frame is believed. No day is before it, so each row has the year of the settings.
+    // 0 if no frame is believed. No day is before day 0, so each row has the year of the settings.
     let settings = Settings {
         first_day: day.unwrap_or(0),
         ..*settings
@@ -86,8 +89,8 @@ fn list_track<W: Write>(
     }
 }
 
-/// The text of the table, a row for each record whose frame has a time. `Err` means that memory ran
-/// out.
+/// The text of the table: a row for each record whose frame has a time, in order. `Err` means that
+/// memory ran out.
 fn table(
     alloc: Global,
     pulses: &mut Lens<'_>,
@@ -139,7 +142,7 @@ fn put_frame(
 }
 
 /// Adds the row of a frame, by where it starts; nothing if there is no start, since the frame has
-/// no time.
+/// no time. `held` says whether the frame is believed.
 fn put_start(
     text: &mut Vec<u8>,
     settings: &Settings<'_>,
@@ -157,7 +160,7 @@ fn put_start(
 }
 
 /// Adds the row of a frame: the microsecond of the track at which it begins (`rise`), its time, and
-/// the word of `answer`. The three are parted as columns are, by a tab if that is white space.
+/// the word of `answer`. The three are parted by `settings.comma`, or by a tab if that is `None`.
 /// `held` says whether the frame is believed.
 fn put_row(
     text: &mut Vec<u8>,
@@ -179,8 +182,9 @@ fn put_row(
     text.extend_from_slice(b"\n")
 }
 
-/// `yes` if a frame is believed and the next one follows it one period later, `no` if it is
-/// believed and none does, and `unsupported` if it is not believed, which `None` means, too.
+/// The last word of a row: `yes` if the frame is believed and the next one follows it one period
+/// later, `no` if it is believed and none does, and `unsupported` if it is not believed. `None`,
+/// which `held` never is for a record that is there, counts as not believed.
 fn answer<'a>(held: Option<bool>, is_followed: bool) -> &'a [u8]
     ensures { result.now ≡ answer_of held is_followed }
 {

@@ -1,8 +1,10 @@
 //! Bytes of lines, as they come. A line has a recorder's time in one of its columns. What comes out
 //! for it is the time of day at that moment, by the frames of the track, and the line as it was.
-//! `lines` is how far lines were read, and `text` what comes out for those that have ended.
-//! `pulses` is the track's pulses, and `known` which of them have a time. `settings` say which
-//! column it is, and how a time is written.
+//! `lines` is how far lines were read: the front of the line that has not ended (`line`), how many
+//! have ended (`count`), and whether the column of each of these has a number (`all`). `text` is
+//! what comes out for those that have ended. `pulses` is the track's pulses, and `known` which of
+//! them have a time. `settings` say which column it is, and how a time is written; their bounds
+//! keep each year in four digits, and each sum in its type.
 
 ghost use Rattle.std.specs.Prelude.{◌≡◌, ◌≢◌, ◌≤◌, ◌<◌, ◌^◌, ◌∷◌, [], OnOk, IfSome};
 ghost use Rattle.irig_stamps.specs.Reasons.{IsKnownOf};
@@ -20,9 +22,9 @@ use std::alloc::AllocError;
 /// The most bytes of a line, its newline not counted: 1 MiB.
 const LINE_LIMIT: usize = 1_048_576;
 
-/// Takes a byte. A newline ends the line so far: what comes out for it is added to the text, and
-/// the only error is `OutOfMemory`. Any other byte is added to the line: `TooLong` if the line has
-/// 1 MiB already, `OutOfMemory` if memory runs out.
+/// Takes a byte. A newline ends the line so far: what comes out for that line is added to the text,
+/// and the only error is `OutOfMemory`. Any other byte is added to the line: `TooLong`, and nothing
+/// changes, if the line has 1 MiB already; `OutOfMemory` if memory runs out.
 fn take_byte(
     lines: &mut Lines,
     text: &mut Vec<u8>,
@@ -50,7 +52,8 @@ fn take_byte(
     }
 }
 
-/// Adds a byte, which is no newline, to the line so far; `TooLong` if the line has 1 MiB already.
+/// Adds a byte, which is no newline, to the line so far. `TooLong`, and nothing changes, if the
+/// line has 1 MiB already; `OutOfMemory` if memory runs out.
 fn push_byte(lines: &mut Lines, byte: u8) -> Result<(), TakeFault>
     requires plain { byte ≢ 10 }
     ensures { PushesAs byte lines.old lines.new result }
@@ -65,7 +68,8 @@ fn push_byte(lines: &mut Lines, byte: u8) -> Result<(), TakeFault>
 }
 
 /// Ends the line so far: adds what comes out for it to the text, counts it, and makes it empty. If
-/// memory runs out, the line stays, and the text can have a part of what comes out.
+/// its column has no number, `all` is false from now on; a line of the header needs none. If memory
+/// runs out, the line stays, and the text can have a part of what comes out.
 pub fn end_line(
     lines: &mut Lines,
     text: &mut Vec<u8>,
@@ -92,8 +96,9 @@ pub fn end_line(
     Ok(())
 }
 
-/// Takes some bytes, of the middle of a line or of many lines. A fault is that of the first byte
-/// that cannot be taken; those before it are taken.
+/// Takes some bytes, in order: they can begin and end within a line, and have many lines. A fault
+/// is that of the first byte that cannot be taken (`take_byte`); those before it are taken, and
+/// those after it are not.
 pub fn take_part(
     lines: &mut Lines,
     text: &mut Vec<u8>,

@@ -1,5 +1,7 @@
 //! Times as texts, each added to the end of `text`. Days of the year, months and days of a month
-//! count from 1. An `AllocError` says that memory ran out.
+//! count from 1. A `Time` has the day of the year, hours, minutes, and in `micros` the microseconds
+//! since the minute began. The bounds of `settings` keep each year in four digits. An `AllocError`
+//! says that memory ran out; a part of what was to be added can be in `text` then.
 
 ghost use Rattle.std.specs.Prelude.{◌≡◌, ◌<◌, ◌≤◌, ◌^◌, ◌++◌, ◌∷◌, ◌+◌, ◌*◌, decimal, drop, length};
 ghost use Rattle.std.specs.Prelude.{OnOk, IfSome};
@@ -25,7 +27,8 @@ fn digit(unit: u64, number: u64) -> u8
     b'0' + (number / unit % 10) as u8
 }
 
-/// Adds a time to a text, in the form of the settings; a hyphen if there is no time.
+/// Adds a time to a text, in the form of the settings; a hyphen if there is no time, or if the form
+/// is that of a date and the time has none.
 pub fn put_word(
     text: &mut Vec<u8>,
     settings: &Settings<'_>,
@@ -41,7 +44,8 @@ pub fn put_word(
     }
 }
 
-/// Adds a time in the form of the settings.
+/// Adds a time in the form of the settings. Its year is that of `year_in`: the time's own, or that
+/// of the settings, if one is known. A hyphen if the form is `Calendar` and the time has no date.
 fn put_time(text: &mut Vec<u8>, settings: &Settings<'_>, time: &Time) -> Result<(), AllocError>
     requires century { settings.now.century ≤ 99 }
     requires year { IfSome settings.now.year (λ y. y ≤ 9998) }
@@ -83,7 +87,7 @@ fn put_year(text: &mut Vec<u8>, year: Option<u32>) -> Result<(), AllocError>
 }
 
 /// Adds a time as `YYYY-MM-DDThh:mm:ss.ffffff`, or a hyphen if the year is not known or has no such
-/// day.
+/// day, as day 366 of a year of 365 days.
 fn put_calendar(text: &mut Vec<u8>, year: Option<u32>, time: &Time) -> Result<(), AllocError>
     requires { IfSome year (λ y. y ≤ 9999) }
     ensures { OnOk result (text.new.items ≡ text.old.items ++ calendar_text year time.now) }
@@ -98,7 +102,7 @@ fn put_calendar(text: &mut Vec<u8>, year: Option<u32>, time: &Time) -> Result<()
     }
 }
 
-/// Adds the seconds since midnight, with six decimals: the microseconds.
+/// Adds the seconds since midnight, with six decimals: the microseconds. Year and day are left out.
 fn put_seconds(text: &mut Vec<u8>, time: &Time) -> Result<(), AllocError>
     ensures { OnOk result (text.new.items ≡ text.old.items ++ seconds_text time.now) }
 {
@@ -106,7 +110,8 @@ fn put_seconds(text: &mut Vec<u8>, time: &Time) -> Result<(), AllocError>
     text.extend_from_slice(&fraction(time.micros))
 }
 
-/// The whole seconds since midnight. `micros` counts from the start of the minute.
+/// The whole seconds since midnight. `micros` counts from the start of the minute, so second 60 is
+/// counted as second 0 of the next minute.
 fn day_seconds(time: &Time) -> u64
     ensures { result ≡ day_seconds time.now }
 {

@@ -5,7 +5,7 @@
 //! from `from` and those counted back from `to`, each side at most a frame, which is 100 pulses. A
 //! frame is believed if another one near it supports its time. Pulses are in step if each rises one
 //! interval after the one before. `Lens` shows the pulses of a track. `century` is 20 for 2000 to
-//! 2099.
+//! 2099. Bounds in `requires`, as 2 ^ 32 and 2 ^ 59, only keep sums in their types.
 
 ghost use Rattle.std.specs.Prelude.{◌≡◌, ◌≤◌, ◌<◌, ◌+◌, ◌-◌, ◌^◌, IfSome, min, slice_get};
 ghost use Rattle.irig_codes.specs.Format.{frame_period_of};
@@ -62,7 +62,7 @@ pub fn gap(from: &Part, to: &Part) -> usize
 /// `None` if a pulse would be of both. `after` pulses follow the first in step, and `before` ones
 /// lead to the second; `in_step` says whether these meet in step. If one frame is missing, its 100
 /// pulses are there, and the two counts overlap, then all are in step: all of them are counted on
-/// from the first part.
+/// from the first part, and the second part of the pair is empty.
 fn sides(
     from: &Part,
     to: &Part,
@@ -148,9 +148,9 @@ fn tail_left(seam: bool, head: usize, tail: usize) -> usize
     }
 }
 
-/// How many of its `count` elements a side keeps: all, unless both sides are of the one missing
-/// frame (`is_one`). Then it keeps none that the other side has, too, which has `other` of the
-/// frame's 100 from the other end: such an element would be two different pulses.
+/// How many of its `count` elements a side keeps: all, unless one frame is missing (`is_one`). Then
+/// both sides are of that frame, and the other side has `other` of its 100 elements, from the other
+/// end. This side keeps none of those: an element of both sides would be two different pulses.
 fn kept(is_one: bool, count: usize, other: usize) -> usize
     requires { other ≤ 100 }
     ensures kept { result ≡ kept is_one count other }
@@ -164,8 +164,8 @@ fn kept(is_one: bool, count: usize, other: usize) -> usize
 }
 
 /// The frames that are missing between two. The times of the two must be as many periods apart as
-/// their markers, to the nearest period. `None` if they are not, if no frame is missing, or if a
-/// marker is not there.
+/// their markers, to the nearest period. `None` if they are not, if no frame is missing, if a
+/// marker is not there, or for the other reasons of `missing_in` (midnight, the end of a minute).
 pub fn missing_by(
     pulses: &mut Lens<'_>,
     format: Format,
@@ -225,9 +225,9 @@ pub fn min(one: usize, other: usize) -> usize
     if one <= other { one } else { other }
 }
 
-/// The pulses that are counted between two frames that follow each other: on from `from`, and back
-/// from `to`; only back if `from` is `None`, as `to` is the first. `None` if one of them is not
-/// believed, which is a part without pulses, or if nothing can be counted there.
+/// The pulses that are counted between two frames: on from `from`, and back from `to`; only back if
+/// `from` is `None`, as `to` is the first, and then the pair's second part is empty. `None` if one
+/// of the frames is not believed, which is a part without pulses, or if nothing can be counted.
 pub fn sides_before(
     pulses: &mut Lens<'_>,
     format: Format,

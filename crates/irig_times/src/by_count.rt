@@ -1,7 +1,8 @@
 //! The time of a microsecond by the pulses whose time is known. Pulses and elements count from 0. A
 //! part is pulses in a row, as elements of one frame whose time is known. `place_of` gives the
 //! element of a pulse and its frame's time, or `None` if the pulse is of no part. A `Lens` shows
-//! the pulses of a track, and counts how often one is looked at.
+//! the pulses of a track, and counts how often one is looked at. Bounds in `requires`, as 2 ^ 41,
+//! only keep sums and products in their types.
 
 ghost use Rattle.std.specs.Prelude.{◌≡◌, ◌↔◌, ◌<◌, ◌≤◌, ◌+◌, ◌*◌, ◌^◌, ℕ, IsTrue, length, Some};
 ghost use Rattle.irig_track.specs.Looks.{LookedThrough};
@@ -18,11 +19,12 @@ use irig_track::Lens;
 /// The picoseconds of a microsecond.
 const PICOS: u64 = 1_000_000;
 
-/// The time of year some picoseconds after the start of a track. `None` unless the pulse before it
-/// and the next one have times, one interval apart: between them the time goes evenly. `find` says
-/// how many pulses have risen by a microsecond, so the number of the last of them is one less.
+/// The time of year `picos` picoseconds after the start of a track. `None` unless the last pulse
+/// that has risen by then and the next one have times, one interval apart: between them the time
+/// goes evenly. `find` says how many pulses have risen by a microsecond, so the number of the last
+/// of them is one less. `None` also if none has risen.
 ///
-/// The years of two digits are of this century: 20 for 2000 to 2099.
+/// The years of two digits are of this `century`: 20 for 2000 to 2099.
 pub fn time_by(
     pulses: &mut Lens<'_>,
     parts: &[Part],
@@ -55,9 +57,9 @@ pub fn time_by(
     Some(shared(format, &place, picos - PICOS * from, to - from))
 }
 
-/// Whether the pulse after the one of a number, which is `place` in its frame, has the time one
-/// interval later: as the next element, or as the first of a frame one period later. False if it
-/// has no time.
+/// Whether the pulse after pulse `number` has the time one interval later. Pulse `number` is the
+/// element that `place` has. The next pulse has to be the next element of the same frame or, after
+/// element 99, the first of a frame one period later. False if the next pulse has no time.
 fn goes_on(parts: &[Part], format: Format, century: u32, number: usize, place: &Place) -> bool
     requires parts { (n : ℕ) × AreParts format 0 n parts.now }
     requires century { century ≤ 99 }
@@ -76,8 +78,9 @@ fn goes_on(parts: &[Part], format: Format, century: u32, number: usize, place: &
     }
 }
 
-/// The time when `part` picoseconds of an element (`place`) are over, whose interval is recorded as
-/// `whole` microseconds long. The nominal interval is over by the same share.
+/// The time when `part` picoseconds since the rise of an element (`place`) are over. Up to the next
+/// rise `whole` microseconds were recorded. Of the format's nominal interval the same share is
+/// over, so a clock that is slow or fast does no harm.
 fn shared(format: Format, place: &Place, part: u64, whole: u64) -> Time
     requires order { part < 1000000 * whole }
     requires small { whole ≤ 2 ^ 41 }
@@ -92,9 +95,9 @@ fn shared(format: Format, place: &Place, part: u64, whole: u64) -> Time
 }
 
 /// How many microseconds of a nominal interval are over, if `micros` microseconds and `picos`
-/// picoseconds of the recorded one are, which is `whole` microseconds long. Rounded down. The two
-/// are multiplied apart, as one product in picoseconds could overflow. What the inner division
-/// drops is less than 1, so it does not change the result, which is rounded down too.
+/// picoseconds of the recorded one are, which is `whole` microseconds long. Rounded down. `micros`
+/// and `picos` are multiplied one by one, as one product in picoseconds could overflow. What the
+/// inner division drops is less than 1, so the result, rounded down, is the same.
 fn share(interval: u64, micros: u64, picos: u64, whole: u64) -> u64
     requires interval { interval ≤ 100000 }
     requires picos { picos < 1000000 }
@@ -105,8 +108,8 @@ fn share(interval: u64, micros: u64, picos: u64, whole: u64) -> u64
     (micros * interval + picos * interval / PICOS) / whole
 }
 
-/// The time `micros` microseconds after that of a frame. Nothing is carried to the minute: a frame
-/// ends with its minute at the latest.
+/// The time `micros` microseconds after `time`, that of a frame. Nothing is carried to the minute:
+/// a frame ends with its minute at the latest.
 fn later_by(time: &Time, micros: u64) -> Time
     requires small { micros < 2 ^ 53 }
     requires minute { time.now.micros < 2 ^ 53 }

@@ -2,10 +2,12 @@
 //! whose time is known. A frame that has a time and is not believed is a part without pulses. A
 //! frame is believed if another one near it supports its time. Pulses next to it are counted if
 //! they are in step with it: as elements of the frame before it or after it. A pair of parts
-//! (`sides`) is what is counted on from a frame and what is counted back from the next. The time
-//! jumps between two frames if a clock was set there. `Lens` shows the pulses of a track, and
-//! `FrameLens` its frames, each by a record. `century` is that of years of two digits: 20 for 2000
-//! to 2099. An error says that memory ran out.
+//! (`sides`) is what is counted on from a frame and what is counted back from the next; at an end
+//! of the track, what is counted there and an empty part. The time jumps between two frames if a
+//! clock was set there or intervals were lost, and at an end if pulses there say another time.
+//! `Lens` shows the pulses of a track, and `FrameLens` its frames, each by a record. `century` is
+//! that of years of two digits: 20 for 2000 to 2099. An error says that memory ran out. Bounds in
+//! `requires`, as 2 ^ 30 and 2 ^ 59, only keep sums in their types.
 
 ghost use Rattle.std.specs.Prelude.{[], ◌≡◌, ◌≤◌, ◌<◌, ◌++◌, ◌∷◌, IfOk, None, OnOk, Some, length};
 ghost use Rattle.irig_index.specs.Frames.{frames};
@@ -25,8 +27,9 @@ use irig_codes::Format;
 use irig_track::Lens;
 use std::alloc::{AllocError, Global};
 
-/// All pulses of a track that have a time, as parts in order: of each record, which is a frame of
-/// the track, `held` says whether it is believed.
+/// All pulses of a track that have a time, as parts in order. Some parts can be empty, as that of a
+/// frame that is not believed. Of each record, which is a frame of the track, `held` says whether
+/// it is believed.
 ///
 /// The years of two digits are of this century: 20 for 2000 to 2099.
 pub fn timed_parts(
@@ -91,9 +94,10 @@ fn part_at(parts: &[Part], place: usize) -> Option<Part>
 }
 
 /// Adds to a list what is counted before a frame (`part`), and what the frame keeps of its own
-/// pulses. If the time jumps before it, it does not keep the elements that carry its time
-/// (`after_jump`). What comes after it can leave it fewer, too (`kept_before`). `before` and `next`
-/// are the frames before and after it, `None` if there is none.
+/// pulses. If the time jumps before the frame, nothing is counted there, and the frame does not
+/// keep the elements that carry its time (`after_jump`). What comes after it can leave it fewer,
+/// too (`kept_before`). `before` and `next` are the frames before and after it, `None` if there is
+/// none. If memory runs out, the list can have some of this.
 fn put_frame(
     list: &mut Vec<Part>,
     pulses: &mut Lens<'_>,
@@ -171,7 +175,8 @@ fn sides_without(
     }
 }
 
-/// Adds the two parts of a pair to a list; does nothing without a pair.
+/// Adds the two parts of a pair to a list; does nothing without a pair. If memory runs out, the
+/// list can have the first part alone.
 fn put_sides(list: &mut Vec<Part>, sides: Option<(Part, Part)>) -> Result<(), AllocError>
     ensures { OnOk result (list.new.items ≡ list.old.items ++ with_sides sides []) }
 {

@@ -4,7 +4,7 @@
 //! width: its class is 0, 1 or a position identifier, or none. Pulses and elements count from 0.
 //! `Lens` shows the pulses of a track. `wanted` is the elements that a frame should have. At each
 //! end a hundred pulses in step are counted at most, which is a frame: further on a slip of one
-//! interval would go unseen.
+//! interval would go unseen. Bounds as 2 ^ 30 and 2 ^ 59 only keep sums in their types.
 
 ghost use Rattle.std.specs.Prelude.{◌≡◌, ◌≤◌, ◌<◌, ◌+◌, ◌-◌, ◌^◌, IfSome, length, min, slice_get};
 ghost use Rattle.irig_codes.specs.Format.{frame_period_of};
@@ -22,8 +22,8 @@ use crate::time::Time;
 use irig_codes::{Element, Fields, Format, Kind, class, encode, fits};
 use irig_track::Lens;
 
-/// The fields of a frame of a time. Control functions and seconds of the day are no part of a time:
-/// they are 0 if the format has them.
+/// The fields of a frame of a time. Control functions and straight binary seconds are no part of a
+/// time: they are 0 if the format has them. What the format lacks is `None`.
 pub fn fields_at(format: Format, time: &Time) -> Fields
     requires { time.now.micros < 2 ^ 32 }
     ensures { result ≡ fields_at format time.now }
@@ -87,9 +87,9 @@ pub fn is_identifier(element: Element) -> bool
     }
 }
 
-/// Whether the pulse of a number is as wide as another element than the wanted one. Only the
+/// Whether pulse `number` is as wide as another element than `wanted` has at `element`. Only the
 /// elements of the time and position identifiers are compared, as nobody knows what control
-/// functions a frame has. A pulse that is not there, or has a width of no element, says nothing.
+/// functions a frame has. A pulse that is not there, or has a width of no class, says nothing.
 pub fn contradicts(
     pulses: &mut Lens<'_>,
     format: Format,
@@ -114,8 +114,8 @@ pub fn contradicts(
     }
 }
 
-/// How many of the first `told` pulses of a part contradict the elements that its frame should
-/// have.
+/// How many of the first `told` pulses of a part contradict the elements that its frame should have
+/// (`wanted`). `told` leaves out a pulse that can say nothing (`telling`).
 fn contradictions(
     pulses: &mut Lens<'_>,
     format: Format,
@@ -187,8 +187,8 @@ fn is_borne_out(pulses: &mut Lens<'_>, format: Format, part: &Part) -> bool
     contradictions(pulses, format, &wanted, part, told) == 0
 }
 
-/// The part, with an empty one after it, since a pair is asked for, as between two frames; `None`
-/// if the part cannot have its time.
+/// The part, with an empty one after it, since callers take two parts, as between two frames;
+/// `None` if the part cannot have its time (`is_borne_out`).
 fn alone(pulses: &mut Lens<'_>, format: Format, part: Part) -> Option<(Part, Part)>
     requires few { part.element + part.count ≤ 100 }
     requires small { (part.number < 2 ^ 31) × (part.time.micros < 2 ^ 60) }
@@ -203,10 +203,10 @@ fn alone(pulses: &mut Lens<'_>, format: Format, part: Part) -> Option<(Part, Par
     }
 }
 
-/// The pulses after the last frame that have a time, up to a hundred in step (`ahead`), as the
-/// frame one period later. `None` if the last frame is not there, not believed, ends the day or
-/// shows a second 60 (`next_time`: nothing is counted over midnight or after that), or they cannot
-/// have that time (`is_borne_out`).
+/// The pulses after the last frame (`from`) that have a time, up to a hundred in step (`ahead`), as
+/// the first elements of a frame one period later. An empty part comes after them (`alone`). `None`
+/// if the last frame is not there, not believed, ends the day or shows a second 60 (`next_time`:
+/// nothing is counted over those), or if the pulses cannot have that time (`is_borne_out`).
 pub fn end_after(pulses: &mut Lens<'_>, format: Format, from: Option<Part>) -> Option<(Part, Part)>
     requires { IfSome from (λ a. (a.time.micros < 2 ^ 59) × (a.number + a.count < 2 ^ 30)) }
     ensures end { result ≡ end_after format pulses.old.track.pulses from }
@@ -229,7 +229,7 @@ pub fn end_after(pulses: &mut Lens<'_>, format: Format, from: Option<Part>) -> O
 /// The pulses before the first frame (`to`) that have a time: up to a hundred in step, as `behind`
 /// counts them, as the last elements of a frame one period earlier. An empty part comes after them
 /// (`alone`). `None` if the first frame is not believed or begins the day (`time_before`: nothing
-/// is counted over midnight), or they cannot have that time (`is_borne_out`).
+/// is counted over midnight), or if the pulses cannot have that time (`is_borne_out`).
 pub fn end_before(pulses: &mut Lens<'_>, format: Format, to: &Part) -> Option<(Part, Part)>
     requires { (to.now.time.micros < 2 ^ 59) × (to.now.number < 2 ^ 30) }
     ensures end { result ≡ end_before format pulses.old.track.pulses to.now }

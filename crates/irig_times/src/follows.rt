@@ -1,5 +1,6 @@
 //! Which time is one frame period after another. Periods are in microseconds. Years are of two
 //! digits, in a century: 20 for 2000 to 2099. Of two times `a` is the first, and `b` the second.
+//! Bounds in `requires`, as 2 ^ 60, only keep sums in their types.
 
 ghost use Rattle.std.specs.Prelude.{◌≡◌, ◌+◌, ◌*◌, ◌%◌, ◌≤◌, ◌<◌, ◌^◌, pos};
 ghost use Rattle.jiff_core.specs.Calendar.{days_in_year};
@@ -33,7 +34,7 @@ fn next_year(year: Option<u32>) -> Option<u32>
     }
 }
 
-/// Whether two times are on the same day.
+/// Whether two times are on the same day. Two unknown years count as the same here and below.
 pub fn same_day(a: &Time, b: &Time) -> bool
     ensures { result ≡ same_day a.now b.now }
 {
@@ -62,8 +63,8 @@ pub fn same_time(a: &Time, b: &Time) -> bool
 }
 
 /// Whether the second time is on the day after that of the first, if the first one's year has
-/// `count` days: 1 January comes after the last. A first time after the last day of its year has no
-/// day after it.
+/// `count` days: after day `count` comes day 1 of the next year. False if the first time is on a
+/// later day than `count`, as day 366 of a year of 365 days.
 fn is_day_after(count: u32, a: &Time, b: &Time) -> bool
     ensures { result ≡ is_day_after count a.now b.now }
 {
@@ -74,8 +75,8 @@ fn is_day_after(count: u32, a: &Time, b: &Time) -> bool
     }
 }
 
-/// Whether the second time is on the day after that of the first, by its year in a century; a year
-/// that is unknown has 365 days or 366.
+/// Whether the second time is on the day after that of the first, by the length of the first one's
+/// year in a century. If the year is unknown, 365 and 366 days are both tried: one is enough.
 fn day_follows(century: u32, a: &Time, b: &Time) -> bool
     requires { century ≤ 99 }
     ensures { result ≡ day_follows century a.now.year a.now b.now }

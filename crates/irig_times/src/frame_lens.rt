@@ -29,7 +29,7 @@ impl<'a> Model for FrameLens<'a> {
 }
 
 impl<'a> FrameLens<'a> {
-    /// A lens on the frames, which has counted no look.
+    /// A lens on the frames of an index, which has counted no look.
     pub fn new(index: &'a Index) -> FrameLens<'a>
         ensures { result ≡ frames_view index.now.records 0 }
     {

@@ -2,7 +2,8 @@
 //! are near enough for their distance to say how many periods it is, and their times are as many
 //! apart. A shore is a frame next to the island that does not agree with it. What a frame shows
 //! (`Shown`) is its fields and when its marker rises. `Three` is the nearest frame on one side, or
-//! a farther one, and the two next to it that are farther still; `None` if there is no such frame.
+//! a farther one, and the two next to it that are farther still; each is `None` if there is no such
+//! frame. All of them are frames that have a time.
 
 ghost use Rattle.std.specs.Prelude.{◌≡◌, ◌&&◌, List};
 ghost use Rattle.irig_safety.specs.declared.shown.Shown.{Shown};
@@ -18,7 +19,8 @@ use irig_safety::{Shown, agrees};
 /// agree with each other, and at most three frames are between them. `before` and `after` are the
 /// five nearest frames on each side. `near`, `next` and `far` give three of these, from the first,
 /// the second and the third on: so one line below is for an island of this frame alone, two for one
-/// of two frames, and three for one of three. A longer run that is wrong alike is rare.
+/// of two frames, and three for one of three. A longer run is no island: a clock that was set, and
+/// set again later, looks like that.
 pub fn is_on_island(format: Format, before: &Nearest, frame: &Shown, after: &Nearest) -> bool
     ensures { (left : List Shown) (right : List Shown) → before.now ≡ nearest left
         → after.now ≡ nearest right → result ≡ is_on_island format left frame.now right }
@@ -32,7 +34,8 @@ pub fn is_on_island(format: Format, before: &Nearest, frame: &Shown, after: &Nea
 }
 
 /// Whether the first of three frames before a frame and the first of three after it are shores, and
-/// agree. The first is the nearest; the others can support it.
+/// agree with each other. The first of three is the nearest to the frame; the other two can support
+/// it.
 fn is_between(format: Format, before: Three, frame: &Shown, after: Three) -> bool
     ensures { result ≡ (is_shore_before format before.2 before.1 before.0 frame.now
         && (is_shore_after format frame.now after.0 after.1 after.2
@@ -60,7 +63,9 @@ pub fn is_shore_before(format: Format, before: Three, frame: &Shown) -> bool
     }
 }
 
-/// As `is_shore_before`, of three frames after a frame instead of before it.
+/// Whether the first of three frames after a frame is a shore: it is there and does not agree with
+/// the frame. Also, the second or the third has to agree with the first, so that no single wrong
+/// frame is a shore. If there is no second, and so no third, that is not asked for.
 fn is_shore_after(format: Format, frame: &Shown, after: Three) -> bool
     ensures { result ≡ is_shore_after format frame.now after.0 after.1 after.2 }
 {

@@ -1,9 +1,9 @@
-//! Where the time jumps between two frames that are in step. Two pulses are in step if the second
-//! rises one interval after the first. A part is pulses in a row, as elements of one frame whose
-//! time is known. `from` and `to` are frames that have a time, as parts; one without pulses is not
-//! believed. A frame is believed if another one near it supports its time. Its marker is its first
-//! pulse. `Lens` shows the pulses of a track. Periods are in microseconds; `century` is 20 for 2000
-//! to 2099.
+//! Where the time jumps between two frames: a clock was set, or intervals were lost. Two pulses are
+//! in step if the second rises one interval after the first. A part is pulses in a row, as elements
+//! of one frame whose time is known. `from` and `to` are frames that have a time, as parts; one
+//! without pulses is not believed. A frame is believed if another one near it supports its time.
+//! Its marker is its first pulse. `Lens` shows the pulses of a track. Periods are in microseconds;
+//! `century` is 20 for 2000 to 2099. Bounds as 2 ^ 30 and 2 ^ 59 only keep sums in their types.
 
 ghost use Rattle.std.specs.Prelude.{◌≡◌, ◌≤◌, ◌<◌, ◌+◌, ◌^◌, IfSome, MatchOption, Some};
 ghost use Rattle.irig_times.specs.Jumps.{after_jump, are_apart, are_joined, before_jump, is_jump};
@@ -49,8 +49,8 @@ fn pulses_between(from: &Part, to: &Part) -> usize
 
 /// Whether the time runs on by the count of pulses: between two frames are whole hundreds of
 /// pulses, which are whole frames, and the second time is as many periods later and one more.
-/// Without a frame between them it is one period later. False for three periods or more over
-/// midnight, as `missing_in` counts none there.
+/// Without a frame between them it is one period later. False if `missing_in` counts no frames
+/// there, as for three periods or more over midnight.
 fn runs_on(format: Format, century: u32, from: &Part, to: &Part) -> bool
     requires century { century ≤ 99 }
     requires times { (from.now.time.micros < 2 ^ 59) × (to.now.time.micros < 2 ^ 59) }
@@ -70,9 +70,9 @@ fn runs_on(format: Format, century: u32, from: &Part, to: &Part) -> bool
     missing_in(century, period, count, &from.time, &to.time).is_some()
 }
 
-/// Whether the time jumps between two frames, one the next after the other of those that have a
-/// time: pulses are all in step and the times do not fit their count, or markers are whole periods
-/// apart and the times are not as many (`slips`).
+/// Whether the time jumps between two frames that have a time, with no other such frame between
+/// them. False if the times fit the count of pulses (`runs_on`). Else true if all these pulses are
+/// in step, or if the markers are whole periods apart and the times are not as many (`slips`).
 fn is_jump(pulses: &mut Lens<'_>, format: Format, century: u32, from: &Part, to: &Part) -> bool
     requires century { century ≤ 99 }
     requires times { (from.now.time.micros < 2 ^ 59) × (to.now.time.micros < 2 ^ 59) }
@@ -101,9 +101,9 @@ fn is_whole_apart(period: u64, interval: u64, distance: u64) -> bool
     2 * rest <= interval || 2 * (period - rest) <= interval
 }
 
-/// Whether two times can be those of frames that are `count` periods apart; 0 is taken as 1. Three
-/// and more are not counted over midnight, so then any times can be. `middle` is the time of the
-/// one frame between.
+/// Whether two times can be those of frames that are `count` periods apart; a `count` of 0 is taken
+/// as 1. If it is 2, the one frame between them must have a time (`middle`). Three periods and more
+/// are not counted over midnight: then the answer is true.
 pub fn are_apart(century: u32, period: u64, count: u64, from: &Time, to: &Time) -> bool
     requires century { century ≤ 99 }
     requires small { (period < 2 ^ 25) × (count < 2 ^ 42 + 2) }
@@ -120,8 +120,8 @@ pub fn are_apart(century: u32, period: u64, count: u64, from: &Time, to: &Time) 
 }
 
 /// Whether the markers of two frames are there and whole periods apart, and their times, `from` and
-/// `to`, are not that many. `first` and `last` are the markers' pulses, `None` if they are not
-/// there.
+/// `to`, are not that many apart. `first` and `last` are the markers' pulses, `None` if they are
+/// not there.
 fn slips(
     format: Format,
     century: u32,
@@ -143,8 +143,8 @@ fn slips(
     }
 }
 
-/// Whether two markers are whole periods apart, and the times of their frames, `from` and `to`, are
-/// not that many.
+/// Whether two markers, `first` and `last`, are whole periods apart, to half an interval, and the
+/// times of their frames, `from` and `to`, are not that many apart.
 fn slips_by(format: Format, century: u32, from: &Time, to: &Time, first: Pulse, last: Pulse) -> bool
     requires century { century ≤ 99 }
     requires times { (from.now.micros < 2 ^ 59) × (to.now.micros < 2 ^ 59) }

@@ -1,6 +1,7 @@
-//! The times of frames that are missing between two others. Periods are in microseconds, and so are
-//! the times of rises. `None` if no frames can be missing there by these times. `century` is 20 for
-//! 2000 to 2099. `Time` is a minute of the year, and the microseconds since it began.
+//! The times of frames that are missing between two others, `from` and `to`. A `period` is how long
+//! a frame lasts, in microseconds; the times of rises are in microseconds, too. `century` is 20 for
+//! 2000 to 2099. `Time` is a minute of the year, and the microseconds since it began. Bounds in
+//! `requires`, as 2 ^ 25 and 2 ^ 59, only keep sums and products in their types.
 
 ghost use Rattle.std.specs.Prelude.{IfSome, ◌≡◌, ◌≤◌, ◌+◌, ◌*◌, ◌^◌, ◌<◌};
 ghost use Rattle.irig_times.specs.Between.{at_micros, at_minute, day_micros, is_middle, is_whole};
@@ -47,8 +48,8 @@ fn at_minute(time: &Time, hours: u32, minutes: u32, micros: u64) -> Time
     }
 }
 
-/// The microseconds of a minute: the last of an hour can have a leap second, in one time zone or
-/// another, so it has 61 seconds here.
+/// The microseconds of the minute with this number in its hour. The last one, 59, can have a leap
+/// second, in one time zone or another, so it has 61 seconds here; any other one has 60.
 fn minute_end(minutes: u32) -> u64
     ensures { result ≡ minute_end minutes }
 {
@@ -63,8 +64,8 @@ pub fn is_whole(period: u64, time: &Time) -> bool
     time.micros + period <= minute_end(time.minutes)
 }
 
-/// Whether a time is one period after another and one before a third, and its frame ends in its
-/// minute.
+/// Whether `time` is one period after `from` and one period before `to`, and a frame of that time
+/// ends in its minute, or with it.
 fn is_middle(century: u32, period: u64, from: &Time, time: &Time, to: &Time) -> bool
     requires century { century ≤ 99 }
     requires small { period < 2 ^ 32 }
@@ -76,9 +77,9 @@ fn is_middle(century: u32, period: u64, from: &Time, time: &Time, to: &Time) -> 
         && is_whole(period, time)
 }
 
-/// The time of the one frame that is missing between two: one period after the first, in its minute
-/// or in that of the second. `None` if no time is one period from both, or its frame does not end
-/// in its minute.
+/// The time of the one frame that is missing between two: one period after the first and one before
+/// the second, in the minute of the first or of the second. `None` if there is no such time, or its
+/// frame would end after its minute.
 pub fn middle(century: u32, period: u64, from: &Time, to: &Time) -> Option<Time>
     requires century { century ≤ 99 }
     requires small { period < 2 ^ 32 }
@@ -100,8 +101,9 @@ pub fn middle(century: u32, period: u64, from: &Time, to: &Time) -> Option<Time>
     }
 }
 
-/// The time one period later, in minutes of 60 seconds; `None` if it is on another day, as callers
-/// count nothing over midnight, or if the time is in a second 60, which such minutes do not have.
+/// The time one period later, in minutes of 60 seconds. `None` if that is on another day, as
+/// callers count nothing over midnight, or if `time` is in a second 60, which such minutes do not
+/// have.
 pub fn next_time(period: u64, time: &Time) -> Option<Time>
     requires small { period < 2 ^ 32 }
     ensures time { result ≡ next_time period time.now }
@@ -122,7 +124,7 @@ pub fn next_time(period: u64, time: &Time) -> Option<Time>
     }
 }
 
-/// The time one period earlier, in minutes of 60 seconds; `None` if it is on another day, as
+/// The time one period earlier, in minutes of 60 seconds. `None` if that is on another day, as
 /// callers count nothing over midnight.
 pub fn time_before(period: u64, time: &Time) -> Option<Time>
     requires small { (period < 2 ^ 25) × (time.now.micros < 2 ^ 59) }
@@ -145,7 +147,7 @@ pub fn time_before(period: u64, time: &Time) -> Option<Time>
     }
 }
 
-/// The microseconds since midnight, in minutes of 60 seconds.
+/// The microseconds from midnight to a time, in minutes of 60 seconds.
 pub fn day_micros(time: &Time) -> u64
     requires { time.now.micros < 2 ^ 59 }
     ensures { result ≡ day_micros time.now }
@@ -164,10 +166,11 @@ pub fn rounded(period: u64, from: u64, to: u64) -> u64
     (2 * to.saturating_sub(from) + period) / (2 * period)
 }
 
-/// The times of the frames that are missing between two, which are `count` periods apart, so one
-/// less is missing. `None` if none is missing, the times are not so far apart, or the first or the
-/// last missing one does not end in its minute. More than one are not counted over midnight: their
-/// times are compared by the microseconds of one day.
+/// The frames that are missing between two, if the markers of the two are `count` periods apart:
+/// `count` - 1 frames. `from` and `to` are the times of the two. `None` if no frame is missing, if
+/// the times are not `count` periods apart, or if the first or the last missing frame would end
+/// after its minute. If more than one is missing, also `None` over midnight, as the times are
+/// compared by the microseconds of one day, and if `from` is in a second 60 (`next_time`).
 pub fn missing_in(century: u32, period: u64, count: u64, from: &Time, to: &Time) -> Option<Missing>
     requires century { century ≤ 99 }
     requires small { (period < 2 ^ 25) × (count < 2 ^ 42 + 2) }
@@ -196,7 +199,7 @@ pub fn later_micros(period: u64, count: u64, from: &Time) -> u128
     u128::from(day_micros(from)) + u128::from(count) * u128::from(period)
 }
 
-/// What is missing, if it is the one frame of a time; `None` if there is no time.
+/// One missing frame, which has this time: it is the first and the last. `None` without a time.
 fn missing_one(time: Option<Time>) -> Option<Missing>
     ensures { result ≡ missing_one time }
 {
@@ -210,8 +213,8 @@ fn missing_one(time: Option<Time>) -> Option<Missing>
     }
 }
 
-/// What is missing, if it is more than one frame: the first and the last have these times. `None`
-/// if one of the times is not there, or its frame does not end in its minute.
+/// Two missing frames or more: the first and the last have these times. `None` if one of the times
+/// is not there, or its frame would end after its minute.
 fn missing_more(period: u64, first: Option<Time>, last: Option<Time>) -> Option<Missing>
     requires small { period < 2 ^ 25 }
     requires first { IfSome first (λ t. t.micros < 2 ^ 60) }

@@ -37,8 +37,8 @@ impl Nearest {
         }
     }
 
-    /// These with `frame` before them, which is nearer: the fifth is dropped. Without a frame they
-    /// stay as they are.
+    /// These after a nearer frame: `frame` is the first then, and the fifth is dropped. If `frame`
+    /// is `None`, they stay as they are.
     pub fn with(self, frame: Option<Shown>) -> Nearest
         ensures { (frames : List Shown) → self ≡ nearest frames
             → result ≡ nearest (with_frame frame frames) }
@@ -55,7 +55,7 @@ impl Nearest {
         }
     }
 
-    /// The nearest frame, and the two after it.
+    /// The nearest frame, and the two that are next farther away.
     pub fn near(&self) -> Three
         ensures first { result.0 ≡ self.now.first }
         ensures second { result.1 ≡ self.now.second }
@@ -64,7 +64,7 @@ impl Nearest {
         (self.first, self.second, self.third)
     }
 
-    /// The second nearest frame, and the two after it.
+    /// The second nearest frame, and the two that are next farther away.
     pub fn next(&self) -> Three
         ensures first { result.0 ≡ self.now.second }
         ensures second { result.1 ≡ self.now.third }
@@ -73,7 +73,7 @@ impl Nearest {
         (self.second, self.third, self.fourth)
     }
 
-    /// The third nearest frame, and the two after it.
+    /// The third nearest frame, and the two that are next farther away.
     pub fn far(&self) -> Three
         ensures first { result.0 ≡ self.now.third }
         ensures second { result.1 ≡ self.now.fourth }

@@ -40,8 +40,8 @@ pub struct Place {
     pub time: Time,
 }
 
-/// How many parts begin with the pulse of a number, from 0, or before it. The parts are in order.
-/// The format is for the contract alone.
+/// How many parts begin with pulse `number`, from 0, or before it. The parts are in order, so the
+/// search halves what is left at each step. The format is for the contract alone.
 pub fn parts_up_to(parts: &[Part], format: Format, number: usize) -> usize
     requires { (n : ℕ) × AreParts format 0 n parts.now }
     ensures parted { PartsAt parts.now number result }
@@ -60,9 +60,9 @@ pub fn parts_up_to(parts: &[Part], format: Format, number: usize) -> usize
     low
 }
 
-/// The element that the pulse of a number, from 0, is, if the time of its frame is known. `None` if
-/// the pulse is before the first part, or after the end of the last part that begins at or before
-/// it. The format is for contracts alone.
+/// Which element of its frame pulse `number`, from 0, is, and the time of that frame. `None` if the
+/// pulse is of no part: it is before the first one, or after the end of the last one that begins at
+/// or before it. The format is for contracts alone.
 pub fn place_of(parts: &[Part], format: Format, number: usize) -> Option<Place>
     requires { (n : ℕ) × AreParts format 0 n parts.now }
     ensures { MatchOption result

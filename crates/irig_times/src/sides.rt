@@ -1,14 +1,15 @@
-//! What is counted between two frames, from both sides, as far as it is borne out. Pulses are borne
-//! out up to the last position identifier at its place, without it, before one that says another
-//! element. A part is pulses in a row, as elements of one frame whose time is known. `from` and
-//! `to` are two frames, as parts, both believed: another frame near each supports its time. A pair
-//! is the part on from the one and the part back from the other. A side is the pulses next to one
-//! of them, from it on or back; pulse 0 of a side is the nearest. `missing` is the frames that have
-//! to be between them by their times, and `wanted` the elements that the frame there should have.
-//! Pulses are in step if each rises one interval after the one before. `denies`: a pulse says
-//! another element; `confirms`: it is a position identifier at its place. A side counts a hundred
-//! pulses at most, a frame: further on a slip of one interval would go unseen. `Lens` shows the
-//! pulses of a track.
+//! What is counted between two frames, from both sides. A part is pulses in a row, as elements of
+//! one frame whose time is known; it may have no pulse. `from` and `to` are two frames, as parts,
+//! both believed: another frame near each supports its time. A side is the pulses after `from`, or
+//! back from `to`; pulse 0 of a side is the nearest to the frame. A pair is the part counted on
+//! from `from` and the part counted back from `to`. Pulses are in step if each rises one interval
+//! after the one before. A side counts a hundred pulses in step at most, a frame: further on a slip
+//! of one interval would go unseen. If intervals are lost between the frames, a side keeps only
+//! what is borne out: of its pulses before the first that says another element (`denies`) those
+//! that are nearer than the farthest position identifier at its place (`confirms`). `missing` is
+//! the frames that have to be between the two by their times, and `wanted` the elements that the
+//! frame of a side should have. `Lens` shows the pulses of a track. Bounds in `requires`, as 2 ^ 32
+//! and 2 ^ 59, only keep sums in their types.
 
 ghost use Rattle.std.specs.Prelude.{◌≡◌, ◌≤◌, ◌<◌, ◌+◌, ◌^◌};
 ghost use Rattle.irig_times.specs.Sides.{between, borne, borne_at, confirmed, placed, side_after};
@@ -27,7 +28,8 @@ use irig_track::Lens;
 /// The microseconds of a minute with a second 60.
 const LONG_MINUTE: u64 = 61_000_000;
 
-/// How many of the first `most` pulses of a side come before the first that says another element.
+/// How many of the first `most` pulses of a side come before the first that says another element;
+/// all `most` if none does.
 fn undenied(
     pulses: &mut Lens<'_>,
     format: Format,
@@ -50,8 +52,9 @@ fn undenied(
     count
 }
 
-/// How many of the first `most` pulses of a side there are before its last position identifier that
-/// is at its place. It is not counted itself: what is lost can be within it.
+/// How many of the first `most` pulses of a side are nearer than the farthest of them that is a
+/// position identifier at its place; 0 if none is. That one is not counted: what is lost can be
+/// within it.
 fn confirmed(
     pulses: &mut Lens<'_>,
     format: Format,
@@ -74,9 +77,10 @@ fn confirmed(
     0
 }
 
-/// How many of the first `most` pulses of a side are kept. Those from the first on that says
-/// another element are not. Of the others those are that come before the last position identifier
-/// at its place, without it, since what is lost can be anywhere after its rise.
+/// How many of the first `most` pulses of a side are kept. Only the pulses before the first that
+/// says another element are looked at. Of them those are kept that are nearer than the farthest
+/// position identifier at its place; it is not, since what is lost can be anywhere after its rise.
+/// 0 if none of them is such an identifier.
 fn borne(
     pulses: &mut Lens<'_>,
     format: Format,
@@ -94,8 +98,8 @@ fn borne(
 }
 
 /// How many of the first `most` pulses of a side can show a position identifier at its place: all,
-/// but on a side that goes back not the farthest. As the pulse before that one is not among them,
-/// it can be the marker of its frame, which is as wide.
+/// but on a side that goes back not the farthest. That one can be a marker, which is as wide: only
+/// the pulse before it could show that it is none, and that pulse is not among the `most`.
 fn placed(side: &Side, most: usize) -> usize
     ensures count { result ≡ placed side.now most }
     ensures few { result ≤ most }
@@ -107,8 +111,8 @@ fn placed(side: &Side, most: usize) -> usize
     }
 }
 
-/// How many of the first `most` pulses of a side are kept, by the elements of a frame of this time;
-/// 0 if no frame has it, as it is past its minute or does not fit the format.
+/// How many of the first `most` pulses of a side are kept (`borne`), if the side is of a frame of
+/// this time; 0 if no frame has it, as it is past its minute or does not fit the format.
 pub fn borne_at(
     pulses: &mut Lens<'_>,
     format: Format,
@@ -142,7 +146,7 @@ pub fn side_of(part: &Part) -> Side
     }
 }
 
-/// The side after a frame: the pulses from its last one on, without it.
+/// The side after a frame: from the pulse after its last one on.
 fn side_after(part: &Part) -> Side
     requires { part.now.number + part.now.count < 2 ^ 32 }
     ensures { result ≡ side_after part.now }
@@ -153,7 +157,8 @@ fn side_after(part: &Part) -> Side
     }
 }
 
-/// The side before a frame. One whose marker is pulse 0 has none: then no pulse of it is asked for.
+/// The side before a frame: from the pulse before its first one back. If the first one is pulse 0,
+/// there is no such pulse, and callers ask for none.
 fn side_before(part: &Part) -> Side
     ensures { result ≡ side_before part.now }
 {
@@ -163,7 +168,7 @@ fn side_before(part: &Part) -> Side
     }
 }
 
-/// The parts between two frames, if intervals are lost there. `after` pulses after the first and
+/// The pair between two frames, if intervals are lost there. `after` pulses after the first and
 /// `before` ones before the second are in step; of these each side keeps what is borne out. `None`
 /// if tens of intervals are lost, as each position identifier is then at the place of another; or
 /// if a pulse would be of both sides.
@@ -191,9 +196,9 @@ fn torn_sides(
     sides_at(pulses, format, from, to, head, tail, missing)
 }
 
-/// The parts between two frames, if `after` pulses after the first and `before` ones before the
-/// second are in step: fewer if intervals are lost there. `None` if they would overlap, or tens of
-/// intervals are lost.
+/// The pair between two frames, if `after` pulses after the first and `before` ones before the
+/// second are in step: all these, or fewer if intervals are lost there. `None` if a pulse would be
+/// of both sides, or tens of intervals are lost.
 fn sides_in(
     pulses: &mut Lens<'_>,
     format: Format,
@@ -218,9 +223,9 @@ fn sides_in(
 }
 
 /// The pulses between two frames that have a time: up to a hundred in step with the first
-/// (`ahead`), and up to a hundred in step with the second (`behind`). `None` if the times of the
-/// two do not fit their distance, or nothing can be counted (`sides_in`). `century` is 20 for 2000
-/// to 2099.
+/// (`ahead`), and up to a hundred in step with the second (`behind`). `None` if no frame is missing
+/// between the two, or their times do not fit their distance (`missing_by`), or nothing can be
+/// counted (`sides_in`). `century` is 20 for 2000 to 2099.
 pub fn between(
     pulses: &mut Lens<'_>,
     format: Format,

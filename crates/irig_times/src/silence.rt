@@ -3,7 +3,9 @@
 //! first ones of a frame, show it. So pulses next to silence, at the begin or the end of the
 //! recording, count only if all these elements were recorded there. At the end they count only up
 //! to the last position identifier, without it. Pulses and elements count from 0. A pair of parts
-//! is what is counted, and an empty part. `Lens` shows the pulses of a track.
+//! is what is counted, and an empty part, as other callers count from two sides. A frame is
+//! believed if another one near it supports its time. `Lens` shows the pulses of a track. Bounds in
+//! `requires`, as 2 ^ 32, only keep sums in their types.
 
 ghost use Rattle.std.specs.Prelude.{◌≡◌, ◌≤◌, ◌<◌, ◌+◌, ◌^◌, IfSome};
 ghost use Rattle.irig_times.specs.Silence.{before_silence, counted_after, counted_before};
@@ -20,14 +22,15 @@ use irig_codes::Format;
 use irig_recording::Pulse;
 use irig_track::Lens;
 
-/// Whether some microseconds without a rise are silence: more than two intervals.
+/// Whether `micros` microseconds without a rise are silence: more than two intervals.
 fn is_silence(format: Format, micros: u64) -> bool
     ensures { result ≡ is_silence format micros }
 {
     micros > 2 * format.interval()
 }
 
-/// Whether silence is before the first pulse of a track; false if the track has no pulse.
+/// Whether silence is before the first pulse of a track, from the begin of the recording to its
+/// rise; false if the track has no pulse.
 fn is_silent_before(format: Format, first: Option<Pulse>) -> bool
     ensures { result ≡ is_silent_before format first }
 {
@@ -37,8 +40,8 @@ fn is_silent_before(format: Format, first: Option<Pulse>) -> bool
     }
 }
 
-/// Whether silence is after the last pulse of a track that is `micros` microseconds long; false if
-/// the track has no pulse.
+/// Whether silence is after the last pulse of a track, from its rise to the end of the recording,
+/// which is `micros` microseconds long; false if the track has no pulse.
 fn is_silent_after(format: Format, micros: u64, last: Option<Pulse>) -> bool
     ensures { result ≡ is_silent_after format micros last }
 {
@@ -76,8 +79,9 @@ fn precedes_silence(pulses: &mut Lens<'_>, format: Format, part: &Part) -> bool
     is_silent_after(format, micros, last)
 }
 
-/// Whether all elements of the time are among the pulses of a part. The last pulse of the track
-/// does not count, since the end of the recording can have cut it (`telling`).
+/// Whether all elements of the time are among the pulses of a part: it begins with element 0 and
+/// has enough pulses. The last pulse of the track does not count, since the end of the recording
+/// can have cut it (`telling`).
 fn has_its_time(pulses: &Lens<'_>, format: Format, part: &Part) -> bool
     requires small { (part.now.number < 2 ^ 32) × (part.now.count ≤ 100) }
     ensures { result ≡ has_its_time format pulses.now.track.pulses part.now }
@@ -106,9 +110,9 @@ fn up_to_mark(pulses: &mut Lens<'_>, format: Format, part: &Part) -> Part
     Part { count, ..*part }
 }
 
-/// What counts of a part before silence, and the empty part after it (`next`). `None` without all
-/// elements of its time. Nothing counts from its last position identifier on, as what was lost
-/// there shows nowhere.
+/// What counts of a part before silence, and the empty part after it (`next`). `None` if the part
+/// does not have all elements of its time. From its last position identifier on nothing counts
+/// (`up_to_mark`), as nothing shows what was lost there.
 fn before_silence(
     pulses: &mut Lens<'_>,
     format: Format,
@@ -170,9 +174,9 @@ fn heard_after(
     }
 }
 
-/// The pulses before the first frame that have a time. `None` if the frame is not believed or
-/// begins the day, if a pulse says another time, or if silence is before them and not all elements
-/// of the time are there.
+/// The pulses before the first frame (`to`) that have a time, and an empty part. `None` if the
+/// frame is not believed or begins the day, if a pulse says another time, if no frame can have that
+/// time, or if silence is before them and not all elements of the time are there.
 pub fn counted_before(pulses: &mut Lens<'_>, format: Format, to: &Part) -> Option<(Part, Part)>
     requires { (to.now.time.micros < 2 ^ 59) × (to.now.number < 2 ^ 30) }
     ensures end { result ≡ counted_before format pulses.old.track.pulses to.now }
@@ -182,9 +186,10 @@ pub fn counted_before(pulses: &mut Lens<'_>, format: Format, to: &Part) -> Optio
     heard_before(pulses, format, sides)
 }
 
-/// The pulses after the last frame that have a time. `None` if the frame is not there, not believed
-/// or ends the day, if a pulse says another time, or if silence is after them and not all elements
-/// of the time are there. With silence after them they end before the last position identifier.
+/// The pulses after the last frame (`from`) that have a time, and an empty part. `None` if the
+/// frame is not there, not believed, ends the day or shows a second 60, if a pulse says another
+/// time, if no frame can have that time, or if silence is after them and not all elements of the
+/// time are there. With silence after them they end before the last position identifier.
 pub fn counted_after(
     pulses: &mut Lens<'_>,
     format: Format,

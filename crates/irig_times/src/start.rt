@@ -1,6 +1,8 @@
 //! Where frames start. `century` is 20 for 2000 to 2099. A record is a frame of the track; places
-//! of records, pulses and elements count from 0. A frame's marker is its first pulse. `Lens` shows
-//! the pulses of a track, and `FrameLens` its records.
+//! of records, pulses and elements count from 0. A frame's marker is its first pulse: the second of
+//! two position identifiers in a row. A frame has a time (`timed`) if it is fine, neither broken
+//! nor read with a note, and ends with its minute of 61 seconds at the latest. `Lens` shows the
+//! pulses of a track, and `FrameLens` its records. Neither is changed, but for its count of looks.
 
 ghost use Rattle.std.specs.Prelude.{◌≡◌, ◌↔◌, ◌<◌, ◌≤◌, ◌+◌, IsTrue, length, slice_get, Some};
 ghost use Rattle.irig_codes.specs.Format.{FormatView};
@@ -27,7 +29,8 @@ pub struct FrameStart {
     pub is_followed: bool,
 }
 
-/// Where the frame of the record at a place starts; `None` if it has no time.
+/// Where the frame of the record at a place starts: when its marker rises, its time, and whether
+/// the next frame follows it (`is_followed`). `None` if the frame has no time.
 pub fn start_of(
     pulses: &mut Lens<'_>,
     records: &mut FrameLens<'_>,
@@ -60,9 +63,9 @@ pub fn start_of(
     }
 }
 
-/// Where the frame that begins with the pulse `marker` starts; it has a hundred pulses, so its last
-/// one is 99 later. `next` is the place after its record, where that of the next frame is if there
-/// is one.
+/// Where the frame that begins with the pulse `marker` and has these `fields` starts. A frame has a
+/// hundred pulses, so its last one is `marker + 99`. `next` is the place after the frame's record:
+/// that of the next frame's record, if there is a next frame.
 fn started(
     pulses: &mut Lens<'_>,
     records: &mut FrameLens<'_>,
@@ -93,10 +96,10 @@ fn started(
     }
 }
 
-/// Whether the next frame begins right after one with these fields, and its time is one frame
+/// Whether the next frame begins right after the frame with these fields, and its time is one frame
 /// period later. `number` is the last pulse of the frame with these fields, and `next` the place of
-/// the next frame's record. False if there is no next frame, or it has no time. A marker is never
-/// pulse 0, since another position identifier is before it.
+/// the next frame's record. False if there is no next frame, or it has no time. One can be
+/// subtracted from a marker: it is never pulse 0, since another position identifier is before it.
 fn is_followed(
     records: &mut FrameLens<'_>,
     format: Format,

@@ -1,7 +1,8 @@
 //! Pulses that follow one another in step. Pulses count from 0. A step is from the rise of one
 //! pulse to that of the next, in microseconds. It is in step if it is one interval long, to a
 //! tenth; the pulse that it leads to is in step if it is also as long as the steps next to it.
-//! `Lens` shows the pulses of a track.
+//! `Lens` shows the pulses of a track, which is at most 2^40 microseconds long. Bounds in
+//! `requires`, as 2 ^ 33, only keep sums in their types.
 
 ghost use Rattle.std.specs.Prelude.{◌≡◌, ◌<◌, ◌≤◌, ◌+◌, ◌^◌, IfSome, length, option_map, slice_get};
 ghost use Rattle.irig_recording.specs.declared.pulse.Pulse.{Pulse};
@@ -12,7 +13,7 @@ use irig_codes::{Format, in_step};
 use irig_recording::Pulse;
 use irig_track::Lens;
 
-/// The pulse of a number; `None` if there is none.
+/// Pulse `number` of the track, from 0; `None` if there is no such pulse.
 pub fn pulse_at(pulses: &mut Lens<'_>, number: usize) -> Option<Pulse>
     ensures pulse { result ≡ slice_get pulses.old.track.pulses number }
     ensures low { IfSome result (λ p. p.rise ≤ 2 ^ 40) }
@@ -25,9 +26,9 @@ pub fn pulse_at(pulses: &mut Lens<'_>, number: usize) -> Option<Pulse>
     }
 }
 
-/// Whether the pulse of a number rises one interval after the one before it, to a tenth, and that
-/// step is as long as those next to it. The first test alone would let a late rise pass on a fast
-/// clock.
+/// Whether pulse `number` rises one interval after the one before it, to a tenth, and that step is
+/// as long as those next to it. The first test alone would let a late rise pass on a fast clock.
+/// False for pulse 0, or if one of the two pulses is not there.
 fn is_in_step_at(pulses: &mut Lens<'_>, format: Format, number: usize) -> bool
     requires { number < 2 ^ 33 }
     ensures step { result ≡ is_in_step_at format pulses.old.track.pulses number }
@@ -36,8 +37,8 @@ fn is_in_step_at(pulses: &mut Lens<'_>, format: Format, number: usize) -> bool
     follows_at(pulses, format, number) && is_even_at(pulses, format, number)
 }
 
-/// Whether the pulse of a number rises one interval after the one before it, to a tenth; false if
-/// one of them is not there.
+/// Whether pulse `number` rises one interval after the one before it, to a tenth; false if one of
+/// the two is not there.
 pub fn follows_at(pulses: &mut Lens<'_>, format: Format, number: usize) -> bool
     ensures step { result ≡ follows_at format pulses.old.track.pulses number }
     ensures pulses { pulses.new.track ≡ pulses.old.track }
@@ -62,8 +63,8 @@ fn are_in_step(format: Format, before: Option<Pulse>, here: Option<Pulse>) -> bo
     }
 }
 
-/// How long after the one before it the pulse of a number rises, in microseconds; 0, which is not
-/// in step, if one of them is not there.
+/// How long after the one before it pulse `number` rises, in microseconds; 0, which is not in step,
+/// if one of the two is not there.
 fn step_at(pulses: &mut Lens<'_>, number: usize) -> u64
     ensures step { result ≡ step_at pulses.old.track.pulses number }
     ensures low { result ≤ 2 ^ 40 }
@@ -95,8 +96,8 @@ fn is_as_long(format: Format, step: u64, other: u64) -> bool
     }
 }
 
-/// Whether the step to the pulse of a number is as long as those next to it, to a tenth, as far as
-/// these are in step.
+/// Whether the step to pulse `number` is as long as the step before it and the one after it, to a
+/// tenth. One of these that is not in step itself is not compared.
 fn is_even_at(pulses: &mut Lens<'_>, format: Format, number: usize) -> bool
     requires { number < 2 ^ 33 }
     ensures even { result ≡ is_even_at format pulses.old.track.pulses number }
@@ -108,8 +109,8 @@ fn is_even_at(pulses: &mut Lens<'_>, format: Format, number: usize) -> bool
     is_as_long(format, step, before) && is_as_long(format, step, after)
 }
 
-/// How many of the `most` pulses from the one of a number on are each in step with the one before,
-/// up to the first that is not.
+/// How many of the `most` pulses from pulse `number` on are each in step with the one before, up to
+/// the first that is not.
 pub fn ahead(pulses: &mut Lens<'_>, format: Format, number: usize, most: usize) -> usize
     requires { (number < 2 ^ 32) × (most < 2 ^ 32) }
     ensures count { result ≡ ahead format pulses.old.track.pulses number most }
@@ -126,8 +127,8 @@ pub fn ahead(pulses: &mut Lens<'_>, format: Format, number: usize, most: usize) 
     count
 }
 
-/// Whether each of `many` pulses from the one of a number on rises one interval after the one
-/// before it.
+/// Whether each of `many` pulses from pulse `number` on rises one interval after the one before it,
+/// to a tenth. True if `many` is 0. Unlike in `ahead`, steps are not compared with each other.
 pub fn all_follow(pulses: &mut Lens<'_>, format: Format, number: usize, many: usize) -> bool
     requires { (number < 2 ^ 32) × (many < 2 ^ 32) }
     ensures follow { result ≡ all_follow format pulses.old.track.pulses number many }
@@ -143,8 +144,8 @@ pub fn all_follow(pulses: &mut Lens<'_>, format: Format, number: usize, many: us
     true
 }
 
-/// How many pulses before the one of a number lead to it in step, `most` at most: each pulse that
-/// is in step counts the one before it, back to the first that is not in step.
+/// How many pulses before pulse `number` lead to it in step, `most` at most. From pulse `number`
+/// back, for each pulse that is in step the one before it is counted, up to the first that is not.
 pub fn behind(pulses: &mut Lens<'_>, format: Format, number: usize, most: usize) -> usize
     requires { (most ≤ number) × (number < 2 ^ 32) }
     ensures count { result ≡ behind format pulses.old.track.pulses number most }

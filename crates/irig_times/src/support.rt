@@ -24,8 +24,8 @@ use irig_safety::Shown;
 use irig_track::Lens;
 use std::alloc::{AllocError, Global};
 
-/// Of each record, whether its frame is believed: one that is supported and on no island, or each
-/// one that has a time if a caller wants that (`alone`).
+/// Of each record, in order, whether its frame is believed. With `alone` each frame that has a time
+/// is; else one that has a time, is supported and is on no island.
 pub fn held_frames(
     alloc: Global,
     pulses: &mut Lens<'_>,
@@ -131,16 +131,16 @@ fn next_shown(
     (None, records.len())
 }
 
-/// Whether a frame is there.
+/// Whether a frame is there, so whether a record has shown one that has a time.
 fn is_there(frame: Option<Shown>) -> bool
     ensures { result ≡ is_some frame }
 {
     frame.is_some()
 }
 
-/// Whether a frame is there and believed, after others (`before`) and before the records from the
-/// place `next` on. The later ones are looked at only if those before do not decide it. `alone`:
-/// each frame that has a time is believed.
+/// Whether a frame is there and believed. `before` is the nearest frames before it, and from the
+/// place `next` on are the records after it: these are looked at only if the frames before do not
+/// decide it (`is_sure`). `alone`: each frame that has a time is believed.
 fn is_held(
     pulses: &mut Lens<'_>,
     records: &mut FrameLens<'_>,
@@ -170,9 +170,10 @@ fn is_held(
     is_believed(format, before, &frame, &after)
 }
 
-/// Whether the nearest frame before a frame agrees with it, so that it is no shore, and the second
-/// (`next`) and the third (`far`) before it are none. An island needs a shore among these three. So
-/// the frame is on no island, is supported, and is believed, whatever comes after it.
+/// Whether a frame is believed whatever comes after it: the nearest frame before it agrees with it,
+/// so the frame is supported and that nearest one is no shore; and neither is the second (`next`)
+/// or the third (`far`) before it. An island needs a shore among these three, so it is on none. If
+/// false, the frames after it decide.
 fn is_sure(format: Format, before: &Nearest, frame: &Shown) -> bool
     ensures { result ≡ (agrees_from format before.now.first frame.now
         && (not (is_shore_before format before.now.fourth before.now.third before.now.second
@@ -193,8 +194,8 @@ fn is_believed(format: Format, before: &Nearest, frame: &Shown, after: &Nearest)
     is_supported(format, before, frame, after) && !is_on_island(format, before, frame, after)
 }
 
-/// Whether one of the two frames before a frame or the two after it agrees with it, or there is no
-/// other frame with a time at all.
+/// Whether one of the two nearest frames before a frame, or of the two nearest after it, agrees
+/// with it, or there is no other frame with a time at all.
 fn is_supported(format: Format, before: &Nearest, frame: &Shown, after: &Nearest) -> bool
     ensures { result ≡ is_supported format before.now.second before.now.first after.now.first
         after.now.second frame.now }

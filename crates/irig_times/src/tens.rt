@@ -1,7 +1,9 @@
 //! What a frame keeps of its own pulses if tens of intervals (10, 20, ..) are lost up to the next
-//! one. A part is pulses in a row, as elements of one frame whose time is known. `from` and `to`
-//! are two frames, as parts; a frame's marker is its first pulse. Pulses are in step if each rises
-//! one interval after the one before. `Lens` shows the pulses of a track.
+//! frame. Then its last elements can be those of a later frame, as each position identifier after
+//! the loss is at the place of another one. A part is pulses in a row, as elements of one frame
+//! whose time is known. `from` and `to` are two frames, as parts; a frame's marker is its first
+//! pulse. Pulses are in step if each rises one interval after the one before. `Lens` shows the
+//! pulses of a track. Bounds in `requires`, as 2 ^ 32, only keep sums in their types.
 
 ghost use Rattle.std.specs.Prelude.{◌≡◌, ◌≤◌, ◌<◌, ◌+◌, ◌^◌, IfSome};
 ghost use Rattle.irig_times.specs.Tens.{before_loss, front_of, loses_tens, sure_elements, up_to_loss};
@@ -14,7 +16,8 @@ use irig_codes::Format;
 use irig_track::Lens;
 
 /// Whether intervals are lost between two frames (`is_torn`), and their number is a multiple of
-/// ten: the second marker is a whole number of tens of intervals after the first.
+/// ten: the second marker is a whole number of tens of intervals after the first (`are_tens`). At
+/// most a hundred pulses, a frame, are counted in step after the first and before the second.
 fn loses_tens(pulses: &mut Lens<'_>, format: Format, from: &Part, to: &Part) -> bool
     requires order { from.now.number + from.now.count ≤ to.now.number }
     requires small { to.now.number < 2 ^ 32 }
@@ -30,12 +33,13 @@ fn loses_tens(pulses: &mut Lens<'_>, format: Format, from: &Part, to: &Part) -> 
     are_tens(tenths_found(pulses, from, to))
 }
 
-/// How many elements of a frame are surely its own, if the marker of the next frame is `found`
-/// tenths of an interval after its own. Markers after the loss are whole frames before that one, so
-/// one would be at element 10, 20 .. or 90 of the frame: `found` to the nearest ten intervals,
-/// without whole frames. It reads well, so none is there, and the loss is later: all elements
-/// before the position identifier just before that place (9, 19 .. or 89) are its own. 100 if whole
-/// frames are lost, which show no place.
+/// How many elements of a frame are surely its own, if the next frame's marker is `found` tenths of
+/// an interval after its own, and tens of intervals are lost between the two. All markers after the
+/// loss are whole frames before the next frame's. So if the loss were early in the frame, one would
+/// be at its element 10, 20 .. or 90: `found` to the nearest ten intervals, without whole frames.
+/// The frame reads well, so no marker is there, and the loss is later. So its own are the elements
+/// before the position identifier just before that place: 9, 19 .. or 89 of them. All 100 if only
+/// whole frames are lost, as then no marker would be at another place.
 fn sure_elements(found: u64) -> usize
     requires { found ≤ 2 ^ 54 }
     ensures { result ≡ sure_elements found }
@@ -55,7 +59,7 @@ fn front_of(part: Part, most: usize) -> Part
 }
 
 /// Of a frame before another one (`to`) the pulses that are surely its own: all, unless tens of
-/// intervals are lost between the two.
+/// intervals are lost between the two; then only the first of them (`sure_elements`).
 fn before_loss(pulses: &mut Lens<'_>, format: Format, part: Part, to: &Part) -> Part
     requires order { part.number + part.count ≤ to.now.number }
     requires small { to.now.number < 2 ^ 32 }
@@ -70,7 +74,8 @@ fn before_loss(pulses: &mut Lens<'_>, format: Format, part: Part, to: &Part) -> 
     front_of(part, sure_elements(found))
 }
 
-/// As `before_loss`, of a frame and the next one (`to`); all its pulses if there is no next one.
+/// Of a frame before the next one (`to`) the pulses that are surely its own: all, if no tens of
+/// intervals are lost between the two, or if there is no next frame; else the first of them.
 pub fn up_to_loss(pulses: &mut Lens<'_>, format: Format, part: Part, to: Option<Part>) -> Part
     requires order { IfSome to (λ b. part.number + part.count ≤ b.number) }
     requires small { IfSome to (λ b. b.number < 2 ^ 32) }

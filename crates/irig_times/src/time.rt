@@ -1,5 +1,6 @@
 //! Times of year, and those of frames. A frame says its time in its fields. A verdict is what
-//! reading a frame gave: its fields with a note, or that it is broken.
+//! reading a frame gave: its fields with a note, or that it is broken. Bounds as 2 ^ 53 only keep
+//! sums in their types.
 
 ghost use Rattle.std.specs.Prelude.{◌≡◌, ◌+◌, ◌^◌, ◌<◌};
 ghost use Rattle.irig_times.specs.Times.{minute_micros, time_in, timed};

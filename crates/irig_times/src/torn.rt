@@ -1,8 +1,9 @@
 //! Whether intervals are lost between two frames (the stretch is torn), and what pulses say of the
 //! elements there. `from` and `to` are two frames, as parts: a part is pulses that follow one
-//! another, as elements of one frame whose time is known. A frame's marker is its first pulse.
-//! Tenths are of an interval. An element is said by a pulse's width: its class is 0, 1 or a
-//! position identifier. `Lens` shows the pulses of a track.
+//! another, as elements of one frame whose time is known. A frame's marker is its first pulse. An
+//! interval is from one rise to the next; tenths are of it. A pulse says an element by its width:
+//! its class is 0, 1, a position identifier or none. `Lens` shows a track, whose times are at most
+//! 2^40 microseconds.
 
 ghost use Rattle.std.specs.Prelude.{◌≡◌, ◌≤◌, ◌<◌, ◌+◌, ◌*◌, ◌^◌, Some, slice_get};
 ghost use Rattle.irig_codes.specs.Format.{frame_period_of};
@@ -23,13 +24,12 @@ use irig_track::Lens;
 /// The last element of a frame.
 const LAST: usize = 99;
 
-/// Pulses next to a frame, from the one of a number, from 0, on or back: pulse 0 of the side is the
-/// nearest.
+/// Pulses next to a frame: on after it, or back before it. Pulse 0 of a side is the nearest.
 #[derive(Clone, Copy)]
 pub struct Side {
     /// Whether they go back.
     pub is_back: bool,
-    /// The number of the first.
+    /// The number of the nearest in the track, from 0.
     pub number: usize,
 }
 
@@ -64,8 +64,8 @@ fn both_last(pulses: &mut Lens<'_>, from: &Part, to: &Part) -> u64
 }
 
 /// How many tenths of an interval a time in microseconds has, by the mean interval of two frames
-/// that last `both` microseconds together, for 198 intervals: 2 times 10 times 198 is 3960. To the
-/// nearest; 0 if `both` is 0.
+/// that last `both` microseconds together, for 198 intervals: `1980 * time / both`. Numerator and
+/// denominator are doubled, and `both` is added, to round to the nearest. 0 if `both` is 0.
 fn tenths_by(both: u64, time: u64) -> u64
     requires { (both ≤ 2 ^ 41) × (time ≤ 2 ^ 40) }
     ensures count { result ≡ tenths_by both time }
@@ -78,9 +78,9 @@ fn tenths_by(both: u64, time: u64) -> u64
     }
 }
 
-/// How many tenths of an interval the second frame is after the first, as it was recorded: the 990
-/// of the first frame, from its marker to its last element, and those from there to the second
-/// marker.
+/// How many tenths of an interval the second frame is after the first, as it was recorded: 990 for
+/// the first frame, from its marker to its last element, and the time from there to the second
+/// marker by the mean interval of both frames.
 pub fn tenths_found(pulses: &mut Lens<'_>, from: &Part, to: &Part) -> u64
     requires { (from.now.number < 2 ^ 32) × (to.now.number < 2 ^ 32) }
     ensures count { result ≡ tenths_found pulses.old.track.pulses from.now to.now }
@@ -92,8 +92,8 @@ pub fn tenths_found(pulses: &mut Lens<'_>, from: &Part, to: &Part) -> u64
     tenths_by(both, time) + 990
 }
 
-/// How many tenths of an interval the second frame is after the first, by the whole frame periods
-/// that are nearest to the distance: 1000 for each, as a frame has 100 intervals.
+/// How many tenths of an interval the second frame should be after the first: 1000 for each frame
+/// period, which is 100 intervals. The periods are the distance of the markers, to the nearest.
 fn tenths_told(pulses: &mut Lens<'_>, format: Format, from: &Part, to: &Part) -> u64
     ensures count { result ≡ tenths_told format pulses.old.track.pulses from.now to.now }
     ensures few { result ≤ 2 ^ 54 }
@@ -103,8 +103,8 @@ fn tenths_told(pulses: &mut Lens<'_>, format: Format, from: &Part, to: &Part) ->
     1000 * rounded(format.frame_period(), 0, time)
 }
 
-/// Whether two numbers of tenths of an interval are the same, to half an interval (5), as intervals
-/// are lost whole.
+/// Whether two numbers of tenths of an interval are at most half an interval (5) apart: that little
+/// does not count as a loss.
 fn are_near(one: u64, other: u64) -> bool
     requires { (one ≤ 2 ^ 54) × (other ≤ 2 ^ 54) }
     ensures { result ≡ are_near one other }
@@ -113,8 +113,8 @@ fn are_near(one: u64, other: u64) -> bool
 }
 
 /// Whether these tenths of an interval are tens of intervals, to a fifth of one: a whole number of
-/// hundreds, to 2. If the loss is further off, pulses there are not in step, so that counting ends
-/// by itself.
+/// hundreds, to 2. If two frames are so far apart and intervals are lost, tens of them are. If the
+/// distance is further off, pulses there are not in step, so that counting ends by itself.
 pub fn are_tens(count: u64) -> bool
     requires { count ≤ 2 ^ 54 }
     ensures { result ≡ are_tens count }
@@ -123,8 +123,8 @@ pub fn are_tens(count: u64) -> bool
 }
 
 /// Whether intervals are lost between two frames, or are there twice: not all pulses between them
-/// are in step, and the distance is not the whole periods that it is nearest to. `after` pulses
-/// after the first and `before` ones before the second are in step.
+/// are in step, and the distance is more than half an interval off from the whole periods that it
+/// is nearest to. `after` pulses after the first and `before` ones before the second are in step.
 pub fn is_torn(
     pulses: &mut Lens<'_>,
     format: Format,
@@ -148,8 +148,8 @@ pub fn is_torn(
     !are_near(found, told)
 }
 
-/// The number, from 0, of pulse `place` of a side. `place` is 0 for the nearest. On a side that
-/// goes back, no more are asked for than there are.
+/// The number in the track, from 0, of pulse `place` of a side, 0 for the nearest. On a side that
+/// goes back, callers ask for no more than there are.
 fn pulse_of(side: &Side, place: usize) -> usize
     requires { (side.now.number < 2 ^ 32) × (place < 2 ^ 32) }
     ensures { result ≡ pulse_of side.now place }
@@ -161,7 +161,7 @@ fn pulse_of(side: &Side, place: usize) -> usize
     }
 }
 
-/// The element of pulse `place` of a side: they go on from 0, or back from 99.
+/// Which element of its frame pulse `place` of a side is: elements go on from 0, or back from 99.
 fn element_of(side: &Side, place: usize) -> usize
     requires { place < 100 }
     ensures element { result ≡ element_of side.now place }
@@ -170,7 +170,8 @@ fn element_of(side: &Side, place: usize) -> usize
     if side.is_back { LAST - place } else { place }
 }
 
-/// Whether a pulse is there and is a position identifier by its width, and none is wanted there.
+/// Whether a pulse is there and is a position identifier by its width, and `wanted`, the element
+/// that it should be, is another one.
 fn is_stray(format: Format, pulse: Option<Pulse>, wanted: Element) -> bool
     ensures { result ≡ is_stray format pulse (Some wanted) }
 {
@@ -183,8 +184,10 @@ fn is_stray(format: Format, pulse: Option<Pulse>, wanted: Element) -> bool
     }
 }
 
-/// Whether pulse `place` of a side says another element than the frame there should have; `wanted`
-/// is the elements of that frame. A position identifier where none belongs does so, too.
+/// Whether pulse `place` of a side says another element than `wanted`, the elements that the frame
+/// there should have. Only position identifiers and the elements of the time are compared; but a
+/// position identifier where none is wanted counts, too. False if the pulse is not there, or its
+/// width is of no class.
 pub fn denies(
     pulses: &mut Lens<'_>,
     format: Format,
@@ -205,7 +208,7 @@ pub fn denies(
     is_stray(format, pulse, wanted[element])
 }
 
-/// Whether a pulse is there and is a position identifier by its width, and one is wanted there.
+/// Whether a pulse is there and is a position identifier by its width, as it should be (`wanted`).
 fn is_mark(format: Format, pulse: Option<Pulse>, wanted: Element) -> bool
     ensures { result ≡ is_mark format pulse (Some wanted) }
 {
@@ -218,7 +221,7 @@ fn is_mark(format: Format, pulse: Option<Pulse>, wanted: Element) -> bool
     }
 }
 
-/// Whether a class is that of a position identifier.
+/// Whether a class is that of a position identifier. False for a width of no class (`None`).
 fn is_position(class: Option<Element>) -> bool
     ensures { result ≡ is_position class }
 {

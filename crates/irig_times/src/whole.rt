@@ -1,7 +1,7 @@
 //! The frames of a track that have a time, as parts: pulses in a row, as elements of one frame. A
 //! frame is believed if another one near it supports its time; one that is not is a part without
-//! pulses. A fine frame has a time (`timed`). `FrameLens` shows the frames of a track, each by a
-//! record.
+//! pulses. A fine frame that ends with its minute has a time (`timed`). `FrameLens` shows the
+//! frames of a track, each by a record.
 
 ghost use Rattle.std.specs.Prelude.{◌≡◌, ◌<◌, IfOk, Some, length, slice_get};
 ghost use Rattle.irig_index.specs.{Frames.frames, declared.record.Record.Record};
@@ -36,7 +36,8 @@ pub fn whole_parts(
     Ok(list)
 }
 
-/// The frame of the record at a place, from 0; `None` if it has no time.
+/// The frame of the record at a place, from 0, as a part; `None` if it has no time. `is_held` says
+/// whether it is believed.
 fn whole_at(
     records: &mut FrameLens<'_>,
     format: Format,
@@ -56,7 +57,7 @@ fn whole_at(
 }
 
 /// The part of a frame that begins with the pulse `marker`, from 0: its hundred pulses if it is
-/// believed (`is_held`), else none.
+/// believed (`is_held`), else none. Its time is that of its `fields`.
 fn whole(marker: usize, is_held: bool, fields: &Fields) -> Part
     ensures { result ≡ whole marker is_held fields.now }
 {

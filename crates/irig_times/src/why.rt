@@ -1,5 +1,6 @@
 //! Why moments have no time. A frame is a part: its pulses, or none if it is not believed, as no
-//! frame near it supports its time. Pulses count from 0. `century` is 20 for 2000 to 2099.
+//! frame near it supports its time. Pulses count from 0. `century` is 20 for 2000 to 2099. The time
+//! jumps if a clock was set or intervals were lost, or if pulses at an end show another time.
 
 ghost use Rattle.std.specs.Prelude.{◌≡◌, ◌≤◌, ◌<◌, ◌+◌, ◌/◌, ◌^◌, ℕ, IfOk, IfSome, List, Bool, Some};
 ghost use Rattle.std.specs.Prelude.{MatchOption, length, slice_get};
@@ -27,33 +28,28 @@ use std::alloc::{AllocError, Global};
 /// The picoseconds of a microsecond.
 const PICOS: u64 = 1_000_000;
 
-/// Why a moment has no time.
+/// Why a moment has no time: it is before all frames that have one, or after them; the time jumps
+/// there (`Step`); a frame there has a time and is not believed; the times of the frames around it
+/// are not as far apart as their pulses (`Set`); or pulses are missing or not in step (`Hole`).
 #[derive(Clone, Copy)]
 pub enum Why {
-    /// It is before the first frame that has a time.
     Before,
-    /// It is after the last one.
     After,
-    /// Pulses are missing there, or not in step.
     Hole,
-    /// The time jumps there between two frames that are believed, though all pulses are in step.
     Step,
-    /// A frame there has a time and is not believed.
     Unbelieved,
-    /// The times of the frames around it are not as far apart as their pulses.
     Set,
 }
 
 /// The frames of a track that have a time, and why there is none between them.
 #[derive(Drop)]
 pub struct Whys {
-    /// The frames, as parts: without pulses if they are not believed.
     pub frames: Vec<Part>,
     /// Why pulses have no time before the first frame, before each other one, and after the last.
     pub gaps: Vec<Why>,
 }
 
-/// Why pulses have no time; of each frame `held` says if it is believed. Fails if memory runs out.
+/// The `Whys` of a track. `held` says of each frame if it is believed. Fails if memory runs out.
 pub fn find_whys(
     alloc: Global,
     pulses: &mut Lens<'_>,
@@ -75,7 +71,7 @@ pub fn find_whys(
     Ok(Whys { frames, gaps })
 }
 
-/// Why pulses have no time, before each part of `whole`, all that have one, and after the last.
+/// Why pulses have no time before each frame of `whole`, all that have one, and after the last.
 fn gaps(
     alloc: Global,
     pulses: &mut Lens<'_>,
@@ -102,7 +98,8 @@ fn gaps(
     Ok(list)
 }
 
-/// Why pulses between two frames have no time, or before the first frame, or after the last one.
+/// Why pulses between two frames have no time; before the first if `from` is `None`, after the last
+/// if `to` is. `Step` if the time jumps there, else what `why_steady` says.
 fn why_next_to(
     pulses: &mut Lens<'_>,
     format: Format,
@@ -123,7 +120,7 @@ fn why_next_to(
     why_steady(pulses, format, century, from, to)
 }
 
-/// As `why_next_to`, if the time does not jump there. `Before` also if no frame has a time.
+/// Why pulses have no time without a jump: `Before` if `from` is `None`, `After` if only `to` is.
 fn why_steady(
     pulses: &mut Lens<'_>,
     format: Format,
@@ -145,7 +142,8 @@ fn why_steady(
     }
 }
 
-/// Why pulses between two frames have no time, if it does not jump: `Unbelieved`, `Hole` or `Set`.
+/// Why pulses between two frames have no time, if it does not jump: `Unbelieved` if one of the two
+/// is not believed; else `Hole` if their times are as far apart as their markers, `Set` if not.
 fn why_between(pulses: &mut Lens<'_>, format: Format, century: u32, from: &Part, to: &Part) -> Why
     requires century { century ≤ 99 }
     requires times { (from.now.time.micros < 2 ^ 59) × (to.now.time.micros < 2 ^ 59) }
@@ -165,8 +163,8 @@ fn why_between(pulses: &mut Lens<'_>, format: Format, century: u32, from: &Part,
     }
 }
 
-/// Whether the times of two frames are as many frame periods apart as their markers' rises, to the
-/// nearest period. Also true if a marker's pulse (`from.number`, `to.number`) is not there.
+/// Whether the times of two frames are as many frame periods apart as their markers, to the nearest
+/// period. Also true if a marker's pulse is not there, and for 3 periods or more over midnight.
 fn are_apart_by(pulses: &mut Lens<'_>, format: Format, century: u32, from: &Part, to: &Part) -> bool
     requires century { century ≤ 99 }
     requires times { (from.now.time.micros < 2 ^ 59) × (to.now.time.micros < 2 ^ 59) }
@@ -189,7 +187,8 @@ fn are_apart_by(pulses: &mut Lens<'_>, format: Format, century: u32, from: &Part
     }
 }
 
-/// Why a moment in picoseconds has no time, if it has none; `Before` if no pulse has risen by then.
+/// Why the moment `picos` picoseconds after the start has no time: `Before` if no pulse has risen
+/// by then, else the reason of the last one that has. It means nothing if the moment has a time.
 pub fn why_at(pulses: &mut Lens<'_>, known: &Whys, format: Format, picos: u64) -> Why
     requires known { (held : List Bool) × (century : ℕ)
         × IsKnown format held century pulses.old.track.pulses known.now }
@@ -206,7 +205,7 @@ pub fn why_at(pulses: &mut Lens<'_>, known: &Whys, format: Format, picos: u64) -
     why_of(&known.frames, &known.gaps, format, risen - 1)
 }
 
-/// Why pulse `number` has no time. `whys[k]` is the reason before part k, its last one after all.
+/// Why pulse `number` has no time. `whys[k]` is the reason before part k; the last, after them all.
 fn why_of(parts: &[Part], whys: &[Why], format: Format, number: usize) -> Why
     requires known { (held : List Bool) × (century : ℕ) × (ps : List Pulse)
         × IsKnownBy format held century ps parts.now whys.now }
@@ -224,7 +223,8 @@ fn why_of(parts: &[Part], whys: &[Why], format: Format, number: usize) -> Why
 }
 
 /// Why pulse `number`, in or after `frame`, has no time: `earlier` is the reason before the frame,
-/// `later` after it. A frame has 100 pulses. After a step those of its date and time have none.
+/// `later` after it. `Unbelieved` within the 100 pulses of a frame that is not believed; `Step` in
+/// the elements of its date and time if that is the reason before it; else `later`.
 fn why_after(format: Format, number: usize, frame: &Part, earlier: Why, later: Why) -> Why
     requires small { frame.now.number ≤ number }
     ensures { result ≡ why_after format number (Some frame.now) earlier later }
