@@ -1,7 +1,8 @@
 //! The command line, read by `clap`. Its matches are what `clap` found in its words. Only memory
-//! can run out for a `Command` or an `Arg`. A `UsageFault` is `Words` if `clap` does not accept the
-//! words, or they ask for help, and `Value` if an option has a value that it cannot have. In a text
-//! of the help, what is after the last colon is the value without the option.
+//! can run out for a `Command` or an `Arg`; an `Arg` reports that when it is added to a command. A
+//! `UsageFault` is `Words` if `clap` does not accept the words, or they ask for help, and `Value`
+//! if an option has a value that it cannot have. In a text of the help, what is after the last
+//! colon is the value without the option.
 
 ghost use Rattle.std.specs.Prelude.{◌≡◌, IfErr, IfOk, None, codes, false, map, string_bytes};
 ghost use Rattle.clap.specs.Words.{HasMatchesOf, app_of, found_of, rule_of};
@@ -18,7 +19,9 @@ use clap::{Arg, ArgAction, ArgMatches, Command, Error};
 use irig_words::{UsageFault, flag_arg, matches_of, needed_arg, option_arg, windowed};
 use std::alloc::{AllocError, Global};
 
-/// What the words of a command line ask for, the program's name being the first.
+/// What the words of a command line ask for, the program's name being the first. `Words` if they
+/// ask for help, `clap` does not accept them or memory runs out; `Value` if an option has a value
+/// that it cannot have.
 pub fn settings<'a>(
     alloc: Global,
     words: &'a [String],
@@ -35,7 +38,8 @@ pub fn settings<'a>(
     }
 }
 
-/// The values of a command line: the words, as `clap` takes them apart.
+/// The values of a command line: the words, as `clap` takes them apart. `Err` is what `clap` says
+/// of words that it does not accept, or of a request for help; or memory ran out.
 fn asked<'a>(alloc: Global, words: &'a [String]) -> Result<Asked<'a>, Error>
     ensures values { IfOk result (Values the_command AreValues
         (map string_bytes words.entry.now)) }
@@ -71,7 +75,8 @@ fn values_of<'a>(alloc: Global, matches: &ArgMatches<'a>) -> Result<Asked<'a>, E
     })
 }
 
-/// The values of `--with`, in their order; none if the option is not given.
+/// The values of `--with`, in their order; none if the option is not given. `Err` means that memory
+/// ran out.
 fn others_of<'a>(alloc: Global, matches: &ArgMatches<'a>) -> Result<Vec<&'a str>, AllocError>
     ensures { IfOk result (λ others. paths others.items
         ≡ all_values (found_of matches.now) (codes "with")) }
@@ -83,7 +88,8 @@ fn others_of<'a>(alloc: Global, matches: &ArgMatches<'a>) -> Result<Vec<&'a str>
     Ok(others)
 }
 
-/// The matches of a command line that `clap` accepts.
+/// The matches of a command line that `clap` accepts. `Err` is what `clap` says of one that it does
+/// not accept, or of a request for help; or memory ran out.
 fn parse_words<'a>(alloc: Global, words: &'a [String]) -> Result<ArgMatches<'a>, Error>
     ensures parsed { IfOk result (HasMatchesOf the_command (map string_bytes words.entry.now)) }
     ensures refused { IfErr result (MayRefuse the_command (map string_bytes words.entry.now)) }
@@ -91,7 +97,9 @@ fn parse_words<'a>(alloc: Global, words: &'a [String]) -> Result<ArgMatches<'a>,
     matches_of(command(alloc)?, words)
 }
 
-/// The command line of the program: the options of `judging`, those of the output, and the track.
+/// The command line of the program: the options of `judging`, those of the output (`--out`,
+/// `--save`), and the track. `Err` means in this function and in the next three that memory ran
+/// out.
 pub fn command<'a>(alloc: Global) -> Result<Command<'a>, AllocError>
     ensures { IfOk result (λ c. IsCommand (app_of c)) }
 {
@@ -102,7 +110,7 @@ pub fn command<'a>(alloc: Global) -> Result<Command<'a>, AllocError>
 }
 
 /// The command with the options of `reading`, and those that say by what repairs are judged besides
-/// the recording: whether frames may move, and other recordings.
+/// the recording: whether frames may move (`--moved`), and other recordings (`--with`).
 fn judging<'a>(alloc: Global) -> Result<Command<'a>, AllocError>
     ensures { IfOk result (λ c. IsJudging (app_of c)) }
 {
@@ -114,7 +122,8 @@ fn judging<'a>(alloc: Global) -> Result<Command<'a>, AllocError>
     reading(alloc)?.arg(moved)?.arg(with_arg(alloc))
 }
 
-/// The command with the options that say how the track is read: its wire and its format.
+/// The command with the options of `taking`, and those that say how the wire is read: `--format`
+/// and `--expression`.
 fn reading<'a>(alloc: Global) -> Result<Command<'a>, AllocError>
     ensures { IfOk result (λ c. IsReading (app_of c)) }
 {
@@ -124,7 +133,7 @@ fn reading<'a>(alloc: Global) -> Result<Command<'a>, AllocError>
 }
 
 /// The command with the options that say which part of which wire is read: `--wire`, and `--from`
-/// and `--to` of `windowed`.
+/// and `--to`, which `windowed` adds.
 fn taking<'a>(alloc: Global) -> Result<Command<'a>, AllocError>
     ensures { IfOk result (λ c. IsTaking (app_of c)) }
 {
@@ -135,7 +144,7 @@ fn taking<'a>(alloc: Global) -> Result<Command<'a>, AllocError>
     windowed(alloc, wired)
 }
 
-/// The option for other recordings of the same code, which can come more than once.
+/// The option `--with` for other recordings of the same code, which can come more than once.
 fn with_arg<'a>(alloc: Global) -> Arg<'a>
     ensures rule { rule_of result ≡ beside }
     ensures local { result.global ≡ false }

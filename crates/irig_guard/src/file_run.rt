@@ -2,7 +2,8 @@
 //! each repair is tried, and undone if it would make a frame wrong. The room is the memory of
 //! writes, taken before a dump is read. The outer fault of a read is of the file, the inner one,
 //! `VcdFault`, of the dump in it. `Parts` are the recording of a wire and the text of the journal,
-//! if there is one. A `ShelfFault`: it cannot be found out where a path leads.
+//! if there is one. A `ShelfFault`: it cannot be found out where a path leads. In contracts `files`
+//! is what the disk holds before and after, and `ends` what is printed, written and left to read.
 
 ghost use Rattle.std.specs.Prelude.{◌≡◌, ℕ, [], IfOk, IfSome, IsTrue, List, false, is_some, map};
 ghost use Rattle.std.specs.Prelude.{string_bytes, true};
@@ -30,7 +31,7 @@ use std::alloc::Global;
 use std::io::{Read, Write};
 
 /// Runs a script under guard on the dump that the words of a command line name, the program's name
-/// being the first.
+/// being the first. `Usage` if they are not valid, or ask for help.
 pub fn obey_words<'a, D: Disk, R: Read, W: Write>(
     alloc: Global,
     words: &'a [String],
@@ -162,7 +163,7 @@ fn run_beside<'a, D: Disk, R: Read, W: Write>(
     }
 }
 
-/// Whether the path to write, if there is one, leads to the dump. `Err`: it cannot be found out.
+/// Whether the path to write leads to the dump; false without one. `Err`: it cannot be found out.
 fn is_over<D: Disk>(chosen: &Settings<'_>, disk: &D) -> Result<bool, ShelfFault>
     ensures apart { IsTrue D.is_told → IfOk result (λ over. over ≡ false
         → IsApart chosen.now (D.disk disk.now)) }
@@ -178,7 +179,7 @@ fn is_over<D: Disk>(chosen: &Settings<'_>, disk: &D) -> Result<bool, ShelfFault>
 
 /// Runs a script under guard on what was read of a dump, by the format and the path of the
 /// settings, and by the frames of other recordings. Each write uses the room. `Dump` if the dump is
-/// no recording.
+/// no recording; any other fault is of the run itself.
 fn run_on_read<D: Disk, R: Read, W: Write>(
     alloc: Global,
     chosen: &Settings<'_>,
@@ -233,7 +234,7 @@ fn place_of<'a>(chosen: &Settings<'a>) -> &'a str
     chosen.out.unwrap_or(chosen.track)
 }
 
-/// What is written of the session that the kept repairs leave: nothing, if no path for it is given.
+/// What is written in the end: nothing without `--out`; the journal, too, if `--save` is given.
 fn product_of(chosen: &Settings<'_>) -> Product
     ensures { result ≡ product_of chosen.now }
 {

@@ -69,9 +69,9 @@ fn start<P: Eprint + AllocGlobal, C: FileSystem, R: Read, W: Write, H: Write>(
     help: &mut H,
 ) -> ExitCode
     // The words were obeyed. What was written is kept through a crash at any moment, and so is the
-    // track, which is never written, for each system whose single calls do what their contracts say.
-    // The output of help has the help that was asked for, and nothing else: there is no other way
-    // to print.
+    // track, which is never written, for each system whose single calls do what their contracts
+    // say. The output of help has the help that was asked for, and nothing else: there is no other
+    // way to print.
     ensures { Serves (map string_bytes words.now)
         (files (C.held disk.old.system) (C.unread disk.old.system) C.is_told
         (IsLocked (C.may_write disk.old.system)) (IsLocked (C.may_write disk.new.system))

@@ -7,8 +7,9 @@ use crate::asked::Asked;
 use crate::chosen::{OptionFault, Settings};
 use irig_words::{format_named, window_named};
 
-/// What the values of a command line ask for. A fault: a time of the window or the format has a
-/// value that it cannot have, `--out` is the track, or `--save` is given without `--out`.
+/// What the values of a command line ask for. `Err` is the first of these faults: a time of the
+/// window (`Window`) or the format (`Format`) has a value that it cannot have, `--out` is written
+/// as the track is (`Out`), or `--save` is given without `--out` (`Save`).
 pub fn settings_of<'a>(asked: Asked<'a>) -> Result<Settings<'a>, OptionFault>
     ensures chosen { IfOk result (IsChosen asked.entry) }
     ensures fault { IfErr result (HasFault asked.entry) }
@@ -39,8 +40,8 @@ pub fn settings_of<'a>(asked: Asked<'a>) -> Result<Settings<'a>, OptionFault>
     })
 }
 
-/// Whether the path to write is written like that of the track. Whether two other paths lead to one
-/// file is found out later, when the disk is looked at.
+/// Whether the path to write is written like that of the track; false if none is given. Whether two
+/// other paths lead to one file is found out later, when the disk is looked at.
 fn is_over(asked: &Asked<'_>) -> bool
     ensures { result ≡ is_over asked.now }
 {

@@ -2,6 +2,8 @@
 //! frame next to it agrees with it, so that damage did not make it alone: the two are near enough
 //! for their distance to say how many frame periods it is, and their times are as many apart. A
 //! dump that is read has two faults: the outer one is of its file, the inner one of the dump in it.
+//! In contracts `held` is what a file holds, `unread` why it is not read, and `D.is_told` whether
+//! the contracts know where paths lead: true of folders in memory, false of the system.
 
 ghost use Rattle.std.specs.Prelude.{◌≡◌, ◌<◌, ◌^◌, ℕ, List, None, [], IfErr, IfOk, IfSome, IsTrue, OnOk};
 ghost use Rattle.std.specs.Prelude.{false, is_some, true};
@@ -24,7 +26,7 @@ use irig_vcd::VcdFault;
 use std::alloc::Global;
 
 /// The path of the first other recording to which the path to write leads; `None` if it leads to
-/// none, or there is no path to write. `Err` if that cannot be found out.
+/// none, or there is no path to write. `Err` if that cannot be found out of one of them.
 pub fn over_other<'a, D: Disk>(
     chosen: &Settings<'a>,
     disk: &D,
@@ -51,8 +53,8 @@ pub fn over_other<'a, D: Disk>(
     Ok(None)
 }
 
-/// The frames of all other recordings of the settings that say something of the track. `Err` has
-/// the path of the first one that cannot be used, and why.
+/// The frames of all other recordings of the settings that say something of the track, in the order
+/// of the recordings. `Err` has the path of the first one that cannot be used, and why.
 pub fn frames_of_others<'a, D: Disk>(
     alloc: Global,
     chosen: &Settings<'a>,
@@ -76,7 +78,8 @@ pub fn frames_of_others<'a, D: Disk>(
 }
 
 /// Adds to `shown` the frames of the recording at a path that say something of the track. No wire
-/// is named, so the dump has to have one wire of one bit.
+/// is named, so the dump has to have one wire of one bit. `Err` says why it cannot be used: its
+/// file (`File`), or the dump in it (`Dump`).
 fn add_frames_of<D: Disk>(
     alloc: Global,
     path: &str,
@@ -96,8 +99,8 @@ fn add_frames_of<D: Disk>(
 }
 
 /// Adds to `shown` the frames of a recording that say something of the track, by what was read of
-/// its dump. If memory runs out after it was opened, that is a fault of its file: `add_frames` has
-/// no other fault but those of the dump.
+/// its dump. `Dump` if the dump has a fault or is not opened. If memory runs out after it was
+/// opened, that is a fault of its file: `add_frames` has no other fault but those of the dump.
 fn add_read(
     alloc: Global,
     read: Result<Parts, VcdFault>,

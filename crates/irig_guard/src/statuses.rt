@@ -18,8 +18,9 @@ use irig_script::Status;
 use std::io::Write;
 use std::process::ExitCode;
 
-/// The status of the process for how the program ended, which is reported if it is a fault. Help
-/// that was asked for is printed on its output.
+/// The status of the process for how the program ended. A fault is reported on the standard error.
+/// Help that was asked for is printed on its output (`help`). A path to write that leads to the
+/// track is 2, and 4 if that cannot be found out; the other statuses are at the functions below.
 pub fn report<R: Eprint, H: Write>(rt: &R, ending: &Ending<'_>, help: &mut H) -> ExitCode
     ensures { Reports ending.now (H.contents help.old) (H.contents help.new) (exit_status result) }
 {
@@ -35,7 +36,7 @@ pub fn report<R: Eprint, H: Write>(rt: &R, ending: &Ending<'_>, help: &mut H) ->
     }
 }
 
-/// Says why the recording at the path `name` was not read. The status is 3.
+/// Says why the recording at the path `name` was not read, on the standard error. The status is 3.
 fn tell_unread<R: Eprint>(rt: &R, name: &str, fault: DumpFileFault) -> ExitCode
     ensures { exit_status result ≡ 3 }
 {
@@ -62,8 +63,8 @@ fn tell_unheard<R: Eprint>(rt: &R, name: &str, why: Unheard) -> ExitCode
     }
 }
 
-/// What the program says of a file that it did not read. Out of memory has the number that it has
-/// as a fault of a dump.
+/// What the program says of a file that it did not read. Out of memory has the number (`V14`) that
+/// it has as a fault of a dump.
 fn unread_text<'a>(fault: DumpFileFault) -> &'a str
     ensures { result.now ≡ unread_text fault }
 {
@@ -75,7 +76,8 @@ fn unread_text<'a>(fault: DumpFileFault) -> &'a str
 }
 
 /// The exit status for how a run ended on the track at the path `name`: 3 for a dump that cannot be
-/// used, 4 for another fault, which is printed on the standard error; else as `tell_kept`.
+/// used, 4 for another fault; both are printed on the standard error. Without a fault it is 0 if
+/// all repairs were kept, else 1 (`tell_kept`).
 fn tell_ended<R: Eprint>(rt: &R, name: &str, outcome: Result<Kept, GuardFault>) -> ExitCode
     ensures { exit_status result ≡ status_number outcome }
 {
@@ -99,8 +101,9 @@ fn tell_kept<R: Eprint>(rt: &R, name: &str, kept: Kept) -> ExitCode
     }
 }
 
-/// Says how many frames have control functions that are not in the recording, if some have: that
-/// changes no status, since nothing says that they are wrong. Nor does it if it cannot be printed.
+/// Says how many frames have control functions that are not in the recording, on the standard
+/// error; nothing if none has. No status depends on it, since nothing says that they are wrong. It
+/// does not matter if it cannot be printed.
 fn tell_filled<R: Eprint>(rt: &R, name: &str, filled: usize) {
     let frames = if filled == 1 { "frame" } else { "frames" };
     if filled > 0 {

@@ -21,7 +21,7 @@ use crate::seen::Seen;
 use irig_edit::Session;
 use irig_safety::{Anchor, Original, Witnesses, is_on_line, marker_after, marker_before};
 
-/// The markers of the frames next to a frame, as they are seen from its own: `None` if there is no
+/// The markers of the frames next to a frame, as seen from its own marker: `None` if there is no
 /// such frame, or its distance does not say how many elements it is.
 #[derive(Clone, Copy)]
 struct Ends {
@@ -29,7 +29,8 @@ struct Ends {
     after: Option<Anchor>,
 }
 
-/// The markers of the two frames next to a frame, as they are seen from its own (element 0).
+/// The markers of the two frames next to a frame (`Ends`), as seen from its own, which is element
+/// 0. They are at most 500 frames away, so fewer than 2^16 elements.
 fn ends_of(session: &Session, near: &Witnesses, frame: &Seen) -> Ends
     ensures before { result.before
         ≡ marker_before session.now.state.format near.now frame.now.shown 0 }
@@ -45,8 +46,8 @@ fn ends_of(session: &Session, near: &Witnesses, frame: &Seen) -> Ends
     }
 }
 
-/// Whether each pulse of a frame is an anchor, or on the line between those next to it. `last` is
-/// the element of the nearest anchor before an element, and `next` that of the nearest from it on.
+/// Whether each pulse of a frame is an anchor, or held on a line (`is_held`). `last` is the element
+/// of the nearest anchor before an element, and `next` that of the nearest from it on.
 pub fn are_placed(session: &Session, opened: &Original, near: &Witnesses, frame: &Seen) -> bool
     ensures { IsTrue result ↔ Stands opened.now session.now.state near.now frame.now }
 {
@@ -86,8 +87,8 @@ fn is_most(many: usize) -> bool
     many >= 60
 }
 
-/// Whether the pulse of an element of the frame of a marker is an anchor. `place` becomes the next
-/// one to look at.
+/// Whether the pulse of an element of the frame of a marker is there and an anchor. `place` becomes
+/// the next one to look at.
 fn is_anchored(
     session: &Session,
     opened: &Original,
@@ -128,9 +129,8 @@ fn next_anchor(
     None
 }
 
-/// Whether an element is on the line between what holds it on both sides. `last` and `next` are the
-/// elements of its frame that are anchors, nearest to it, if there are any; else the markers of the
-/// frames next to it (`ends`) hold it.
+/// Whether an element is on the line between what holds it on both sides (`held_before`,
+/// `held_after`), or if one side alone does, as far from there as it should be. False if none does.
 fn is_held(
     session: &Session,
     near: &Witnesses,
@@ -215,8 +215,8 @@ fn held_after(
     }
 }
 
-/// The marker before a frame as it is seen from an element; `before` is as it is seen from the
-/// frame's own marker, which is that many elements nearer. `None` if there is none.
+/// The marker before a frame as seen from an element. `before` is how it is seen from the frame's
+/// own marker: from the element it is `element` steps farther. `None` if there is none.
 fn later(before: Option<Anchor>, element: usize) -> Option<Anchor>
     requires { IfSome before (λ a. a.steps ≤ 2 ^ 16) × (element < 100) }
     ensures value { (f : FormatView) (w : SomeWitnesses) (y : ShownFrame)
@@ -232,8 +232,8 @@ fn later(before: Option<Anchor>, element: usize) -> Option<Anchor>
     }
 }
 
-/// The marker after a frame as it is seen from an element; `after` is as it is seen from the
-/// frame's own marker, which is that many elements farther. `None` if there is none.
+/// The marker after a frame as seen from an element. `after` is how it is seen from the frame's own
+/// marker: from the element it is `element` steps nearer. `None` if there is none.
 fn sooner(after: Option<Anchor>, element: usize) -> Option<Anchor>
     requires { IfSome after (λ a. a.steps ≤ 2 ^ 16) }
     ensures value { (f : FormatView) (w : SomeWitnesses) (y : ShownFrame)

@@ -1,6 +1,8 @@
 //! What the lines of a proposed script ask for. `begin` opens a group, `end` ends it, and `abort`
 //! gives it up. A line that is not valid, or has more than 1000 bytes, is none of these, no edit
-//! and no comment.
+//! and no comment. `Asks c line` in a contract: the line is valid, not too long, and asks for the
+//! command `c`. Each question is asked of a line by one function, and by another one of the command
+//! that the line asks for.
 
 ghost use Rattle.std.specs.Prelude.{◌≡◌, ◌↔◌, ◌⊎◌, IsTrue, MatchOption};
 ghost use Rattle.irig_guarding.specs.Repair.{Asks, IsRepair, texts};
@@ -37,7 +39,8 @@ fn command_in(line: &[u8]) -> Option<Command>
 }
 
 /// Whether a repair may consist of the command: it edits pulses, or sets or clears a mark, which is
-/// a letter for a time.
+/// a letter for a time. False for each other command, also for `begin`, `end` and `abort`, for
+/// `undo` and for a comment.
 pub fn is_repair(command: &Command) -> bool
     ensures { IsTrue result ↔ IsRepair command.now }
 {
@@ -52,7 +55,7 @@ pub fn is_repair(command: &Command) -> bool
     }
 }
 
-/// Whether a line opens a group.
+/// Whether a line is a `begin`, which opens a group. False if it is not valid or too long.
 pub fn begins(line: &Line) -> bool
     ensures { IsTrue result ↔ Asks command.Begin line.now.bytes.items }
 {
@@ -62,14 +65,15 @@ pub fn begins(line: &Line) -> bool
     }
 }
 
-/// Whether a command opens a group.
+/// Whether a command is `begin`, which opens a group.
 fn is_begin(command: &Command) -> bool
     ensures { IsTrue result ↔ (command.now ≡ Command.Begin) }
 {
     matches!(command, Command::Begin)
 }
 
-/// Whether a line ends a group and keeps it.
+/// Whether a line is an `end`, which ends a group and keeps what it did. False for `abort`, and if
+/// the line is not valid or too long.
 pub fn ends(line: &Line) -> bool
     ensures { IsTrue result ↔ Asks command.End line.now.bytes.items }
 {
@@ -79,14 +83,15 @@ pub fn ends(line: &Line) -> bool
     }
 }
 
-/// Whether a command ends a group and keeps it.
+/// Whether a command is `end`, which ends a group and keeps what it did.
 fn is_end(command: &Command) -> bool
     ensures { IsTrue result ↔ (command.now ≡ Command.End) }
 {
     matches!(command, Command::End)
 }
 
-/// Whether a line closes a group: it ends it or gives it up.
+/// Whether a line closes a group: `end` ends it, `abort` gives it up. False if the line is not
+/// valid or too long.
 pub fn closes(line: &Line) -> bool
     ensures { IsTrue result ↔ IsClosing line.now.bytes.items }
 {
@@ -96,14 +101,14 @@ pub fn closes(line: &Line) -> bool
     }
 }
 
-/// Whether a command closes a group: it ends it or gives it up.
+/// Whether a command closes a group: `end` ends it, `abort` gives it up.
 fn is_closing(command: &Command) -> bool
     ensures { IsTrue result ↔ ((command.now ≡ Command.End) ⊎ (command.now ≡ Command.Abort)) }
 {
     matches!(command, Command::End | Command::Abort)
 }
 
-/// Whether a line is a comment, or blank: it asks for nothing.
+/// Whether a line is a comment, or blank: it asks for nothing. False if it is too long.
 pub fn is_comment(line: &Line) -> bool
     ensures { IsTrue result ↔ Asks command.Nothing line.now.bytes.items }
 {
@@ -113,15 +118,15 @@ pub fn is_comment(line: &Line) -> bool
     }
 }
 
-/// Whether a command asks for nothing.
+/// Whether a command asks for nothing: it is that of a comment or of a blank line.
 fn is_nothing(command: &Command) -> bool
     ensures { IsTrue result ↔ (command.now ≡ Command.Nothing) }
 {
     matches!(command, Command::Nothing)
 }
 
-/// Whether the lines are just one, which is a comment or blank: such a line is no repair, and is
-/// printed as it is.
+/// Whether the lines are exactly one line, which is a comment or blank: such a line is no repair,
+/// and is printed as it is. False for no line, and for two or more, whatever they are.
 pub fn are_remarks(lines: &[Line]) -> bool
     ensures { IsTrue result ↔ IsIdle (texts lines.now) }
 {

@@ -1,12 +1,13 @@
 //! Whether the control functions of the frames are borne out. One is borne out if the frames
 //! nearest to its own have it, too, if the recording has its pulse or lost it, or if most other
 //! recordings have it. A frame reads well if nothing is wrong in it. `old` is the frames of the
-//! recording that read well (the former ones), and `near` those of them next to a frame. Markers,
-//! elements and functions count from 0. The class of a pulse is what its width means, if it means
-//! anything. A former frame is passed if the frames that were looked at have one that begins when
-//! it does. The faults: `Lost` if none does, `Unrecorded` of a frame with a function that is not
-//! borne out. `near_in` gives the two frames of a list before a place, and the two from another
-//! place on.
+//! recording that read well (the former ones), at the places where they are now if frames may move,
+//! and `near` those of them next to a frame. Markers, elements and functions count from 0. A frame
+//! has at most 45 functions; they are the bits of a `u64`, so a number is below 64. The class of a
+//! pulse is what its width means, if it means anything. A former frame is passed if the frames that
+//! were looked at have one that begins when it does. The faults: `Lost` if none does, `Unrecorded`
+//! of a frame with a function that is not borne out. `near_in` gives the two frames of a list
+//! before a place, and the two from another place on.
 
 ghost use Rattle.std.specs.Prelude.{◌≡◌, ◌↔◌, ◌⊎◌, ◌+◌, ◌<◌, ◌≤◌, ◌∷◌, List, IsTrue, None, Option};
 ghost use Rattle.std.specs.Prelude.{Some};
@@ -27,9 +28,9 @@ use irig_safety::{
 };
 
 /// Whether each of `frames`, those that read well now, is the former one that begins when it does,
-/// or all its control functions are borne out. If not, the first fault. Both lists are in rising
-/// order, so they are passed together. Former frames after the last of `frames` are not looked for:
-/// `check_safe` did that before.
+/// or all its control functions are borne out. If not, `Err` is the first fault. Both lists are in
+/// rising order, so one pass over both is enough. Former frames after the last of `frames` are not
+/// looked for: `check_safe` did that before.
 pub fn check_controls(
     session: &Session,
     opened: &Original,
@@ -57,11 +58,13 @@ pub fn check_controls(
     Ok(())
 }
 
-/// How many of the former frames are passed after one more frame, if `passed` are before it; or why
-/// it is at fault. If the next former one begins later or there is none, the frame is between
-/// former ones, so `passed` stays. `Lost` if the next one begins earlier. If it begins when the
-/// frame does and is the same, no function is looked at. If it is another one, the frame has the
-/// frames on both sides of that one as its nearest.
+/// Judges one more frame, if `passed` former frames are passed before it: how many are passed after
+/// it, or its fault. If the next former frame begins later, or there is none, the frame is between
+/// former ones: its functions are judged by the frames there, and `passed` stays. If the next one
+/// begins earlier, no frame begins when it does: it is `Lost`. If both begin at the same time, one
+/// more is passed: without a look at the functions if the fields are the same, else the functions
+/// are judged by the former frames on both sides of that one. In the clauses `rest` is any frames
+/// after it, and `found` their fault, if they have one.
 fn pass(
     session: &Session,
     opened: &Original,
@@ -107,8 +110,8 @@ fn pass(
     judge(session, opened, &near, frame, passed + 1)
 }
 
-/// How many former frames are passed after a frame whose functions are looked at: `next`, if they
-/// are borne out. Else `Unrecorded`. `near` is the former frames next to it.
+/// How many former frames are passed after a frame whose functions are looked at: `next`, if all
+/// are borne out, else `Unrecorded`. `near` is the former frames next to it.
 fn judge(
     session: &Session,
     opened: &Original,
@@ -125,7 +128,7 @@ fn judge(
     }
 }
 
-/// Whether all control functions of a frame are borne out.
+/// Whether all control functions of a frame are borne out. True if its format has none.
 fn is_borne(session: &Session, opened: &Original, near: &Witnesses, frame: &Seen) -> bool
     ensures { IsTrue result ↔ IsBorne opened.now session.now.state near.now frame.now }
 {
@@ -159,7 +162,7 @@ fn is_function_borne(
 }
 
 /// Whether the pulse of a control function is there, and is as recorded, or what was recorded of it
-/// was lost (`is_recorded_or_lost`).
+/// was lost (`is_recorded_or_lost`). False if there is no pulse.
 fn may_be(session: &Session, opened: &Original, pulse: Option<Pulse>) -> bool
     ensures { IsTrue result ↔ MatchOption pulse ⊥ (λ q.
         IsRecorded session.now.state.format opened.now.pulses q
@@ -172,7 +175,7 @@ fn may_be(session: &Session, opened: &Original, pulse: Option<Pulse>) -> bool
 }
 
 /// Whether a control function of the frame of a marker has a pulse, and the recording has one of
-/// the same class that rises within a tenth of an interval of it.
+/// the same class that rises within a tenth of an interval of it. False if there is no pulse.
 pub fn is_recorded_at(session: &Session, opened: &Original, marker: usize, function: u32) -> bool
     requires { function < 64 }
     ensures { IsTrue result ↔ MatchOption (slice_get session.now.state.pulses
@@ -199,8 +202,8 @@ fn is_recorded_or_lost(format: Format, opened: &Original, pulse: Pulse) -> bool
     !opened.has_any(format, pulse)
 }
 
-/// The pulse of an element of the frame of a marker, both from 0, if there is one. The pulses of a
-/// session count from 1, so 1 is added.
+/// The pulse of an element of the frame of a marker, both from 0; `None` if the session has no such
+/// pulse. The pulses of a session count from 1, so 1 is added.
 pub fn pulse_at(session: &Session, marker: usize, element: usize) -> Option<Pulse>
     ensures { result ≡ slice_get session.now.state.pulses (marker + element) }
 {

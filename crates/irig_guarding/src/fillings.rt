@@ -1,4 +1,5 @@
-//! The frames with control functions that are not in the recording. A frame reads well if nothing
+//! The frames with control functions that are not in the recording: the recording has no pulse of
+//! the same width class within a tenth of an interval of its pulse. A frame reads well if nothing
 //! is wrong in it. `opened` is what is known of the recording. Markers count from 0.
 
 ghost use Rattle.std.specs.Prelude.{◌≡◌, ◌↔◌, IsTrue};
@@ -11,8 +12,8 @@ use irig_edit::Session;
 use irig_safety::{Original, functions};
 
 /// How many frames of a session have a control function that is not in the recording; `frames` are
-/// those that read well. 0 if frames may move, since each that moved would be counted, or if none
-/// of the recording reads well, since control functions are not judged then.
+/// those that read well. 0 if frames may move, since each that moved would be counted. 0 also if
+/// none of the recording reads well, since control functions are not judged then.
 pub fn filled_frames(session: &Session, opened: &Original, frames: &[Seen]) -> usize
     requires { frames.now ≡ seen_frames session.now.state }
     ensures { Fills opened.now session.now.state result }
@@ -39,8 +40,8 @@ fn filled_among(session: &Session, opened: &Original, frames: &[Seen]) -> usize
     many
 }
 
-/// Whether all control functions of a frame are recorded at their places: the recording has a pulse
-/// of the same width class there.
+/// Whether all control functions of a frame are recorded at their places (`is_recorded_at`): the
+/// recording has a pulse of the same width class there. True if the format has none.
 fn is_whole(session: &Session, opened: &Original, frame: &Seen) -> bool
     ensures { IsTrue result ↔ IsWhole opened.now session.now.state frame.now }
 {

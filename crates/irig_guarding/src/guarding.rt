@@ -3,7 +3,8 @@
 //! or becomes wrong by it, and the frames next to each one that it makes support what that one
 //! says. `known` has for each frame of the recording that read well the marker at which its pulses
 //! are known to rise as they did, so that they are not compared again. `last` is the frames that
-//! read well before a repair, and `opened` is what is known of the recording.
+//! read well before a repair, and `opened` is what is known of the recording. `Err` means in each
+//! function that memory ran out. `floor ≡ None` in a contract: no group is open.
 
 ghost use Rattle.std.specs.Prelude.{◌≡◌, ◌<◌, ◌≤◌, ◌-◌, [], IfOk, None, OnOk, Some, drop};
 ghost use Rattle.std.specs.Prelude.{is_none, length, take, if◌then◌else◌};
@@ -32,9 +33,9 @@ use irig_safety::{Original, Terms};
 use irig_script::Status;
 use std::alloc::{AllocError, Global};
 
-/// Runs a proposed script on a session, in which no group is open, repair by repair: an edit, or
-/// the lines from a `begin` to the next `end` or `abort`. A repair that is accepted and safe is
-/// kept and printed, as comments are; any other line is printed as a comment, after the reason. If
+/// Runs a proposed script on a session, in which no group is open, repair by repair: a repair is an
+/// edit, or the lines from a `begin` to the next `end` or `abort`. One that is accepted and safe is
+/// kept and printed, as comments are. Any other line is printed as a comment, after the reason. If
 /// no frame of the recording reads well, a comment says so first. `terms` are frames of other
 /// recordings, which can support a frame, too, and whether frames may move. Returns what is
 /// printed, whether all was kept, and how many frames have a control function then that is not in
@@ -67,8 +68,9 @@ pub fn guard(
     Ok((out, Kept { status, filled }))
 }
 
-/// Runs lines on a session repair by repair, and prints them. `last` is listed again after each
-/// repair that is kept. Returns `AllAccepted`, or `SomeRefused` if a repair was dropped.
+/// Runs lines on a session repair by repair, and prints each to `out`: as it is, or if it was
+/// dropped as comments. `last` is listed again after each repair that is kept. Returns
+/// `AllAccepted`, or `SomeRefused` if a repair was dropped.
 fn guard_lines(
     alloc: Global,
     session: &mut Session,
@@ -101,8 +103,8 @@ fn guard_lines(
     Ok(status)
 }
 
-/// The status after one more repair: as it was if that was kept, `SomeRefused` if it was dropped,
-/// for a reason.
+/// The status after one more repair: `status`, the one before it, if it was kept, and `SomeRefused`
+/// if it was dropped, for a reason.
 fn status_with(status: Status, dropped: Option<Reason>) -> Status
     ensures { result ≡ if is_none dropped then status else SomeRefused }
 {
@@ -112,8 +114,9 @@ fn status_with(status: Status, dropped: Option<Reason>) -> Status
     }
 }
 
-/// The place, from 0, after a repair that begins at the place `at`: one line; or a group, up to the
-/// line that closes it. A group without such a line is all lines that are left.
+/// The place, from 0, after the last line of the repair that begins at the place `at`. It is one
+/// line, or if that is a `begin` a group, up to the line that closes it. A group that no line
+/// closes is all lines that are left.
 fn repair_end(lines: &[Line], at: usize) -> usize
     requires { at < length lines.now }
     ensures more { at < result }
@@ -132,7 +135,8 @@ fn repair_end(lines: &[Line], at: usize) -> usize
     lines.len()
 }
 
-/// Tries one repair, and prints it. Returns why it was dropped; `None` if it was kept.
+/// Tries one repair, and prints it to `out`. Returns why it was dropped; `None` if it was kept.
+/// `known` and `last` become those after it.
 fn guard_repair(
     alloc: Global,
     session: &mut Session,
@@ -161,9 +165,10 @@ fn guard_repair(
     Ok(dropped)
 }
 
-/// Tries one repair; a comment is none, and is kept as it is. Returns why it was dropped, `None` if
-/// it was kept. If it was dropped nothing has changed but what can be redone, since a dropped edit
-/// is undone. `known` is copied first, since a repair that is dropped leaves it wrong.
+/// Tries one repair. Returns why it was dropped, and `None` if it was kept; then `known` and `last`
+/// become those after it. One comment or blank line alone is no repair: it does nothing, and is
+/// kept. If a repair was dropped, nothing has changed but what can be redone, since a dropped edit
+/// is undone. It leaves its list of markers wrong, so it works on a copy of `known`.
 fn try_repair(
     alloc: Global,
     session: &mut Session,
@@ -206,7 +211,8 @@ fn try_repair(
     }
 }
 
-/// Prints a repair: its lines, or if it was dropped those as comments, after the reason.
+/// Prints a repair: its lines as they are, or if it was dropped the reason and its lines as
+/// comments.
 fn put_repair(out: &mut Vec<u8>, repair: &[Line], dropped: Option<Reason>) -> Result<(), AllocError>
     ensures { OnOk result (Shows (texts repair.now) dropped out.old.items out.new.items) }
 {
@@ -216,7 +222,7 @@ fn put_repair(out: &mut Vec<u8>, repair: &[Line], dropped: Option<Reason>) -> Re
     }
 }
 
-/// Prints why a repair was dropped, and its lines as comments.
+/// Prints why a repair was dropped, as a comment, and after that its lines as comments.
 fn put_dropped(out: &mut Vec<u8>, repair: &[Line], reason: Reason) -> Result<(), AllocError>
     ensures { OnOk result (Shows (texts repair.now) (Some reason) out.old.items out.new.items) }
 {

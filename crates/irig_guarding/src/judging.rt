@@ -3,9 +3,11 @@
 //! to each one that is new support what it says. `opened` is what is known of the recording, and
 //! `old` its frames that read well (the former ones), at the places where they are now if frames
 //! may move. `known` has for each of them the marker at which its pulses are known to rise as they
-//! did. `before` is the frames that read well before the repair, and `last` those at the places
-//! where they are now; `now` and `seen` are those that read well now, the latter with their
-//! markers.
+//! did. `before` is the frames that read well before the repair, and `last` the same frames at the
+//! places where they are now; `now` and `seen` are those that read well now, the latter with their
+//! markers. `MayStay` in a contract: the state is safe, and each frame of `before` is still there.
+//! `Sways` is why it may not stay: `NotSafe` with the first fault, or `OutOfMemory`, after which
+//! nothing is known.
 
 ghost use Rattle.std.specs.Prelude.{◌≡◌, IfErr, IfOk, OnErr, OnOk, false, true};
 ghost use Rattle.irig_safety.specs.Original.{with_frames};
@@ -23,9 +25,9 @@ use irig_edit::Session;
 use irig_safety::{Fault, Original, Shown, check_safe, check_unspoiled, moved_in};
 use std::alloc::Global;
 
-/// Whether what the frames show may stay: it is safe by what they showed at first, and each that
-/// read well before still does. Returns the frames that read well now; or `NotSafe` with the first
-/// fault, or that memory ran out.
+/// Whether what the frames show now may stay: it is safe by what they showed when the recording was
+/// opened, and each frame that read well before the repair still does. If so, returns the frames
+/// that read well now; else `NotSafe` with the first fault, or `OutOfMemory`.
 pub fn check(
     alloc: Global,
     session: &Session,
@@ -47,7 +49,8 @@ pub fn check(
     }
 }
 
-/// Whether these frames, which read well now, may stay. If not, the reason.
+/// Whether these frames, which read well now, may stay. If not, `NotSafe` with the first fault, or
+/// `OutOfMemory`, which can only come if frames may move.
 fn check_listed(
     alloc: Global,
     session: &Session,
@@ -69,7 +72,8 @@ fn check_listed(
     }
 }
 
-/// Whether the frames that read well may stay, if none may move. If not, the reason.
+/// Whether the frames that read well may stay, if none may move. If not, `NotSafe` with the first
+/// fault.
 fn check_unmoved(
     session: &Session,
     opened: &Original,
@@ -92,7 +96,8 @@ fn check_unmoved(
 }
 
 /// Whether the frames that read well may stay, if they may move: they are judged by the places
-/// where the former ones are now (`moved_in`). If not, the reason.
+/// where the earlier ones are now (`moved_in`), those of the recording and those before the repair.
+/// If not, `NotSafe` with the first fault, or `OutOfMemory`.
 fn check_moved(
     alloc: Global,
     session: &Session,
@@ -130,8 +135,9 @@ fn check_moved(
 }
 
 /// Whether the frames may stay by those of the recording (`old`), and by those before the repair
-/// (`last`). If not, the fault of the first check that fails: of the times, the control functions,
-/// the pulses, or that a frame is lost that read well before.
+/// (`last`). There are four checks: of the times (`check_safe`), of the control functions, of the
+/// pulses, and that each frame of `last` still reads well (`check_unspoiled`). If not, the fault of
+/// the first check that fails.
 fn check_frames(
     session: &Session,
     opened: &Original,
@@ -164,8 +170,8 @@ fn check_frames(
 }
 
 /// Whether the control functions of the frames are borne out: by the frames nearest to each, by the
-/// recording, or by most other recordings. If no frame of the recording reads well nothing bears
-/// them out, so they may be any. If not, the first fault.
+/// recording, or by most other recordings. If not, the first fault. If no frame of the recording
+/// reads well, nothing could bear them out: then they are not judged.
 fn check_borne(
     session: &Session,
     opened: &Original,
@@ -186,8 +192,9 @@ fn check_borne(
     check_controls(session, opened, old, seen)
 }
 
-/// Whether the pulses of the frames are where they may be, or if no frame of the recording reads
-/// well are rooted: most of their pulses rise where the recording has one. If not, the first fault.
+/// Whether the pulses of the frames are where they may be. If not, the first fault. If no frame of
+/// the recording reads well, they only have to be rooted: most pulses of each frame rise where the
+/// recording has one.
 fn check_pulses(
     session: &Session,
     opened: &Original,

@@ -1,8 +1,10 @@
 //! The former frames whose pulses are known to rise as they did, so that they are not compared
 //! again after each repair. Former frames are those of the recording that read well, with nothing
-//! wrong in them, when it was opened (`opened`). `known` has for each of them the marker of the
+//! wrong in them, when it was opened (`opened`). Pulses rise as they did if each is as long after
+//! its frame's marker as in the recording. `known` has for each former frame the marker of the
 //! frame at which its pulses rise as they did, or `None` if that is not known. A marker is the
-//! place of a frame's first pulse, from 0.
+//! place of a frame's first pulse, from 0. `AreKnown` in a contract: what `known` says is so for a
+//! recording and some pulses.
 
 ghost use Rattle.std.specs.Prelude.{◌≡◌, List, None, IfOk, IfSome, IsTrue, Some, get_or, length};
 ghost use Rattle.irig_guarding.specs.Known.{AreKnown, Became, Follows};
@@ -16,7 +18,8 @@ use irig_edit::Session;
 use irig_safety::{Original, Shown};
 use std::alloc::{AllocError, Global};
 
-/// A list in which nothing is known of that many former frames.
+/// A list of `many` times `None`: nothing is known of that many former frames. `Err` means that
+/// memory ran out.
 pub fn unknown(alloc: Global, many: usize) -> Result<Vec<Option<usize>>, AllocError>
     ensures { (o : OriginalView) (ps : List SomePulse)
         → IfOk result (λ known. AreKnown o ps known.items) }
@@ -29,7 +32,7 @@ pub fn unknown(alloc: Global, many: usize) -> Result<Vec<Option<usize>>, AllocEr
 }
 
 /// Whether it is known that the pulses of the former frame at a place, from 0, rise as they did at
-/// this marker. If it is not known, they may do so, too.
+/// this marker. False if that is not known, though they may do so, and if there is no such place.
 pub fn is_known(known: &[Option<usize>], place: usize, marker: usize) -> bool
     ensures { IsTrue result → get_or known.now place None ≡ Some marker }
 {
@@ -40,7 +43,7 @@ pub fn is_known(known: &[Option<usize>], place: usize, marker: usize) -> bool
     }
 }
 
-/// Whether a marker is known, and is this one.
+/// Whether a marker is known, and is this one. False for `None`.
 fn is_marker(known: Option<usize>, marker: usize) -> bool
     ensures { IsTrue result → known ≡ Some marker }
 {
@@ -50,9 +53,10 @@ fn is_marker(known: Option<usize>, marker: usize) -> bool
     }
 }
 
-/// Fills in what is not known yet: compares the pulses of the frames that read well now with those
-/// of the former ones of which nothing is known. Both are in rising order, so the place among the
-/// former ones only grows.
+/// Fills in what is not known yet. Each of `frames`, those that read well now, is compared with the
+/// first former frame that does not begin before it, if nothing is known of that one. So a frame
+/// that has moved can be missed: then it is only compared again later. Both lists are in rising
+/// order, so the place among the former ones only grows.
 pub fn learn(session: &Session, opened: &Original, frames: &[Seen], known: &mut Vec<Option<usize>>)
     requires { AreKnown opened.now session.now.state.pulses known.old.items }
     ensures { AreKnown opened.now session.now.state.pulses known.new.items }
@@ -65,8 +69,8 @@ pub fn learn(session: &Session, opened: &Original, frames: &[Seen], known: &mut 
 }
 
 /// The place, from 0, of the first former frame, from the place `from` on, that does not begin
-/// before `rise`, in microseconds; the end, if all do. It has no contract: a wrong place would only
-/// mean that less is known.
+/// before `rise`, in microseconds; how many there are, if all begin before it. It has no contract:
+/// a wrong place would only mean that less is known.
 fn place_from(old: &[Shown], from: usize, rise: u64) -> usize {
     for place in from..old.len() {
         if rise <= old[place].rise {
@@ -77,8 +81,9 @@ fn place_from(old: &[Shown], from: usize, rise: u64) -> usize {
 }
 
 /// Compares the pulses of a frame with those of the former one at a place, if nothing is known of
-/// the former one, and fills in the frame's marker if its pulses rise as long after it as the
-/// former ones do after theirs.
+/// that one. If each pulse rises as long after the frame's marker as the former one did after its
+/// own, `known` gets the frame's marker. Else, and if there is no former frame at the place,
+/// nothing changes.
 fn learn_one(
     session: &Session,
     opened: &Original,
@@ -97,9 +102,10 @@ fn learn_one(
     }
 }
 
-/// Replaces the markers by what is still known after an edit: pulses from `place` on became others.
-/// `before` is how many pulses there were before the edit, and `after` how many there are now.
-/// Nothing is known if `place` is `None`.
+/// Replaces each marker by what is still known of it after an edit. `place` says how many pulses
+/// are before those that the edit changed (`at`), and how many came instead (`come`). `before` is
+/// how many pulses there were before the edit, and `after` how many there are now. If `place` is
+/// `None`, nothing is known any more.
 pub fn follow(known: &mut Vec<Option<usize>>, place: Option<Place>, before: usize, after: usize)
     ensures { (o : OriginalView) (ps qs : List SomePulse)
         → IfSome place (λ p. Became p.at p.come ps qs) → length ps ≡ before → length qs ≡ after
@@ -110,9 +116,9 @@ pub fn follow(known: &mut Vec<Option<usize>>, place: Option<Place>, before: usiz
     }
 }
 
-/// The marker that is known after the pulses at `place` became others; `None` if none is known, or
-/// `place` is `None`. `known` is the one that was known before. `before` and `after` are how many
-/// pulses there were and are.
+/// The marker that is known after the pulses at `place` became others. `known` is the one that was
+/// known before. `None` if that is `None`, if `place` is, or if the edit may have changed pulses of
+/// the frame. `before` and `after` are how many pulses there were and are.
 fn followed(
     known: Option<usize>,
     place: Option<Place>,
@@ -128,11 +134,12 @@ fn followed(
     }
 }
 
-/// The marker that is known after the pulses from `place.at` on became `place.come` others. It is
-/// the same for a frame whose 100 pulses end before them, moved with its pulses for one that begins
-/// after them, and none between, since its pulses may have changed. `before` and `after` are how
-/// many pulses there were and are, so `before` + `come` - `after` of them went. More others than a
-/// `u64` has would not fit the sums.
+/// The marker that is known after the pulses from `place.at` on became `place.come` others. A frame
+/// whose 100 pulses are all before these keeps its marker. If a frame begins after them, its marker
+/// moves by as many places as there are more pulses now, or fewer. For any other frame the answer
+/// is `None`, since its pulses may have changed. `before` and `after` are how many pulses there
+/// were and are, so `before` + `come` - `after` of them went. `None` also if `come` is more than a
+/// `u64` holds, since the sums could be too large for their type.
 fn followed_by(marker: usize, place: &Place, before: usize, after: usize) -> Option<usize>
     ensures { Follows place.now.at place.now.come before after (Some marker) result }
 {
@@ -150,7 +157,7 @@ fn followed_by(marker: usize, place: &Place, before: usize, after: usize) -> Opt
     }
 }
 
-/// The value as a number of a pulse; `None` if it does not fit.
+/// The value as the place of a pulse; `None` if it is too large for a `usize`.
 fn number(value: u128) -> Option<usize>
     ensures { IfSome result (λ n. n ≡ value) }
 {

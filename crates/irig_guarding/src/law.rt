@@ -6,18 +6,19 @@ ghost use Rattle.irig_guarding.specs.{Guarded.PrintedIsObeyed, Meaning.SafeState
 use irig_edit::calls_give_back;
 
 /// Does nothing: its contract is a theorem. It says what it means that a new state is safe by an
-/// old one in which some frame reads well. Each frame that reads well in the old state, at its
-/// place or if frames may move where it is now, is one of the new state, or was wrong and one of
-/// the new state mends it. Each frame that reads well in the new state and is neither is borne out:
-/// the old frames next to it have its time there.
+/// old one in which some frame reads well. Each frame that reads well in the old state is in the
+/// new one, with the same fields at the same time. Or it was wrong, and the frame that begins when
+/// it did mends it: it reads well, with other fields. Each frame that reads well in the new state
+/// and is neither of these is borne out: the old frames next to it have its time there. If frames
+/// may move, "the same time" is where an old frame is now: at the next frame with its time.
 pub fn safe_states_are_kept_or_borne_out()
     ensures { SafeStatesMean }
 {}
 
 /// Does nothing: its contract is a theorem. Whoever runs the script that a guarded run printed, on
 /// the session as it was opened, has every line accepted, and gets what the guarded run left,
-/// unless memory runs out or a write fails. The call in it does nothing, too: the proof uses its
-/// theorem on what calls of the editor leave.
+/// unless memory runs out or a write fails. `calls_give_back` does nothing, too. It is called since
+/// the proof uses its theorem on what calls of the editor leave.
 pub fn printed_scripts_are_obeyed()
     ensures { PrintedIsObeyed }
 {

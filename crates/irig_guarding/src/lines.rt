@@ -8,8 +8,8 @@ ghost use Rattle.irig_script.specs.Obey.Run.{IsPlain};
 use crate::line::Line;
 use std::alloc::{AllocError, Global};
 
-/// The lines of a script, without their newlines. Bytes after the last newline are a line, too. It
-/// fails only if memory runs out.
+/// The lines of a script, without their newlines. An empty script has none. Bytes after the last
+/// newline are a line, too. `Err` means that memory ran out.
 pub fn lines_of(alloc: Global, script: &[u8]) -> Result<Vec<Line>, AllocError>
     ensures { IfOk result (λ lines. texts lines.items ≡ lines_of script.now) }
 {
@@ -27,7 +27,8 @@ pub fn lines_of(alloc: Global, script: &[u8]) -> Result<Vec<Line>, AllocError>
     Ok(lines)
 }
 
-/// Puts a last line, which no newline ends, after the others, if it has a byte.
+/// Adds the last line of a script to `lines`: the `bytes` after the last newline. If there are
+/// none, nothing is added. `Err` means that memory ran out.
 fn put_last(lines: &mut Vec<Line>, bytes: Vec<u8>) -> Result<(), AllocError>
     requires { IsPlain bytes.items }
     ensures { OnOk result (texts lines.new.items ≡ texts lines.old.items ++ lines_of bytes.items) }

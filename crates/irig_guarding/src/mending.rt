@@ -2,9 +2,10 @@
 //! wrong, and each new one is supported by the frames next to it. A repair is an edit, or a group
 //! of edits from `begin` to `end`. `known` has for each frame of the recording that read well the
 //! marker at which its pulses are known to rise as they did; after an error it is not used.
-//! `before` is the frames that read well before the repair. A `Reason` is why a repair is not kept:
+//! `before` is the frames that read well before the repair. A `Reason` is why it is not kept:
 //! `NoRepair` if it is no edit and no group of edits, `Refused` if the editor refuses a line,
-//! `NotSafe` with the first fault of the frames that it leads to, or `OutOfMemory`.
+//! `NotSafe` with the first fault of the frames that it leads to, or `OutOfMemory`. In contracts
+//! `floor ≡ None`: no group is open, and `Agrees`: all is the same but for what can be redone.
 
 ghost use Rattle.std.specs.Prelude.{◌≡◌, ◌≢◌, ◌∷◌, ◌++◌, [], ℕ, List, None, IfErr, IfOk, OnErr, OnOk};
 ghost use Rattle.irig_edit.specs.{Session.Calls.Call, Session.Session.work_in};
@@ -30,8 +31,8 @@ use irig_safety::{Original, Shown};
 use irig_script::{Reply, obey_command};
 use std::alloc::Global;
 
-/// Obeys an edit, and lets `known` follow the pulses that it changes. If it is refused, nothing has
-/// changed. An edit gives no other answer, so the last case does not come.
+/// Obeys an edit, and lets `known` follow the pulses that it changes. `Refused` if the editor
+/// refuses it: then nothing has changed. An edit has no other answer, so the last case never comes.
 fn edit(
     session: &mut Session,
     known: &mut Vec<Option<usize>>,
@@ -57,7 +58,7 @@ fn edit(
     }
 }
 
-/// Obeys a line in a group if it is an edit or a comment, which does nothing; else `NoRepair`.
+/// Obeys an edit in a group, or `Refused`. A comment does nothing. Any other line is `NoRepair`.
 fn mend(session: &mut Session, known: &mut Vec<Option<usize>>, line: &Line) -> Result<(), Reason>
     ensures made { OnOk result (Obeyed session.old line.now.bytes.items session.new) }
     ensures stops { IfErr result (StopsAt session.old line.now.bytes.items) }
@@ -72,7 +73,7 @@ fn mend(session: &mut Session, known: &mut Vec<Option<usize>>, line: &Line) -> R
     }
 }
 
-/// Obeys a command in a group if it is an edit; else `NoRepair`.
+/// Obeys a command in a group if it is an edit, which can be `Refused`; else `NoRepair`.
 fn mend_by(
     session: &mut Session,
     known: &mut Vec<Option<usize>>,
@@ -95,7 +96,7 @@ fn mend_by(
 }
 
 /// Obeys lines in a group, up to the first that is refused or is no edit and no comment: `Err` is
-/// its reason.
+/// its reason. What the lines before it did stays: the caller gives the group up.
 fn mend_all(
     session: &mut Session,
     known: &mut Vec<Option<usize>>,
@@ -116,7 +117,7 @@ fn mend_all(
 }
 
 /// Ends the open group if what the frames show may stay, and returns the frames that read well. If
-/// not, the group stays open: the caller gives it up.
+/// not, the group stays open, and the caller gives it up: `Err` is why it may not stay.
 fn end_safely(
     alloc: Global,
     session: &mut Session,
@@ -138,9 +139,9 @@ fn end_safely(
     }
 }
 
-/// Obeys the lines of a group, those between `begin` and `end`, and keeps what they did if it is
-/// safe. If not, the group is given up: all is as it was but for what can be redone. `abort` is not
-/// refused then, since the group is open.
+/// Obeys the lines of a group, those between `begin` and `end`. If it is safe, keeps what they did,
+/// and returns the frames that read well after it. If not, the group is given up: all is as it was
+/// but for what can be redone. `abort` is not refused then, since the group is open.
 fn mend_group(
     alloc: Global,
     session: &mut Session,
@@ -178,8 +179,8 @@ fn mend_group(
     }
 }
 
-/// Obeys an edit and keeps what it did if it is safe. If not, it is undone: all is as it was but
-/// for what can be redone. `undo` is not refused then, since the edit is the newest step.
+/// Obeys an edit. If it is safe, keeps it, and returns the frames that read well after it. If not,
+/// it is undone, which is never refused: all is as it was but for what can be redone.
 fn mend_one(
     alloc: Global,
     session: &mut Session,
@@ -213,9 +214,8 @@ fn mend_one(
     }
 }
 
-/// Obeys one line if it is an edit, and keeps what it did if it is safe: the answer is the frames
-/// that read well after it. `NoRepair` if the line is no edit. After each error all is as it was
-/// but for what can be redone. `opened` is the recording as it was opened.
+/// Obeys one line if it is an edit, else `NoRepair`. If it is safe, keeps what it did, and returns
+/// the frames that read well after it. If not, all is as it was but for what can be redone.
 fn take_line(
     alloc: Global,
     session: &mut Session,
@@ -248,9 +248,9 @@ fn take_line(
     }
 }
 
-/// Obeys a repair, which is an edit or a group, and keeps what it did if it is safe. If not, all is
-/// as it was but for what can be redone. `NoRepair` also for a group that `abort` gives up, or that
-/// no line closes.
+/// Obeys a repair, an edit or a group. If it is safe, keeps what it did, and returns the frames
+/// that read well after it. If not, all is as it was but for what can be redone. `NoRepair` also
+/// for a group that `abort` gives up, or that no line closes, and for no lines.
 pub fn take(
     alloc: Global,
     session: &mut Session,

@@ -1,5 +1,6 @@
 //! What is known of a recording as it was opened: its frames that read well, with nothing wrong in
-//! them, their markers, and its pulses. A marker is the pulse with which a frame begins.
+//! them, their markers, and its pulses. A marker is the pulse with which a frame begins. `Err`
+//! means that memory ran out.
 
 ghost use Rattle.std.specs.Prelude.{◌≡◌, IfOk, map};
 ghost use Rattle.std.specs.List.Sorted.{IsNonDecreasingBy};
@@ -24,7 +25,8 @@ pub fn original_of(alloc: Global, session: &Session, terms: Terms) -> Result<Ori
     Ok(Original::new(frames, markers, pulses, terms))
 }
 
-/// The markers of frames: the place of the first pulse of each, from 0.
+/// The markers of frames, in the order of the frames: the place of the first pulse of each among
+/// all pulses, from 0.
 fn markers_of(alloc: Global, frames: &[Seen]) -> Result<Vec<usize>, AllocError>
     ensures { IfOk result (λ markers. markers.items ≡ map (λ y. y.marker) frames.now) }
 {
@@ -35,8 +37,10 @@ fn markers_of(alloc: Global, frames: &[Seen]) -> Result<Vec<usize>, AllocError>
     Ok(markers)
 }
 
-/// The pulses of a session, whose rises and falls never go back. An error means that memory ran
-/// out. The pulses of a session count from 1.
+/// All pulses of a session, in their order; the session numbers them from 1. Neither their rises
+/// nor their falls go back from one pulse to the next. That is so in each session, but no clause
+/// says so: it is checked with the rise (`last`) and the fall (`end`) of the pulse before. `Err`
+/// means that memory ran out.
 fn pulses_of(alloc: Global, session: &Session) -> Result<Vec<Pulse>, AllocError>
     ensures all { IfOk result (λ pulses. pulses.items ≡ session.now.state.pulses) }
     ensures rising { IfOk result (λ pulses.

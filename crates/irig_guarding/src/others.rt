@@ -21,8 +21,10 @@ use irig_safety::{Shown, backed};
 use std::alloc::{AllocError, Global};
 
 /// Adds to `others` the frames of another recording that say something of this one. `recording` and
-/// `journal`, the text of its journal if it has one, are what was read of its dump. `Dump` if it
-/// cannot be opened, `OutOfMemory` if memory runs out after that.
+/// `journal`, the text of its journal if it has one, are what was read of its dump; a dump has at
+/// most 2^28 bytes. `Dump` if it cannot be opened as a session, `OutOfMemory` if memory runs out
+/// after that. No other fault comes. After an error `others` is not used. `memory`: memory runs out
+/// for the session only if no fault of the dump comes before that.
 pub fn add_frames(
     alloc: Global,
     recording: Recording,
@@ -50,7 +52,8 @@ pub fn add_frames(
     }
 }
 
-/// Adds to `others` the frames of a session that say something of another recording.
+/// Adds to `others` the frames of a session that say something of another recording. `Err` means
+/// that memory ran out.
 fn add_shown(
     alloc: Global,
     session: &Session,

@@ -1,7 +1,10 @@
 //! Where a command of a repair changes the pulses of a session, so that what is known of other
-//! pulses can be kept. Each function returns the place of one command, if it is obeyed. Addresses
-//! count pulses from 1, with 0 for none: `ends` gives the first and the last pulse of a range, and
-//! `number_at` that of an address. So one less is how many pulses are before it.
+//! pulses can be kept. Each function returns the place of one command, if it is obeyed; if it is
+//! refused, the place means nothing, and is not used. Addresses count pulses from 1, with 0 for
+//! none: `ends` gives the first and the last pulse of a range, and `number_at` that of an address.
+//! So one less is how many pulses are before it. A command with a 0 is refused: `saturating_sub`
+//! only keeps that from being an overflow. `Became` in a contract: pulses from a place on became
+//! that many others, and all others are as they were.
 
 ghost use Rattle.std.specs.Prelude.{◌≡◌, ℕ, ℤ, IfSome, length};
 ghost use Rattle.irig_codes.specs.declared.width.Element.{Element as SomeElement};
@@ -17,7 +20,8 @@ use irig_edit::Session;
 use irig_lines::{Address, Command, Range, Time};
 use irig_script::{ends, number_at, time};
 
-/// Where pulses become others: how many are before them (`at`), and how many come instead.
+/// Where pulses become others: how many pulses are before them (`at`), and how many come instead
+/// (`come`). How many go is not kept: it follows from how many there are before and after.
 #[derive(Clone, Copy)]
 pub struct Place {
     pub at: usize,
@@ -25,7 +29,8 @@ pub struct Place {
 }
 
 /// Where a command changes the pulses if it is obeyed. `None` if that is not known: of `invert`,
-/// which adds or removes an edge at either time, and of commands that edit no pulses.
+/// which adds or removes an edge at each of two times, and of commands that edit no pulses, as
+/// `mark`.
 pub fn place_of(session: &Session, command: &Command) -> Option<Place>
     ensures { (new : Machine) → Obeys command.now session.now Silent new
         → IfSome result (λ p. Became p.at p.come session.now.state.pulses new.state.pulses) }
@@ -42,7 +47,7 @@ pub fn place_of(session: &Session, command: &Command) -> Option<Place>
     }
 }
 
-/// The place of pulses that are removed: none come instead.
+/// The place of pulses that are removed, from the first of a range on: none come instead.
 fn place_of_delete(session: &Session, range: &Range) -> Place
     ensures { (new : Machine) → Obeys (Command.Delete range.now) session.now Silent new
         → Became result.at result.come session.now.state.pulses new.state.pulses }
@@ -55,6 +60,7 @@ fn place_of_delete(session: &Session, range: &Range) -> Place
 }
 
 /// The place of pulses that move: as many come as go, those from `first` to `last`, both included.
+/// Their count is taken as a `u128`, so that adding 1 is no overflow.
 fn place_of_shift(session: &Session, range: &Range) -> Place
     ensures { (by : ℤ) (new : Machine) → Obeys (Command.Shift range.now by) session.now Silent new
         → Became result.at result.come session.now.state.pulses new.state.pulses }
@@ -67,7 +73,7 @@ fn place_of_shift(session: &Session, range: &Range) -> Place
     }
 }
 
-/// The place of pulses that become one.
+/// The place of pulses that become one, from the first of a range on: one comes instead.
 fn place_of_join(session: &Session, range: &Range) -> Place
     ensures { (new : Machine) → Obeys (Command.Join range.now) session.now Silent new
         → Became result.at result.come session.now.state.pulses new.state.pulses }
@@ -79,7 +85,7 @@ fn place_of_join(session: &Session, range: &Range) -> Place
     }
 }
 
-/// The place of a pulse that becomes two.
+/// The place of a pulse that becomes two: these come instead of it.
 fn place_of_split(session: &Session, address: &Address) -> Place
     ensures { (from to : SomeTime) (new : Machine)
         → Obeys (Command.Split address.now from to) session.now Silent new
@@ -91,7 +97,7 @@ fn place_of_split(session: &Session, address: &Address) -> Place
     }
 }
 
-/// The place of a pulse that gets another width.
+/// The place of a pulse that gets another width: it goes, and one comes instead.
 fn place_of_force(session: &Session, address: &Address) -> Place
     ensures { (element : SomeElement) (new : Machine)
         → Obeys (Command.Force address.now element) session.now Silent new
@@ -103,8 +109,9 @@ fn place_of_force(session: &Session, address: &Address) -> Place
     }
 }
 
-/// The place of a pulse that is inserted: before it are those that rise up to its end `to`, since
-/// it must not touch one.
+/// The place of a pulse that is inserted and ends at `to`: one comes, and none goes. `find` counts
+/// the pulses that rise up to a time. Those that rise up to `to` are before the new one, since it
+/// must not touch another pulse.
 fn place_of_insert(session: &Session, to: &Time) -> Place
     ensures { (from : SomeTime) (new : Machine)
         → Obeys (Command.Insert from to.now) session.now Silent new
@@ -116,8 +123,8 @@ fn place_of_insert(session: &Session, to: &Time) -> Place
     }
 }
 
-/// The place of frames that are generated: a hundred pulses for each come after all pulses that
-/// rise before the start.
+/// The place of frames that are generated from `start` on. The pulses that rise before `start` stay
+/// before them. A hundred pulses come for each of `frames`.
 fn place_of_regen(session: &Session, start: &Time, frames: u64) -> Place
     ensures { (moment : MomentView) (control : ℕ) (new : Machine)
         → Obeys (Command.Regen start.now frames moment control) session.now Silent new
@@ -129,8 +136,8 @@ fn place_of_regen(session: &Session, start: &Time, frames: u64) -> Place
     }
 }
 
-/// How many pulses rise before a time, in microseconds. `find` counts those that rise up to a time,
-/// also at it, so it is asked for the microsecond before.
+/// How many pulses rise before a time, in microseconds; 0 at time 0. `find` counts those that rise
+/// up to a time, also at it, so it is asked for the microsecond before.
 fn rising_before(session: &Session, time: u64) -> usize
     ensures { result ≡ length (rising_before time session.now.state.pulses) }
 {

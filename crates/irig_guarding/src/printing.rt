@@ -1,5 +1,6 @@
 //! The script that is printed: what is kept, and the rest as comments. All is added to `out`. A
-//! frame reads well if nothing is wrong in it. Each function fails only if memory runs out.
+//! frame reads well if nothing is wrong in it. Each function fails only if memory runs out: then a
+//! part can be in `out`. `unlines` in a contract: lines, each with a newline (10) after it.
 
 ghost use Rattle.std.specs.Prelude.{◌≡◌, ◌++◌, ◌∷◌, [], ℕ, List, OnOk};
 ghost use Rattle.std.specs.List.{AllByRecursion};
@@ -27,8 +28,8 @@ fn put_line(out: &mut Vec<u8>, line: &[u8]) -> Result<(), AllocError>
     Ok(())
 }
 
-/// Prints first that there is nothing to go by, if no frame of the recording reads well (`opened`
-/// is these frames).
+/// Prints that there is nothing to go by, if no frame of the recording reads well (`opened` is
+/// these frames); else nothing.
 pub fn put_head(out: &mut Vec<u8>, opened: &[Shown]) -> Result<(), AllocError>
     ensures { OnOk result (out.new.items ≡ out.old.items ++ unlines (head_lines opened.now)) }
 {
@@ -42,7 +43,7 @@ pub fn put_head(out: &mut Vec<u8>, opened: &[Shown]) -> Result<(), AllocError>
     }
 }
 
-/// Prints lines as they are, each with a newline after it.
+/// Prints lines as they are, each with a newline after it. None of them has a newline in it.
 pub fn put_lines(out: &mut Vec<u8>, lines: &[Line]) -> Result<(), AllocError>
     ensures text { OnOk result (out.new.items ≡ out.old.items ++ unlines (texts lines.now)) }
     ensures plain { AllByRecursion IsPlain (texts lines.now) }
@@ -66,7 +67,8 @@ fn put_remark(out: &mut Vec<u8>, line: &Line) -> Result<(), AllocError>
     }
 }
 
-/// Prints the first 900 bytes of a line after a number sign.
+/// Prints a number sign, a space, the first 900 bytes of a line (all, if it has fewer) and a
+/// newline. The line is no comment: `put_remark` prints those.
 fn put_front(out: &mut Vec<u8>, line: &Line) -> Result<(), AllocError>
     requires { Asks command.Nothing line.now.bytes.items → ⊥ }
     ensures { OnOk result ((remark : List ℕ) × IsRemark remark × IsRemarkOf line.now.bytes.items remark
@@ -77,7 +79,7 @@ fn put_front(out: &mut Vec<u8>, line: &Line) -> Result<(), AllocError>
     put_line(out, &bytes[..bytes.len().min(KEPT)])
 }
 
-/// Prints lines as comments.
+/// Prints lines as comments, each as `put_remark` does.
 pub fn put_remarks(out: &mut Vec<u8>, lines: &[Line]) -> Result<(), AllocError>
     ensures { OnOk result ((remarks : List (List ℕ)) × AllByRecursion IsRemark remarks
         × AreRemarksOf (texts lines.now) remarks

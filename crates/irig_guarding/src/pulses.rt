@@ -1,11 +1,14 @@
 //! Whether the pulses of the frames stay where they were. `old` is the frames of the recording that
-//! read well (the former ones), and `known` has for each of them the marker at which its pulses are
-//! known to rise as they did. Markers and elements count from 0, and places in `old`. A pulse is an
-//! anchor if it rises where the recording has one. A former frame is passed if the frames that were
-//! looked at have one that begins when it does. The faults: `Lost` if none does; `Moved` if one
-//! does, and its pulses do not rise as they did; `Misplaced` if a frame that was not fine has a
-//! pulse that nothing holds, or if none was fine and one has too few anchors. `near_in` gives the
-//! two frames of a list before a place, and the two from another place on.
+//! read well (the former ones), at the places where they are now if frames may move. Pulses rise as
+//! they did if each is as long after its frame's marker as in the recording; `known` has for each
+//! former frame the marker at which its pulses are known to do so. Markers, elements and places in
+//! `old` count from 0. A pulse is an anchor if it rises where the recording has one, or is a gap of
+//! it turned over. A former frame is passed if the frames that were looked at have one that begins
+//! when it does. The faults: `Lost` if none does; `Moved` if one does, and its pulses do not rise
+//! as they did; `Misplaced` if a frame that did not read well before has a pulse that is neither an
+//! anchor nor on the line between anchors, or if no frame read well before and one has fewer than
+//! 60 anchors. `near_in` gives the two frames of a list before a place, and the two from another
+//! place on.
 
 ghost use Rattle.std.specs.Prelude.{◌≡◌, ◌↔◌, ◌+◌, ◌<◌, ◌≤◌, ◌∷◌, List, IsTrue, None, Option, Some};
 ghost use Rattle.std.specs.Prelude.{IfErr, IfOk, OnErr, OnOk, drop, get_or, length, slice_get};
@@ -25,11 +28,12 @@ use crate::seen::{Seen, is_as_before};
 use irig_edit::Session;
 use irig_safety::{Fault, Original, Shown, Witnesses, frame_at, near_in, rise_or};
 
-/// Whether the pulses of each of `frames`, those that read well now, are where they may be: of one
-/// that begins when a former one does, where they were, and of any other where the recording
-/// supports them (`come`). If not, the first fault. A frame whose pulses are known to be where they
-/// were is not looked at. Both lists are in rising order, so they are passed together. Former
-/// frames after the last of `frames` are not looked for: `check_safe` did that before.
+/// Whether the pulses of each of `frames`, those that read well now, are where they may be. If a
+/// frame begins when a former one does, they have to rise as that one's did. Else they have to be
+/// where the recording supports them (`come`). If not, `Err` is the first fault. Both lists are in
+/// rising order, so one pass over both is enough. A frame whose pulses are known to rise as they
+/// did is passed without a look at them. Former frames after the last of `frames` are not looked
+/// for: `check_safe` did that before.
 pub fn check_stand(
     session: &Session,
     opened: &Original,
@@ -59,8 +63,8 @@ pub fn check_stand(
     Ok(())
 }
 
-/// Whether a frame shows what the former one at a place does, at its time, and its pulses are known
-/// to rise as those of the former one.
+/// Whether a frame has the fields and the rise of the former one at a place, and its pulses are
+/// known to rise as those of the former one. False also if no former frame is at the place.
 fn is_unmoved(old: &[Shown], known: &[Option<usize>], place: usize, frame: &Seen) -> bool
     ensures same { IsTrue result → slice_get old.now place ≡ Some frame.now.shown }
     ensures known { IsTrue result → get_or known.now place None ≡ Some frame.now.marker }
@@ -71,10 +75,12 @@ fn is_unmoved(old: &[Shown], known: &[Option<usize>], place: usize, frame: &Seen
     is_known(known, place, frame.marker)
 }
 
-/// How many of the former frames are passed after one more frame, if `passed` are before it; or why
-/// it is at fault. It is between former frames if the next of these begins later or there is none
-/// (`come`). `Lost` if the next one begins earlier. If it begins when the next one does, its pulses
-/// have to rise as those of that one, else it is `Moved`.
+/// Judges one more frame, if `passed` former frames are passed before it: how many are passed after
+/// it, or its fault. If the next former frame begins later, or there is none, the frame is between
+/// former ones: `come` judges it, and `passed` stays. If the next one begins earlier, no frame
+/// begins when it does: it is `Lost`. If both begin at the same time, the pulses of the frame have
+/// to rise as those of the former one: then one more is passed, else the frame is `Moved`. In the
+/// clauses `rest` is any frames after it, and `found` their fault, if they have one.
 fn pass(
     session: &Session,
     opened: &Original,
@@ -122,9 +128,9 @@ fn pass(
     }
 }
 
-/// How many former frames are passed after a frame that was not fine: still `passed`. `near` is the
-/// former ones next to it. `Misplaced` if a pulse of it is neither an anchor nor on the line
-/// between those next to it.
+/// Judges a frame that begins when no former one does. `Ok` has how many former frames are passed
+/// after it, which is still `passed`. `near` is the former frames next to it. `Misplaced` if a
+/// pulse of it is neither an anchor nor on the line between those next to it (`are_placed`).
 fn come(
     session: &Session,
     opened: &Original,
@@ -142,7 +148,7 @@ fn come(
 }
 
 /// Whether most pulses of each frame that reads well, 60 or more of its 100, are anchors. If not,
-/// the first frame that is at fault.
+/// `Misplaced` with the first frame that has fewer.
 pub fn check_rooted(session: &Session, opened: &Original, frames: &[Seen]) -> Result<(), Fault>
     ensures rooted { OnOk result
         (AllByRecursion (IsRooted opened.now session.now.state) frames.now) }
@@ -158,8 +164,8 @@ pub fn check_rooted(session: &Session, opened: &Original, frames: &[Seen]) -> Re
     Ok(())
 }
 
-/// Whether the pulses of a frame rise as those of the former one at a place of `old`: that is
-/// known, or they are compared.
+/// Whether the pulses of a frame rise as those of the former one at a place of `old`: either that
+/// is known (`known`), or they are compared.
 fn stands_as(
     session: &Session,
     opened: &Original,
@@ -178,7 +184,8 @@ fn stands_as(
 }
 
 /// Whether each pulse of the frame of a marker rises as long after the marker as in the former
-/// frame of the marker `former`. Frames that read well have all 100 pulses.
+/// frame of the marker `former`. Frames that read well have all 100 pulses, in rising order. Of
+/// others a pulse that is not there would count as rising at 0: so it saturates.
 pub fn keeps_rises(session: &Session, opened: &Original, former: usize, marker: usize) -> bool
     ensures { IsTrue result ↔ KeepsRises opened.now.pulses former session.now.state.pulses marker }
 {

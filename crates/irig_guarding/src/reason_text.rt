@@ -11,7 +11,7 @@ use irig_edit::Refusal;
 use irig_safety::{Fault, Shown};
 use std::alloc::AllocError;
 
-/// Prints why a repair is not kept, as a line `# not kept: ` with the reason.
+/// Prints why a repair is not kept, as a line: `# not kept: `, the reason, and a newline.
 pub fn put_reason(out: &mut Vec<u8>, reason: Reason) -> Result<(), AllocError>
     ensures { OnOk result (out.new.items ≡ out.old.items ++ (reason_line reason ++ 10 ∷ [])) }
 {
@@ -21,7 +21,7 @@ pub fn put_reason(out: &mut Vec<u8>, reason: Reason) -> Result<(), AllocError>
     Ok(())
 }
 
-/// Prints the reason itself, without the number sign and the newline.
+/// Prints the reason itself, without `# not kept: ` and the newline.
 fn put_text(out: &mut Vec<u8>, reason: Reason) -> Result<(), AllocError>
     ensures { OnOk result (out.new.items ≡ out.old.items ++ reason_text reason) }
 {
@@ -33,7 +33,8 @@ fn put_text(out: &mut Vec<u8>, reason: Reason) -> Result<(), AllocError>
     }
 }
 
-/// Prints why the frames would not be safe.
+/// Prints why the frames would not be safe: the frame that is at fault, and what would become of
+/// it. `Alone` has no frame.
 fn put_fault(out: &mut Vec<u8>, fault: Fault) -> Result<(), AllocError>
     ensures { OnOk result (out.new.items ≡ out.old.items ++ fault_text fault) }
 {
@@ -58,7 +59,8 @@ fn put_fault(out: &mut Vec<u8>, fault: Fault) -> Result<(), AllocError>
     }
 }
 
-/// Prints a frame, and what would become of it.
+/// Prints a frame by its time and its rise (`put_frame`), and after that the text `what`: what
+/// would become of it.
 fn put_what(out: &mut Vec<u8>, frame: &Shown, what: &[u8]) -> Result<(), AllocError>
     ensures { OnOk result (out.new.items ≡ out.old.items ++ (frame_text frame.now ++ what.now)) }
 {
@@ -66,7 +68,7 @@ fn put_what(out: &mut Vec<u8>, frame: &Shown, what: &[u8]) -> Result<(), AllocEr
     out.extend_from_slice(what)
 }
 
-/// Prints that the editor refuses a line, and its refusal.
+/// Prints that the editor refuses a line: `refused: `, and the number and the name of its refusal.
 fn put_refusal(out: &mut Vec<u8>, why: Refusal) -> Result<(), AllocError>
     ensures { OnOk result (out.new.items ≡ out.old.items ++ reason_text (Reason.Refused why)) }
 {
@@ -74,7 +76,7 @@ fn put_refusal(out: &mut Vec<u8>, why: Refusal) -> Result<(), AllocError>
     out.extend_from_slice(refusal_name(why))
 }
 
-/// Number and name of a refusal, as the editor answers it.
+/// The number and the name of a refusal, as the editor prints them.
 fn refusal_name(why: Refusal) -> &'static [u8]
     ensures { result.now ≡ refusal_name why }
 {

@@ -1,9 +1,10 @@
 //! A run under guard on a dump, from the bytes that come in to those that go out. Under guard,
 //! commands that are not safe by `terms` are left out: these have frames of other recordings of the
 //! same code, and say whether frames of the recording may move. The shelf is where the text of the
-//! track is written, as a file. A journal is the history of a session, which a dump can have.
-//! `Kept` is how a run ended: whether all of the script was accepted, and how many frames have
-//! control functions that are not in the recording.
+//! track is written, as a file: its `label` never changes, and `since` holds between a state of it
+//! and each later one. A journal is the history of a session, which a dump can have. `Kept` is how
+//! a run ended: whether all of the script was accepted, and how many frames have control functions
+//! that are not in the recording. `floor ≡ None` in a contract: no group is open.
 
 ghost use Rattle.std.specs.Prelude.{◌≡◌, ◌≤◌, ◌^◌, ℕ, Err, List, None, Option, length, Ok, IfErr, IfOk};
 ghost use Rattle.std.specs.Prelude.{IfSome, OnErr, OnOk, [], ◌∷◌};
@@ -27,10 +28,11 @@ use irig_vcd::VcdFault;
 use std::alloc::Global;
 use std::io::{Read, Write};
 
-/// Opens a dump by what was read of it, its recording and the text of its journal, and runs a
-/// proposed script on it under guard. The script that is accepted is printed to `out`, and what
-/// `product` asks for, nothing, the track or the session, is written to the shelf. `Err` is the
-/// first fault of the dump, of memory, of a read of the script or of a write.
+/// Opens a dump by what was read of it, its recording and the text of its journal (at most 2^28
+/// bytes, as a dump), and runs a proposed script on it under guard. The script that is accepted is
+/// printed to `out`, and what `product` asks for, nothing, the track or the session, is written to
+/// the shelf. `Err` is `Dump` if the dump cannot be opened: then the script is not read. Else it is
+/// the fault of the step that failed, as in `guard_session`.
 pub fn guard_on_parts<R: Read, W: Write, S: Shelf>(
     alloc: Global,
     recording: Recording,
@@ -61,8 +63,8 @@ pub fn guard_on_parts<R: Read, W: Write, S: Shelf>(
     }
 }
 
-/// Opens a dump by what was read of it. No group is open: an `end` is tried to prove it, which is
-/// refused then, and changes nothing.
+/// Opens a dump by what was read of it; `Err` says why it cannot be opened. No group is open then.
+/// To prove that, an `end` is tried: it is refused, and changes nothing.
 fn open_closed(
     alloc: Global,
     recording: Recording,
@@ -91,8 +93,10 @@ fn open_closed(
 }
 
 /// Runs a proposed script on a session under guard, prints the script that is accepted to `out`,
-/// and writes what `product` asks for to the shelf. What the calls' own errors say is not kept: the
-/// fault says which step failed.
+/// and writes what `product` asks for to the shelf. The first step that fails ends it: `ReadFailed`
+/// for the script, `OutOfMemory` for the run, `PrintFailed` for `out`, of which a part can be
+/// printed then, and `WriteFailed` for the shelf. The error of a call says no more, so it is
+/// dropped.
 pub fn guard_session<R: Read, W: Write, S: Shelf>(
     alloc: Global,
     session: &mut Session,
@@ -127,7 +131,7 @@ pub fn guard_session<R: Read, W: Write, S: Shelf>(
 }
 
 /// Writes what is asked for of a session to the shelf: nothing, its track, or its track with the
-/// journal.
+/// journal. `Err` means that the write failed.
 fn write_product<S: Shelf>(
     session: &Session,
     product: Product,
@@ -146,7 +150,8 @@ fn write_product<S: Shelf>(
     }
 }
 
-/// Writes a text to the shelf. How many bytes it has, which `put` returns, is not needed.
+/// Writes a text to the shelf; `Err` means that this failed. How many bytes it has, which `put`
+/// returns, is not needed.
 fn write<T: Text, S: Shelf>(text: &mut T, shelf: &mut S) -> Result<(), ShelfFault>
     ensures ok { OnOk result (Puts (S.known shelf.old) (S.known shelf.new)
         (T.rest text.old ∷ []) 0) }

@@ -1,5 +1,6 @@
 //! The frames of a session that read well, with their markers: they are read, and nothing is wrong
-//! in them. A marker is the pulse with which a frame begins.
+//! in them. A marker is the pulse with which a frame begins. A function with a `Result` fails only
+//! if memory runs out.
 
 ghost use Rattle.std.specs.Prelude.{◌≡◌, ◌≤◌, ◌-◌, ◌++◌, length, map, slice_get, Some, IfOk, IsTrue};
 ghost use Rattle.std.specs.Prelude.{OnOk};
@@ -28,7 +29,7 @@ pub struct Frames {
     pub shown: Vec<Shown>,
 }
 
-/// Lists the frames of a session that read well.
+/// Lists the frames of a session that read well, in rising order: with their markers, and without.
 pub fn list_frames(alloc: Global, session: &Session) -> Result<Frames, AllocError>
     ensures { IfOk result (λ frames. Lists session.now.state frames) }
 {
@@ -37,7 +38,7 @@ pub fn list_frames(alloc: Global, session: &Session) -> Result<Frames, AllocErro
     Ok(Frames { seen, shown })
 }
 
-/// The frames of a session that read well, in rising order.
+/// The frames of a session that read well, in rising order, with their markers.
 pub fn seen_frames(alloc: Global, session: &Session) -> Result<Vec<Seen>, AllocError>
     ensures { IfOk result (λ seen. seen.items ≡ seen_frames session.now.state) }
 {
@@ -69,8 +70,8 @@ fn shown_among(alloc: Global, seen: &[Seen]) -> Result<Vec<Shown>, AllocError>
     Ok(shown)
 }
 
-/// Whether a frame shows what the one at a place, from 0, of a list does, at the same time. False
-/// if the list has none there.
+/// Whether `frame` has the same fields and the same rise as the frame at a place, from 0, of the
+/// list `old`. False if the list has none there.
 pub fn is_as_before(old: &[Shown], place: usize, frame: &Seen) -> bool
     ensures { IsTrue result → slice_get old.now place ≡ Some frame.now.shown }
 {
@@ -80,8 +81,8 @@ pub fn is_as_before(old: &[Shown], place: usize, frame: &Seen) -> bool
     }
 }
 
-/// Adds the frame of a number, from 1, to `seen`, if it reads well. The pulses of a session count
-/// from 1, too, so 1 is taken off its marker.
+/// Adds the frame of a number, from 1, to `seen`, if it reads well; else nothing. The pulses of a
+/// session count from 1, too, so 1 is taken off its marker.
 fn put_frame(seen: &mut Vec<Seen>, session: &Session, number: usize) -> Result<(), AllocError>
     requires { (1 ≤ number) × (number ≤ length (frames_of session.now.state)) }
     ensures { (r : Record) → slice_get (frames_of session.now.state) (number - 1) ≡ Some r
@@ -94,7 +95,7 @@ fn put_frame(seen: &mut Vec<Seen>, session: &Session, number: usize) -> Result<(
 }
 
 /// Adds a frame that begins at `rise`, in microseconds, to `seen`, if it reads well: it is read,
-/// and nothing is wrong. Its marker counts from 0.
+/// and nothing is wrong. Else nothing is added. Its marker counts from 0.
 fn put_verdict(
     seen: &mut Vec<Seen>,
     rise: u64,

@@ -1,6 +1,7 @@
 //! How the times and the rises of two frames go together. `other` is a frame that begins after
 //! `one`. Rises and distances are in microseconds. The stray of two frames is by how much their
 //! distance differs from the nominal one, which is as many frame periods as their times are apart.
+//! Bounds in contracts, as 2^60, only keep numbers small enough for their types.
 
 ghost use Rattle.std.specs.Prelude.{◌≡◌, ◌+◌, ◌*◌, ◌%◌, ◌==◌, ◌^◌, ◌<◌};
 ghost use Rattle.irig_safety.specs.Bearing.{agrees, allows, apart, clock_after, clock_of};
@@ -54,7 +55,7 @@ fn is_near_year(one: Option<u32>, other: Option<u32>) -> bool
     }
 }
 
-/// The hundredths of a second of a year of 365 days, or of a long one of 366.
+/// How many hundredths of a second a year has: 365 days, or 366 if it is long.
 fn year(is_long: bool) -> u128
     ensures value { result ≡ year_of is_long }
     ensures small { result < 2 ^ 32 }
@@ -116,8 +117,8 @@ fn clock_after(one: &Shown, other: &Shown) -> u128
     clock(&other.fields) + turn(&one.fields, &other.fields) + inserted(&one.fields, &other.fields)
 }
 
-/// How many whole frame periods the time of `other` is after that of `one`; 0 if it is not after
-/// it.
+/// How many whole frame periods the time of `other` is after that of `one`, rounded down; 0 if it
+/// is not after it.
 pub fn periods(format: Format, one: &Shown, other: &Shown) -> u128
     ensures value { result ≡ periods format one.now other.now }
     ensures small { result < 2 ^ 61 }
@@ -126,7 +127,7 @@ pub fn periods(format: Format, one: &Shown, other: &Shown) -> u128
     clock_after(one, other).saturating_sub(clock(&one.fields)) / period
 }
 
-/// Whether `one` is in second 60 of a minute, and `other` in an earlier second of that minute.
+/// Whether `one` is in second 60 of a minute, and `other` in an earlier second of the same minute.
 fn goes_back(one: &Fields, other: &Fields) -> bool
     ensures { result ≡ goes_back one.now other.now }
 {
@@ -150,7 +151,7 @@ pub fn is_later(format: Format, one: &Shown, other: &Shown) -> bool
         && from + periods(format, one, other) * period(format) == to
 }
 
-/// How many microseconds after `one` the other frame begins; 0 if it does not begin later.
+/// How many microseconds after `one` the frame `other` begins; 0 if it does not begin later.
 pub fn distance(one: &Shown, other: &Shown) -> u128
     ensures value { result ≡ distance one.now other.now }
     ensures small { result < 2 ^ 64 }
@@ -207,9 +208,8 @@ pub fn is_shown(format: Format, one: &Shown, other: &Shown) -> bool
         && 2 * stray(format, one, other) < u128::from(format.frame_period())
 }
 
-/// Whether the time of a frame leads to that of another: it is whole periods later, they are not
-/// far from each other (`is_far`), and the other begins when it should, as far as it may stray
-/// (`slack`).
+/// Whether the time of `one` leads to that of `other`: it is whole periods later, they are not far
+/// from each other (`is_far`), and `other` begins when it should, as far as it may stray (`slack`).
 pub fn leads(format: Format, one: &Shown, other: &Shown) -> bool
     ensures { result ≡ leads format one.now other.now }
 {

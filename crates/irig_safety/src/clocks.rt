@@ -5,8 +5,10 @@
 //! frames before a frame, the nearer one last, and the two after it. `periods` is how many frame
 //! periods the time of the second frame is after that of the first, and `stray` by how many
 //! microseconds their distance differs from that many nominal periods.
+//!
 //! The bounds are this project's own. Half an interval is as far as a pulse is nearest to its own
-//! place, and 8 in 100 as far as a recorder's clock may be off: as far as `irig_demodulate` allows.
+//! place, and 8 in 100 (2 in 25) as far as a recorder's clock may be off: as far as
+//! `irig_demodulate` allows.
 
 ghost use Rattle.std.specs.Prelude.{◌≡◌, ◌<◌, ◌^◌, Some};
 ghost use Rattle.irig_safety.specs.Clocks.{is_by_clock, is_by_next, is_in_time, shows_any_clock};
@@ -20,8 +22,8 @@ use irig_codes::Format;
 
 /// Whether two frames agree, and so show by how much the clock is off, and that is a fortieth at
 /// most: more can be a step between them, at which the recorder lost something or has it twice. If
-/// one is the next after the other it is 8 in 100 at most, since then all pulses between them are
-/// in step.
+/// one is the next after the other, up to 8 in 100 is allowed, since then all pulses between them
+/// are in step.
 pub fn shows_clock(format: Format, one: &Shown, other: &Shown) -> bool
     ensures { result ≡ shows_clock format one.now other.now }
 {
@@ -31,8 +33,8 @@ pub fn shows_clock(format: Format, one: &Shown, other: &Shown) -> bool
 }
 
 /// Whether by the clock of two frames (`one`, `other`) `frame` begins when it should after `from`,
-/// to half an interval. Both sides are multiplied by the periods of the two (`whole`), so nothing
-/// is divided.
+/// to half an interval. False if the time of `frame` is not later. Both sides are multiplied by the
+/// periods of the two (`whole`), so nothing is divided.
 fn is_in_time(format: Format, one: &Shown, other: &Shown, from: &Shown, frame: &Shown) -> bool
     ensures { result ≡ is_in_time format one.now other.now from.now frame.now }
 {
@@ -43,18 +45,19 @@ fn is_in_time(format: Format, one: &Shown, other: &Shown, from: &Shown, frame: &
         && 2 * apart(here, wanted) <= whole * u128::from(format.interval())
 }
 
-/// Whether `one` and `other` show a clock (`shows_clock`), and `frame`, which has to be later than
-/// `from`, begins after it by the periods between their times, counted in that clock, to half an
-/// interval of the format.
+/// Whether `one` and `other` show a clock (`shows_clock`), and `frame` begins when it should after
+/// `from` by this clock, to half an interval: after as many periods as their times are apart. False
+/// if the time of `frame` is not later than that of `from`.
 pub fn is_by_clock(format: Format, one: &Shown, other: &Shown, from: &Shown, frame: &Shown) -> bool
     ensures { result ≡ is_by_clock format one.now other.now from.now frame.now }
 {
     shows_clock(format, one, other) && is_in_time(format, one, other, from, frame)
 }
 
-/// As `is_by_clock`, of two frames that are one period apart. `frame` has to be no more than two
-/// periods after `from`: two frames so near say nothing of the clock further on, since it can
-/// wander.
+/// Whether `one` and `other` are one period apart and show a clock (`shows_clock`), and `frame`
+/// begins when it should after `from` by this clock, to half an interval. False if `frame` is more
+/// than two periods after `from`: two frames that are so near say nothing of the clock further on,
+/// since it can wander.
 pub fn is_by_next(format: Format, one: &Shown, other: &Shown, from: &Shown, frame: &Shown) -> bool
     ensures { result ≡ is_by_next format one.now other.now from.now frame.now }
 {
@@ -86,8 +89,9 @@ fn is_off(format: Format, one: &Shown, other: &Shown) -> bool
 /// Whether `from` and `to` show the clock that `one` and `other` show: by that clock `to` begins
 /// when it should after `from`, to half an interval. Neither clock is off by more than 8 in 100.
 /// `from` and `to` are no more than a hundred times as far apart as `one` and `other`. The rises of
-/// these are off by a tenth of an interval each at most, which makes 20 intervals over a hundred
-/// times their distance: less than half a frame, so the clock says how many frames it is.
+/// `one` and `other` are off by a tenth of an interval each at most, which makes 20 intervals over
+/// a hundred times their distance. That is less than half a frame, so this clock says how many
+/// frames apart `from` and `to` are.
 fn is_same_clock(format: Format, one: &Shown, other: &Shown, from: &Shown, to: &Shown) -> bool
     ensures { result ≡ is_same_clock format one.now other.now from.now to.now }
 {
@@ -97,8 +101,8 @@ fn is_same_clock(format: Format, one: &Shown, other: &Shown, from: &Shown, to: &
         && is_in_time(format, one, other, from, to)
 }
 
-/// Whether `before` and `after` show the clock of `before2` and `before`. False if `before2` is not
-/// there.
+/// Whether `before` and `after` show the clock that `before2` and `before` show (`is_same_clock`).
+/// False if `before2` is not there.
 fn is_own_from(format: Format, before2: Option<Shown>, before: &Shown, after: &Shown) -> bool
     ensures { result ≡ is_own_from format before2 before.now after.now }
 {
@@ -108,8 +112,8 @@ fn is_own_from(format: Format, before2: Option<Shown>, before: &Shown, after: &S
     }
 }
 
-/// Whether `before` and `after` show the clock of `after` and `after2`. False if `after2` is not
-/// there.
+/// Whether `before` and `after` show the clock that `after` and `after2` show (`is_same_clock`).
+/// False if `after2` is not there.
 fn is_own_to(format: Format, before: &Shown, after: &Shown, after2: Option<Shown>) -> bool
     ensures { result ≡ is_own_to format before.now after.now after2 }
 {
@@ -119,8 +123,8 @@ fn is_own_to(format: Format, before: &Shown, after: &Shown, after2: Option<Shown
     }
 }
 
-/// How many microseconds `many` frame periods take on the clock of two frames; 0 if their times are
-/// less than a period apart.
+/// How many microseconds `many` frame periods take on the clock of two frames, rounded down; 0 if
+/// their times are less than a period apart.
 fn long_by(format: Format, one: &Shown, other: &Shown, many: u128) -> u128
     requires { many < 2 ^ 61 }
     ensures { result ≡ long_by format one.now other.now many }
@@ -133,9 +137,9 @@ fn long_by(format: Format, one: &Shown, other: &Shown, many: u128) -> u128
     }
 }
 
-/// Whether a distance (`micros`) is between what two clocks say that it is (`one`, `other`), to
-/// half an interval: no more than that below both or above both. The two differ by six intervals at
-/// most, since a step as large as their difference could hide there. All are in microseconds.
+/// Whether a distance (`micros`) is between what two clocks say that it is (`one`, `other`), or
+/// outside of these by half an interval at most. All are in microseconds. False if the two differ
+/// by more than six intervals, since a step as large as their difference could hide there.
 fn is_amidst(interval: u64, one: u128, other: u128, micros: u128) -> bool
     requires { micros < 2 ^ 64 }
     ensures { result ≡ is_amidst interval one other micros }
@@ -147,9 +151,10 @@ fn is_amidst(interval: u64, one: u128, other: u128, micros: u128) -> bool
         && (least <= one || least <= other)
 }
 
-/// Whether the clock wanders, from that of the two frames before to that of the two after: `before`
-/// and `after` are as far apart as lies between what both say. False if one of the four is not
-/// there.
+/// Whether the clock wanders, from that of the two frames before to that of the two after: the
+/// distance of `before` and `after` is between what these two clocks say (`is_amidst`). False if
+/// one of the clocks is off by more than 8 in 100, if `before` and `after` are more than a hundred
+/// times as far apart as the two before, or if one of the four frames is not there.
 fn is_amid(
     format: Format,
     before2: Option<Shown>,
@@ -165,9 +170,10 @@ fn is_amid(
     }
 }
 
-/// As `is_amid`, of four frames that are there. None of the clocks is off by more than 8 in 100.
-/// `before` and `after` are no more than a hundred times as far apart as the two before, as in
-/// `is_same_clock`.
+/// Whether the clock wanders, of four frames that are all there: the distance of `before` and
+/// `after` is between what the clock of the two before and that of the two after say. None of the
+/// clocks is off by more than 8 in 100. `before` and `after` are no more than a hundred times as
+/// far apart as the two before, for the reason at `is_same_clock`.
 fn is_amid_of(
     format: Format,
     before2: &Shown,
@@ -191,9 +197,10 @@ fn is_amid_of(
         )
 }
 
-/// Whether `before` and `after` show the recording's own clock, and `frame` is in time by it:
-/// counted from `before`, and `after` counted from `frame`. They show it if the two frames before
-/// show the same, or the two after do, or if theirs is between the clocks of both pairs.
+/// Whether `before` and `after` show the recording's own clock, and `frame` is in time by it, to
+/// half an interval: counted from `before`, and `after` counted from `frame`. They show it if the
+/// two frames before show the same (`is_own_from`), or the two after do (`is_own_to`), or if theirs
+/// is between the clocks of both pairs (`is_amid`).
 pub fn is_by_own_clock(
     format: Format,
     before2: Option<Shown>,

@@ -1,6 +1,7 @@
 //! The control functions of a frame, which its time does not decide. Each is one bit, carried by
-//! one element. Functions and elements count from 0. Former frames are those of the recording that
-//! read well, with nothing wrong in them, when it was opened. `Witnesses` are the frames next to a
+//! one element. Functions and elements count from 0. A frame has at most 45 functions; they are the
+//! bits of a `u64`, so a number is below 64. Former frames are those of the recording that read
+//! well, with nothing wrong in them, when it was opened. `Witnesses` are the frames next to a
 //! place: `before2` and `before` before it, the nearer one last, `after` and `after2` after it.
 
 ghost use Rattle.std.specs.Prelude.{◌≡◌, ◌<◌, ◌≤◌};
@@ -53,7 +54,8 @@ pub fn function_of(frame: &Shown, function: u32) -> u64
     (frame.fields.control.unwrap_or(0) >> function) % 2
 }
 
-/// Whether `other` is there, and has a control function as `frame` has it.
+/// Whether `other` is there, and has a control function as `frame` has it. False if it is not
+/// there.
 pub fn shares(other: Option<Shown>, frame: &Shown, function: u32) -> bool
     requires { function < 64 }
     ensures { result ≡ shares function other frame.now }
@@ -64,9 +66,9 @@ pub fn shares(other: Option<Shown>, frame: &Shown, function: u32) -> bool
     }
 }
 
-/// Whether the two former frames nearest to a frame have a control function as `frame` has it. They
-/// are one on each side, or the two of one side if the other has none. False if one of the two is
-/// not there.
+/// Whether the two former frames nearest to a frame both have a control function as `frame` has it.
+/// They are one on each side, or the two of one side if the other has none. False if one of the two
+/// is not there.
 pub fn is_shared(near: &Witnesses, frame: &Shown, function: u32) -> bool
     requires { function < 64 }
     ensures { result ≡ is_shared function near.now frame.now }

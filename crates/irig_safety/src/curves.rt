@@ -4,7 +4,9 @@
 //! straight line between these but on a parabola. An anchor is a pulse whose place is known: its
 //! `steps` are how many elements it is away from the pulse that is looked at, and `rise` is when it
 //! rises. Distances are in microseconds, and `periods` is how many frame periods the times of two
-//! frames are apart. The bounds are this project's own.
+//! frames are apart. Of the two frames before and the two after (`Sides`), `before` and `after` are
+//! the nearer ones. How far a clock or a curve may be off is this project's own. The bounds in
+//! contracts, as 2^73, only keep numbers small enough for their types.
 
 ghost use Rattle.std.specs.Prelude.{◌≡◌, ◌≤◌, ◌<◌, ◌*◌, ◌^◌, IsTrue};
 ghost use Rattle.irig_codes.specs.Format.{interval_of};
@@ -42,9 +44,9 @@ fn are_few(format: Format, sides: &Sides) -> bool
         && periods(format, &sides.after, &sides.after2) <= 500
 }
 
-/// How many microseconds a frame period takes by the clock of the two before, times `seen_over`: so
-/// nothing is divided. The periods of the two before cancel, and those of the two after (`many`)
-/// are left.
+/// How many microseconds a frame period takes by the clock of the two before, times `seen_over`, so
+/// that nothing is divided. The periods of the two before cancel, and those of the two after
+/// (`many`) are left.
 fn long_before(format: Format, sides: &Sides) -> u128
     requires { periods format sides.now.after sides.now.after2 ≤ 500 }
     ensures value { result ≡ long_before format sides.now }
@@ -54,8 +56,9 @@ fn long_before(format: Format, sides: &Sides) -> u128
     distance(&sides.before2, &sides.before) * many
 }
 
-/// How many microseconds a frame period takes by the clock of the two after, times `seen_over`: the
-/// periods of the two after cancel, and those of the two before (`many`) are left.
+/// How many microseconds a frame period takes by the clock of the two after, times `seen_over`, so
+/// that nothing is divided. The periods of the two after cancel, and those of the two before
+/// (`many`) are left.
 fn long_after(format: Format, sides: &Sides) -> u128
     requires { periods format sides.now.before2 sides.now.before ≤ 500 }
     ensures value { result ≡ long_after format sides.now }
@@ -92,8 +95,9 @@ fn is_mean(format: Format, sides: &Sides) -> bool
     apart(found, wanted) <= seen * u128::from(format.interval())
 }
 
-/// Whether the clock changes evenly from that of the two before to that of the two after. Neither
-/// is off by more than 8 in 100 (`shows_any_clock`).
+/// Whether the clock changes evenly from that of the two before to that of the two after
+/// (`is_mean`). False if one of the two clocks is off by more than 8 in 100 (`shows_any_clock`), or
+/// two frames are more than 500 periods apart.
 fn is_turning(format: Format, sides: &Sides) -> bool
     ensures value { result ≡ is_turning format sides.now }
     ensures before { IsTrue result → periods format sides.now.before2 sides.now.before ≤ 500 }
@@ -126,7 +130,8 @@ fn turned_over(format: Format, sides: &Sides) -> u128
 /// How many microseconds the curve is off the straight line, `since` elements after one anchor and
 /// `until` before another. If each frame period is longer than the one before it by the same c, the
 /// curve is a parabola: s frame periods after one anchor and u before the other it is off by c * s
-/// * u / 2. 0 if the times of the frames are less than a period apart.
+/// * u / 2. 0 if the times of the frames are less than a period apart: then `turned_over` is 0, and
+/// nothing can be divided by it.
 fn bend(format: Format, sides: &Sides, since: u128, until: u128) -> u128
     requires before { periods format sides.now.before2 sides.now.before ≤ 500 }
     requires across { periods format sides.now.before sides.now.after ≤ 500 }
@@ -179,8 +184,9 @@ fn two_intervals(format: Format) -> u128
     2 * u128::from(format.interval())
 }
 
-/// Whether a time (`rise`) is on the curve between two anchors, to a tenth of an interval. False if
-/// the clock does not change evenly, or the curve bends by more than two intervals.
+/// Whether a time (`rise`) is on the curve between two anchors, to a tenth of an interval: the bend
+/// is taken out, and what is left has to be on the straight line. False if the clock does not
+/// change evenly, or the curve bends by more than two intervals.
 fn is_bent(format: Format, sides: &Sides, before: &Anchor, rise: u64, after: &Anchor) -> bool
     requires { (before.now.steps ≤ 2 ^ 17) × (after.now.steps ≤ 2 ^ 17) }
     ensures { result ≡ is_bent format sides.now before.now rise after.now }

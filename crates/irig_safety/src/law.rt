@@ -1,4 +1,5 @@
-//! What holds of frames that are safe.
+//! What holds of frames that are safe. Former frames are those of a recording that read well, with
+//! nothing wrong in them, when it was opened, and new frames those that do after a repair.
 
 ghost use Rattle.irig_safety.specs.Meaning.{SafeMeans};
 

@@ -6,7 +6,8 @@
 //! distance and their times. The recording's own clock is that of `before` and `after`, if other
 //! frames next to them bear it out. Two frames agree if they are near enough for their distance to
 //! say how many periods it is, and their times are as many apart. `steps` are elements, and
-//! `micros` the microseconds that they took.
+//! `micros` the microseconds that they took. The bounds in contracts only keep numbers small enough
+//! for their types: 500 frames have 50,000 elements, which is less than 2^16.
 
 ghost use Rattle.std.specs.Prelude.{◌≡◌, ◌≤◌, ◌<◌, ◌+◌, ◌-◌, ◌*◌, ◌/◌, ◌^◌, IfSome, IsTrue};
 ghost use Rattle.irig_codes.specs.Format.{interval_of};
@@ -31,7 +32,7 @@ pub struct Anchor {
     pub rise: u64,
 }
 
-/// How many elements that many frames have: 100 each.
+/// How many elements that many frames have: 100 each. Up to 2^64 frames the product fits its type.
 fn elements(frames: u128) -> u128
     requires { frames < 2 ^ 64 }
     ensures { result ≡ 100 * frames }
@@ -52,7 +53,8 @@ fn is_counted(format: Format, near: &Witnesses, frame: &Shown, one: &Shown, othe
 
 /// The marker of the frame before `frame` as an anchor for an element of `frame`, from 0. Its steps
 /// are the elements of the frames between, and those of `frame` before the element. `None` if there
-/// is no such frame, or its distance does not say how many elements it is.
+/// is no such frame, or its distance does not say how many elements it is. Elements are 0 to 99;
+/// 100 in the contract is just a bound.
 pub fn marker_before(
     format: Format,
     near: &Witnesses,
@@ -79,7 +81,8 @@ pub fn marker_before(
 
 /// The marker of the frame after `frame` as an anchor for an element of `frame`, from 0. Its steps
 /// are the elements up to it, less those of `frame` before the element. `None` if there is no such
-/// frame, or its distance does not say how many elements it is.
+/// frame, or its distance does not say how many elements it is. It is 100 elements or more from the
+/// frame's own marker, so nothing is below 0 for elements 0 to 99.
 pub fn marker_after(
     format: Format,
     near: &Witnesses,
@@ -103,7 +106,7 @@ pub fn marker_after(
     }
 }
 
-/// A tenth of an interval, in microseconds: how far a pulse may be off.
+/// A tenth of an interval, in microseconds, rounded down: how far a pulse may be off.
 fn tenth(format: Format) -> u128
     ensures value { result ≡ interval_of format.kind / 10 }
     ensures small { result < 2 ^ 20 }
@@ -133,7 +136,7 @@ pub fn is_straight(format: Format, before: &Anchor, micros: u128, after: &Anchor
 }
 
 /// Whether a rise, in microseconds, is on the line between two anchors, or on the curve on which
-/// the clock changes there.
+/// the clock changes there, to a tenth of an interval.
 fn is_between(format: Format, near: &Witnesses, before: &Anchor, rise: u64, after: &Anchor) -> bool
     requires { (before.now.steps ≤ 2 ^ 17) × (after.now.steps ≤ 2 ^ 17) }
     ensures { result ≡ is_between format near.now before.now rise after.now }
@@ -153,9 +156,10 @@ fn is_nominal(format: Format, steps: u128, micros: u128) -> bool
     1_000 * apart(micros, steps * interval) <= 100 * interval + micros
 }
 
-/// Whether two frames show a clock that is not far off (`shows_clock`), and `steps` elements, 100
-/// to a period, take as many microseconds as by that clock, to a tenth of an interval. Both sides
-/// are times the periods of the two (`whole`).
+/// Whether two frames show a clock that is not far off (`shows_clock`), and by that clock `steps`
+/// elements, 100 to a period, take `micros` microseconds, to a tenth of an interval. `whole` is how
+/// many periods the two frames are apart. Both sides are multiplied by it, so that nothing is
+/// divided by it.
 fn is_at_clock(format: Format, steps: u128, micros: u128, one: &Shown, other: &Shown) -> bool
     requires { (steps ≤ 2 ^ 17) × (micros < 2 ^ 64) }
     ensures { result ≡ is_at_clock format steps micros one.now other.now }
@@ -165,7 +169,8 @@ fn is_at_clock(format: Format, steps: u128, micros: u128, one: &Shown, other: &S
     shows_clock(format, one, other) && apart(micros * whole, wanted) <= whole * tenth(format)
 }
 
-/// Whether steps and microseconds fit the clock of two frames. False if a frame is not there.
+/// Whether `steps` elements take `micros` microseconds by the clock of two frames, to a tenth of an
+/// interval (`is_at_clock`). False if one of the frames is not there.
 fn is_at_clock_of(
     format: Format,
     steps: u128,
@@ -182,8 +187,9 @@ fn is_at_clock_of(
     }
 }
 
-/// Whether steps and microseconds fit the clock of the two nearest frames: one on each side, or
-/// both on the one side that has any. False if there are fewer.
+/// Whether `steps` elements take `micros` microseconds by the clock of the two nearest frames, to a
+/// tenth of an interval: one on each side, or both on the one side that has any. False if there are
+/// fewer.
 fn is_clocked(format: Format, near: &Witnesses, steps: u128, micros: u128) -> bool
     requires { (steps ≤ 2 ^ 17) × (micros < 2 ^ 64) }
     ensures { result ≡ is_clocked format near.now steps micros }
@@ -195,7 +201,8 @@ fn is_clocked(format: Format, near: &Witnesses, steps: u128, micros: u128) -> bo
     }
 }
 
-/// Whether steps and microseconds fit the nominal interval, or the clock of the two nearest frames.
+/// Whether `steps` elements take `micros` microseconds, by the nominal interval or by the clock of
+/// the two nearest frames, to a tenth of an interval (`is_nominal`, `is_clocked`).
 fn is_along(format: Format, near: &Witnesses, steps: u128, micros: u128) -> bool
     requires { (steps ≤ 2 ^ 17) × (micros < 2 ^ 64) }
     ensures { result ≡ is_along format near.now steps micros }
@@ -203,9 +210,9 @@ fn is_along(format: Format, near: &Witnesses, steps: u128, micros: u128) -> bool
     is_nominal(format, steps, micros) || is_clocked(format, near, steps, micros)
 }
 
-/// Whether a rise, in microseconds, is where the anchors of the pulse (`before`, `after`) have it:
-/// on the line or the curve between two; from one alone, by the nominal interval or the clock of
-/// the nearest frames. False if there is none.
+/// Whether a rise, in microseconds, is where the anchors of the pulse (`before`, `after`) have it.
+/// If both are there: on the line or the curve between them. If one is: as far from it as the
+/// nominal interval or the clock of the nearest frames says. False if there is none.
 pub fn is_on_line(
     format: Format,
     near: &Witnesses,

@@ -16,8 +16,8 @@ use crate::shown::Shown;
 use crate::witnesses::{Witnesses, is_borne};
 use irig_codes::Format;
 
-/// Whether the time of a frame is mended, or its control functions alone are, also by frames of
-/// other recordings.
+/// Whether the frame that is there now mends the former one: its time, or its control functions
+/// alone, also by frames of other recordings.
 pub fn mends(
     format: Format,
     others: &[Shown],
@@ -32,8 +32,8 @@ pub fn mends(
         || is_control_mended(format, others, near, former, frame)
 }
 
-/// Whether the time of a frame is mended: of one between two others, or of the first or the last
-/// one.
+/// Whether the time of a frame was wrong and is mended: of one between two others (`is_mended`), or
+/// of the first or the last one (`is_mended_at_end`).
 fn is_time_mended(
     format: Format,
     others: &[Shown],
@@ -48,7 +48,8 @@ fn is_time_mended(
 }
 
 /// Whether the time of a frame was wrong and is mended: the frames on both sides contradict what it
-/// was, and those next to it bear out what it is. False if one side has no frame.
+/// was (`former`), and those next to it bear out what it is now (`frame`). False if one side has no
+/// frame.
 fn is_mended(format: Format, near: &Witnesses, former: &Shown, frame: &Shown) -> bool
     ensures { result ≡ is_mended format near.now.before2 near.now.before former.now
         near.now.after near.now.after2 frame.now }
@@ -63,9 +64,10 @@ fn is_mended(format: Format, near: &Witnesses, former: &Shown, frame: &Shown) ->
     }
 }
 
-/// Whether the time of the first frame was wrong, or of the last, and is mended: the two next to it
-/// contradict it, and bear out what it is. If the sender's clock was set there, it looks the same.
-/// So another recording has to have the new time, and none the one that it was.
+/// Whether the time of the first or the last frame was wrong, and is mended: the two next to it
+/// contradict what it was (`former`), and bear out what it is now (`frame`). It looks the same if
+/// the sender's clock was set there. So another recording has to have the new time, and none the
+/// former one. False if both sides have frames.
 fn is_mended_at_end(
     format: Format,
     others: &[Shown],
@@ -82,8 +84,9 @@ fn is_mended_at_end(
         && !is_among(others, former)
 }
 
-/// Whether one side of a frame has no frame, and the two nearest on the other side contradict it.
-/// False if one of these two is not there, or both sides have frames.
+/// Whether a frame is the first or the last, so that one side of it has no frame, and the two
+/// nearest on the other side contradict it. False if one of these two is not there, or both sides
+/// have frames.
 fn is_refuted(format: Format, near: &Witnesses, former: &Shown) -> bool
     ensures { result ≡ is_refuted format near.now.before2 near.now.before former.now near.now.after
         near.now.after2 }
@@ -101,7 +104,7 @@ fn is_refuted(format: Format, near: &Witnesses, former: &Shown) -> bool
     }
 }
 
-/// Whether there is a frame before `frame`, and it contradicts `frame`.
+/// Whether there is a frame before `frame`, and it contradicts `frame`. False if there is none.
 fn contradicts_from(format: Format, before: Option<Shown>, frame: &Shown) -> bool
     ensures { result ≡ contradicts_from format before frame.now }
 {
@@ -111,7 +114,7 @@ fn contradicts_from(format: Format, before: Option<Shown>, frame: &Shown) -> boo
     }
 }
 
-/// Whether there is a frame after `frame`, and it contradicts `frame`.
+/// Whether there is a frame after `frame`, and it contradicts `frame`. False if there is none.
 fn contradicts_to(format: Format, frame: &Shown, after: Option<Shown>) -> bool
     ensures { result ≡ contradicts_to format frame.now after }
 {

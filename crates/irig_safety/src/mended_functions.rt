@@ -1,10 +1,11 @@
 //! Whether the control functions of a frame that read well, which are others now, are mended by
 //! that. A frame reads well if nothing is wrong in it. `former` is the frame as it was, `frame` as
 //! it is now, `near` the former frames next to it (`before` and `after` are the nearer ones), and
-//! `others` frames of other recordings of the same code. Control functions count from 0. The parity
-//! of a frame is whether its ones up to element 75 are odd in number or even: some codes keep it
-//! the same in each frame. Two frames contradict each other if their distance says how many frame
-//! periods it is, and their times say another number.
+//! `others` frames of other recordings of the same code. Control functions count from 0, and are
+//! the bits of a `u64`, so a number is below 64. The parity of a frame is whether its ones up to
+//! element 75 are odd in number or even: some codes keep it the same in each frame. Two frames
+//! contradict each other if their distance says how many frame periods it is, and their times say
+//! another number.
 
 ghost use Rattle.std.specs.Prelude.{◌≡◌, ◌↔◌, ◌<◌, ◌⊎◌, IsTrue};
 ghost use Rattle.irig_safety.specs.MendedFunctions.{AreFunctionsMended, HasControlOfBoth};
@@ -18,8 +19,9 @@ use crate::shown::{Shown, is_same};
 use crate::witnesses::{Witnesses, allows_from, allows_to};
 use irig_codes::{Fields, Format};
 
-/// Whether the control functions of a frame alone are mended: both frames next to it have all of
-/// them, or each that changed is mended.
+/// Whether a frame is the former one but for its control functions, and these are mended: both
+/// frames next to it have all of them, or each that changed is mended for itself, by other
+/// recordings.
 pub fn is_control_mended(
     format: Format,
     others: &[Shown],
@@ -34,9 +36,9 @@ pub fn is_control_mended(
         || has_control_of_most(format, others, near, former, frame)
 }
 
-/// Whether a frame is the former one but for its control functions, and has those that both frames
-/// next to it have. It does not matter whether they differ from the former ones. False if one side
-/// has no frame.
+/// Whether a frame is the former one but for its control functions, and has just those that both
+/// frames next to it have. It does not matter which of them changed. False if one side has no
+/// frame.
 fn has_control_of_both(near: &Witnesses, former: &Shown, frame: &Shown) -> bool
     ensures { IsTrue result
         ↔ HasControlOfBoth near.now.before former.now near.now.after frame.now }
@@ -58,7 +60,8 @@ fn both_have(one: &Shown, other: &Shown, control: Option<u64>) -> bool
     one.fields.control == control && other.fields.control == control
 }
 
-/// Whether a frame is the former one but for some control functions, and each of these is mended.
+/// Whether a frame is the former one but for some control functions, and each of these is mended by
+/// most other recordings (`is_function_mended`).
 fn has_control_of_most(
     format: Format,
     others: &[Shown],
@@ -73,7 +76,7 @@ fn has_control_of_most(
         && are_functions_mended(format, others, near, former, frame)
 }
 
-/// Whether each control function of a frame is as it was, or mended.
+/// Whether each control function of a frame is as it was, or mended (`is_function_mended`).
 fn are_functions_mended(
     format: Format,
     others: &[Shown],
@@ -92,8 +95,9 @@ fn are_functions_mended(
     true
 }
 
-/// Whether a control function is as it was; or most frames of its time in other recordings have it
-/// as it is now (`is_told`), and so have both frames next to it, or the parity says so.
+/// Whether a control function is as it was, or mended. It is mended if most frames of other
+/// recordings with the time of `frame` have it as it is now (`is_told`), and also either both
+/// frames next to it have it so, or the parity says so (`is_by_parity`).
 fn is_function_mended(
     format: Format,
     others: &[Shown],

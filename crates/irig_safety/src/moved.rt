@@ -1,7 +1,7 @@
 //! Where the frames of a recording are after an edit that moves them. The former frames (`old`) are
-//! those that read well, with nothing wrong in them, before the edit. Places in a list count from
-//! 0. Two frames have one time here if their day and time of day are the same: years are not
-//! compared.
+//! those that read well, with nothing wrong in them, before the edit, and `new` those that do after
+//! it. Places in a list count from 0. Two frames have one time here if their day and time of day
+//! are the same: years are not compared.
 
 ghost use Rattle.std.specs.Prelude.{◌≡◌, ◌≤◌, IfOk, drop, length};
 ghost use Rattle.irig_safety.specs.Moved.{from_time, moved_in, moved_to, rest_of};
@@ -11,10 +11,10 @@ use crate::safety::frame_at;
 use crate::shown::Shown;
 use std::alloc::{AllocError, Global};
 
-/// The former frames (`old`) where they are now: each at the rise of the first of the present
-/// frames (`new`) that has its time. The search for one begins after the frame at which the last
-/// one was found, since frames keep their order. One that is not found stays where it was:
-/// `frame_at` gives `None` for it.
+/// The former frames (`old`) where they are now: each at the rise of the first frame of `new` that
+/// has its time. The search for one begins after the frame of `new` at which the last one was
+/// found, since frames keep their order. A former frame that is not found stays where it was:
+/// `frame_at` gives `None` for it. `Err` means that memory ran out.
 pub fn moved_in(alloc: Global, old: &[Shown], new: &[Shown]) -> Result<Vec<Shown>, AllocError>
     ensures { IfOk result (λ moved. moved.items ≡ moved_in old.now new.now) }
 {
@@ -28,8 +28,8 @@ pub fn moved_in(alloc: Global, old: &[Shown], new: &[Shown]) -> Result<Vec<Shown
     Ok(moved)
 }
 
-/// The place in the list `new` of the first frame from `from` on that has the time of a frame,
-/// without its year; the end of the list, if none has.
+/// The place in the list `new` of the first frame from the place `from` on that has the time of
+/// `frame`, without its year; the length of the list, if none has.
 fn place_of(frame: &Shown, new: &[Shown], from: usize) -> usize
     requires { from ≤ length new.now }
     ensures within { result ≤ length new.now }
@@ -43,8 +43,8 @@ fn place_of(frame: &Shown, new: &[Shown], from: usize) -> usize
     new.len()
 }
 
-/// A frame with the rise of `at`, the frame that has its time now, and its own fields; as it is if
-/// there is none.
+/// A former frame where it is now: with its own fields, and the rise of `at`, the frame that has
+/// its time now. If there is no such frame, it is as it was.
 fn moved_to(frame: &Shown, at: Option<Shown>) -> Shown
     ensures { result ≡ moved_to frame.now at }
 {
@@ -57,8 +57,8 @@ fn moved_to(frame: &Shown, at: Option<Shown>) -> Shown
     }
 }
 
-/// Where the next search begins: after `place`, where a frame was found, or if it is the end of the
-/// list, since none was, at `passed`, where this search began.
+/// Where the next search begins. If a frame was found at `place`, that is after it. If none was,
+/// `place` is the end of the list, and the next search begins where this one did, at `passed`.
 fn rest_of(new: &[Shown], place: usize, passed: usize) -> usize
     requires { (place ≤ length new.now) × (passed ≤ length new.now) }
     ensures within { result ≤ length new.now }

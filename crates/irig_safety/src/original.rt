@@ -81,9 +81,9 @@ impl Original {
         self.terms.moved
     }
 
-    /// Whether other recordings confirm a control function of `frame`, which is numbered from 0: of
-    /// their frames with its time more have that function as it has it than the other way. False if
-    /// as many have, or there are none.
+    /// Whether other recordings confirm a control function (`function`, its bit in a `u64`) of
+    /// `frame`: of their frames with the time of `frame`, more have it as `frame` has it than
+    /// otherwise. False if as many have it otherwise, or there are none.
     pub fn is_told(&self, frame: &Shown, function: u32) -> bool
         requires { function < 64 }
         ensures { result ≡ is_told function self.now.terms.others frame.now }
@@ -149,15 +149,15 @@ impl Original {
     }
 
     /// Whether a pulse is as recorded: one of the same class rises within a tenth of an interval of
-    /// it.
+    /// it. Two bad widths count as one class.
     pub fn has(&self, format: Format, pulse: Pulse) -> bool
         ensures { IsTrue result ↔ IsRecorded format self.now.pulses pulse }
     {
         has_alike(format, false, self.pulses.as_slice(), pulse)
     }
 
-    /// Whether a pulse with some class was recorded within half an interval of a pulse: up to there
-    /// it is nearest to the place of the same element.
+    /// Whether a recorded pulse that has a class rises within half an interval of a pulse: up to
+    /// there it is nearest to the place of the same element.
     pub fn has_any(&self, format: Format, pulse: Pulse) -> bool
         ensures { IsTrue result ↔ IsNear format true self.now.pulses pulse }
     {
@@ -165,8 +165,8 @@ impl Original {
     }
 }
 
-/// Whether the recorded pulses hold a pulse that is there, as in `Original::holds`. Only the rises
-/// move the place on.
+/// Whether a pulse rises when a recorded one does, or is a gap turned over, as in
+/// `Original::holds`. `place` is looked at first. Only the search of a rise moves it on.
 fn is_anchor(recorded: &[Pulse], pulse: Pulse, place: &mut usize) -> bool
     requires rising { IsNonDecreasingBy (λ (p : SomePulse). p.rise) recorded.now }
     requires falling { IsNonDecreasingBy (λ (p : SomePulse). p.fall) recorded.now }

@@ -1,6 +1,7 @@
 //! What other recordings of the same code say of a frame. `others` is their frames. Control
-//! functions count from 0. Two frames agree if they are near enough for their distance to say how
-//! many frame periods it is, and their times are as many apart.
+//! functions count from 0; they are the bits of a `u64`, so a number is below 64. Two frames agree
+//! if they are near enough for their distance to say how many frame periods it is, and their times
+//! are as many apart.
 
 ghost use Rattle.std.specs.Prelude.{◌≡◌, ◌<◌, IfOk};
 ghost use Rattle.irig_safety.specs.Others.{backed, is_among, is_backed, is_backed_from};
@@ -13,8 +14,9 @@ use crate::shown::Shown;
 use irig_codes::{Fields, Format};
 use std::alloc::{AllocError, Global};
 
-/// Whether, of the frames of other recordings that have the time of a frame, more have a control
-/// function as it has it than otherwise.
+/// Whether other recordings confirm a control function (`function`) of `frame`: of their frames
+/// with the time of `frame`, more have it as `frame` has it than otherwise. False if as many have
+/// it otherwise, or there are none.
 pub fn is_told(others: &[Shown], frame: &Shown, function: u32) -> bool
     requires { function < 64 }
     ensures { result ≡ is_told function others.now frame.now }
@@ -50,7 +52,8 @@ fn is_vote(other: &Shown, frame: &Shown, function: u32, so: bool) -> bool
     if so { same } else { !same }
 }
 
-/// Whether one of the frames of other recordings has the time of a frame.
+/// Whether a frame of other recordings has the time of `frame`. Its place and its control functions
+/// do not matter.
 pub fn is_among(others: &[Shown], frame: &Shown) -> bool
     ensures { result ≡ is_among others.now frame.now }
 {
@@ -75,9 +78,10 @@ fn is_of_time(one: &Fields, other: &Fields) -> bool
         && one.year.unwrap_or(100) == other.year.unwrap_or(100)
 }
 
-/// The frames of a recording that say something of another one: those with which a frame next to
-/// them agrees. So one that damage made alone is left out. `frame_behind` is the frame before a
-/// place, `frame_at` the one at it; `None` if there is none.
+/// The frames of a recording that say something of another one, in their order: those with which a
+/// frame next to them agrees. So one that damage made alone is left out. `frame_behind` is the
+/// frame before a place, `frame_at` the one at it; `None` if there is none. `Err` means that memory
+/// ran out.
 pub fn backed(alloc: Global, format: Format, frames: &[Shown]) -> Result<Vec<Shown>, AllocError>
     ensures { IfOk result (λ kept. kept.items ≡ backed format frames.now) }
 {
@@ -96,14 +100,14 @@ pub fn backed(alloc: Global, format: Format, frames: &[Shown]) -> Result<Vec<Sho
     Ok(kept)
 }
 
-/// Whether a frame next to a frame agrees with it.
+/// Whether the frame before a frame or the one after it agrees with it. False if neither is there.
 fn is_backed(format: Format, before: Option<Shown>, frame: &Shown, after: Option<Shown>) -> bool
     ensures { result ≡ is_backed format before frame.now after }
 {
     is_backed_from(format, before, frame) || is_backed_to(format, frame, after)
 }
 
-/// Whether there is a frame before `frame`, and it agrees with `frame`.
+/// Whether there is a frame before `frame`, and it agrees with `frame`. False if there is none.
 fn is_backed_from(format: Format, before: Option<Shown>, frame: &Shown) -> bool
     ensures { result ≡ is_backed_from format before frame.now }
 {
@@ -113,7 +117,7 @@ fn is_backed_from(format: Format, before: Option<Shown>, frame: &Shown) -> bool
     }
 }
 
-/// Whether there is a frame after `frame`, and it agrees with `frame`.
+/// Whether there is a frame after `frame`, and it agrees with `frame`. False if there is none.
 fn is_backed_to(format: Format, frame: &Shown, after: Option<Shown>) -> bool
     ensures { result ≡ is_backed_to format frame.now after }
 {

@@ -16,8 +16,8 @@ use irig_codes::{Fields, Format};
 /// The element of the parity, from 0.
 const PARITY: usize = 75;
 
-/// Whether one control function changed alone from the former frame, and by that the parity of the
-/// frame changed to the one that the others have.
+/// Whether exactly one control function changed from the former frame, and by that the parity of
+/// the frame changed to the one that the frames of `others` have (`have_parity`).
 pub fn is_parity_mended(format: Format, others: &[Shown], former: &Shown, frame: &Shown) -> bool
     ensures { result ≡ is_parity_mended format others.now former.now frame.now }
 {
@@ -39,8 +39,9 @@ fn changes(format: Format, one: &Shown, other: &Shown) -> u32
     changed
 }
 
-/// Whether frames have a parity: at least eight have it, and five more for each that has not. Both
-/// numbers are this project's own: a few frames can have it by chance.
+/// Whether frames have a parity: at least eight have it, and five more for each that has the other
+/// one. Both numbers are this project's own: a few frames can have it by chance. False for fewer
+/// than eight frames.
 fn have_parity(format: Format, frames: &[Shown], parity: u64) -> bool
     requires { parity ≤ 1 }
     ensures { result ≡ have_parity format parity frames.now }
@@ -70,7 +71,8 @@ fn parity_of(format: Format, frame: &Shown) -> u64
     (ones_of_time(&frame.fields) + ones_of_functions(format, frame)) % 2
 }
 
-/// How many ones the elements of the time and of the year have.
+/// How many ones the elements of the time and of the year have; a part that the format does not
+/// have has none. There are six numbers of up to 12 ones.
 fn ones_of_time(fields: &Fields) -> u64
     ensures value { result ≡ ones_of_time fields.now }
     ensures few { result ≤ 72 }
@@ -83,7 +85,8 @@ fn ones_of_time(fields: &Fields) -> u64
         + ones_of_number(fields.year.unwrap_or(0))
 }
 
-/// How many ones a number of up to three digits has, each digit in binary.
+/// How many ones the last three digits of a number have, each digit in binary. No number of a frame
+/// has more.
 fn ones_of_number(number: u32) -> u64
     ensures value { result ≡ ones_of_number number }
     ensures few { result ≤ 12 }
@@ -99,7 +102,8 @@ fn ones_of_digit(digit: u32) -> u64
     (digit % 2 + digit / 2 % 2 + digit / 4 % 2 + digit / 8 % 2) as u64
 }
 
-/// How many ones the control functions have that are at or before the element of the parity.
+/// How many control functions are one, of those whose element is at the element of the parity or
+/// before it.
 fn ones_of_functions(format: Format, frame: &Shown) -> u64
     ensures value { result ≡ ones_of_functions format (control_count_of format) frame.now }
     ensures few { result ≤ 45 }

@@ -4,7 +4,11 @@
 //! periods later and it rises that long after, nearly. A frame is borne out if the old ones next to
 //! it have its time there. A former frame is passed if the new frames that were looked at have one
 //! that begins when it does. The faults: `Lost` if a former frame has none, `Changed` if the one it
-//! has is not it and does not mend it, `Unsupported` of a new frame, that it is not borne out.
+//! has is not it and does not mend it, `Unsupported` of a new frame, that it is not borne out. A
+//! new frame mends a former one (`mends`) if that was wrong, by the frames next to it or by
+//! `others`, the frames of other recordings, and what it shows now is right by them. In clauses
+//! `behind` is the frame before a place, `rest` any frames after one, and `found` their fault, if
+//! they have one.
 
 ghost use Rattle.std.specs.Prelude.{◌≡◌, ◌↔◌, ◌-◌, ◌≤◌, ◌+◌, ◌∷◌, List, IsTrue, None, Option, Some};
 ghost use Rattle.std.specs.Prelude.{Err, IfErr, IfOk, Ok, OnErr, OnOk, drop, if◌then◌else◌, length};
@@ -23,8 +27,8 @@ use crate::witnesses::{Witnesses, is_borne};
 use irig_codes::Format;
 
 /// Whether the frames that read well now are safe, by those that did at first, and by frames of
-/// other recordings. If not, the first fault in the order of their rises. If none read well at
-/// first, the only fault is `Alone`: the new ones do not bear each other out.
+/// other recordings. If not, `Err` is the first fault in the order of their rises. If none read
+/// well at first, the only fault is `Alone`: the new ones do not bear each other out.
 pub fn check_safe(
     format: Format,
     others: &[Shown],
@@ -45,15 +49,15 @@ pub fn check_safe(
     }
 }
 
-/// Whether none reads well now, or at least three do, each of which leads to the next. Three is
-/// this project's own choice: two can fit by chance.
+/// Whether the new frames bear each other out: none reads well now, or at least three do, each of
+/// which leads to the next. Three is this project's own choice: two can fit by chance.
 fn are_of_themselves(format: Format, new: &[Shown]) -> bool
     ensures { IsTrue result ↔ AreOfThemselves format new.now }
 {
     new.is_empty() || new.len() >= 3 && lead_on(format, new)
 }
 
-/// Whether each frame leads to the next.
+/// Whether each frame leads to the next. True of fewer than two.
 fn lead_on(format: Format, frames: &[Shown]) -> bool
     ensures { IsTrue result ↔ LeadOn format frames.now }
 {
@@ -65,8 +69,9 @@ fn lead_on(format: Format, frames: &[Shown]) -> bool
     true
 }
 
-/// Whether each frame is one of the former, or was wrong and is mended, or is borne out by them,
-/// and no former one is gone. If not, the first fault. `kept` is how many former frames are passed.
+/// Whether each new frame is one of the former, or mends one that was wrong, or is borne out by
+/// them, and no former one is gone. If not, the first fault. `kept` is how many former frames are
+/// passed.
 fn check_from(format: Format, others: &[Shown], old: &[Shown], new: &[Shown]) -> Result<(), Fault>
     ensures safe { OnOk result (IsSafeFrom format others.now None None old.now new.now) }
     ensures fault { IfErr result (FaultFrom format others.now None None old.now new.now) }
@@ -84,10 +89,11 @@ fn check_from(format: Format, others: &[Shown], old: &[Shown], new: &[Shown]) ->
     }
 }
 
-/// How many of the former frames are passed after one more new frame, if `kept` are passed before
-/// it; or why the new one is not safe. If the next former one begins later, or none is left, the
-/// new one is between former ones or after them (`come`). A next former one that begins earlier is
-/// `Lost`. One that begins when the new one does is passed if it stays, and else `Changed`.
+/// Judges one more new frame, if `kept` former frames are passed before it: how many are passed
+/// after it, or why it is not safe. If the next former frame begins later, or none is left, the new
+/// one is between former ones or after them: `come` judges it. If the next one begins earlier, no
+/// new frame begins when it does: it is `Lost`. If both begin at the same time, one more is passed
+/// if the former one stays (`stays`), and else it is `Changed`.
 fn passed(
     format: Format,
     others: &[Shown],
@@ -119,8 +125,8 @@ fn passed(
     }
 }
 
-/// How many former frames are passed after a new frame that begins when none of them does: still
-/// `kept`. `Unsupported` if it is not borne out.
+/// Judges a new frame that begins when no former one does. `Ok` has how many former frames are
+/// passed after it, which is still `kept`. `Unsupported` if it is not borne out.
 fn come(format: Format, old: &[Shown], kept: usize, frame: &Shown) -> Result<usize, Fault>
     requires { kept ≤ length old.now }
     ensures { result ≡ if is_borne format (behind (kept - 1) old.now) (behind kept old.now)
@@ -134,8 +140,8 @@ fn come(format: Format, old: &[Shown], kept: usize, frame: &Shown) -> Result<usi
     }
 }
 
-/// Whether `frame`, which begins when the former frame at `place` of `old` does, is that former one
-/// (`former`), or mends it.
+/// Whether a former frame stays: `frame`, which begins when the former frame at `place` of `old`
+/// does, has the same fields as that one (`former`), or mends it.
 fn stays(
     format: Format,
     others: &[Shown],
@@ -160,8 +166,8 @@ fn stays(
     mends(format, others, &near, former, frame)
 }
 
-/// The frames next to one that begins between former ones, `place` of which are before it: two on
-/// each side, as far as they are there.
+/// The former frames next to a frame that begins between them, if `place` of them are before it:
+/// two on each side. `None` for one that is not there.
 fn near(old: &[Shown], place: usize) -> Witnesses
     requires { place ≤ length old.now }
     ensures before2 { result.before2 ≡ behind (place - 1) old.now }
@@ -177,7 +183,7 @@ fn near(old: &[Shown], place: usize) -> Witnesses
     }
 }
 
-/// The frame at a place, from 0, if there is one.
+/// The frame at a place, from 0; `None` if there is none.
 pub fn frame_at(frames: &[Shown], place: usize) -> Option<Shown>
     ensures { result ≡ slice_get frames.now place }
 {
@@ -197,7 +203,8 @@ pub fn frame_behind(frames: &[Shown], place: usize) -> Option<Shown>
 }
 
 /// Whether each frame of `last`, which read well, still does: a frame of `new` begins when it does.
-/// What the two say is not compared. If not, `Lost` with the first frame that does not.
+/// What the two say is not compared. If not, `Lost` with the first frame of `last` for which there
+/// is none.
 pub fn check_unspoiled(last: &[Shown], new: &[Shown]) -> Result<(), Fault>
     ensures kept { OnOk result (NoneIsSpoiled last.now new.now) }
     ensures spoiled { OnErr result (NoneIsSpoiled last.now new.now → ⊥) }
@@ -216,9 +223,10 @@ pub fn check_unspoiled(last: &[Shown], new: &[Shown]) -> Result<(), Fault>
     }
 }
 
-/// How many frames of `last` are found again after one more new frame, if `found` are before it:
-/// one more if the next one begins when the new frame does, else as many. `Lost` with the next one,
-/// if the new frame begins after it.
+/// Looks at one more new frame, if `found` frames of `last` are found again before it: how many are
+/// found after it. If the next frame of `last` begins when the new one does, that is one more. If
+/// it begins later, or there is no next one, as many. If it begins earlier, no new frame begins
+/// when it does: it is `Lost`.
 fn found_after(last: &[Shown], found: usize, frame: &Shown) -> Result<usize, Fault>
     requires { found ≤ length last.now }
     ensures within { IfOk result (λ place. place ≤ length last.now) }

@@ -26,9 +26,9 @@ pub struct Witnesses {
     pub after2: Option<Shown>,
 }
 
-/// Whether the frame `before` a frame leads to it, or it leads to the one `after` it. If both are
-/// there, and their distance shows as many periods as their times, it strays by no more than half
-/// an interval more than these two do from each other. False if neither is there.
+/// Whether `before` leads to `frame`, or `frame` leads to `after`. If `before` and `after` are both
+/// there, and their distance shows as many periods as their times, the step that leads strays by no
+/// more than these two do, and half an interval. False if neither is there.
 fn is_led(format: Format, before: Option<Shown>, after: Option<Shown>, frame: &Shown) -> bool
     ensures { result ≡ is_led format before after frame.now }
 {
@@ -40,7 +40,8 @@ fn is_led(format: Format, before: Option<Shown>, after: Option<Shown>, frame: &S
     }
 }
 
-/// As `is_led`, of two frames that are both there.
+/// Whether `before` leads to `frame`, or `frame` leads to `after`, and this step strays no more
+/// than `is_within` allows: `is_led` of two frames that are both there.
 fn is_led_by(format: Format, before: &Shown, after: &Shown, frame: &Shown) -> bool
     ensures { result ≡ is_led format (Some before.now) (Some after.now) frame.now }
 {
@@ -48,7 +49,7 @@ fn is_led_by(format: Format, before: &Shown, after: &Shown, frame: &Shown) -> bo
         || leads(format, frame, after) && is_within(format, before, after, frame, after)
 }
 
-/// Whether the frame before a frame, if there is one, does not contradict it.
+/// Whether the frame before a frame does not contradict it. True if there is none.
 pub fn allows_from(format: Format, before: Option<Shown>, frame: &Shown) -> bool
     ensures { result ≡ allows_from format before frame.now }
 {
@@ -58,7 +59,7 @@ pub fn allows_from(format: Format, before: Option<Shown>, frame: &Shown) -> bool
     }
 }
 
-/// Whether a frame does not contradict the frame after it, if there is one.
+/// Whether a frame does not contradict the frame after it. True if there is none.
 pub fn allows_to(format: Format, frame: &Shown, after: Option<Shown>) -> bool
     ensures { result ≡ allows_to format frame.now after }
 {
@@ -69,7 +70,7 @@ pub fn allows_to(format: Format, frame: &Shown, after: Option<Shown>) -> bool
 }
 
 /// Whether a frame begins when it should, to half an interval, by the clock of the two before it.
-/// False if just one is there.
+/// False if just one is there, or they show no clock.
 fn is_timed_from(format: Format, before2: Option<Shown>, before: &Shown, frame: &Shown) -> bool
     ensures { result ≡ is_timed_from format before2 before.now frame.now }
 {
@@ -80,7 +81,7 @@ fn is_timed_from(format: Format, before2: Option<Shown>, before: &Shown, frame: 
 }
 
 /// Whether a frame begins when it should, to half an interval, by the clock of the two after it.
-/// False if just one is there.
+/// False if just one is there, or they show no clock.
 fn is_timed_to(format: Format, frame: &Shown, after: &Shown, after2: Option<Shown>) -> bool
     ensures { result ≡ is_timed_to format frame.now after.now after2 }
 {
@@ -137,9 +138,8 @@ fn is_timed(format: Format, near: &Witnesses, frame: &Shown) -> bool
     }
 }
 
-/// Whether a frame begins when it should, between the frames next to it, by the recording's own
-/// clock: that of these two, if the two before or the two after show it too, or it is between the
-/// clocks of both pairs. False if a side has no frame.
+/// Whether a frame is in time by the recording's own clock: that of the frames on both sides, if
+/// those next to them bear it out (`is_by_own_clock`). False if a side has no frame.
 pub fn is_own(format: Format, near: &Witnesses, frame: &Shown) -> bool
     ensures { result
         ≡ is_own format near.now.before2 near.now.before near.now.after near.now.after2 frame.now }
@@ -171,7 +171,7 @@ fn bears(format: Format, near: &Witnesses, frame: &Shown) -> bool
         && may_stand(near, frame)
 }
 
-/// Whether both other frames contradict `frame`, and not each other. False if one is missing.
+/// Whether `before` and `after` contradict `frame`, and not each other. False if one is missing.
 fn is_overruled(
     format: Format,
     before: Option<Shown>,
