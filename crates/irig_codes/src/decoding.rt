@@ -34,7 +34,8 @@ pub fn decode(format: Format, frame: &[Element; 100]) -> (Fields, Note)
     decode_ones(format, Ones::of(frame))
 }
 
-/// As `decode`, for a caller that knows only which elements of the frame are One. That suffices: a
+/// The fields that a frame carries, and the first note that holds of them, by which of its elements
+/// are One. `decode` calls this, and so does who knows no more of the frame. It suffices: a
 /// position identifier and a Zero carry nothing.
 pub fn decode_ones(format: Format, ones: Ones) -> (Fields, Note)
     ensures { (frame : List Element) → length frame ≡ 100 → ones_of frame ≡ ones
@@ -51,7 +52,8 @@ pub fn decode_ones(format: Format, ones: Ones) -> (Fields, Note)
 
 /// The note of what was found. `wrong` is the first field that is wrong, `disagrees` says that the
 /// straight binary seconds are not those of the time of day, and `stray` is the first element that
-/// is One without a meaning. The first of these three counts.
+/// is One without a meaning. The first of these three that is there counts; without any the frame
+/// is `Fine`.
 fn note(wrong: Option<Name>, disagrees: bool, stray: Option<u8>) -> Note
     ensures { result ≡ note_of wrong disagrees stray }
 {
@@ -71,7 +73,7 @@ fn is_over(digits: &[u64; 15], number: Digit) -> bool
     digit(digits, number) > 9
 }
 
-/// Whether one of two decimal digits is above 9.
+/// Whether `units` or `tens`, two decimal digits, is above 9, or both are.
 fn are_over(digits: &[u64; 15], units: Digit, tens: Digit) -> bool
     ensures { result ≡ (over digits.now units || over digits.now tens) }
 {

@@ -33,8 +33,9 @@ impl Gathering {
         Gathering { bits: 0 }
     }
 
-    /// These elements, and the next one of the frame, which is One or not. After 100 elements the
-    /// first one is bit 0, since each later one moved it down by one place.
+    /// These elements, and the next one of the frame, which is One or not. `raised` of the contract
+    /// is this number: the elements as bits, the last one as bit 99. After 100 elements the first
+    /// one is bit 0, since each later one moved it down by one place.
     #[inline(always)]
     pub fn and(self, is_one: bool) -> Gathering
         ensures { (frame : List Element) (e : Element) → length frame < 100 → raised frame ≡ self

@@ -23,7 +23,8 @@ impl Model for Ones {
     ghost inverse = { λ n. record { bits = n } };
 }
 
-/// Whether an element is One, not Zero or a position identifier.
+/// Whether an element is One, not Zero or a position identifier: only a One counts in a number
+/// (`counts`).
 #[inline(always)]
 fn is_one(element: Element) -> bool
     ensures { result ≡ counts element }
@@ -37,8 +38,8 @@ impl Ones {
         ensures { result ≡ ones_of frame.now }
     {
         let mut bits = 0;
-        // From element 99 down to 0: each doubling moves those before up, so element 0 ends as bit
-        // 0.
+        // From element 99 down to 0: each doubling moves the elements that are in `bits` up by one,
+        // so element 0 ends as bit 0.
         for place in 0..100 {
             bits = 2 * bits + is_one(frame[99 - place]) as u128;
         }
@@ -46,8 +47,8 @@ impl Ones {
     }
 
     /// The number that `count` elements from element `from` on make, from 0. The first of them is
-    /// its lowest bit; a One is 1, all else 0. `count` is at most 45, as no number in a frame is
-    /// longer.
+    /// its lowest bit; a One is 1, all else 0. There is nothing after element 99, so its bits are
+    /// 0. `count` is at most 45, as no number in a frame is longer.
     #[inline(always)]
     pub fn bits(self, from: u8, count: u8) -> u64
         requires within { from < 100 }

@@ -16,7 +16,7 @@ ghost use Rattle.irig_codes.specs.{Ones.bits_in, Layout.runs};
 use crate::format::{Format, Kind};
 use crate::ones::Ones;
 
-/// The units of the hundredths, elements 50 to 53: only format G has them.
+/// The units of the hundredths, elements 50 to 53: only format G has them, else it is 0.
 fn hundredths_units(kind: Kind, ones: Ones) -> u64
     ensures { result ≡ digit_in ones 1 (runs kind false Hundredths) }
 {
@@ -26,7 +26,7 @@ fn hundredths_units(kind: Kind, ones: Ones) -> u64
     }
 }
 
-/// The tens of the hundredths, elements 45 to 48: formats A and G have them.
+/// The tens of the hundredths, elements 45 to 48: formats A and G have them, else it is 0.
 fn hundredths_tens(kind: Kind, ones: Ones) -> u64
     ensures { result ≡ digit_in ones 10 (runs kind false Hundredths) }
 {
@@ -36,7 +36,7 @@ fn hundredths_tens(kind: Kind, ones: Ones) -> u64
     }
 }
 
-/// The units of the seconds, elements 1 to 4: format E has none.
+/// The units of the seconds, elements 1 to 4: format E has none, so it is 0.
 fn seconds_units(kind: Kind, ones: Ones) -> u64
     ensures { result ≡ digit_in ones 1 (runs kind false Seconds) }
 {
@@ -46,8 +46,8 @@ fn seconds_units(kind: Kind, ones: Ones) -> u64
     }
 }
 
-/// The units of the year, elements 50 to 53, if the format has one (`year`). In G these carry
-/// hundredths, so the year is ten elements later.
+/// The units of the year, elements 50 to 53, if the format has one (`year`); else 0. In G these
+/// elements carry hundredths, so the year is ten elements later.
 fn year_units(kind: Kind, year: bool, ones: Ones) -> u64
     ensures { result ≡ digit_in ones 1 (runs kind year Year) }
 {
@@ -58,8 +58,8 @@ fn year_units(kind: Kind, year: bool, ones: Ones) -> u64
     }
 }
 
-/// The tens of the year, elements 55 to 58, if the format has one (`year`). In G they are ten
-/// elements later, as the units are.
+/// The tens of the year, elements 55 to 58, if the format has one (`year`); else 0. In G they are
+/// ten elements later, as the units are.
 fn year_tens(kind: Kind, year: bool, ones: Ones) -> u64
     ensures { result ≡ digit_in ones 10 (runs kind year Year) }
 {
@@ -70,8 +70,8 @@ fn year_tens(kind: Kind, year: bool, ones: Ones) -> u64
     }
 }
 
-/// The straight binary seconds, if they are `there`: 17 bits, in the elements 80 to 88 and 90 to
-/// 97. The first run has nine bits, so the second counts 2^9 = 512.
+/// The straight binary seconds, if they are `there`, else 0: 17 bits, in the elements 80 to 88 and
+/// 90 to 97. The first run has nine bits, so the second counts 2^9 = 512.
 fn sbs(there: bool, ones: Ones) -> u64
     ensures { result ≡ sbs_in there ones }
 {
@@ -105,9 +105,9 @@ fn from_70(ones: Ones) -> u64
     nine_at(ones, 70, nine_at(ones, 80, nine_at(ones, 90, 0)))
 }
 
-/// The control elements as one number, if they are `there`, the first one as the lowest bit. Their
-/// first element and their count depend on the kind and on whether the format has the year
-/// (`year`), since the year takes nine elements before them.
+/// The control elements as one number, if they are `there`, else 0; the first one is the lowest
+/// bit. Their first element and their count depend on the kind and on whether the format has the
+/// year (`year`), since the year takes nine elements before them.
 fn control(kind: Kind, there: bool, year: bool, ones: Ones) -> u64
     ensures { result ≡ control_in kind there year ones }
 {

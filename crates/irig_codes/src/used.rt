@@ -7,7 +7,8 @@ ghost use Rattle.irig_codes.specs.{Slots.slots_at, Used.masks_of, Used.used_of};
 use crate::format::{Format, Kind};
 use crate::table;
 
-/// The masks of a kind: that of expression k, 0 to 7, is at place k.
+/// The masks of a kind: that of expression k, 0 to 7, is at place k, also if the kind does not
+/// permit this expression.
 fn masks(kind: Kind) -> &'static [u128; 8]
     ensures { result.now ≡ masks_of kind }
 {

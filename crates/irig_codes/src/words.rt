@@ -23,7 +23,7 @@ pub fn kind_word(kind: Kind) -> &'static str
     }
 }
 
-/// The kind of time code that a letter names; `None` for any other text.
+/// The kind of time code that a letter names: `A`, `B`, `E` or `G`; `None` for any other text.
 pub fn kind_named(word: &[u8]) -> Option<Kind>
     ensures value { result ≡ kind_named word.now }
     ensures named { MatchOption result ((k : Kind) → word.now ≡ kind_word k → ⊥)

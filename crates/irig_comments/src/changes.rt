@@ -45,7 +45,7 @@ impl<'a> Changes<'a> {
         }
     }
 
-    /// The next frame that differs, on both sides; `None` if none is left.
+    /// The frames on both sides of the next place at which they differ; `None` if none is left.
     pub fn next(&mut self) -> Option<Sides>
         ensures { MatchOption result ((self.old ≡ []) × (self.new ≡ []))
             (λ s. self.old ≡ s ∷ self.new) }

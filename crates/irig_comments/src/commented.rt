@@ -1,7 +1,8 @@
 //! The patch between two recordings with comments, as a text in parts. A stretch is where the two
 //! differ. The place of a frame is when its marker rises, in microseconds. If the lengths of the
 //! two differ, a note before all lines has both: it is a comment, too. A block is where parts are
-//! collected until it has enough bytes.
+//! collected until it has enough bytes: at least as many, as the line that is added last is whole.
+//! What fails, fails only if memory runs out.
 
 ghost use Rattle.std.specs.Prelude.{◌≡◌, ◌↔◌, ◌≤◌, ◌<◌, ◌++◌, [], true, false, IfOk, OnOk};
 ghost use Rattle.std.specs.Prelude.{vec_len};
@@ -70,9 +71,9 @@ impl<'a> CommentedPatch<'a> {
 impl Text for CommentedPatch<'_> {
     ghost rest = { λ p. p };
 
-    // Writes the note with the two lengths first, and then lines until the block has `enough`
-    // bytes. True only if no line is left; false if the block is full, whether or not a line is
-    // left.
+    // Writes the note with the two lengths first, unless it was written, and then lines until the
+    // block has `enough` bytes. True only if no line is left; false if the block is full, whether
+    // or not a line is left.
     fn fill(&mut self, block: &mut Vec<u8>, enough: usize) -> Result<bool, AllocError> {
         if !self.is_told {
             put_note(block, self.before, self.after)?;

@@ -23,7 +23,7 @@ pub(crate) fn put_comment(block: &mut Vec<u8>, sides: &Sides) -> Result<(), Allo
     block.extend_from_slice(b"\n")
 }
 
-/// Writes the frame before, or `no frame` if there is none.
+/// Writes the frame before, as `put_whole` does, or `no frame` if there is none.
 fn put_before(block: &mut Vec<u8>, before: &Option<Shown>) -> Result<(), AllocError>
     ensures { OnOk result (block.new.items ≡ block.old.items ++ before_text before.now) }
 {
@@ -33,8 +33,9 @@ fn put_before(block: &mut Vec<u8>, before: &Option<Shown>) -> Result<(), AllocEr
     }
 }
 
-/// Writes the frame after, or `none`. If there is a frame before, it is at the same place and was
-/// written whole, so only what is reported of the frame after is written.
+/// Writes the frame after, or `none` if there is none. If there is a frame before, it is at the
+/// same place and was written whole, so only what is reported of the frame after is written; else
+/// all of it.
 fn put_after(
     block: &mut Vec<u8>,
     before: &Option<Shown>,

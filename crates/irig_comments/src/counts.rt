@@ -27,7 +27,7 @@ pub struct Counts {
 }
 
 impl Counts {
-    /// Counts the frames of two recordings, and those that differ.
+    /// Counts the fine frames of two recordings, and the frames that differ.
     pub fn between(before: &Framed, after: &Framed) -> Counts
         ensures { result ≡ counts_between before.now after.now }
     {
@@ -68,8 +68,9 @@ impl Counts {
     }
 }
 
-/// Writes the last line, with the numbers of frames. Each text but the first is that of the number
-/// before it.
+/// Writes the last line, with the numbers of frames, as in
+/// `# frames: 9 fine before, 8 fine after, 0 made, 1 lost, 2 changed`. Each text but the first is
+/// that of the number before it. It fails only if memory runs out.
 pub(crate) fn put_counts(block: &mut Vec<u8>, counts: &Counts) -> Result<(), AllocError>
     ensures { OnOk result (block.new.items ≡ block.old.items ++ counts_text counts.now) }
 {
@@ -81,7 +82,7 @@ pub(crate) fn put_counts(block: &mut Vec<u8>, counts: &Counts) -> Result<(), All
     block.extend_from_slice(b" changed\n")
 }
 
-/// Writes a text, a space and a number: `put_number` writes the space, too.
+/// Writes a text, a space and a number in decimal: `put_number` writes the space, too.
 fn put_count(block: &mut Vec<u8>, text: &[u8], count: usize) -> Result<(), AllocError>
     ensures { OnOk result
         (block.new.items ≡ block.old.items ++ (text.now ++ codes " " ++ decimal count)) }

@@ -1,5 +1,9 @@
 //! A recording and its frames. Of each frame the index has a record: its marker, which is the pulse
 //! with which it begins, and what is reported of it.
+//!
+//! A clause `few`, `order` or `framed` says again what the types promise, for the proofs of
+//! callers: how many frames there can be, that their markers rise one after the other, and that
+//! they are those of the recording.
 
 ghost use Rattle.std.specs.Prelude.{◌≡◌, ◌<◌, ◌^◌, IfOk, IfSome, length, slice_get};
 ghost use Rattle.irig_comments.specs.Counts.{fine_frames, is_fine};
@@ -72,7 +76,8 @@ impl Framed {
         self.index.len()
     }
 
-    /// The frame with this index in their list, from 0; `None` if there is none.
+    /// The frame with this index in their list, from 0, as a line shows it: with its number from 1.
+    /// `None` if there is none.
     pub(crate) fn shown(&self, place: usize) -> Option<Shown>
         ensures value { result ≡ slice_get (shown_frames self.now) place }
         ensures few { IfSome result (λ s. place < 2 ^ 31) }
@@ -90,7 +95,7 @@ impl Framed {
         })
     }
 
-    /// How many frames are fine: read, and nothing is wrong.
+    /// How many frames are fine: read, and nothing wrong is noted of them.
     pub(crate) fn fine(&self) -> usize
         ensures { result ≡ fine_frames self.now }
     {
@@ -104,7 +109,7 @@ impl Framed {
     }
 }
 
-/// Whether a frame is fine: read, and nothing is wrong.
+/// Whether a frame is fine: read, and nothing wrong is noted of it.
 fn is_fine(verdict: &Verdict) -> bool
     ensures { result ≡ is_fine verdict.now }
 {

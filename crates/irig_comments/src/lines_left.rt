@@ -27,7 +27,7 @@ pub struct LinesLeft<'a> {
     changes: Changes<'a>,
     stretch: Option<Pulse>,
     stretches: Differences<'a>,
-    // The last line, unless it was written.
+    // The last line, unless it was written, or the recordings are the same.
     last: Option<Counts>,
 }
 
@@ -43,7 +43,7 @@ impl<'a> Model for LinesLeft<'a> {
 
 impl<'a> LinesLeft<'a> {
     /// All lines of the patch that makes the recording `after` of `before`, but that with the
-    /// lengths, which is written before these.
+    /// lengths, which is written before these. If the recordings are the same, there is no line.
     pub fn between(before: &'a Framed, after: &'a Framed) -> LinesLeft<'a>
         ensures { result ≡ lines_text (changes before.now after.now)
             (stretches_between before.now.recording after.now.recording)
@@ -62,8 +62,9 @@ impl<'a> LinesLeft<'a> {
     }
 
     /// Writes the next line, if one is left: a comment on frames, the line of a stretch, or at the
-    /// end the last line. Returns whether none is left after it: after a comment or a stretch the
-    /// last line is still to come.
+    /// end the last line. Returns `true` if no line is left after it, or none was left before;
+    /// after a comment or a stretch it is `false`, as the last line is still to come. It fails only
+    /// if memory runs out.
     pub fn put_next(&mut self, block: &mut Vec<u8>) -> Result<bool, AllocError>
         ensures bytes { OnOk result (block.new.items ++ self.new ≡ block.old.items ++ self.old) }
         ensures end { IfOk result (λ ended. ended ≡ true → self.new ≡ []) }
@@ -85,7 +86,8 @@ impl<'a> LinesLeft<'a> {
 }
 
 /// The next change, if its comment comes next: no stretch is left, or the next one ends at or after
-/// the place of the frame. `None` if no change is left, or the stretch comes first.
+/// the place of the frame. `None` if no change is left, or the stretch comes first: it ends before
+/// the place of the frame.
 fn first_change(change: &Option<Sides>, stretch: &Option<Pulse>) -> Option<Sides>
     ensures { result ≡ first_change change.now stretch.now }
 {
@@ -102,8 +104,8 @@ fn first_change(change: &Option<Sides>, stretch: &Option<Pulse>) -> Option<Sides
     }
 }
 
-/// The last line; `None` if the recordings are the same, in their lengths and in all stretches,
-/// since nothing is written then.
+/// The numbers of the last line; `None` if the recordings are the same, since nothing is written
+/// then: their lengths are, and there is no stretch. `stretch` is the first one, if there is one.
 fn last_of(before: &Framed, after: &Framed, stretch: &Option<Pulse>) -> Option<Counts>
     ensures { result ≡ last_if before.now after.now stretch.now }
 {
@@ -114,7 +116,8 @@ fn last_of(before: &Framed, after: &Framed, stretch: &Option<Pulse>) -> Option<C
     }
 }
 
-/// Writes the last line, if there is one and it was not written. Returns `true`: none is left.
+/// Writes the last line, if there is one and it was not written; then `last` is `None`. Returns
+/// `true`: none is left. It fails only if memory runs out.
 fn put_last(block: &mut Vec<u8>, last: &mut Option<Counts>) -> Result<bool, AllocError>
     ensures bytes { OnOk result
         (block.new.items ++ last_left last.new ≡ block.old.items ++ last_left last.old) }

@@ -22,7 +22,7 @@ pub struct Sides {
 
 impl Sides {
     /// Whether only one side has a frame, or both have one and something else is reported of the
-    /// one than of the other.
+    /// one than of the other. Their numbers do not count.
     pub(crate) fn differ(&self) -> bool
         ensures { result ≡ differs self.now }
     {

@@ -45,8 +45,9 @@ impl<'a> SidesLeft<'a> {
     }
 
     /// The frames at the next place: those of both recordings if they begin at one microsecond,
-    /// else the earlier one. Both lists are in the order of their rises. `None` if none is left. A
-    /// case that goes on to the end gives both as they are: one is `None`, or both begin there.
+    /// else the earlier one alone. Both lists are in the order of their rises. `None` if none is
+    /// left. If only one list has a frame left, or both begin at one microsecond, the last line
+    /// returns both as they are; else the earlier one is returned at once.
     pub fn next(&mut self) -> Option<Sides>
         ensures { MatchOption result ((self.old ≡ []) × (self.new ≡ []))
             (λ s. self.old ≡ s ∷ self.new) }

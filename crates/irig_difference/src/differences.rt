@@ -35,8 +35,8 @@ impl<'a> Model for Differences<'a> {
 }
 
 impl<'a> Differences<'a> {
-    /// The stretches in which the recordings `before` and `after` differ. After its end a recording
-    /// is low.
+    /// The stretches in which the recordings `before` and `after` differ, none if they have the
+    /// same edges. After its end a recording is low.
     pub fn between(before: &'a Recording, after: &'a Recording) -> Differences<'a>
         ensures exact { result ≡ stretches_between before.now after.now }
         // Each time at which the levels differ, and no other.
@@ -72,9 +72,10 @@ impl<'a> Differences<'a> {
     }
 }
 
-/// Takes the first edge, in microseconds, that only one of two rising lists has; `None` if neither
-/// has one. An edge that both have is passed in both: it changes nothing in whether they differ.
-/// Pulses that both begin with are passed first, since that is quicker.
+/// Takes the first edge, in microseconds, that only one of two rising lists has, with all edges
+/// before it; `None` if there is none, and both lists are at their end then. An edge that both have
+/// is passed in both: it changes nothing in whether they differ. Pulses that both begin with are
+/// passed first, since that is quicker.
 fn next_edge(before: &mut EdgesLeft<'_>, after: &mut EdgesLeft<'_>) -> Option<u64>
     requires before { RisesFrom 0 before.old }
     requires after { RisesFrom 0 after.old }

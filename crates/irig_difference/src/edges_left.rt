@@ -77,7 +77,8 @@ impl<'a> EdgesLeft<'a> {
     }
 
     /// Goes past the pulses that both begin with, two edges at a time, if the next edge of both is
-    /// a rise; else past none.
+    /// a rise; else past none. Both may still begin with the same edge: a rise whose pulses fall at
+    /// other times.
     pub fn pass_common(&mut self, other: &mut EdgesLeft<'_>)
         ensures { PassCommon self.old self.new other.old other.new }
     {
@@ -90,9 +91,10 @@ impl<'a> EdgesLeft<'a> {
     }
 }
 
-/// How many of the same pulses two buffers have, from the places `i` of the one and `j` of the
-/// other on, which count from 0. All pulses are left of the buffer's own place, so `gap_at` is how
-/// many there are.
+/// How many pulses of two buffers are the same, one after the other, from the place `i` of the one
+/// and the place `j` of the other on: up to the first that differ, or to the end of a buffer.
+/// Places count from 0. All pulses are left of the buffer's own place, so `gap_at` is how many
+/// there are.
 fn common(before: &Gap<Pulse>, i: usize, after: &Gap<Pulse>, j: usize) -> usize
     requires before { i ≤ before.now.place }
     requires after { j ≤ after.now.place }
@@ -109,7 +111,7 @@ fn common(before: &Gap<Pulse>, i: usize, after: &Gap<Pulse>, j: usize) -> usize
     count
 }
 
-/// Whether two pulses are the same.
+/// Whether two pulses are the same, in rise and fall.
 #[inline(always)]
 fn is_same(one: Pulse, other: Pulse) -> bool
     ensures { result ≡ true → one ≡ other }

@@ -1,5 +1,7 @@
 //! The patch between two recordings, as a text in parts. A stretch is a time in which one of the
-//! two is high and the other low. A block is where parts are collected until it has enough bytes.
+//! two is high and the other low. A block is where parts are collected until it has enough bytes:
+//! at least as many, as the line that is added last is whole. What fails, fails only if memory runs
+//! out.
 
 ghost use Rattle.std.specs.Prelude.{◌≡◌, ◌↔◌, ◌≤◌, ◌++◌, ◌∷◌, [], true, false, IfOk, OnOk, decimal};
 ghost use Rattle.std.specs.Prelude.{drop, length, vec_len};
@@ -55,9 +57,9 @@ impl<'a> PatchText<'a> {
 impl Text for PatchText<'_> {
     ghost rest = { λ p. p };
 
-    // Writes the comment with the two lengths first, and then lines until the block has `enough`
-    // bytes. True only if no line is left; false if the block is full, whether or not a line is
-    // left.
+    // Writes the comment with the two lengths first, unless it was written, and then lines until
+    // the block has `enough` bytes. True only if no line is left; false if the block is full,
+    // whether or not a line is left.
     fn fill(&mut self, block: &mut Vec<u8>, enough: usize) -> Result<bool, AllocError> {
         if !self.is_told {
             put_note(block, self.before, self.after)?;
@@ -67,8 +69,8 @@ impl Text for PatchText<'_> {
     }
 }
 
-/// Writes the comment with two lengths in microseconds, `before` and `after`, unless they are the
-/// same: `# length 1000 3000`.
+/// Writes the comment with two lengths in microseconds, `before` and `after`, as in
+/// `# length 1000 3000`; nothing if they are the same.
 pub fn put_note(block: &mut Vec<u8>, before: u64, after: u64) -> Result<(), AllocError>
     ensures { OnOk result (block.new.items ≡ block.old.items ++ length_note before after) }
 {

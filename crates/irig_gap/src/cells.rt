@@ -77,8 +77,9 @@ pub(crate) fn deallocate<T, A: Allocator>(alloc: &A, len: usize, cells: Cells<T>
 }
 
 /// Makes a block of `old` places one of `len`, which keeps the items in its first `full` places,
-/// and no other item. The allocator can leave it where it is. Returns its places and its deed; if
-/// memory runs out, the error has those of the block as it was.
+/// and no other item. The allocator can leave it where it is. Returns its places and its deed. If
+/// memory runs out, the error has the places and the deed of the block of `old` places, with the
+/// items of the first `full` ones.
 pub(crate) fn enlarge<T, A: Allocator>(
     alloc: &A,
     full: usize,
@@ -136,7 +137,8 @@ impl<T> Cells<T> {
     }
 
     /// Moves the `count` items from the place `from` on, which must be full, to the place `to` and
-    /// those after it. The two runs must not overlap. The places from `from` on are empty then.
+    /// those after it; what these held is forgotten. The two runs must not overlap. The `count`
+    /// places from `from` on are empty then.
     pub(crate) fn move_run(&mut self, from: usize, to: usize, count: usize)
         requires inside { (from + count ≤ length self.old.slots)
             × (to + count ≤ length self.old.slots) }

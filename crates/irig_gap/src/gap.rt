@@ -70,7 +70,8 @@ impl<T: Copy> Gap<T> {
         self.gap + (self.capacity - self.after)
     }
 
-    /// Whether there is no room: a further item needs a growth of the block first.
+    /// Whether there is no room: a further item needs a growth of the block first. A new buffer has
+    /// no room.
     pub fn is_full(&self) -> bool
         ensures full { result ≡ true → length self.now.items ≡ self.now.capacity }
         ensures room { result ≡ false → length self.now.items < self.now.capacity }
@@ -123,8 +124,8 @@ impl<T: Copy> Gap<T> {
         self.cells.write(slot, item);
     }
 
-    /// Inserts `item` at the place of the list, which is right of it then. There has to be room, so
-    /// this takes no memory.
+    /// Inserts `item` at the place of the list; the place is right of the item then. There has to
+    /// be room, so this takes no memory.
     pub fn put(&mut self, item: T)
         requires { length self.old.items < self.old.capacity }
         ensures { self.new ≡
@@ -172,7 +173,8 @@ impl<T: Copy> Gap<T> {
 
     /// The same items with the capacity `wanted`, or with the old one if memory runs out. The list
     /// must have no item right of the place: so all items are at the front of the block, and the
-    /// allocator can make it longer where it is.
+    /// allocator can make it longer where it is. The buffer is taken and returned, since the block
+    /// and its deed have to be taken out of it.
     pub(crate) fn lengthened(self, wanted: usize) -> Gap<T>
         requires longer { self.capacity < wanted }
         requires end { self.place ≡ length self.items }
@@ -199,7 +201,7 @@ impl<T: Copy> Gap<T> {
 }
 
 impl<T: Copy> Drop for Gap<T> {
-    // Gives the block back. The items are copies, so nothing else is dropped.
+    // Gives the block back, if there is one. The items are copies, so nothing else is dropped.
     fn drop(self) {
         let Gap {
             cells,

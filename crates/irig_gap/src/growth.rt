@@ -47,10 +47,11 @@ impl<T: Copy> Gap<T> {
         }
     }
 
-    /// Makes the capacity `wanted`, and no more; it must not be below the number of items. If no
-    /// item is right of the place, the allocator can make the block longer where it is;
-    /// `lengthened` keeps the old capacity if memory runs out, so the capacity shows whether it
-    /// grew.
+    /// Makes the capacity `wanted`, and no more; it must be above the capacity so far. If an item
+    /// is right of the place, another block is needed (`relocate`). If none is, the allocator can
+    /// make the block longer where it is (`lengthened`): that takes the buffer, so an empty one is
+    /// in its place meanwhile. `lengthened` keeps the old capacity if memory runs out, so the
+    /// capacity shows whether it grew.
     pub fn grow(&mut self, wanted: usize) -> Result<(), AllocError>
         requires { self.old.capacity < wanted }
         ensures ok { OnOk result (self.new ≡ gap_view self.old.items self.old.place wanted) }

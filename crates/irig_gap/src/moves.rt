@@ -48,9 +48,10 @@ impl<T: Copy> Gap<T> {
         }
     }
 
-    /// Moves the place left over as many items as the gap is wide, or down to `place` items on its
-    /// left if that is nearer. So the items are copied to places that do not overlap their own.
-    /// More than `place` items must be left of the place.
+    /// Moves the place left over as many items as the gap is wide, or until `place` items are left
+    /// of it if that is nearer. So the items are copied to places that do not overlap their own. If
+    /// the gap is empty, no item is copied, and `place` is reached at once. More than `place` items
+    /// must be left of the place.
     fn leap_left(&mut self, place: usize)
         requires { place < self.old.place }
         ensures view { self.new ≡ gap_view self.old.items self.new.place self.old.capacity }
@@ -69,9 +70,10 @@ impl<T: Copy> Gap<T> {
         self.cells.move_run(self.gap, self.after, count);
     }
 
-    /// Moves the place right over as many items as the gap is wide, or up to `place` items on its
-    /// left if that is nearer. So the items are copied to places that do not overlap their own.
-    /// Fewer than `place` items must be left of the place, and there must be as many in all.
+    /// Moves the place right over as many items as the gap is wide, or until `place` items are left
+    /// of it if that is nearer. So the items are copied to places that do not overlap their own. If
+    /// the gap is empty, no item is copied, and `place` is reached at once. Fewer than `place`
+    /// items must be left of the place, and there must be as many in all.
     fn leap_right(&mut self, place: usize)
         requires { (self.old.place < place) × (place ≤ length self.old.items) }
         ensures view { self.new ≡ gap_view self.old.items self.new.place self.old.capacity }

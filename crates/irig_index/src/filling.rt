@@ -7,7 +7,10 @@
 //! a gap buffer, in rising order: `put` inserts left of the gap. Those right of it count their
 //! markers from the back of `pulses`, which is how many pulses the track had.
 //!
-//! A lens shows the pulses of a track and counts each look at one; `looks` gets the same count.
+//! A lens shows the pulses of a track and counts each look at one; `looks` gets the same count. A
+//! place takes at most 2 looks to find a marker after it, and 99 to check the frame. As the checks
+//! of two frames look at no pulse twice, n places take at most 3n + 98: the last frame goes on
+//! after them.
 //!
 //! What is marked "Read for .." does nothing: it only lets the proof use what a type promises.
 //!
@@ -51,7 +54,7 @@ pub fn count_markers(lens: &mut Lens<'_>, looks: &mut u64, format: Format) -> us
 
 /// Puts the records of the markers after the places `from` to `to`, `to` not included, left of the
 /// gap, in order. If there is room for them the buffer does not grow, and nothing fails; else it
-/// fails only if memory runs out.
+/// fails only if memory runs out, and keeps the records found so far.
 pub fn fill(
     records: &mut Gap<Stored>,
     lens: &mut Lens<'_>,
@@ -86,7 +89,8 @@ pub fn fill(
     Ok(())
 }
 
-/// As `fill`, if there is room for the records, which `Index::reserve` made before: the buffer does
+/// Puts the records of the markers after the places `from` to `to`, `to` not included, left of the
+/// gap, in order, as `fill` does. `Index::reserve` has made room for them before: the buffer does
 /// not grow, so `unwrap` finds no error.
 pub fn refill(
     records: &mut Gap<Stored>,
@@ -110,11 +114,14 @@ pub fn refill(
     fill(records, lens, looks, format, from, to).unwrap();
 }
 
-/// Checks again the one frame before an edit that can reach into it: the pulses after `from` have
-/// changed. That is the frame of the last marker up to the pulse `from`: the check of each frame
-/// before that ends at the next marker at the latest. If this marker is 99 pulses or more before
-/// `from`, its frame ends by then and stays. Returns whether the next record, which is not changed,
-/// is of a marker up to the pulse `last`: then at least one record goes, to be sought again.
+/// Checks the last frame before an edit again, if it can reach into the edit: the pulses after
+/// pulse `from` have changed. It is the frame of the last marker up to `from`, since the check of
+/// each earlier frame ends at the next marker at the latest. If this marker is 99 pulses or more
+/// before `from`, its frame ends by then and stays; the contract asks that its record is right in
+/// this case. Nothing is checked if no marker is up to `from`.
+///
+/// Returns whether the record after it, which stays here, is of a marker up to the pulse `last`:
+/// then at least one record goes, to be sought again. `false` if there is none.
 pub fn retell_up_to(
     records: &mut Gap<Stored>,
     pulses: usize,
@@ -139,15 +146,16 @@ pub fn retell_up_to(
     let _count = records.len();
     let count = count_up_to(records, pulses, from);
     let more = is_up_to(records, pulses, count, last);
+    // If `from` is below 99 this is 0, and no marker is pulse 0.
     let settled = from.saturating_sub(ELEMENTS - 1);
     retell(records, pulses, count, lens, looks, format, settled);
     more
 }
 
-/// Checks the frame of the last of the first `count` markers again, and writes its new record. If
-/// that marker is a pulse up to `settled`, its frame ends before what has changed, and nothing is
-/// done; nor if `count` is 0. The look at the marker itself is counted here, and `verdict` counts
-/// those at the pulses after it.
+/// Checks the frame of the last of the first `count` markers again, and writes its new record.
+/// Nothing is done if `count` is 0, or if that marker is a pulse up to `settled`: its frame ends
+/// before what has changed, and its record is right as it is. The look at the marker itself is
+/// counted here, and `verdict` counts those at the pulses after it.
 fn retell(
     records: &mut Gap<Stored>,
     pulses: usize,
@@ -182,10 +190,10 @@ fn retell(
     set_record(records, pulses, count - 1, Stored::new(marker, verdict));
 }
 
-/// The place at which a repair stops to seek markers, itself left out: that of the first pulse
-/// after the edit, or of the last pulse of the track if that comes first. So the last pulse that
-/// can be a new marker is the first one after the edit. Each later pulse and the one before it are
-/// as they were.
+/// The place before which a repair stops seeking markers: the first pulse after the edit, or the
+/// last pulse of the track if that comes first; 0 if no pulse is left. So the last pulse that can
+/// be a new marker is the first one after the edit. Each later pulse and the one before it are as
+/// they were. `few` gives the caller's proof the limit of a track.
 pub fn last_place(lens: &Lens<'_>, edit: Span) -> usize
     requires { edit.at + edit.new ≤ length lens.now.track.pulses }
     ensures least { result ≡ min (length lens.now.track.pulses - 1) (edit.at + edit.new) }
@@ -218,10 +226,10 @@ pub fn next_marked(
     }
 }
 
-/// The place from which on the next marker is sought, none later than `to`. The verdict on the
-/// frame of `marker` has looked at some pulses after it. Of these only the last can be a marker, as
-/// a frame has no two position identifiers in a row; so the place is that of the pulse before the
-/// last.
+/// The place from which on the next marker is sought, at most `to`. The verdict on the frame of
+/// `marker` has looked at some pulses after it. Of these only the last can be a marker, as a frame
+/// has no two position identifiers in a row; so the place is that of the pulse before the last. If
+/// it has looked at none, the place is `marker`.
 fn next_place(marker: usize, verdict: Verdict, to: usize) -> usize
     requires { marker ≤ to }
     ensures order { marker ≤ result }

@@ -4,9 +4,10 @@
 //! one. It is element 0 of its frame; elements 9, 19, 29 up to 99 are position identifiers, too,
 //! and all others digits, Zero or One. Two rises are in step if they are one interval apart, to a
 //! tenth. An interval is in microseconds, from one rise to the next. A lens shows the pulses of a
-//! track and counts each look at one.
+//! track and counts each look at one; `looks` is a second count of them, which an index keeps.
 //!
-//! A verdict is `Read`, with the fields and the note of a sound frame, or `Broken`, with the least
+//! In contracts `class_in` is the class of a width, and `counts` says that a class is One. A
+//! verdict is `Read`, with the fields and the note of a sound frame, or `Broken`, with the least
 //! element that fails, 1 to 99, and why.
 
 ghost use Rattle.std.specs.Prelude.{◌≡◌, ℕ, ◌+◌, ◌-◌, ◌==◌, ◌<◌, ◌≤◌, [], true, false};
@@ -31,7 +32,8 @@ use irig_track::{Lens, Pulse};
 pub const ELEMENTS: usize = 100;
 
 /// The verdict on the frame of the marker `first`, which is pulse `at` of the track, from 0. It
-/// looks at 99 pulses at most; `looks` gets their count, too.
+/// looks at no more than the 99 pulses after the marker; `looks` gets their count, too. Of the
+/// pulses that it looks at only the last can be a marker (`alone`).
 pub fn verdict(
     lens: &mut Lens<'_>,
     looks: &mut u64,
@@ -53,7 +55,9 @@ pub fn verdict(
 }
 
 /// How many looks a verdict took: one for each pulse after the marker, up to the one that fails,
-/// included. If that one fails since the track has ended, there is no such pulse to look at.
+/// included; 99 if none fails. If element k fails since the track has ended, there is no such pulse
+/// to look at, so it took k - 1. An element that fails has a number from 1 on, so nothing
+/// saturates.
 pub fn looks_of(verdict: Verdict) -> u64
     ensures { result ≡ looks_of verdict }
 {
@@ -64,9 +68,12 @@ pub fn looks_of(verdict: Verdict) -> u64
     }
 }
 
-/// As `verdict`, with the looks counted by the lens alone: the verdict shows how many they are.
-/// Each pulse after the marker has to be in step with the one before it, and of a class that may be
-/// there. `Gathering` takes whether each element is One, from element 0 on; the marker is not One.
+/// The verdict on the frame of the marker `first`, which is pulse `at`. Only the lens counts the
+/// looks here: the verdict shows how many they are. Each pulse after the marker has to be in step
+/// with the one before it, and of a class that may be there; if both fail, the cause is `Step`. If
+/// all pulses are in order but the track ends within the frame, it is `Ended` at the first element
+/// that is missing. `Gathering` takes whether each element is One, from element 0 on; the marker is
+/// not One.
 fn check(lens: &mut Lens<'_>, format: Format, at: usize, first: Pulse) -> Verdict
     requires track { IsLongTrack lens.old.track.micros lens.old.track.pulses }
     requires first { slice_get lens.old.track.pulses at ≡ Some first }
@@ -114,10 +121,11 @@ fn read(format: Format, gathered: Gathering) -> Verdict
     Verdict::Read(fields, note)
 }
 
-/// Whether an element of this width is One, and how many digits are left after it before the next
-/// position identifier. `digits` is how many are left, this element included. `None` if it must not
-/// be there: if no digit is left only a position identifier may be, which is not One and after
-/// which nine digits come; else only a digit.
+/// What `check` learns from the width of an element: whether it is One, and how many digits are
+/// left after it before the next position identifier. `digits` is how many were left before it,
+/// itself included. If that is 0, it has to be a position identifier: it is not One, and nine
+/// digits come after it. Else it has to be a digit, Zero or One. `None` if it is not what it has to
+/// be.
 #[inline(always)]
 fn told(interval: u64, width: u64, digits: u64) -> Option<(bool, u64)>
     requires { HasTwentieths interval }

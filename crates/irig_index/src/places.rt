@@ -13,8 +13,8 @@ use crate::sides::{begins_up_to, ends_after, record_at, turned};
 use crate::stored::Stored;
 use irig_gap::Gap;
 
-/// How many records are of markers up to pulse `last`, included. It is a search by halves, which
-/// needs the rising order. It begins with the bounds that the gap gives.
+/// How many records are of markers up to pulse `last`, included: 0 if there are none. It is a
+/// search by halves, which needs the rising order. It begins with the bounds that the gap gives.
 pub fn count_up_to(records: &Gap<Stored>, pulses: usize, last: usize) -> usize
     ensures within { result ≤ length records.now.items }
     ensures before { EndsUpTo last (take result (shown pulses records.now)) }
@@ -63,7 +63,7 @@ fn most_up_to(records: &Gap<Stored>, pulses: usize, last: usize) -> usize
     }
 }
 
-/// Whether there is a record at place `k`, from 0, and it is of a marker up to `last`.
+/// Whether there is a record at place `k`, from 0, and it is of a marker up to pulse `last`.
 pub fn is_up_to(records: &Gap<Stored>, pulses: usize, k: usize, last: usize) -> bool
     requires { k ≤ length records.now.items }
     ensures { result ≡ false → BeginsAfter last (drop k (shown pulses records.now)) }

@@ -22,7 +22,8 @@ use irig_gap::Gap;
 use std::alloc::AllocError;
 
 /// The record with its marker's number counted from the other end of the track: `pulses` less the
-/// number. It turns one count into the other, both ways. For a marker of the track nothing wraps.
+/// number. It turns one count into the other, both ways. For a marker of the track nothing wraps;
+/// any other number wraps at 2^64, and wraps back if it is turned again.
 pub fn turned(pulses: usize, kept: Stored) -> Stored
     ensures turned { result ≡ turned pulses kept }
     ensures fits { kept.marker < 2 ^ 64 }
@@ -57,7 +58,9 @@ pub fn clear(records: &mut Gap<Stored>)
 }
 
 /// Removes the records of the markers after `first`, up to `last`, included, and leaves the gap
-/// where they were. Those left of the gap go first, so that it does not have to move over them.
+/// where they were. `drop_back_to` removes those left of the gap first, so that the gap does not
+/// have to move over them; `part` then moves the gap next to the others, which `drop_up_to`
+/// removes.
 pub fn cut_out(records: &mut Gap<Stored>, pulses: usize, first: usize, last: usize)
     requires { first ≤ last }
     ensures sides { (start middle rest : List Record)
@@ -154,7 +157,8 @@ fn step_left(records: &mut Gap<Stored>, pulses: usize)
     ensures length { length records.new.items ≡ length records.old.items }
     ensures capacity { records.new.capacity ≡ records.old.capacity }
 {
-    // The caller has seen that a record is left of the gap.
+    // The caller has seen that a record is left of the gap. Here `last` is its place among all,
+    // from 0.
     let last = records.gap_at() - 1;
     let record = records.get(last);
     records.set(last, turned(pulses, record));
@@ -171,7 +175,8 @@ fn step_right(records: &mut Gap<Stored>, pulses: usize)
     ensures length { length records.new.items ≡ length records.old.items }
     ensures capacity { records.new.capacity ≡ records.old.capacity }
 {
-    // The caller has seen that a record is right of the gap.
+    // The caller has seen that a record is right of the gap. Here `first` is its place among all,
+    // from 0.
     let first = records.gap_at();
     let record = records.get(first);
     records.set(first, turned(pulses, record));
@@ -179,7 +184,8 @@ fn step_right(records: &mut Gap<Stored>, pulses: usize)
 }
 
 /// Inserts a record just left of the gap, its marker counted from the front. If there is room the
-/// buffer does not grow, and nothing fails; else it fails only if memory runs out.
+/// buffer does not grow, and nothing fails; else it fails only if memory runs out. After a growth
+/// the capacity is at most one and a half times the number of records.
 pub fn put(records: &mut Gap<Stored>, found: Stored) -> Result<(), AllocError>
     ensures left { OnOk result (left_of records.new ≡ left_of records.old ++ (found ∷ [])) }
     ensures right { OnOk result (kept_right records.new ≡ kept_right records.old) }

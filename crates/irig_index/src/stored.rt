@@ -103,7 +103,7 @@ pub enum Kept {
 
 /// The verdict as it is kept: each number shortened to its bytes, which loses nothing. A number of
 /// two decimal digits of at most four bits each is at most 165, and the days, whose hundreds have
-/// two bits, at most 465.
+/// two bits, at most 465. A field that is `None` becomes the greatest number of its type.
 fn keep(verdict: Verdict) -> Kept
     requires { IsNarrow verdict }
     ensures { result ≡ kept_of verdict }
@@ -177,8 +177,8 @@ fn two_digits(byte: u8) -> Option<u32>
     if byte == 255 { None } else { Some(byte as u32) }
 }
 
-/// The straight binary seconds that are kept; the greatest number is `None`, since they have 17
-/// bits.
+/// The straight binary seconds that are kept. The greatest number of 32 bits is `None`: they have
+/// only 17 bits.
 #[inline(always)]
 fn binary(sbs: u32) -> Option<u32>
     ensures { result ≡ part_of (2 ^ 32 - 1) sbs }
@@ -186,8 +186,8 @@ fn binary(sbs: u32) -> Option<u32>
     if sbs == u32::MAX { None } else { Some(sbs) }
 }
 
-/// The control functions that are kept; the greatest number is `None`, since they have at most 45
-/// bits.
+/// The control functions that are kept. The greatest number of 64 bits is `None`: they have at most
+/// 45 bits.
 #[inline(always)]
 fn functions(control: u64) -> Option<u64>
     ensures { result ≡ part_of (2 ^ 64 - 1) control }

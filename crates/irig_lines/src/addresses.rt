@@ -18,7 +18,7 @@ use crate::range::Range;
 use crate::time::Time;
 use irig_saved::Letter;
 
-/// The letter of a mark, a to z, alone in a word.
+/// The letter of a mark, a to z, alone in a word; any other word is a `BadLine`.
 pub fn letter(word: &[u8]) -> Result<Letter, BadLine>
     ensures { Finds (λ l. (word.now ≡ letter_word l) × (l < 26)) result }
 {
@@ -26,6 +26,7 @@ pub fn letter(word: &[u8]) -> Result<Letter, BadLine>
 }
 
 /// A time: a number of microseconds, or an apostrophe and the letter of a mark, whose time it is.
+/// Any other word is a `BadLine`. Whether the mark is set is not tested here.
 pub fn time(word: &[u8]) -> Result<Time, BadLine>
     ensures { Finds (IsTime word.now) result }
 {
@@ -36,8 +37,8 @@ pub fn time(word: &[u8]) -> Result<Time, BadLine>
 }
 
 /// What an address counts from: the text before its offset. It is `.` or no text, the cursor; `$`,
-/// the last pulse; an apostrophe and the letter of a mark; or the number of a pulse. Whether the
-/// pulse is there is not tested here.
+/// the last pulse; an apostrophe and the letter of a mark; or the number of a pulse. Any other text
+/// is a `BadLine`. Whether the pulse is there and the mark is set is not tested here.
 fn base(text: &[u8]) -> Result<Base, BadLine>
     ensures { Finds (IsBase text.now) result }
 {
@@ -50,7 +51,8 @@ fn base(text: &[u8]) -> Result<Base, BadLine>
 }
 
 /// The offset of an address: the text from its sign on, or no text if it has no sign. No text is 0,
-/// and a sign alone is 1 or -1. A text that begins with no sign does not come from `address`.
+/// and a sign alone is 1 or -1. After a sign anything but a number is a `BadLine`; a text that
+/// begins with no sign is one, too, but does not come from `address`.
 fn offset(text: &[u8]) -> Result<i64, BadLine>
     ensures { Finds (IsOffset text.now) result }
 {
@@ -63,7 +65,7 @@ fn offset(text: &[u8]) -> Result<i64, BadLine>
 }
 
 /// An address: a base and an offset, either of which may be missing, but not both. It is cut before
-/// its first plus or minus.
+/// its first plus or minus. An empty text is a `BadLine`, as is a bad base or offset.
 pub fn address(text: &[u8]) -> Result<Address, BadLine>
     ensures { Finds (IsAddress text.now) result }
 {
@@ -77,14 +79,14 @@ pub fn address(text: &[u8]) -> Result<Address, BadLine>
     })
 }
 
-/// The address of a base without an offset.
+/// The address of a base without an offset: the offset is 0.
 fn at(base: Base) -> Address
     ensures { result ≡ at base }
 {
     Address { base, offset: 0 }
 }
 
-/// An address, or that of the cursor if the text is empty.
+/// An address, or that of the cursor if the text is empty. `BadLine` if the text is neither.
 pub fn address_or_cursor(text: &[u8]) -> Result<Address, BadLine>
     ensures { Finds (IsAddressOrCursor text.now) result }
 {
@@ -96,7 +98,8 @@ pub fn address_or_cursor(text: &[u8]) -> Result<Address, BadLine>
 }
 
 /// A range: two addresses with a comma between them, or one; that of the cursor if the text is
-/// empty. `rest` begins with the comma, or is empty if there is none.
+/// empty. A comma alone is all pulses, `1,$`; just one side missing is a `BadLine`, as is a bad
+/// address. `rest` begins with the first comma, or is empty if there is none.
 pub fn range(text: &[u8]) -> Result<Range, BadLine>
     ensures { Finds (IsRange text.now) result }
 {
@@ -111,7 +114,7 @@ pub fn range(text: &[u8]) -> Result<Range, BadLine>
 }
 
 /// The addresses before a comma and after it; a comma alone is between the first pulse and the
-/// last. If just one of them is missing, that is a `BadLine`.
+/// last. If just one of them is missing or one is bad, that is a `BadLine`.
 fn pair(first: &[u8], second: &[u8]) -> Result<(Address, Address), BadLine>
     ensures { Finds (λ p. IsPair first.now second.now p.0 p.1) result }
 {

@@ -17,7 +17,7 @@ use crate::words::{no_word, split_word, two_words};
 use irig_codes::{Element, Kind, element_named, kind_named};
 use irig_moment::Moment;
 
-/// Two times, which have to be all the words of a text.
+/// Two times, which have to be all the words of a text; else `BadLine`.
 pub fn times(arguments: &[u8]) -> Result<(Time, Time), BadLine>
     ensures { Finds (λ t. AreTimes (words_of arguments.now) t.0 t.1) result }
 {
@@ -27,7 +27,7 @@ pub fn times(arguments: &[u8]) -> Result<(Time, Time), BadLine>
 
 /// The moment that a word is: a day, by its number in the year or by month and day, and a time of
 /// day, as `2024-001T00:00:00` or `2024-01-01T00:00:00`; maybe with hundredths of a second, as
-/// `.50`.
+/// `.50`. `BadLine` for any other word, and if there is no such day or time.
 pub fn moment(word: &[u8]) -> Result<Moment, BadLine>
     ensures { Finds (λ m. moment_of word.now ≡ Some m) result }
 {
@@ -38,7 +38,8 @@ pub fn moment(word: &[u8]) -> Result<Moment, BadLine>
 }
 
 /// The control functions at the end of a line, as a number whose lowest bit is the first; 0 if
-/// there are none. They are one word, the last, of hexadecimal digits.
+/// there are none. They are one word, the last, of 1 to 12 hexadecimal digits; anything else is a
+/// `BadLine`. Whether the format has that many is not tested here.
 pub fn controls(text: &[u8]) -> Result<u64, BadLine>
     ensures { Finds (AreControls (words_of text.now)) result }
 {
@@ -50,14 +51,14 @@ pub fn controls(text: &[u8]) -> Result<u64, BadLine>
     control(word)
 }
 
-/// The element that a word names: `zero`, `one` or `position`.
+/// The element that a word names: `zero`, `one` or `position`; `BadLine` for any other word.
 pub fn element(word: &[u8]) -> Result<Element, BadLine>
     ensures { Finds (λ e. word.now ≡ element_word e) result }
 {
     element_named(word).ok_or(BadLine)
 }
 
-/// The kind of time code that a word names: `A`, `B`, `E` or `G`.
+/// The kind of time code that a word names: `A`, `B`, `E` or `G`; `BadLine` for any other word.
 pub fn kind(word: &[u8]) -> Result<Kind, BadLine>
     ensures { Finds (λ k. word.now ≡ kind_word k) result }
 {
@@ -65,7 +66,7 @@ pub fn kind(word: &[u8]) -> Result<Kind, BadLine>
 }
 
 /// The number of a coded expression, which says what a frame carries with the time: one digit 0 to
-/// 7. Whether the kind permits it is not tested here.
+/// 7; any other word is a `BadLine`. Whether the kind permits it is not tested here.
 pub fn expression(word: &[u8]) -> Result<u8, BadLine>
     ensures { Finds (IsExpression word.now) result }
 {

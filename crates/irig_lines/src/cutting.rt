@@ -31,8 +31,8 @@ impl Until {
     }
 }
 
-/// What is before the first byte of a kind, and what is from that byte on: all and nothing, if
-/// there is no such byte.
+/// What is before the first byte of a kind, and what is from that byte on. If there is no such
+/// byte, these are the whole text and an empty one.
 pub fn cut(text: &[u8], until: Until) -> (&[u8], &[u8])
     ensures before { result.0.now ≡ before until text.now }
     ensures onward { result.1.now ≡ onward until text.now }

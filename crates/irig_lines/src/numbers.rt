@@ -40,8 +40,8 @@ fn is_digit(byte: u8) -> bool
     matches!(byte, b'0'..=b'9')
 }
 
-/// The distance in microseconds that a word is: a number with an optional sign. Without a sign it
-/// is above zero or zero.
+/// The distance in microseconds that a word is: a number of 1 to 18 digits with an optional sign,
+/// plus or minus. Without a sign it is zero or above. Any other word is a `BadLine`.
 pub fn distance(word: &[u8]) -> Result<i64, BadLine>
     ensures { Finds (IsDistance word.now) result }
 {
@@ -51,8 +51,8 @@ pub fn distance(word: &[u8]) -> Result<i64, BadLine>
     }
 }
 
-/// A number after a sign: below zero if the sign is a minus. The contract needs the number below
-/// 2^63, so that it fits; one of 18 digits is.
+/// A number after a sign: below zero if the sign is a minus. Any other sign counts as a plus. The
+/// number has to be below 2^63, so that it fits; one of 18 digits is.
 pub fn signed(sign: u8, number: u64) -> i64
     requires { number < 2 ^ 63 }
     ensures sign { IsSigned sign result }

@@ -32,37 +32,41 @@ pub fn no_range(front: &[u8]) -> Result<(), BadLine>
     }
 }
 
-/// What the address `front` asks for if no word is after it: to show its pulse. An empty `front`
-/// would be a `BadLine`, but a line with neither asks for nothing and does not come here.
+/// What the address `front` asks for if no word is after it: to show its pulse. A `front` that is
+/// no address is a `BadLine`. So is an empty one, but a line with neither a range nor a word asks
+/// for nothing and does not come here.
 pub fn show(front: &[u8]) -> Result<Command, BadLine>
     ensures { Finds (Asks Keyword.Missing front.now []) result }
 {
     Ok(Command::Show(address(front)?))
 }
 
-/// What the range `front` asks for before `list`, which takes no arguments: to list its pulses.
+/// What the range `front` asks for before `list`: to list its pulses. A bad range, and any
+/// argument, is a `BadLine`.
 pub fn list(front: &[u8], arguments: &[u8]) -> Result<Command, BadLine>
     ensures { Finds (Asks Keyword.List front.now (words_of arguments.now)) result }
 {
     Ok(Command::List(ranged(front, arguments)?))
 }
 
-/// What the range `front` asks for before `delete`, which takes no arguments: to remove its pulses.
+/// What the range `front` asks for before `delete`: to remove its pulses. A bad range, and any
+/// argument, is a `BadLine`.
 pub fn delete(front: &[u8], arguments: &[u8]) -> Result<Command, BadLine>
     ensures { Finds (Asks Keyword.Delete front.now (words_of arguments.now)) result }
 {
     Ok(Command::Delete(ranged(front, arguments)?))
 }
 
-/// What the range `front` asks for before `join`, which takes no arguments: to make its pulses one.
+/// What the range `front` asks for before `join`: to make its pulses one, or for one address that
+/// pulse and the next. A bad range, and any argument, is a `BadLine`.
 pub fn join(front: &[u8], arguments: &[u8]) -> Result<Command, BadLine>
     ensures { Finds (Asks Keyword.Join front.now (words_of arguments.now)) result }
 {
     Ok(Command::Join(ranged(front, arguments)?))
 }
 
-/// What the range `front` and the arguments of `shift` ask for: to move its pulses by a distance in
-/// microseconds, to earlier times if it is below 0.
+/// What the range `front` and the one argument of `shift` ask for: to move its pulses by a distance
+/// in microseconds, to earlier times if it is below 0. Anything else is a `BadLine`.
 pub fn shift(front: &[u8], arguments: &[u8]) -> Result<Command, BadLine>
     ensures { Finds (Asks Keyword.Shift front.now (words_of arguments.now)) result }
 {
@@ -70,8 +74,8 @@ pub fn shift(front: &[u8], arguments: &[u8]) -> Result<Command, BadLine>
     Ok(Command::Shift(range(front)?, distance(by)?))
 }
 
-/// What an address and the arguments of `split` ask for: to make its pulse low from time `a` to
-/// time `b`. No address is the cursor's.
+/// What the address `front` and the two times of `split` ask for: to make its pulse low from time
+/// `a` to time `b`. An empty `front` is the cursor. Anything else is a `BadLine`.
 pub fn split(front: &[u8], arguments: &[u8]) -> Result<Command, BadLine>
     ensures { Finds (Asks Keyword.Split front.now (words_of arguments.now)) result }
 {
@@ -79,8 +83,8 @@ pub fn split(front: &[u8], arguments: &[u8]) -> Result<Command, BadLine>
     Ok(Command::Split(address_or_cursor(front)?, a, b))
 }
 
-/// What an address and the arguments of `force` ask for: to give its pulse the width of an element.
-/// No address is the cursor's.
+/// What the address `front` and the one argument of `force` ask for: to give its pulse the width of
+/// an element. An empty `front` is the cursor. Anything else is a `BadLine`.
 pub fn force(front: &[u8], arguments: &[u8]) -> Result<Command, BadLine>
     ensures { Finds (Asks Keyword.Force front.now (words_of arguments.now)) result }
 {
@@ -88,7 +92,8 @@ pub fn force(front: &[u8], arguments: &[u8]) -> Result<Command, BadLine>
     Ok(Command::Force(address_or_cursor(front)?, element(name)?))
 }
 
-/// What the arguments of `insert` ask for, if there is no range: a pulse from time `a` to time `b`.
+/// What the two times of `insert` ask for: a pulse from time `a` to time `b`. A range, and any
+/// other arguments, are a `BadLine`.
 pub fn insert(front: &[u8], arguments: &[u8]) -> Result<Command, BadLine>
     ensures { Finds (Asks Keyword.Insert front.now (words_of arguments.now)) result }
 {
@@ -101,8 +106,8 @@ pub fn insert(front: &[u8], arguments: &[u8]) -> Result<Command, BadLine>
     Ok(Command::Insert(a, b))
 }
 
-/// What the arguments of `invert` ask for, if there is no range: to invert the level from time `a`
-/// to time `b`.
+/// What the two times of `invert` ask for: to invert the level from time `a` to time `b`. A range,
+/// and any other arguments, are a `BadLine`.
 pub fn invert(front: &[u8], arguments: &[u8]) -> Result<Command, BadLine>
     ensures { Finds (Asks Keyword.Invert front.now (words_of arguments.now)) result }
 {
@@ -115,8 +120,9 @@ pub fn invert(front: &[u8], arguments: &[u8]) -> Result<Command, BadLine>
     Ok(Command::Invert(a, b))
 }
 
-/// What the arguments of `format` ask for, if there is no range: to read frames as those of a kind
-/// of time code and an expression, which is a digit 0 to 7.
+/// What the two arguments of `format` ask for: to read frames as those of a kind of time code and
+/// an expression, which is a digit 0 to 7. A range, and any other arguments, are a `BadLine`.
+/// Whether the kind permits the expression is not tested here.
 pub fn format(front: &[u8], arguments: &[u8]) -> Result<Command, BadLine>
     ensures { Finds (Asks Keyword.Format front.now (words_of arguments.now)) result }
 {
@@ -127,8 +133,8 @@ pub fn format(front: &[u8], arguments: &[u8]) -> Result<Command, BadLine>
     Ok(Command::Format(kind(name)?, expression(digit)?))
 }
 
-/// What the arguments of `mark` ask for, if there is no range: to set the mark of a letter to a
-/// time.
+/// What the two arguments of `mark` ask for: to set the mark of a letter to a time. A range, and
+/// any other arguments, are a `BadLine`.
 pub fn set_mark(front: &[u8], arguments: &[u8]) -> Result<Command, BadLine>
     ensures { Finds (Asks Keyword.Mark front.now (words_of arguments.now)) result }
 {
@@ -139,7 +145,8 @@ pub fn set_mark(front: &[u8], arguments: &[u8]) -> Result<Command, BadLine>
     Ok(Command::Mark(letter(name)?, time(at)?))
 }
 
-/// What the argument of `unmark` asks for, if there is no range: to clear the mark of a letter.
+/// What the one argument of `unmark` asks for: to clear the mark of a letter. A range, and any
+/// other arguments, are a `BadLine`.
 pub fn unmark(front: &[u8], arguments: &[u8]) -> Result<Command, BadLine>
     ensures { Finds (Asks Keyword.Unmark front.now (words_of arguments.now)) result }
 {
@@ -150,8 +157,8 @@ pub fn unmark(front: &[u8], arguments: &[u8]) -> Result<Command, BadLine>
     Ok(Command::Unmark(letter(name)?))
 }
 
-/// What the arguments of `regen` ask for, if there is no range: to generate frames, as `frames`
-/// below reads them.
+/// What the arguments of `regen` ask for: to generate frames, as `frames` below reads them. A range
+/// is a `BadLine`.
 pub fn regen(front: &[u8], arguments: &[u8]) -> Result<Command, BadLine>
     ensures { Finds (Asks Keyword.Regen front.now (words_of arguments.now)) result }
 {
@@ -171,7 +178,9 @@ fn ranged(front: &[u8], arguments: &[u8]) -> Result<Range, BadLine>
 }
 
 /// What the arguments of `regen` ask for: a time, how many frames, the moment of the first one, and
-/// maybe control functions, as a number whose lowest bit is the first of them.
+/// maybe control functions, as a number whose lowest bit is the first of them; 0 if they are
+/// missing. Any other arguments are a `BadLine`. A word that is missing is empty here, which none
+/// of the first three may be.
 fn frames(arguments: &[u8]) -> Result<Command, BadLine>
     ensures { Finds (Asks Keyword.Regen [] (words_of arguments.now)) result }
 {

@@ -54,7 +54,9 @@ fn in_text(text: &[u8]) -> Result<Command, BadLine>
 
 /// Cuts a text into a range and what is after it: before the first white space or small letter,
 /// with which the word begins. A letter just after an apostrophe does not count, since it is the
-/// name of a mark. If the range is missing, the first part is empty.
+/// name of a mark. If the range is missing, the first part is empty; if nothing is after it, the
+/// second. A valid range that white space, a small letter or nothing follows is cut off whole
+/// (`cut`).
 fn split_range(text: &[u8]) -> (&[u8], &[u8])
     ensures whole { text.now ≡ result.0.now ++ result.1.now }
     ensures cut { (range : List ℕ) → (rest : List ℕ) → (r : Range) → text.now ≡ range ++ rest
@@ -70,16 +72,18 @@ fn split_range(text: &[u8]) -> (&[u8], &[u8])
     (&text[..at], &text[at..])
 }
 
-/// Whether a byte ends a range. `quoted` says that an apostrophe is just before it.
+/// Whether a byte ends a range. White space always does; a small letter does unless it is `quoted`:
+/// an apostrophe is just before it.
 fn ends_range(quoted: bool, byte: u8) -> bool
     ensures { result ≡ (is_space byte || (not quoted && is_letter byte)) }
 {
     is_space(byte) || !quoted && byte.is_ascii_lowercase()
 }
 
-/// What a range (`front`), a word and the arguments after it ask for. `Missing` is no word: the
-/// range is then the address of a pulse to be shown. The words that are not named here are those
-/// that are alone in a line.
+/// What a range (`front`), a word and the arguments after it ask for; `BadLine` if the word is
+/// `Unknown`, or one of the others is not valid for it. `Missing` is no word: the range is then the
+/// address of a pulse to be shown. The words that are not named here are those that are alone in a
+/// line.
 fn asked(front: &[u8], word: Keyword, arguments: &[u8]) -> Result<Command, BadLine>
     ensures { Finds (Asks word front.now (words_of arguments.now)) result }
 {

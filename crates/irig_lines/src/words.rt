@@ -9,8 +9,8 @@ ghost use Rattle.irig_lines.specs.declared.cutting.Until.TheVariants.{Blank, Tex
 use crate::command::BadLine;
 use crate::cutting::{Until, cut};
 
-/// The first word of a text, and what is after it, from the white space on. If there is no word,
-/// both are empty.
+/// The first word of a text, and what is after it, from the white space on. White space before it
+/// does not count. If there is no word, both are empty.
 pub fn split_word(text: &[u8]) -> (&[u8], &[u8])
     ensures word { result.0.now ≡ before Blank (onward Text text.now) }
     ensures rest { result.1.now ≡ onward Blank (onward Text text.now) }
@@ -20,7 +20,7 @@ pub fn split_word(text: &[u8]) -> (&[u8], &[u8])
     cut(text, Until::Blank)
 }
 
-/// `Ok` if a text has no word, but for white space; else `BadLine`.
+/// `Ok` if a text has no word: it is empty, or white space alone; else `BadLine`.
 pub fn no_word(text: &[u8]) -> Result<(), BadLine>
     ensures ok { OnOk result (words_of text.now ≡ []) }
     ensures err { OnErr result (words_of text.now ≡ [] → ⊥) }
@@ -33,7 +33,7 @@ pub fn no_word(text: &[u8]) -> Result<(), BadLine>
     }
 }
 
-/// The word, if there is just one; no word and a second one are errors.
+/// The word, if there is just one; no word, or a second one, is a `BadLine`.
 pub fn one_word(text: &[u8]) -> Result<&[u8], BadLine>
     ensures ok { IfOk result (λ w. words_of text.now ≡ w.now ∷ []) }
     ensures err { OnErr result ((x : List ℕ) → words_of text.now ≡ x ∷ [] → ⊥) }
@@ -47,7 +47,7 @@ pub fn one_word(text: &[u8]) -> Result<&[u8], BadLine>
 }
 
 /// The words, if there are just two: the first, and then `one_word` of what is after it. Fewer or
-/// more are an error.
+/// more are a `BadLine`.
 pub fn two_words(text: &[u8]) -> Result<(&[u8], &[u8]), BadLine>
     ensures ok { IfOk result (λ w. words_of text.now ≡ w.0.now ∷ w.1.now ∷ []) }
     ensures err { OnErr result ((x : List ℕ) → (y : List ℕ) → words_of text.now ≡ x ∷ y ∷ [] → ⊥) }

@@ -53,8 +53,8 @@ pub fn civil_day(year: u32, month: u32, day: u32) -> Option<u32>
     Some(date.to_plain().days_since_min())
 }
 
-/// The year of a day number, 1 to 9999, and the place of the day in that year, from 1 for 1
-/// January.
+/// The year of a day number, and the place of the day in that year, from 1 for 1 January. The day
+/// has to be in the years 1 to 9999: the clauses are its bounds, and year 9999 has 365 days.
 pub fn year_and_place(day: u32) -> (u32, u32)
     requires from { new_year_of 1 ≤ day }
     requires before { day < new_year_of 9999 + 365 }

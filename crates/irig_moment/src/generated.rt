@@ -24,9 +24,10 @@ pub fn period(format: Format) -> u32
 }
 
 /// The fields of the frame that begins on a day at `time`, in hundredths of a second since its
-/// midnight, below 8,640,000. The year is modulo 100, as a frame has two digits for it. The
-/// straight binary seconds are the whole seconds since midnight. The lowest bit of `control` is the
-/// first control element. A minute has 6,000 hundredths, an hour 360,000.
+/// midnight, below 8,640,000. `time` must be a whole number of periods after a full minute, so the
+/// format can carry its seconds and hundredths. The year is modulo 100, as a frame has two digits
+/// for it. The straight binary seconds are the whole seconds since midnight. The lowest bit of
+/// `control` is the first control element. A minute has 6,000 hundredths, an hour 360,000.
 pub fn fields_at(format: Format, day: u32, time: u32, control: u64) -> Fields
     requires from { new_year_of 1 ≤ day }
     requires before { day < new_year_of 9999 + 365 }

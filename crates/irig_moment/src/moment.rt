@@ -70,9 +70,9 @@ impl Moment {
         }
     }
 
-    /// Whether a frame of the format can begin at the moment. One begins at each full minute, which
-    /// has 6,000 hundredths of a second, and then one each frame period, which a minute has a whole
-    /// number of.
+    /// Whether a frame of the format can begin at the moment. One begins at each full minute, and
+    /// then one after each frame period. A minute has 6,000 hundredths of a second, which are a
+    /// whole number of periods.
     pub fn starts(&self, format: Format) -> bool
         ensures { result ≡ starts_in format self.now }
     {

@@ -40,7 +40,8 @@ fn fits_form(form: u8, byte: u8) -> bool
 }
 
 /// The number that `count` decimal digits from a place of a text on make, each of which must be a
-/// digit. They are at most four, so it fits.
+/// digit. They are at most four, so it fits. For a byte below `0`, which does not come,
+/// `saturating_sub` gives 0 instead of an overflow.
 pub fn number(text: &[u8], place: usize, count: usize) -> u32
     requires few { count ≤ 4 }
     requires there { place + count ≤ length text.now }
@@ -54,7 +55,7 @@ pub fn number(text: &[u8], place: usize, count: usize) -> u32
 }
 
 /// The day number, as jiff counts days, of the date `YYYY-DDD` with which a text begins: the year,
-/// and the day in it from 1. `None` if there is no such day.
+/// and the day in it from 1. `None` if there is no such day, or the year is not from 1 to 9998.
 pub fn ordinal_date(text: &[u8]) -> Option<u32>
     requires { 8 ≤ length text.now }
     ensures value { result ≡ ordinal_date text.now }
@@ -64,7 +65,7 @@ pub fn ordinal_date(text: &[u8]) -> Option<u32>
 }
 
 /// The day number, as jiff counts days, of the date `YYYY-MM-DD` with which a text begins. `None`
-/// if there is no such day.
+/// if there is no such day, or the year is not from 1 to 9998.
 pub fn civil_date(text: &[u8]) -> Option<u32>
     requires { 10 ≤ length text.now }
     ensures value { result ≡ civil_date text.now }
@@ -86,7 +87,7 @@ fn hundredths(hours: u32, minutes: u32, seconds: u32, hundredths: u32) -> Option
 }
 
 /// The hundredths of a second from midnight to the time `hh:mm:ss` at a place of a text. `None` if
-/// there is no such time.
+/// there is no such time; second 60 is none.
 pub fn time(text: &[u8], place: usize) -> Option<u32>
     requires { place + 8 ≤ length text.now }
     ensures value { result ≡ time_at text.now place }
@@ -102,7 +103,7 @@ pub fn time(text: &[u8], place: usize) -> Option<u32>
 }
 
 /// The hundredths of a second from midnight to the time `hh:mm:ss.ff` at a place of a text. `None`
-/// if there is no such time.
+/// if there is no such time; second 60 is none.
 pub fn fine_time(text: &[u8], place: usize) -> Option<u32>
     requires { place + 11 ≤ length text.now }
     ensures value { result ≡ fine_time_at text.now place }

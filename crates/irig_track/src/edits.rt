@@ -7,7 +7,8 @@
 //! Times are in microseconds. The limits: pulses do not touch (each rises at least 1 after the fall
 //! before it), they lie within the length, and there are at most 2^22. The place of a gap buffer is
 //! where items come and go. A `Span` says that from pulse `at` on, from 0, `old` pulses became
-//! `new`. `room` is how many more pulses the limit permits.
+//! `new`. `room` is how many more pulses the limit permits, and `spare`, in contracts, how many
+//! more fit in the memory that is taken.
 //!
 //! What is marked "Read for .." does nothing: it only lets the proof use what a type promises.
 
@@ -32,7 +33,8 @@ use irig_recording::Pulse;
 impl Track {
     /// Whether replacing `count` pulses from `at` on, from 0, by those of `put` leaves a track
     /// within the limits. It is false, too, if the pulses that would go are not there. Only `put`
-    /// is looked through: all other pulses stay as they are.
+    /// is looked through: it has to fit between the pulses on both sides, and all others stay as
+    /// they are.
     pub fn can_splice(&self, at: usize, count: usize, put: &Gap<Pulse>) -> bool
         ensures { IsTrue result ↔ CanSplice self.now.micros at count put.now.items self.now.pulses }
     {
@@ -48,9 +50,9 @@ impl Track {
     }
 
     /// Replaces the `count` pulses from `at` on, from 0, by the pulses of `put`; `can_splice` must
-    /// hold. `put` is empty afterwards. The replaced pulses go to `taken`, which must be empty and
-    /// have room for them; its place is after them then. The Span has `at`, and how many went and
-    /// came.
+    /// hold, and there must be memory for the new pulses. `put` is empty afterwards. The replaced
+    /// pulses go to `taken`, which must be empty and have room for them; its place is after them
+    /// then. The Span has `at`, and how many went and came.
     pub fn splice(
         &mut self,
         at: usize,
@@ -89,9 +91,11 @@ impl Track {
 
     /// Whether moving the pulses `i` to `j`, both included and from 0, by `by` microseconds leaves
     /// a track within the limits. It is false, too, if one of them is not there, or `i` is above
-    /// `j`. `ahead_of(by)` is `by`, or 0 if that is below 0; `back_of(by)` is how far `by` is below
-    /// 0, or 0. Each side of a comparison is a sum, since a difference could go below 0. No sum
-    /// overflows: a time is at most 2^40 + 1, and a distance at most 2^63.
+    /// `j`. All move by the same distance, so only the first rise and the last fall are tested,
+    /// against the pulses on both sides. `ahead_of(by)` is `by`, or 0 if that is below 0;
+    /// `back_of(by)` is how far `by` is below 0, or 0. Each side of a comparison is a sum, since a
+    /// difference could go below 0. No sum overflows: a time is at most 2^40 + 1, and a distance at
+    /// most 2^63.
     pub fn can_shift(&self, i: usize, j: usize, by: i64) -> bool
         ensures { IsTrue result ↔ CanShift self.now.micros i j by self.now.pulses }
     {
@@ -106,7 +110,7 @@ impl Track {
 
     /// Moves the pulses `i` to `j`, both included and from 0, by `by` microseconds, below 0 to
     /// earlier times; `can_shift` must hold. `ahead_of` and `back_of` are the parts of `by` above
-    /// and below 0: one of them is 0. The Span has the pulses that moved.
+    /// and below 0: one of them is 0. The Span says which pulses moved: as many as before.
     pub fn shift(&mut self, i: usize, j: usize, by: i64) -> Span
         requires { CanShift self.old.micros i j by self.old.pulses }
         ensures pulses { self.new.pulses ≡ shifted i j by self.old.pulses }
@@ -143,10 +147,10 @@ impl Track {
 
     /// Toggles the edges at the times `a` and `b`, in microseconds: if an edge is at such a time it
     /// goes, and if none is there one comes. So the level is inverted from `a` to `b`. `can_toggle`
-    /// must hold.
+    /// must hold, and there must be memory for one pulse more, also if none comes.
     ///
-    /// The Span holds the pulses that rise at or before `b` and fall at or after `a`, before and
-    /// afterwards.
+    /// The Span has the pulses that rise at or before `b` and fall at or after `a`: how many these
+    /// were before (`old`), and how many they are afterwards (`new`).
     pub fn toggle(&mut self, a: u64, b: u64) -> Span
         requires can { CanToggle self.old.micros a b self.old.pulses }
         requires spare { 0 < self.old.spare }

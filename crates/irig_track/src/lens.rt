@@ -1,5 +1,6 @@
 //! A track shown through a lens, which counts the looks at its pulses. So contracts can say how
-//! much work a search takes. A lens also shows a recording that is longer than a track may be.
+//! much work a search takes. A lens also shows a recording that is longer than a track may be. A
+//! clause `track` says again what the type promises, for the proofs of callers.
 
 ghost use Rattle.std.specs.Prelude.{◌≡◌, ◌-◌, ◌<◌, ◌≤◌, ◌^◌, ℕ, length, slice_get, Some};
 ghost use Rattle.irig_track.specs.Looks.{LookedThrough, lens_view, counted};
@@ -79,7 +80,7 @@ impl<'a> Lens<'a> {
         self.pulses.len()
     }
 
-    /// How long the track is, in microseconds.
+    /// How long the track is, in microseconds. No look is counted.
     pub fn length(&self) -> u64
         ensures length { result ≡ self.now.track.micros }
         ensures track { IsLongTrack self.now.track.micros self.now.track.pulses }
@@ -100,7 +101,8 @@ impl<'a> Lens<'a> {
     }
 
     /// How many pulses rise at or before `time`, in microseconds: a search that halves the rest at
-    /// each look. It makes no more looks than the number of pulses has binary digits.
+    /// each look, and counts each. It makes no more looks than the number of pulses has binary
+    /// digits.
     #[inline(always)]
     pub fn find(&mut self, time: u64) -> usize
         ensures count { result ≡ risen_by time self.old.track.pulses }

@@ -30,8 +30,9 @@ pub(crate) fn back_of(by: i64) -> u64
 }
 
 /// Moves `count` pulses from `at` on, from 0: by `on` microseconds later, and then by `off`
-/// earlier. One of these two is 0. The caller has tested that no time comes before 0, so nothing is
-/// cut off at 0. Times are at most 2^40 and `on` below 2^63, so no sum overflows.
+/// earlier. One of these two is 0. The caller has tested that no time comes before 0, so
+/// `saturating_sub` cuts nothing off. Times are at most 2^40 and `on` below 2^63, so no sum
+/// overflows.
 pub(crate) fn move_pulses(pulses: &mut Gap<Pulse>, at: usize, count: usize, on: u64, off: u64)
     requires there { at + count ≤ length pulses.old.items }
     requires short { UpTo (2 ^ 40) (edges_of pulses.old.items) }

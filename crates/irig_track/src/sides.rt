@@ -26,7 +26,7 @@ pub(crate) fn next(pulses: &Gap<Pulse>) -> Option<Pulse>
     }
 }
 
-/// Removes the first pulse right of the gap; does nothing if there is none.
+/// Removes the first pulse right of the gap, which has to be there: the caller has it from `next`.
 pub(crate) fn take_next(pulses: &mut Gap<Pulse>)
     requires { pulses.old.place < length pulses.old.items }
     ensures took { (p : Pulse) →

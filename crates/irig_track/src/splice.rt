@@ -47,9 +47,10 @@ pub(crate) fn replace(
     }
 }
 
-/// As `replace`, if as many come as go: each of the `count` pulses from `at` on is written over by
-/// one of `put`, so the gap stays where it is. `put` has `count` pulses, all right of its gap, so
-/// `None` does not come.
+/// Replaces the `count` pulses from `at` on, from 0, by the `count` pulses of `put`, as `replace`
+/// says. As many come as go, so each is written over by one of `put`, and the gap stays where it
+/// is. `taken` gets the replaced ones. All pulses of `put` are right of its gap, so `None` does not
+/// come.
 fn exchange(
     pulses: &mut Gap<Pulse>,
     at: usize,
@@ -83,7 +84,7 @@ fn exchange(
     }
 }
 
-/// Takes `count` pulses right of the gap of `from`, and puts them left of the gap of `to`, which
+/// Moves the first `count` pulses right of the gap of `from` to just left of the gap of `to`, which
 /// has room for them, in the same order. The caller has seen that they are there, so `None` does
 /// not come.
 fn carry(from: &mut Gap<Pulse>, count: usize, to: &mut Gap<Pulse>)

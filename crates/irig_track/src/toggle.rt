@@ -17,10 +17,13 @@ use crate::sides::{next, put_last, take_next};
 use irig_gap::Gap;
 use irig_recording::Pulse;
 
-/// Toggles `a`, and returns the rise that waits for its fall. If the next pulse rises at `a` or
-/// before it, it loses its edge at `a`, or is cut at `a` if it has none there; its other edge,
-/// which is its fall in the latter case, then waits as a rise. Else `a` itself is the rise. Pulses
-/// left of the gap fall before `a`, those right of it at `a` or later.
+/// Toggles `a`, and returns the rise that waits for its fall. Pulses left of the gap fall before
+/// `a`, those right of it at `a` or later. What waits depends on the next pulse:
+///
+/// - It rises after `a`, or is not there: `a` itself waits, as a new rise.
+/// - It rises at `a`: that edge goes, and its fall waits as a rise.
+/// - It falls at `a`: that edge goes, and its rise waits.
+/// - `a` is inside of it: it ends at `a`, and its fall waits as a rise.
 fn begin(pulses: &mut Gap<Pulse>, a: u64) -> u64
     requires rises { RisesFrom 0 (edges_of pulses.old.items) }
     requires left { Under a (edges_of (left_of pulses.old)) }
@@ -46,8 +49,8 @@ fn begin(pulses: &mut Gap<Pulse>, a: u64) -> u64
 }
 
 /// Goes on over all pulses that rise before time `b`, with `start` as the rise that waits, and
-/// returns the rise that waits after them. There is one edge more before these pulses, so each of
-/// their rises becomes a fall and each fall a rise.
+/// returns the rise that waits after them. The number of edges before these pulses is odd, so each
+/// of their rises becomes a fall and each fall a rise.
 fn go_on(pulses: &mut Gap<Pulse>, start: u64, b: u64) -> u64
     requires rises { RisesFrom 0 (waiting pulses.old start) }
     requires left { Under b (edges_of (left_of pulses.old)) }
@@ -69,10 +72,13 @@ fn go_on(pulses: &mut Gap<Pulse>, start: u64, b: u64) -> u64
     rise
 }
 
-/// Toggles `b`, so that the rise that waits gets its fall. If the next pulse rises at `b`, that
-/// edge goes, and the pulse ends at its fall. Else `b` is the fall. If the rise that waits is after
-/// `b`, it was the fall of a pulse over `b`, and `b` is the rise. If the rise that waits is at `b`,
-/// the toggle removes it, and no pulse is added.
+/// Toggles `b`; `rise` is the rise that waits. If the next pulse rises at `b`, that edge goes: this
+/// pulse now rises at `rise`. Else there are three cases:
+///
+/// - `rise` is before `b`: a pulse from `rise` to `b` is added.
+/// - `rise` is after `b`, as it was the fall of a pulse over `b`: a pulse from `b` to `rise` is
+///   added.
+/// - `rise` is `b`: the toggle removes it, and no pulse is added.
 fn finish(pulses: &mut Gap<Pulse>, rise: u64, b: u64)
     requires rises { RisesFrom 0 (waiting pulses.old rise) }
     requires left { Under b (edges_of (left_of pulses.old)) }
@@ -96,7 +102,8 @@ fn finish(pulses: &mut Gap<Pulse>, rise: u64, b: u64)
 }
 
 /// Toggles `a` and `b`; `a` is the earlier one. Before the call the pulses that fall at `a` or
-/// later are right of the gap; after it those that rise after `b` are.
+/// later are right of the gap; after it those that rise after `b` are. There has to be room for one
+/// pulse more.
 pub(crate) fn toggle_right(pulses: &mut Gap<Pulse>, a: u64, b: u64)
     requires order { a < b }
     requires rises { RisesFrom 0 (edges_of pulses.old.items) }

@@ -1,6 +1,10 @@
 //! A length and pulses in order: a wire as a session edits it.
 //!
-//! What is marked "Read for .." does nothing: it only lets the proof use what a type promises.
+//! `spare`, in contracts, is how many more pulses fit in the memory that is taken; `room` is how
+//! many more the limit allows.
+//!
+//! What is marked "Read for .." does nothing: it only lets the proof use what a type promises. A
+//! clause `track` says this promise again, for the proofs of callers.
 
 ghost use Rattle.std.specs.Prelude.{◌≡◌, ◌+◌, ◌-◌, ◌^◌, ◌/◌, ◌<◌, ◌≤◌, length, slice_get, Some};
 ghost use Rattle.std.specs.Prelude.{true, max, IfOk, OnOk, OnErr};
@@ -44,7 +48,9 @@ impl Track {
     /// memory. It fails only if memory runs out, and then the recording is dropped.
     ///
     /// It gets some spare room, so that the first pulse that comes does not move all pulses to
-    /// another block. It takes memory only if the block has no such room.
+    /// another block. It takes memory only if the block has no such room. `bounded`: a recording's
+    /// block has room for at most as many pulses again and 1024, and a growth adds half at most,
+    /// which makes 1536 of 1024.
     pub fn new(recording: Recording) -> Result<Track, AllocError>
         ensures length { IfOk result (λ t. t.micros ≡ recording.micros) }
         ensures edges { IfOk result (λ t. edges_of t.pulses ≡ recording.edges) }
@@ -58,7 +64,8 @@ impl Track {
     }
 
     /// The recording with the track's length and edges: a copy. A track keeps the limits of a
-    /// recording, so `unwrap` finds one. It fails only if memory runs out.
+    /// recording, so `unwrap` finds one. It fails only if memory runs out; an empty track takes no
+    /// memory.
     pub fn recording(&self, alloc: Global) -> Result<Recording, AllocError>
         ensures exact { IfOk result (λ r.
             r ≡ recording_view self.now.micros (edges_of self.now.pulses)) }
@@ -69,7 +76,7 @@ impl Track {
     }
 
     /// The times of all edges in order, a rise and a fall in turn, in microseconds. It fails only
-    /// if memory runs out.
+    /// if memory runs out; an empty track takes no memory.
     fn edges(&self, alloc: Global) -> Result<Vec<u64>, AllocError>
         ensures exact { IfOk result (λ edges. edges.items ≡ edges_of self.now.pulses) }
         ensures refused { OnErr result (0 < length self.now.pulses) }
@@ -104,8 +111,9 @@ impl Track {
         0 < self.pulses.len() && self.pulses.get(0).rise == 0
     }
 
-    /// Makes room for at least `more` further pulses, which then fit without a growth. If memory
-    /// runs out, nothing changes.
+    /// Makes room for at least `more` further pulses, which then fit without a growth. If it has to
+    /// grow, the memory becomes half as large again, or larger if `more` needs that. If memory runs
+    /// out, nothing changes.
     pub fn reserve(&mut self, more: usize) -> Result<(), AllocError>
         ensures stays { (self.new.micros ≡ self.old.micros) × (self.new.pulses ≡ self.old.pulses) }
         ensures room { OnOk result (more ≤ self.new.spare) }
@@ -166,8 +174,9 @@ impl Track {
     }
 
     /// How many pulses fall before `time`, in microseconds. So it is also the number, from 0, of
-    /// the first pulse that falls at `time` or later. That is the last one that rises at or before
-    /// `time`, or the one after it.
+    /// the first pulse that falls at `time` or later, or the count of pulses if there is none. All
+    /// pulses before the last one that rises at or before `time` fall before `time`, so only the
+    /// fall of that one is tested.
     pub(crate) fn first_reaching(&self, time: u64) -> usize
         ensures { result ≡ ended_before time self.now.pulses }
     {

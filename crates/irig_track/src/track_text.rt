@@ -1,8 +1,9 @@
 //! The text of a track, in parts.
 //!
-//! The text is a dump: header lines, two lines for each edge, and one for the length if no edge is
-//! there. The writer (`TextWriter` of irig_recording) writes them, and has the last time that it
-//! wrote. What fails, fails only if memory runs out.
+//! The text is a dump: header lines, two lines for each edge, and a line of the length if the last
+//! edge is not there. The writer (`TextWriter` of irig_recording) writes them, and has the last
+//! time that it wrote. What fails, fails only if memory runs out. A text has `enough` bytes if it
+//! has at least as many: the part that is added last may go past them.
 
 ghost use Rattle.std.specs.Prelude.{◌≡◌, ◌≤◌, ◌<◌, ◌++◌, drop, length, vec_len, IfOk, IsSome};
 ghost use Rattle.irig_recording.specs.{FileText.file_text, Recording.recording_view};
@@ -59,8 +60,8 @@ impl<'t> Model for TrackText<'t> {
 impl Text for TrackText<'_> {
     ghost rest = { λ t. t };
 
-    // Adds the next parts to the block until it has `enough` bytes. Returns whether the text has
-    // ended. The next call goes on from there. It fails only if memory runs out.
+    // Adds the next parts to the block until it has `enough` bytes. Returns `true` if the text has
+    // ended; `false` if the next call goes on from there. It fails only if memory runs out.
     fn fill(&mut self, block: &mut Vec<u8>, enough: usize) -> Result<bool, AllocError> {
         match put_next(&mut self.writer, block, self.track, self.next, enough)? {
             Some(first) => {
@@ -76,8 +77,7 @@ impl Text for TrackText<'_> {
 }
 
 /// Adds what comes next to `text`, until that has `enough` bytes. Returns the number of the pulse
-/// that comes next, from 0; the count of pulses means the line of the length; `None` that the text
-/// has ended.
+/// whose lines come next, from 0; `None` if the text has ended.
 #[inline(always)]
 fn put_next(
     writer: &mut TextWriter,
@@ -98,7 +98,8 @@ fn put_next(
 
 /// Adds the header to `text` if that comes next, else nothing. The header has the level from time 0
 /// on, so `begin` of the writer takes whether a pulse rises at 0. Returns the number of the pulse
-/// that comes next, from 0; `None` if the text has ended.
+/// that comes next, from 0, which is 0 after the header, also if there is no pulse; `None` if the
+/// text has ended.
 fn put_header(
     writer: &mut TextWriter,
     text: &mut Vec<u8>,
@@ -119,8 +120,9 @@ fn put_header(
 }
 
 /// Adds the lines of the pulses from number `first` on, from 0, to `text`, until that has `enough`
-/// bytes. After the last pulse the line of the length is added in any case, since it is short.
-/// Returns the number of the pulse that comes next, from 0; `None` after the line of the length.
+/// bytes. After the last pulse the line of the length is added in any case, since it is short;
+/// `finish` leaves it out if the last edge is at the length. Returns the number of the pulse that
+/// comes next, from 0; `None` after the line of the length.
 fn put_lines(
     writer: &mut TextWriter,
     text: &mut Vec<u8>,
