@@ -1,7 +1,8 @@
 //! The command line, read by `clap`. Its matches are what `clap` found in its words. Only memory
 //! can run out for a `Command` or an `Arg`. A `UsageFault` is `Words` if `clap` does not accept the
-//! words, or they ask for help, and `Value` if an option has a value that it cannot have. In a text
-//! of the help, what is after the last colon is the value without the option.
+//! words, they ask for help, or memory runs out, and `Value` if an option has a value that it
+//! cannot have. In a text of the help, what is after the last colon is the value without the
+//! option. An `Arg` that is `global` would be one of subcommands, too.
 
 ghost use Rattle.std.specs.Prelude.{◌≡◌, IfErr, IfOk, None, false, map, string_bytes};
 ghost use Rattle.clap.specs.Words.{HasMatchesOf, app_of, found_of, rule_of};
@@ -18,7 +19,8 @@ use clap::{Arg, ArgMatches, Command, Error};
 use irig_words::{UsageFault, flag_arg, matches_of, needed_arg, option_arg, windowed};
 use std::alloc::{AllocError, Global};
 
-/// What the words of a command line ask for, the program's name being the first.
+/// What the words of a command line ask for, the program's name being the first. An error says why
+/// they ask for nothing.
 pub fn settings<'a>(
     alloc: Global,
     words: &'a [String],
@@ -35,7 +37,8 @@ pub fn settings<'a>(
     }
 }
 
-/// The values of a command line: the words, as `clap` takes them apart.
+/// The values of a command line: the words, as `clap` takes them apart. `Err` if `clap` does not
+/// accept them, they ask for help, or memory ran out.
 fn asked<'a>(alloc: Global, words: &'a [String]) -> Result<Asked<'a>, Error>
     ensures values { IfOk result (Values the_command AreValues
         (map string_bytes words.entry.now)) }
@@ -47,7 +50,8 @@ fn asked<'a>(alloc: Global, words: &'a [String]) -> Result<Asked<'a>, Error>
     }
 }
 
-/// The values of the matches, each as it was written. `Err` means that memory ran out.
+/// The values of the matches, each as it was written; `None` for an option that is not given. `Err`
+/// means that memory ran out.
 fn values_of<'a>(matches: &ArgMatches<'a>) -> Result<Asked<'a>, Error>
     ensures values { IfOk result (AreValues (found_of matches.now)) }
     ensures memory { IfErr result WantsMemory }
@@ -72,7 +76,8 @@ fn values_of<'a>(matches: &ArgMatches<'a>) -> Result<Asked<'a>, Error>
     })
 }
 
-/// The matches of a command line that `clap` accepts.
+/// The matches of a command line that `clap` accepts. `Err` if it does not accept the words, they
+/// ask for help, or memory ran out.
 fn parse_words<'a>(alloc: Global, words: &'a [String]) -> Result<ArgMatches<'a>, Error>
     ensures parsed { IfOk result (HasMatchesOf the_command (map string_bytes words.entry.now)) }
     ensures refused { IfErr result (MayRefuse the_command (map string_bytes words.entry.now)) }

@@ -24,7 +24,7 @@ use std::alloc::Global;
 use std::io::Write;
 
 /// Prints the patch between the tracks of the dumps that the words of a command line name, the
-/// program's name being the first.
+/// program's name being the first. `Usage` if they ask for help, or for nothing that can be done.
 pub fn compare_words<'a, D: Disk, W: Write>(
     alloc: Global,
     words: &'a [String],
@@ -41,7 +41,7 @@ pub fn compare_words<'a, D: Disk, W: Write>(
 }
 
 /// Prints the patch between the tracks of the settings. The memory for its block is taken before
-/// they are read. If there is none, the track before is reported as not read.
+/// they are read. If there is none, the track before is reported as not read (`Unread`).
 fn compare_files<'a, D: Disk, W: Write>(
     alloc: Global,
     chosen: &Settings<'a>,
@@ -58,7 +58,8 @@ fn compare_files<'a, D: Disk, W: Write>(
 }
 
 /// Prints the patch between the tracks of the settings, by this block: both are read in the same
-/// window. The track before is read first, and its fault is reported alone.
+/// window. The track before is read first. `Unread` with the path of the first track that cannot be
+/// read; nothing is printed then.
 fn compare_with_block<'a, D: Disk, W: Write>(
     alloc: Global,
     chosen: &Settings<'a>,
@@ -80,7 +81,9 @@ fn compare_with_block<'a, D: Disk, W: Write>(
     compare_recordings(alloc, chosen, before, after, out, block)
 }
 
-/// Prints the patch between two recordings, with comments if frames are asked for.
+/// Prints the patch between two recordings, with comments if frames are asked for. `Compared` says
+/// whether the two are the same. `Unprinted` if the output fails, and `Unread` if memory runs out
+/// for the frames.
 fn compare_recordings<'a, W: Write>(
     alloc: Global,
     chosen: &Settings<'a>,
@@ -99,7 +102,7 @@ fn compare_recordings<'a, W: Write>(
 }
 
 /// Prints the patch between two recordings with comments that show their frames in this format. If
-/// memory runs out for the frames of one, that one is reported as not read.
+/// memory runs out for the frames of one of them, that track is reported as not read (`Unread`).
 fn compare_frames<'a, W: Write>(
     alloc: Global,
     chosen: &Settings<'a>,
@@ -122,7 +125,8 @@ fn compare_frames<'a, W: Write>(
 }
 
 /// Prints the patch with comments between two recordings. It has no byte exactly if they are the
-/// same, which the ending says.
+/// same: the ending is `Compared(true)` then, else `Compared(false)`. `Unprinted` if the output
+/// fails.
 fn print_frames<'a, W: Write>(
     before: &Framed,
     after: &Framed,
@@ -139,8 +143,8 @@ fn print_frames<'a, W: Write>(
     }
 }
 
-/// Prints the patch between two recordings. It has no byte exactly if they are the same, which the
-/// ending says.
+/// Prints the patch between two recordings. It has no byte exactly if they are the same: the ending
+/// is `Compared(true)` then, else `Compared(false)`. `Unprinted` if the output fails.
 fn print_patch<'a, W: Write>(
     before: &Recording,
     after: &Recording,

@@ -53,8 +53,9 @@ fn arguments<R: Runtime + AllocGlobal>(rt: &R) -> io::Result<Vec<String>> {
     Ok(words)
 }
 
-/// Compares the tracks that the words name, by the files of this system (`disk`) and this output,
-/// and reports how that ended. `help` is the output for the help.
+/// Compares the tracks that the words name, by the files of this system (`disk`) and this output
+/// (`out`), and reports how that ended: the answer is the exit status. `help` is the output for the
+/// help.
 fn start<P: Eprint + AllocGlobal, C: FileSystem, W: Write, H: Write>(
     rt: &P,
     words: &[String],

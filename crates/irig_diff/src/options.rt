@@ -32,8 +32,8 @@ pub fn settings_of<'a>(asked: &Asked<'a>) -> Result<Settings<'a>, OptionFault>
     }
 }
 
-/// The format of the frames that are shown; `None` if they are not asked for (`--frames`). An
-/// option of the format without that is a fault, `Alone`.
+/// The format of the frames that are shown; `None` if they are not asked for (`--frames`). `Format`
+/// if an option of the format has a wrong value, and `Alone` if one is given without `--frames`.
 fn frames_of(asked: &Asked<'_>) -> Result<Option<Format>, OptionFault>
     ensures frames { IfOk result (AreFrames asked.now) }
     ensures fault { IfErr result (HasFault asked.now) }
@@ -50,7 +50,7 @@ fn frames_of(asked: &Asked<'_>) -> Result<Option<Format>, OptionFault>
     Ok(None)
 }
 
-/// Whether an option is given that says how frames are read.
+/// Whether an option is given that says how frames are read: `--format` or `--expression`.
 fn names_format(asked: &Asked<'_>) -> bool
     ensures { result ≡ names_format asked.now }
 {

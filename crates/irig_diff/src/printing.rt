@@ -12,7 +12,8 @@ use irig_text::{ENOUGH, Text};
 use std::io::Write;
 
 /// Prints a text, block by block. Its parts wait in the block until they are written, and what the
-/// block holds before is lost. Returns whether the text has no byte.
+/// block holds before is lost. Returns whether the text has no byte. An error is that the output
+/// failed, or that memory ran out for the block; a front of the text may be printed then.
 pub fn print<W: Write, T: Text>(
     out: &mut W,
     text: &mut T,
@@ -35,9 +36,9 @@ pub fn print<W: Write, T: Text>(
     }
 }
 
-/// Prints the next block of a text, and notes whether it has a byte. Returns whether it was the
-/// last one. A block has 64 KiB (`ENOUGH`) or more, but for the last. If memory runs out for it,
-/// that is a fault of the output.
+/// Prints the next block of a text, and sets `empty` to false if the block has a byte. Returns
+/// whether it was the last one. A block has 64 KiB (`ENOUGH`) or more, but for the last. If memory
+/// runs out for it, the error is the same as if the output fails: `PrintFault`.
 fn print_next<W: Write, T: Text>(
     out: &mut W,
     text: &mut T,
@@ -49,7 +50,7 @@ fn print_next<W: Write, T: Text>(
         × (empty.new ≡ true ↔ (empty.old ≡ true) × (part ≡ []))
         × Appends (W.contents out.old) (W.contents out.new) part) }
     ensures end { IfOk result (λ ended. ended ≡ true → T.rest text.new ≡ []) }
-    // at least 64 KiB are printed, or the text has ended
+    // At least 64 KiB are printed, or the text has ended.
     ensures more { IfOk result (λ ended. ended ≡ false
         → ENOUGH + length (T.rest text.new) ≤ length (T.rest text.old)) }
     ensures err { OnErr result

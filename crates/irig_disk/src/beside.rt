@@ -1,9 +1,11 @@
 //! A new file next to its target, under a name that is free.
 //!
 //! The target is the name that the text is to have. A stem is what the name of a new file begins
-//! with; a number is after it, from 0. `dir` is the open folder in which all these names are, and
-//! `name` the memory for the name that is tried. A hidden file is its owner's alone. An error
-//! (`PutFault`) is `NamesTaken`, the fault of a call (`Failed`), or that memory ran out (`Memory`).
+//! with; a number is after it, from 0. `folder` makes the calls of the system, `dir` is the open
+//! folder in which all these names are, and `name` the memory for the name that is tried. A hidden
+//! file is its owner's alone. An error (`PutFault`) is `NamesTaken`, the fault of a call
+//! (`Failed`), or that memory ran out (`Memory`). `is_told` says whether the contracts know what
+//! the folders hold: true of folders in memory, false of those of the system.
 //!
 //! Where `match` hands an error on, `?` would do the same; the proof of it takes longer.
 
@@ -51,8 +53,10 @@ pub(crate) fn make_beside<F: Folder>(
     Err(PutFault::NamesTaken)
 }
 
-/// Makes a new file under the name of the stem and this number. `None` if that name is taken, is
-/// the target's, or is no single name (it has a `/`): the next number is to be tried.
+/// Makes a new file under the stem and this number, a name that it leaves in `name`. `None` if that
+/// name is taken, is the target's, or is no single name (it has a `/`): the next number is to be
+/// tried. Nothing has changed after `None` or an error. In the clauses, `start` is a state since
+/// which nothing has changed: the one before the first number was tried.
 fn make_at<F: Folder>(
     folder: &mut F,
     dir: &F::Dir,

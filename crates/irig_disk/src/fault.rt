@@ -34,9 +34,10 @@ impl<X> From<AllocError> for PutFault<X> {
 }
 
 /// What a write leaves after a fault, when it has tried to remove its new file. `fault` is that of
-/// the call that failed, or `None` if none did: memory ran out, or the text was too long, which
-/// counts as the same. `removal` is what the removal gave. A removal that failed is an error of its
-/// own: the new file is still there.
+/// the call that failed, or `None` if none did: memory ran out, or the text had more than 2^64 - 1
+/// bytes, which is reported as `Memory`, too. `removal` is what the removal gave. If the file is
+/// removed: `Failed` with the fault, or `Memory`. If it is still there: `LeftBehind` with both
+/// faults, or `Remains` with that of the removal.
 pub(crate) fn fault_after<T: Drop, X>(fault: Option<X>, removal: Result<T, X>) -> PutFault<X>
     ensures { result ≡ left_by fault removal }
 {

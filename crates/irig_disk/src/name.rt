@@ -9,7 +9,9 @@ use std::path::Path;
 pub fn is_name(name: &str) -> bool
     ensures { IsTrue result ↔ IsName name.now }
 {
-    // The last part of a path is the whole path only if it has no other part.
+    // `file_name` is the last part of a path, or `None` if that is `..` or there is none, as in
+    // `.`, `/` and an empty path. It is the whole path only if the path has no other part and no
+    // `/`.
     match Path::new(name).file_name() {
         Some(last) => last == name,
         None => false,

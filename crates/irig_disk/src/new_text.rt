@@ -4,8 +4,10 @@
 //! The target is the name that the text is to have. A stem is what the name of a new file begins
 //! with; a number is after it. A hidden file is its owner's alone. The new file is `beside` the
 //! target, under a name of its own in the same folder, until it takes the target's name. To sync is
-//! to ask the system to keep something over a crash. `folder` makes the calls, and `F::Fault` is
-//! the error of one; a `PutFault` says what a write that failed leaves.
+//! to ask the system to keep something over a crash. `folder` makes the calls, `F::Fault` is the
+//! error of one, and `F.is_told` says whether its contracts report what the folders have; a
+//! `PutFault` says what a write that failed leaves. In clauses `start` is the state of the folders
+//! before the new file was made, and `F.place dir name` a name in a folder.
 //!
 //! Where `match` hands an error on, `?` would do the same; the proof of it takes longer.
 
@@ -85,8 +87,9 @@ impl<'n, F: Folder> NewText<'n, F> {
         }
     }
 
-    /// Writes a part at the end of the new file, and counts its bytes, up to 2^64 - 1 in all. After
-    /// an error some of the part may be written, so call `give_up` then.
+    /// Writes a part at the end of the new file, and counts its bytes, up to 2^64 - 1 in all. `Ok`:
+    /// the whole part is written; what the folder's own call answers is handed on. After an error
+    /// some of the part may be written, and it is not counted, so call `give_up` then.
     pub fn append(&mut self, folder: &mut F, part: &[u8]) -> Result<F::Appended, F::Fault>
         ensures dir { self.new.dir.now ≡ self.old.dir.now }
         ensures beside { self.new.beside.now ≡ self.old.beside.now }
@@ -112,8 +115,9 @@ impl<'n, F: Folder> NewText<'n, F> {
     }
 
     /// Gives the text its mode and its name, and keeps both over a crash. If it fails before the
-    /// text has the name, the new file is removed, if that can be done; after that the error is
-    /// `NotKept`.
+    /// text has the name, the new file is removed: `Failed`, or `LeftBehind` if that could not be
+    /// done. `NotKept` if it fails after that: the text is there, but a crash can bring the old one
+    /// back.
     pub fn finish(self, folder: &mut F) -> Result<Kept, PutFault<F::Fault>>
         requires { IsName self.target.now }
         ensures ok { IsTrue F.is_told → WhileWriting F.disk folder.old (F.place self.entry.dir.now self.entry.beside.now)
@@ -139,7 +143,7 @@ impl<'n, F: Folder> NewText<'n, F> {
         }
     }
 
-    /// Removes the new file, after a fault. The target stays as it was.
+    /// Removes the new file, after a fault. The target stays as it was. `Err`: it is still there.
     pub fn give_up(self, folder: &mut F) -> Result<F::NameRemoved, F::Fault>
         ensures ok { IsTrue F.is_told → (mode : ℕ) → WhileWriting F.disk folder.old
             (F.place self.entry.dir.now self.entry.beside.now) (F.place self.entry.dir.now self.entry.target.now) (F.number self.entry.file) mode
@@ -163,8 +167,8 @@ impl<'n, F: Folder> NewText<'n, F> {
     }
 }
 
-/// Gives a text its mode and its name, or removes its new file if that fails. The error says what
-/// is left then.
+/// Gives a text its mode and its name, or removes its new file if that fails: `Failed`, or
+/// `LeftBehind` if it could not be removed.
 fn place_or_clear<F: Folder>(folder: &mut F, new: &NewText<'_, F>) -> Result<(), PutFault<F::Fault>>
     ensures ok { IsTrue F.is_told → WhileWriting F.disk folder.old (F.place new.now.dir.now new.now.beside.now) (F.place new.now.dir.now new.now.target.now)
         (F.number new.now.file) (first_mode F.usual_mode new.now.mode) (λ start text.

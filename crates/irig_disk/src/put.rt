@@ -4,7 +4,11 @@
 //! replaced. A block is memory in which parts of the text wait to be written together. `None`
 //! instead of the fault of a call says that memory ran out, or that the text has more than 2^64 - 1
 //! bytes. `PutFault` says what a write that did not succeed leaves, and `Kept` that the text was
-//! written and each crash from then on leaves it.
+//! written and each crash from then on leaves it. `folder` makes the calls of the system. `is_told`
+//! says whether the contracts know what the folders hold: true of folders in memory, false of those
+//! of the system. `T::rest` is the bytes of a text that are still to come. In the clauses, `start`
+//! is the state before the new file was made. `Adds` says that the new file has these bytes more
+//! since an earlier state, `Spoils` that a call failed and it may have any bytes.
 //!
 //! Where `match` hands an error on, `?` would do the same; the proof of it takes longer.
 
@@ -27,6 +31,9 @@ use irig_text::{ENOUGH, Text};
 /// Writes a text to the name `target` in the open folder `dir`, with a mode (`None`: the usual
 /// one). Until the new file takes the target's name, its own is `stem` and a number. `name` is the
 /// memory for that name, and `block` that for the parts of the text; what both hold before is lost.
+/// After `Memory`, `NamesTaken` and `Failed` all is seen as it was; after `LeftBehind` and
+/// `Remains`, too, but the new file is still there. If a rename was tried, a crash can still bring
+/// the new text. After `NotKept` the new text is there, but a crash can bring the old one back.
 pub fn put_text<F: Folder, T: Text>(
     folder: &mut F,
     dir: &F::Dir,
@@ -57,8 +64,9 @@ pub fn put_text<F: Folder, T: Text>(
     put_begun(folder, begun, text, block)
 }
 
-/// Writes the text to the new file that `begin` made, and gives the file the target's name, or
-/// removes it after a fault. If no file was made, that fault is the answer.
+/// Writes the text to the new file that `NewText::begin` made, and gives the file the target's
+/// name; if the write fails, the file is removed (`finish_or_give_up` gives the answer). `begun` is
+/// what `begin` answered: if it is a fault, no file was made, and that fault is the answer here.
 fn put_begun<F: Folder, T: Text>(
     folder: &mut F,
     begun: Result<NewText<'_, F>, PutFault<F::Fault>>,
@@ -86,7 +94,9 @@ fn put_begun<F: Folder, T: Text>(
 }
 
 /// Ends a write: gives the new file the target's name if the text was written to it, else removes
-/// the file. `written` says how the write went; a fault of `None` in it is that of no call.
+/// the file. `written` says how the write of the text went: its error is the fault of a call, or
+/// `None` if memory ran out or the text is too long. After such an error the answer is `Failed` or
+/// `Memory`; or, if the file could not be removed, `LeftBehind` or `Remains` (`fault_after`).
 fn finish_or_give_up<F: Folder>(
     folder: &mut F,
     new: NewText<'_, F>,
@@ -111,8 +121,8 @@ fn finish_or_give_up<F: Folder>(
     }
 }
 
-/// Writes all of a text to the new file. The error `None` is a fault of no call: memory ran out, or
-/// the text is too long.
+/// Writes all of a text to the new file, block by block. An error is the fault of a call, or
+/// `None`: memory ran out, or the text is too long. A part of the text may be in the file then.
 fn append_all<F: Folder, T: Text>(
     folder: &mut F,
     new: &mut NewText<'_, F>,
@@ -141,8 +151,8 @@ fn append_all<F: Folder, T: Text>(
 }
 
 /// Writes the next block of a text to the new file, and returns whether it was the last one. A
-/// block that is not the last has at least `ENOUGH` bytes, 64 KiB. The error `None` is a fault of
-/// no call.
+/// block that is not the last has at least `ENOUGH` bytes, 64 KiB. An error is the fault of a call,
+/// or `None`: memory ran out, or the text is too long.
 fn append_next<F: Folder, T: Text>(
     folder: &mut F,
     new: &mut NewText<'_, F>,
@@ -160,7 +170,7 @@ fn append_next<F: Folder, T: Text>(
         × (IsTrue F.is_told → Adds F.disk folder.old folder.new
         (F.place new.old.dir.now new.old.beside.now) (F.number new.old.file) part)) }
     ensures end { IfOk result (λ ended. ended ≡ true → T.rest text.new ≡ []) }
-    // at least 64 KiB go on, or the text has ended
+    // At least 64 KiB are written, or the text has ended.
     ensures more { IfOk result (λ ended. ended ≡ false
         → ENOUGH + length (T.rest text.new) ≤ length (T.rest text.old)) }
     ensures err { IsTrue F.is_told → OnErr result (Spoils F.disk folder.old folder.new
@@ -172,8 +182,8 @@ fn append_next<F: Folder, T: Text>(
     }
 }
 
-/// Writes a block of a text to the new file, and returns `ended`, whether the block is the last
-/// one. A fault is always that of a call.
+/// Writes a block of a text to the new file, and returns `ended` as it is given: whether the block
+/// is the last one. An error is always `Some`: the fault of a call.
 fn append_block<F: Folder>(
     folder: &mut F,
     new: &mut NewText<'_, F>,

@@ -8,7 +8,8 @@ use irig_words::UsageFault;
 /// How the program ends, before it is reported. A `Status` says whether all lines were accepted.
 #[derive(Drop)]
 pub enum Ending<'a> {
-    /// The command line asks for no run.
+    /// The command line asks for no run: it asks for help or is not valid, or memory ran out for
+    /// it.
     Usage(UsageFault<OptionFault>),
     /// The file at this path is no dump that can be read.
     Unread(&'a str, DumpFileFault),

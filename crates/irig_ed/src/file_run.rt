@@ -2,7 +2,12 @@
 //! the dump that is read, if not all is. The room is the memory that writes use: it is taken before
 //! the dump is read, so no write runs out of memory. A read has two faults: the outer one is of the
 //! file, the inner one, `VcdFault`, of the dump in it. `Parts` are the recording of a wire and the
-//! text of the journal, if there is one. A dump with a journal is a saved session.
+//! text of the journal, if there is one. A dump with a journal is a saved session. `disk` is the
+//! files by their paths, `chosen` the settings. The screen is the output for answers. In a
+//! contract, `files` is what is known of the disk before and after, `ends` what is known of the
+//! screen, the script and the writes; `IsApart` says that there is no window, or that the path to
+//! write does not lead to the dump; `few` says that a journal has no more bytes than a dump may
+//! have.
 
 ghost use Rattle.std.specs.Prelude.{◌≡◌, ◌&&◌, ◌≤◌, ◌^◌, ℕ, List, IfErr, IfOk, IfSome, IsTrue, Ok};
 ghost use Rattle.std.specs.Prelude.{false, is_some, length, map, string_bytes, true};
@@ -24,7 +29,8 @@ use std::alloc::Global;
 use std::io::{Read, Write};
 
 /// Runs a script on the dump that the words of a command line name, the program's name being the
-/// first. `Usage` if `settings` finds a mistake in them, or if they ask for help.
+/// first. `Usage` if `settings` finds a mistake in them, if they ask for help, or if memory runs
+/// out for them; else the ending is that of `run_on_track`.
 pub fn obey_words<'a, D: Disk, R: Read, W: Write, N: Witness>(
     alloc: Global,
     words: &'a [String],
@@ -45,7 +51,8 @@ pub fn obey_words<'a, D: Disk, R: Read, W: Write, N: Witness>(
 }
 
 /// Runs a script on the dump of the settings. `Over` if what is written of a window would be
-/// written to the dump, and `Unknown` if that cannot be found out.
+/// written to the dump, and `Unknown` if that cannot be found out: the dump and the script are not
+/// read then. Else the ending is `Unread`, `Saved` or `Ran`, as the functions below say.
 fn run_on_track<'a, D: Disk, R: Read, W: Write, N: Witness>(
     alloc: Global,
     chosen: &Settings<'a>,
@@ -66,8 +73,9 @@ fn run_on_track<'a, D: Disk, R: Read, W: Write, N: Witness>(
     }
 }
 
-/// Whether there is a window, and the path to write leads to the dump. Without a window it may: the
-/// whole replaces the whole. `Err`: it cannot be found out.
+/// Whether there is a window, and the path to write leads to the dump. Without a window the answer
+/// is false, also if the path leads there: the whole may replace the whole. `Err`: there is a
+/// window, and it cannot be found out.
 fn is_over<D: Disk>(chosen: &Settings<'_>, disk: &D) -> Result<bool, ShelfFault>
     ensures apart { IsTrue D.is_told → IfOk result (λ over. over ≡ false
         → IsApart chosen.now (D.disk disk.now)) }
@@ -163,7 +171,8 @@ fn run_on_read<'a, D: Disk, R: Read, W: Write, N: Witness>(
     Ending::Ran(chosen.track, result)
 }
 
-/// Whether there is a window, and the dump has a journal.
+/// Whether a part of a saved session was read: there is a window, and the dump has a journal. Such
+/// a session opens only as a whole.
 fn is_of_session(window: Option<Window>, journal: &Option<Vec<u8>>) -> bool
     ensures { result ≡ (is_some window && is_some journal.now) }
 {

@@ -5,7 +5,8 @@ ghost use Rattle.irig_ed.specs.Help.{help_text};
 
 use irig_words::Program;
 
-/// What the program says of itself: its name, its help, and how it ends if its output fails.
+/// What the program says of itself: its name, its help, and its status and words if its output
+/// fails.
 pub fn program<'a>() -> Program<'a>
     ensures help { result.help.now ≡ help_text }
     ensures status { result.status ≡ 4 }

@@ -50,9 +50,10 @@ static DUMP: &[u8] = b"$timescale 1 us $end $var wire 1 ! code $end $enddefiniti
     #100 1!\n#120 0!\n#200 1!\n#280 0!\n#1000\n";
 
 /// A run that writes twice: the track, the path of the writes, the exit status, what is printed,
-/// and how many calls change the folders. A dump of two pulses, as it is written, has 163 bytes. A
-/// write to a new regular file is five calls: make, append, sync the file, rename, sync the folder.
-/// If the file is there, the new one also takes its mode, which is a sixth.
+/// and how many calls change the folders. The status is 0, or 1 if a line was refused, 2 for a
+/// mistake in the command line, 3 for a track that cannot be used. A dump of two pulses, as it is
+/// written, has 163 bytes. A write to a new regular file is five calls: make, append, sync the
+/// file, rename, sync the folder. If the file is there, the new one also takes its mode, a sixth.
 type Row = (&'static str, &'static str, u8, &'static [u8], usize);
 
 /// What is no regular file, and the standard output, are written in place, also through a link.
@@ -73,7 +74,8 @@ static ROWS: [Row; 9] = [
     ("none", "w", 3, b"", 0),
 ];
 
-/// The same with a window of the whole dump: it is not written over the track, also through a link.
+/// Runs with `--from 0`, a window of the whole dump: it is not written over the track, also through
+/// a link (status 2), but it is written to any other path.
 static WINDOW_ROWS: [Row; 4] = [
     ("t", "w", 0, b"163\n163\n", 11),
     ("t", "out", 0, b"163\n163\n", 0),
@@ -81,8 +83,9 @@ static WINDOW_ROWS: [Row; 4] = [
     ("t", "way", 2, b"", 0),
 ];
 
-/// A folder with the dump, a link to it, a file that must not be written, the standard output, a
-/// link to it, and a pipe. A path may follow 40 links.
+/// A folder with the dump (`t`), a link to the dump (`way`), a file that must not be written
+/// (`locked`), the standard output (`out`), a link to the output (`link`), and a pipe. A path may
+/// follow 40 links. It fails only if memory runs out.
 fn folder(alloc: Global) -> Result<Tree, MemoryFault> {
     let mut tree = Tree::new(alloc, 40);
     tree.add_path(".", "/")?;
@@ -109,7 +112,8 @@ fn words(alloc: Global, window: bool, track: &str, out: &str) -> Option<Vec<Stri
     Some(words)
 }
 
-/// Whether the run of a row ends, prints and writes as the row says. Its script is `write`, twice.
+/// Whether the run of a row ends, prints and writes as the row says, and prints no help. Its script
+/// is `write`, twice. It is false, too, if memory runs out for the words.
 fn is_run<R: Eprint + AllocGlobal>(rt: &R, tree: Tree, window: bool, row: Row) -> bool {
     let (track, out, status, printed, calls) = row;
     let alloc = rt.alloc();
@@ -131,7 +135,8 @@ fn is_run<R: Eprint + AllocGlobal>(rt: &R, tree: Tree, window: bool, row: Row) -
         && disk.system().memory.calls().len().saturating_sub(before) == calls
 }
 
-/// Whether the run of a row, with a window or without one, is as the row says.
+/// Whether the run of a row in a new `folder`, with a window or without one, is as the row says. It
+/// is false, too, if memory runs out for the folder.
 fn is_run_in_folder<R: Eprint + AllocGlobal>(rt: &R, window: bool, row: Row) -> bool {
     match folder(rt.alloc()) {
         Ok(tree) => is_run(rt, tree, window, row),
@@ -139,8 +144,8 @@ fn is_run_in_folder<R: Eprint + AllocGlobal>(rt: &R, window: bool, row: Row) -> 
     }
 }
 
-// Only a path that leads to the place of a regular file that may be written, or of none yet,
-// changes the folder.
+// The runs without a window. Only a write to a path that leads to a regular file that may be
+// written, or to none yet, changes the folder; the standard output is written in place.
 #[test]
 fn the_standard_output_is_written_in_place(rt: HostRuntime) {
     for row in ROWS.iter() {
@@ -148,7 +153,7 @@ fn the_standard_output_is_written_in_place(rt: HostRuntime) {
     }
 }
 
-// A window is written to another file than the track.
+// The runs with a window: it is written to another path than the track, or the run is refused.
 #[test]
 fn a_window_is_not_written_over_its_track(rt: HostRuntime) {
     for row in WINDOW_ROWS.iter() {

@@ -1,4 +1,6 @@
-//! A line editor for recorded time tracks.
+//! A line editor for recorded time tracks. The status is the number with which the program ends. In
+//! a contract, `files` is what is known of the disk before and after, and `ends` what is known of
+//! the screen, the script and the writes.
 #![tactic(auto)]
 
 mod ending;
@@ -25,8 +27,8 @@ use std::process::ExitCode;
 use std::rt::Runtime;
 use std::{env, io};
 
-// Gets the files of the system, and serves the words of the command line. The status is 2 if memory
-// runs out for the files.
+// Gets the files of the system, and serves the words of the command line: the status is that of
+// `serve`. It is 2 if memory runs out for the files.
 fn main(rt: HostRuntime) -> ExitCode {
     let Ok(mut files) = system_files(&rt) else {
         return program().tell(&rt, 2, &io::Error::from(io::ErrorKind::OutOfMemory));
@@ -49,9 +51,9 @@ fn arguments<R: Runtime + AllocGlobal>(rt: &R) -> io::Result<Vec<String>> {
     Ok(words)
 }
 
-/// Edits the track that the words name, if there are words; else says why there are none. The
-/// answer is the exit status, with which `main` ends. The screen is the output for answers, `help`
-/// that for the help.
+/// Edits the track that the words name, if there are words; else says why there are none, with
+/// status 2. The answer is the exit status, with which `main` ends. The screen is the output for
+/// answers, `help` that for the help.
 fn serve<P: Eprint + AllocGlobal, C: FileSystem, R: Read, W: Write, N: Witness, H: Write>(
     rt: &P,
     words: io::Result<Vec<String>>,

@@ -2,7 +2,8 @@
 //! refused, 1 that some line was, 2 a mistake in the command line, 3 a dump that cannot be used,
 //! and 4 that the run was broken off, or that the system does not say where a path leads. `tell`
 //! and `tell_of` print a fault on the standard error, the latter with a path, and return the status
-//! that they get. `explain` prints the help with status 0, or with 2 what is wrong with the words.
+//! that they get. `explain` prints the help with status 0, or with 2 what is wrong with the words;
+//! the status is 4 if the help cannot be printed.
 
 ghost use Rattle.std.specs.Prelude.{◌≡◌};
 ghost use Rattle.std.specs.Process.{exit_status};
@@ -15,8 +16,8 @@ use irig_script::{DumpRunFault, Status};
 use std::io::Write;
 use std::process::ExitCode;
 
-/// The status of the process for how the program ended, which is reported if it is a fault. Help
-/// that was asked for is printed on its output.
+/// The status of the process for how the program ended. A fault is printed on the standard error,
+/// and help that was asked for on its output, `help`.
 pub fn report<R: Eprint, H: Write>(rt: &R, ending: &Ending<'_>, help: &mut H) -> ExitCode
     ensures { Reports ending.now (H.contents help.old) (H.contents help.new) (exit_status result) }
 {

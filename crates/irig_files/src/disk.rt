@@ -43,8 +43,8 @@ pub trait Disk {
     ghost is_barred: { Self → ℕ → Type 0 };
 
     /// Reads the dump in the file at a path, of the wire named `wire`, or if none is named of the
-    /// one wire of one bit. At most one more byte than 2^28 is read. If nothing is at the path:
-    /// `CannotBeRead`.
+    /// one wire of one bit. If the file has more than 2^28 bytes: `TooLong`; at most one more byte
+    /// is read. If nothing is at the path: `CannotBeRead`.
     fn read(
         &self,
         alloc: Global,
@@ -57,8 +57,9 @@ pub trait Disk {
         ensures unread { IfErr result (unread self.now path.now) };
 
     /// Reads the dump in the file at a path, of the wire named `wire`, or if none is named of the
-    /// one wire of one bit, and keeps as much of it as `extent` says. At most one more byte is read
-    /// than such a dump may have. If nothing is at the path: `CannotBeRead`.
+    /// one wire of one bit, and keeps as much of it as `extent` says. If the file has more bytes
+    /// than `extent_bytes`, which is 2^28, or 2^47 for a window or a long recording: `TooLong`; at
+    /// most one more byte is read. If nothing is at the path: `CannotBeRead`.
     fn read_extent(
         &self,
         alloc: Global,
@@ -73,11 +74,11 @@ pub trait Disk {
         ensures unread { IfErr result (unread self.now path.now) };
 
     /// Writes a text to the file that a path leads to: a regular one, or none yet, is replaced
-    /// whole, by a file of its mode. One that must not be written is not replaced: that is a fault.
-    /// What is no regular file, or is what the program's answers go to, is written in place. What
-    /// the room, which is the memory of a write, holds before is lost. `Written` says how the text
-    /// was written, and its count how many bytes it has; a `ShelfFault` says only that it was not
-    /// written whole.
+    /// whole, by a file of its mode. One that must not be written (`is_barred`) is not replaced:
+    /// that is a fault, and nothing changes. What is no regular file, or is what the program's
+    /// answers go to, is written in place. What the room, which is the memory of a write, holds
+    /// before is lost. `Written` says how the text was written, and its count how many bytes it
+    /// has; a `ShelfFault` says only that the write failed.
     fn put<T: Text>(
         &mut self,
         path: &str,
@@ -93,8 +94,8 @@ pub trait Disk {
         ensures still { IsTrue is_told → StaysBarred (is_barred self.old) (is_barred self.new)
             (disk self.old) (disk self.new) path.now };
 
-    /// Whether two paths lead to one regular file: false if one leads to none, or to what is no
-    /// regular file. `Err` if the system does not say what is there.
+    /// Whether two paths lead to one regular file: false if one of them leads to nothing, or to
+    /// what is no regular file. `Err` if the system does not say what is at one of them.
     fn is_same(&self, one: &str, other: &str) -> Result<bool, ShelfFault>
         ensures apart { IsTrue is_told → IfOk result (λ same. same ≡ false
             → AreApart (disk self.now) one.now other.now) }

@@ -144,7 +144,7 @@ fn take_all<R: Read>(
     Err(DumpFileFault::CannotBeRead)
 }
 
-/// Reads all of a dump, of at most 2^22 pulses. Of one that is too long, 2^28 + 1 bytes are read.
+/// Reads all of a dump, of at most 2^22 pulses. If it is `TooLong`, 2^28 + 1 bytes of it are read.
 /// `shorter` gives what is read the type that holds no more pulses.
 pub fn read_whole<R: Read + Drop>(
     alloc: Global,
@@ -162,8 +162,8 @@ pub fn read_whole<R: Read + Drop>(
     }
 }
 
-/// Reads a dump from a reader, and keeps as much of it as `extent` says. Of one that is too long,
-/// one byte more is read than it may have.
+/// Reads a dump from a reader, and keeps as much of it as `extent` says. If it is `TooLong`, one
+/// byte more is read than it may have.
 pub fn read_extent<R: Read + Drop>(
     alloc: Global,
     mut reader: R,
@@ -205,8 +205,8 @@ fn read_by_parts<R: Read>(
     }
 }
 
-/// Reads the dump in the file at a path. At most one more byte than 2^28 is read, and none if the
-/// file's size is greater. If nothing is at the path: `CannotBeRead`.
+/// Reads the dump in the file at a path. If it has more than 2^28 bytes: `TooLong`; one more byte
+/// is read then, none if its size shows it. If nothing is at the path: `CannotBeRead`.
 pub fn read_dump<R: Files>(
     rt: &R,
     alloc: Global,
@@ -219,7 +219,7 @@ pub fn read_dump<R: Files>(
     read_open(alloc, file, wire)
 }
 
-/// Reads a dump from an open file. If its size shows more than 2^28 bytes, nothing is read.
+/// Reads a dump from an open file; `TooLong`, unread, if its size shows more than 2^28 bytes.
 fn read_open<F: OpenFile + Read + Drop>(
     alloc: Global,
     file: F,

@@ -1,5 +1,6 @@
-//! A shelf that is a file. A shelf is where `write` and `save` put a text. A `Disk` is the files by
-//! their paths. A ghost item is for contracts alone: it is nothing in the program.
+//! A shelf that is a file. A shelf is where the commands `write` and `save` of the editor write the
+//! text of the track. A `Disk` is the files by their paths. A ghost item is for contracts alone: it
+//! is nothing in the program.
 
 ghost use Rattle.std.specs.Prelude.{◌≡◌, ◌∷◌, IsTrue, refl};
 ghost use Rattle.std.proofs.Common.{◌∙◌};
@@ -11,7 +12,8 @@ use crate::disk::Disk;
 use crate::room::Room;
 use irig_text::{Shelf, ShelfFault, Text};
 
-/// A shelf that is a file: each write replaces the file at a path whole.
+/// A shelf that is a file: each write replaces the regular file at a path whole, or writes in place
+/// to anything else that is there.
 #[derive(Drop)]
 pub struct FileShelf<'d, 'p, D: Disk> {
     disk: &'d mut D,
@@ -72,8 +74,8 @@ impl<'d, 'p, D: Disk> Shelf for FileShelf<'d, 'p, D> {
           mid.path.now first.0.0 (first.1 told) (then.1 told),
     ) };
 
-    // Writes a text to the file, and returns how many bytes it has. A fault says only that it was
-    // not written whole; it is counted, as the contracts of a shelf demand.
+    // Writes a text to the file, and returns how many bytes it has. A fault says only that the
+    // write failed; it is counted, as the contracts of a shelf demand.
     fn put<T: Text>(&mut self, text: &mut T) -> Result<u64, ShelfFault> {
         match self.disk.put(self.path, text, self.room) {
             Ok(written) => Ok(written.count()),

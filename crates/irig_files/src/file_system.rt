@@ -3,7 +3,9 @@
 //! it. `Parts` are the recording of a wire and the text of the journal that the dump carries, if it
 //! has one, and `LongParts` the same of up to 2^26 pulses. A `Fault` is the error of a call. An
 //! `Extent` says how much of a dump is kept. A ghost item is for contracts alone. `is_told` says
-//! whether the contracts know what is there: true of folders in memory, false of the system.
+//! whether the contracts know what is there: true of folders in memory, false of the system. In a
+//! contract, `paths` of a disk is the place of the regular file, or of none yet, that a path leads
+//! to; it is `None` if the path leads to anything else, or to what the program's answers go to.
 
 ghost use Rattle.std.specs.Prelude.{◌≡◌, ◌≢◌, ◌<◌, ◌^◌, ℕ, List, Option, None, Some, IfErr, IfOk};
 ghost use Rattle.std.specs.Prelude.{IfSome, IsErrOf, IsTrue, MatchOption, OnOk, codes, false, length};
@@ -43,8 +45,8 @@ pub trait FileSystem: PlainCalls {
     ghost unread: { Self → List ℕ → DumpFileFault → Type 0 };
 
     /// Reads the dump in the file at a path, of the wire named `wire`, or if none is named of the
-    /// one wire of one bit. At most one more byte than 2^28 is read. If nothing is at the path:
-    /// `CannotBeRead`.
+    /// one wire of one bit. If the file has more than 2^28 bytes: `TooLong`; at most one more byte
+    /// is read. If nothing is at the path: `CannotBeRead`.
     fn read(
         &self,
         alloc: Global,
@@ -57,8 +59,9 @@ pub trait FileSystem: PlainCalls {
         ensures unread { IfErr result (unread self.now path.now) };
 
     /// Reads the dump in the file at a path, of the wire named `wire`, or if none is named of the
-    /// one wire of one bit, and keeps as much of it as `extent` says. At most one more byte is read
-    /// than such a dump may have. If nothing is at the path: `CannotBeRead`.
+    /// one wire of one bit, and keeps as much of it as `extent` says. If the file has more bytes
+    /// than `extent_bytes`, which is 2^28, or 2^47 for a window or a long recording: `TooLong`; at
+    /// most one more byte is read. If nothing is at the path: `CannotBeRead`.
     fn read_extent(
         &self,
         alloc: Global,
@@ -73,7 +76,9 @@ pub trait FileSystem: PlainCalls {
         ensures unread { IfErr result (unread self.now path.now) };
 
     /// What a path leads to, at the end of its links: whether it is a regular file, its mode and
-    /// its numbers; `None` if nothing is there.
+    /// its numbers, which no other file has; `None` if nothing is there. In the clauses, what is no
+    /// regular file and the output's file have no place in `paths`; the path is not one of
+    /// `is_other` if nothing is there, or a regular file that is not the output's.
     fn describe(&self, path: &str) -> Result<Option<Described>, Self::Fault>
         ensures none { IsTrue Self.is_told → IfOk result
             (λ found. MatchOption found (is_other self.now path.now → ⊥) (λ _. ⊤)) }

@@ -74,8 +74,9 @@ impl<C: FileSystem> Disk for Files<C> {
         self.system.read(alloc, path, wire)
     }
 
-    // Reads the dump in the file at a path, and keeps as much of it as `extent` says. The faults
-    // are those of `read`.
+    // Reads the dump in the file at a path, of the wire named `wire`, or if none is named of the
+    // one wire of one bit, and keeps as much of it as `extent` says. The outer fault is of the
+    // file, the inner one of the dump.
     fn read_extent(
         &self,
         alloc: Global,
@@ -87,8 +88,9 @@ impl<C: FileSystem> Disk for Files<C> {
     }
 
     // Writes a text to the file that a path leads to: a regular one, or none yet, is replaced
-    // whole; any other is written in place. `room` is the memory of the write. `Written` says how
-    // it was written; a `ShelfFault` says only that it was not written whole.
+    // whole; what is no regular file, or is what the program's answers go to, is written in place.
+    // A file that must not be written is a fault. `room` is the memory of the write. `Written` says
+    // how the text was written; a `ShelfFault` says only that the write failed.
     fn put<T: Text>(
         &mut self,
         path: &str,
@@ -98,8 +100,8 @@ impl<C: FileSystem> Disk for Files<C> {
         put_file(&mut self.system, &mut self.dir, path, text, room)
     }
 
-    // Whether two paths lead to one regular file: false if one leads to none, or to what is no
-    // regular file. `Err` if the system does not say what is there.
+    // Whether two paths lead to one regular file: false if one of them leads to nothing, or to what
+    // is no regular file. `Err` if the system does not say what is at one of them.
     fn is_same(&self, one: &str, other: &str) -> Result<bool, ShelfFault> {
         is_same_file(&self.system, one, other)
     }

@@ -23,8 +23,10 @@ impl InPlace {
     }
 }
 
-/// Writes all of a text, block by block. `block` is the memory for one block; what it holds before
-/// is lost. The loop has a bound so that it is sure to end.
+/// Writes all of a text, block by block, and returns how many bytes it has. `block` is the memory
+/// for one block; what it holds before is lost. `Err` if a write fails, memory runs out, or the
+/// text has more than 2^64 - 1 bytes; a front of the text may be written then. The loop has a bound
+/// so that it is sure to end.
 pub fn write_in_place<F: Write, T: Text>(
     file: &mut F,
     text: &mut T,
@@ -44,9 +46,10 @@ pub fn write_in_place<F: Write, T: Text>(
     Err(ShelfFault)
 }
 
-/// Writes the next block of a text, adds its bytes to `count`, and returns whether it was the last
-/// one. A block has at least `ENOUGH` bytes, 64 KiB, if it is not the last. `count` is checked
-/// before the write: a text of more than 2^64 - 1 bytes is a fault, too.
+/// Writes the next block of a text, adds the number of its bytes to `count`, and returns whether it
+/// was the last one. A block that is not the last has at least `ENOUGH` bytes, 64 KiB. `Err` if
+/// memory runs out, the write fails, or the text so far has more than 2^64 - 1 bytes, which is seen
+/// before the write.
 fn write_next<F: Write, T: Text>(
     file: &mut F,
     text: &mut T,

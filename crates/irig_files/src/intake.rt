@@ -32,8 +32,8 @@ pub const DUMP_LIMIT: usize = 268_435_456;
 /// own bound. No file has more, and all counts of bytes stay exact.
 const LONG_LIMIT: usize = 1 << 47;
 
-/// The most bytes that a dump may have, by how much of it is kept. Only a window is kept, or the
-/// pulses of a long recording, so such a dump may be longer.
+/// The most bytes that a dump may have, by how much of it is kept: 2^47 if that is a window of it,
+/// or a long recording; else 2^28.
 fn most_bytes(extent: Extent) -> usize
     ensures { result ≡ extent_bytes extent }
 {
@@ -50,7 +50,7 @@ pub struct Intake {
     /// The reader of its parts; or the fault that it found, and then more bytes are only counted.
     dump: Result<DumpReader, VcdFault>,
     /// How many bytes are still taken. It begins with one more than a dump may have, so 0 means
-    /// that the dump is too long.
+    /// that the dump is too long. `IsCounted` says that no byte is missing from this count.
     left: usize,
     /// How much of it is kept.
     extent: Extent,
@@ -121,7 +121,8 @@ impl Intake {
         ensures long { IsErrOf result file.TooLong → self.left ≡ 0 }
         ensures fault { IfErr result (λ fault. ((fault ≡ file.TooLong) × (self.left ≡ 0))
             ⊎ ((fault ≡ file.OutOfMemory) × (0 < self.left) × IsOk self.dump)) }
-        // A fault of declarations that are held is reported as it is, even if memory runs out.
+        // The reader holds the declarations until they are whole, and has no unit of time before. A
+        // fault of declarations that it still holds is reported, even if memory runs out.
         ensures heading { (wire : Option (List ℕ)) (bytes : List ℕ) (e : VcdFault)
             → HasTaken wire bytes self → IfOk self.dump (λ reader. reader.unit ≡ None)
             → 0 < self.left → e ≢ OutOfMemory
@@ -140,8 +141,8 @@ impl Intake {
 /// Frees a reader, or a fault: the value is moved in here, and its end is the end of this call.
 fn let_go(_dump: Result<DumpReader, VcdFault>) {}
 
-/// What is read of a recording, of which the caller knows that it has at most 2^22 pulses: as a
-/// `Recording`, which holds no more. A fault stays as it is.
+/// What is read of a recording, of which the caller knows that it has at most 2^22 pulses, so 2^23
+/// edges: as a `Recording`, which holds no more. A fault stays as it is.
 pub fn shorter(read: Result<LongParts, VcdFault>) -> Result<Parts, VcdFault>
     requires few { IfOk read (λ x. length x.0.edges ≤ 2 ^ 23) }
     ensures { result ≡ read }

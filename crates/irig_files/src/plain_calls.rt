@@ -1,7 +1,9 @@
 //! Single calls on paths. No contract says which bytes they give or take. A `Fault` is the error of
 //! a call; one that opens fails if nothing is at the path. A ghost item is for contracts alone.
 //! `is_told` says whether the contracts know what is there: true of folders in memory, false of the
-//! system.
+//! system. In a contract, `paths` of a disk is the place of the regular file, or of none yet, that
+//! a path leads to; it is `None` if the path leads to anything else, as a pipe, or to what the
+//! program's answers go to.
 
 ghost use Rattle.std.specs.Prelude.{◌≡◌, ℕ, None, IfOk, IsTrue, true};
 ghost use Rattle.irig_files.specs.Taken.{HasMode, IsFileAt};
@@ -28,7 +30,8 @@ pub trait PlainCalls: Folder {
     /// A file may be written.
     ghost may_write: { Self → ℕ → Type 0 };
 
-    /// Opens what the program's answers (its standard output) go to, for a path that leads there.
+    /// Opens what the program's answers (its standard output) go to. `path` leads there; it is only
+    /// for the contract, and does not choose what is opened.
     fn open_output(&self, path: &str) -> Self::Output
         requires { IsTrue Self.is_told → (Self.disk self.now).paths path.now ≡ None };
 
@@ -36,15 +39,15 @@ pub trait PlainCalls: Folder {
     fn open_other(&self, path: &str) -> Result<Self::Other, Self::Fault>
         requires { IsTrue Self.is_told → (Self.disk self.now).paths path.now ≡ None };
 
-    /// Opens a file as if to write to it, but only to describe it. It fails if the file must not be
-    /// written.
+    /// Opens a file as if to write to it, but only to describe it (`seen`): nothing is written. It
+    /// fails if the file must not be written.
     fn open_seen(&self, path: &str) -> Result<Self::Seen, Self::Fault>
         ensures there { IsTrue Self.is_told → IfOk result
             (λ file. IsFileAt (Self.disk self.now) path.now (seen_number file)) }
         ensures allowed { IsTrue Self.is_told → IfOk result
             (λ file. may_write self.now (seen_number file)) };
 
-    /// Whether an open file is a regular one, its mode and its numbers.
+    /// Whether an open file is a regular one, its mode, and the numbers that no other file has.
     fn seen(&self, file: &Self::Seen) -> Result<Described, Self::Fault>
         ensures { IsTrue Self.is_told → IfOk result (λ d. d.is_file ≡ true
             → HasMode (Self.disk self.now) (seen_number file.now) d.mode) };

@@ -2,8 +2,11 @@
 //! parts of the text, and the target the path of the file that is replaced. A text is written to a
 //! new file first, which then takes the target's name; its stem is its name without the number at
 //! the end. `Written` says how a text was written, `Kept` that each crash from then on leaves it. A
-//! `ShelfFault` says only that a text was not written, so the errors of calls are not handed on.
-//! `system` makes the single calls on paths.
+//! `ShelfFault` says only that a write failed, so the errors of calls are not handed on. `system`
+//! makes the single calls on paths. In a contract, `paths` of a disk is the place of the regular
+//! file, or of none yet, that a path leads to; it is `None` if the path leads to anything else, or
+//! to what the program's answers go to: `is_other` says that it does. `is_told` says whether the
+//! contracts know what is there.
 
 ghost use Rattle.std.specs.Prelude.{◌≡◌, ℕ, List, length, None, Some, IfOk, IsTrue, ◌≢◌, IsErr};
 ghost use Rattle.std.specs.Prelude.{IsOk, OnErr, OnOk, false, true};
@@ -27,7 +30,9 @@ use std::path::Path;
 /// Writes a text to what a path leads to: a regular file, or none yet, is replaced whole; what the
 /// program's answers go to, and any other file, is written in place. `dir` is the place for the
 /// folder that is opened. `way_to` finds which of these it is, and leaves the path to be replaced,
-/// at the end of its links, in the room's target.
+/// at the end of its links, in the room's target. After a fault a file that was to be replaced has
+/// its old text; or the new one, if only the last sync failed. What is written in place may have a
+/// front of the text then.
 pub fn put_file<C: FileSystem, T: Text>(
     system: &mut C,
     dir: &mut C::Dir,
@@ -53,7 +58,8 @@ pub fn put_file<C: FileSystem, T: Text>(
     }
 }
 
-/// Writes a text in place to what is at a path and is no regular file.
+/// Writes a text in place to what is at a path and is no regular file. `Err` if it cannot be
+/// opened, or did not take all of the text.
 fn put_other<C: FileSystem, T: Text>(
     system: &C,
     path: &str,
@@ -69,7 +75,8 @@ fn put_other<C: FileSystem, T: Text>(
     }
 }
 
-/// Writes a text to what is open and is no regular file, or is what the answers go to.
+/// Writes a text to what is open and is no regular file, or is what the answers go to. `Err` if it
+/// did not take all of the text, or memory ran out.
 fn in_place<F: Write, T: Text>(
     file: &mut F,
     text: &mut T,
@@ -87,7 +94,8 @@ fn in_place<F: Write, T: Text>(
 /// (`None`: the usual one). `way_to` has put the path into the target. The folder is opened before
 /// anything is written: without a sync of it no crash is sure to keep the new name. A target
 /// without a name at its end, as `..`, is a fault; `is_name` says whether a name is not empty, has
-/// no `/`, and is neither `.` nor `..`.
+/// no `/`, and is neither `.` nor `..`. `Err` also if the folder cannot be opened, memory runs out,
+/// or the write fails.
 fn replace<C: FileSystem, T: Text>(
     system: &mut C,
     dir: &mut C::Dir,

@@ -30,8 +30,8 @@ pub struct Room {
 
 impl Room {
     /// Room for any number of writes, one after another. `new_block` gives a block with no bytes,
-    /// and with room for 64 KiB and the longest part that is added last. It fails only if memory
-    /// runs out.
+    /// and with room for 64 KiB (`ENOUGH`) and 2,048 bytes more: the part that is added last may go
+    /// past 64 KiB, and has no more bytes than these. It fails only if memory runs out.
     pub fn new(alloc: Global) -> Result<Room, AllocError>
         ensures empty { IfOk result (λ room. room.block.items ≡ []) }
         ensures block { IfOk result (λ room. ENOUGH + 2048 ≤ vec_capacity room.block) }

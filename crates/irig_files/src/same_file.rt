@@ -24,7 +24,7 @@ pub fn is_same_file<C: FileSystem>(system: &C, one: &str, other: &str) -> Result
 }
 
 /// The numbers that no other file has, of the regular file that a path leads to; `None` if nothing
-/// is there, or no regular file.
+/// is there, or no regular file. `Err` if the system does not say what is there.
 fn file_id<C: FileSystem>(system: &C, path: &str) -> Result<Option<(u64, u64)>, ShelfFault>
     ensures { IsTrue C.is_told → IfOk result
         (HasId (C.disk system.now) (C.id_of system.now) path.now) }

@@ -48,7 +48,8 @@ impl<'a, R: Files + Print + AllocGlobal> PlainCalls for SystemFolder<'a, R> {
         io::writer(self.runtime())
     }
 
-    // Opens what is at the path, to write to it; it is not cut, and nothing is made.
+    // Opens what is at the path, to write to it. It keeps its bytes, and no file is made: it is a
+    // fault if nothing is there.
     fn open_other(&self, path: &str) -> Result<R::File, SystemFault> {
         match as_it_is().open(self.runtime(), path) {
             Ok(file) => Ok(file),
@@ -92,7 +93,8 @@ impl<R: Files + Print + AllocGlobal> FileSystem for SystemFolder<'_, R> {
     ghost ids_differ = { λ _ one other same. ap (λ id. id.1) same };
 
     // Reads the dump in the file at a path, of the wire named `wire`, or if none is named of the
-    // one wire of one bit. If nothing is at the path: `CannotBeRead`.
+    // one wire of one bit. If nothing is at the path: `CannotBeRead`; if the file has more than
+    // 2^28 bytes: `TooLong`.
     fn read(
         &self,
         alloc: Global,
@@ -102,8 +104,10 @@ impl<R: Files + Print + AllocGlobal> FileSystem for SystemFolder<'_, R> {
         read_dump(self.runtime(), alloc, path, wire)
     }
 
-    // Reads the dump in the file at a path, and keeps as much of it as `extent` says. The faults
-    // are those of `read`.
+    // Reads the dump in the file at a path, of the wire named `wire`, or if none is named of the
+    // one wire of one bit, and keeps as much of it as `extent` says. If nothing is at the path:
+    // `CannotBeRead`; if the file has more than 2^28 bytes, or 2^47 for a window or a long
+    // recording: `TooLong`.
     fn read_extent(
         &self,
         alloc: Global,
@@ -147,8 +151,8 @@ impl<R: Files + Print + AllocGlobal> FileSystem for SystemFolder<'_, R> {
 }
 
 /// The answer of `describe`, by what the system says of a path; `None` only if it says that nothing
-/// is there. It is a function of its own for its contract: the contract of `describe` says nothing
-/// of the real system.
+/// is there. Any other error is handed on. It is a function of its own for its contract: the
+/// contract of `describe` says nothing of the real system.
 fn found(said: io::Result<Metadata>) -> Result<Option<Described>, SystemFault>
     ensures some { IfOk said (λ found. (d : Described) × (result ≡ Ok (Some d))
         × (IsTrue d.is_file ↔ IsFile (file_type found))) }
@@ -164,7 +168,7 @@ fn found(said: io::Result<Metadata>) -> Result<Option<Described>, SystemFault>
 }
 
 /// The answer of `output`, by what the system says of the standard output: the numbers that no
-/// other file has; `None` only if it says that nothing is there.
+/// other file has; `None` only if it says that nothing is there. Any other error is handed on.
 fn numbers(said: io::Result<Metadata>) -> Result<Option<(u64, u64)>, SystemFault>
     ensures some { OnOk said (IfOk result (λ id. id ≢ None)) }
     ensures none { IfErr said (λ error. IsOk result

@@ -31,7 +31,7 @@ pub enum TrackFault {
 
 /// The track of a wire in the dump at a path, or in a window of it if there is one, as a recording
 /// of up to 2^22 pulses. `wire` is its name; if none is given, the dump has to have one wire of one
-/// bit.
+/// bit. An error is `File` if the file was not read, and `Dump` if the dump in it is wrong.
 pub fn read_track<D: Disk>(
     alloc: Global,
     disk: &D,
@@ -52,7 +52,8 @@ pub fn read_track<D: Disk>(
 
 /// The track of a wire in the dump at a path, or in a window of it if there is one, as a recording
 /// of up to 2^26 pulses. The dump may have up to 2^47 bytes, which no file exceeds. `wire` is its
-/// name; if none is given, the dump has to have one wire of one bit.
+/// name; if none is given, the dump has to have one wire of one bit. An error is `File` if the file
+/// was not read, and `Dump` if the dump in it is wrong.
 pub fn read_long_track<D: Disk>(
     alloc: Global,
     disk: &D,
@@ -73,7 +74,8 @@ pub fn read_long_track<D: Disk>(
 
 /// What the dump at a path says of a wire, or says of it in a window if there is one; a journal is
 /// that of the whole dump. `wire` is its name; if none is given, the dump has to have one wire of
-/// one bit.
+/// one bit. Without a window the dump may have 2^28 bytes, with one 2^47; more are `TooLong`. With
+/// a window, too, at most 2^22 pulses are kept, so `shorter` can make a `Recording`.
 pub fn read_in_window<D: Disk>(
     alloc: Global,
     disk: &D,

@@ -1,6 +1,9 @@
 //! How a text is written to what a path leads to: a regular file is replaced whole by a new one,
 //! anything else is written in place. A `ShelfFault` says only that the text cannot be written.
-//! `system` makes the single calls on paths; a `Described` is what it says of a file.
+//! `system` makes the single calls on paths; a `Described` is what it says of a file. In a
+//! contract, `paths` of a disk is the place of the regular file, or of none yet, that a path leads
+//! to; it is `None` if the path leads to anything else, or to what the program's answers go to:
+//! `is_other` says that it does. `is_told` says whether the contracts know what is there.
 
 ghost use Rattle.std.specs.Prelude.{◌≡◌, ◌≢◌, None, Some, IfOk, IsTrue, MatchOption, false, true};
 ghost use Rattle.std.specs.Path.{path_buf_bytes};
@@ -15,11 +18,11 @@ use std::path::PathBuf;
 /// How a text is written to what a path leads to.
 #[derive(Drop)]
 pub enum Way {
-    /// The regular file, or none yet, is replaced by one of this mode, or of the usual one.
+    /// The regular file, or none yet, is replaced by one of this mode; `None`: of the usual one.
     Replaced(Option<u32>),
-    /// The program's answers go there, too.
+    /// The program's answers go there, too: the text is written in place, to their output.
     Output,
-    /// It is no regular file.
+    /// It is no regular file: the text is written in place.
     Other,
 }
 
@@ -43,10 +46,12 @@ pub fn way_to<C: FileSystem>(
     }
 }
 
-/// Finds how a text is written to a path that leads to `old`, something that is there: in place if
-/// it is what the program's answers go to, also if that is a regular file, since after a
-/// replacement later answers would go to the old file. `output` gives the numbers of what the
-/// answers go to, and `id` those of `old`; no two files have the same.
+/// Finds how a text is written to a path that leads to `old`, which is there. `Output` if `old` is
+/// what the program's answers go to, also if that is a regular file: after a replacement later
+/// answers would go to the old file. `Replaced` if it is any other regular file, and then `target`
+/// gets its path. Else `Other`. `system.output` gives the numbers of what the answers go to, and
+/// `id` those of `old`; no two files have the same. `Err` if the system does not give them, or as
+/// `replaced` says. What the clauses require of `old` is what `describe` says of it.
 fn way_over<C: FileSystem>(
     system: &C,
     path: &str,
@@ -72,7 +77,8 @@ fn way_over<C: FileSystem>(
 }
 
 /// The way `Replaced` of a path that leads to a regular file (`is_there`), or to none yet. The
-/// target gets the path at the end of its links.
+/// target gets the path at the end of its links. `Err` if there are too many links, the system does
+/// not say what is there, or the file must not be written.
 fn replaced<C: FileSystem>(
     system: &C,
     path: &str,

@@ -64,8 +64,9 @@ impl Shelf for MemoryShelf {
     ghost since_then = { λ _ _ _ _ _. tt };
 
     // Keeps a copy of the text and returns how many bytes it has. An error, `ShelfFault`, keeps
-    // nothing: memory ran out, or this is the write that is to fail. Each write is counted, and
-    // each that failed. `whole` makes the copy; 0 is the room that it begins with, in bytes.
+    // nothing: memory ran out, or this is the write that is to fail (`next_put` is its number, from
+    // 1). Each write is counted, and each that failed. `whole` makes the copy; 0 is the room that
+    // it begins with, in bytes.
     fn put<T: Text>(&mut self, text: &mut T) -> Result<u64, ShelfFault>
         ensures count { IfOk result (λ count. count ≡ length (T.rest text.old)) }
         ensures ok { OnOk result
@@ -89,7 +90,8 @@ impl Shelf for MemoryShelf {
     }
 }
 
-/// Adds a text and returns `true`, or `false` if memory runs out: the texts stay then.
+/// Adds a text to the texts and returns `true`; or `false` if memory runs out: the texts stay as
+/// they were then.
 fn keep(texts: &mut Vec<Vec<u8>>, text: Vec<u8>) -> bool
     ensures kept { IsTrue result → map (λ t. t.items) texts.new.items
         ≡ map (λ t. t.items) texts.old.items ++ text.items ∷ [] }

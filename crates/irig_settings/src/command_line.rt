@@ -1,5 +1,7 @@
 //! The command line, read by `clap`. Its matches are what `clap` found in its words. Only memory
-//! can run out for a `Command`, which is what `clap` knows of a command line, or an `Arg`.
+//! can run out for a `Command`, which is what `clap` knows of a command line, or an `Arg`. Each
+//! function that gives a `Command` adds some options to those of the next one below it. An `Arg`
+//! that is `global` would be one of subcommands, too.
 //!
 //! Where `let Ok(..) else` returns an error, `?` would do the same; the proof of it takes longer.
 
@@ -37,10 +39,11 @@ pub fn settings<'a>(
     }
 }
 
-/// What the matches of a command line that `clap` accepts ask for. The letter is then one of a
-/// format, so of the format only the expression can be wrong: one that the format does not permit.
-/// A window is the part of the dump that is read. Without `--out` texts are written to the track's
-/// path, unless there is a window: that needs `--out`.
+/// What the matches of a command line that `clap` accepts ask for. The first fault is the error:
+/// `Window` if its times are wrong, `Out` if there is a window and no `--out`, or `BadExpression`.
+/// `clap` has tested the letter, so of the format only the expression can be wrong: one that the
+/// format does not permit. A window is the part of the dump that is read. Without `--out` texts are
+/// written to the track's path.
 fn chosen_of<'a>(matches: &ArgMatches<'a>) -> Result<Settings<'a>, UsageFault<OptionFault>>
     ensures { Chooses (found_of matches.now) result }
 {
@@ -150,7 +153,7 @@ fn choice_arg<'a>(
     option_arg(alloc, name, value, help).value_parser(values)
 }
 
-/// The track, which has to be there.
+/// The argument `TRACK`, the path of the dump, which has to be there.
 fn track_arg<'a>(alloc: Global) -> Arg<'a>
     ensures rule { rule_of result ≡ track }
     ensures local { result.global ≡ false }

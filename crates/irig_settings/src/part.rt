@@ -10,9 +10,9 @@ use clap::ArgMatches;
 use irig_vcd::Window;
 use irig_words::window_named;
 
-/// The window that the matches ask for; `None` if they ask for none. An error is `Window` if one of
-/// its times is none, or they are in the wrong order, and `Out` if no path is given for what is
-/// written: a part must not replace the whole.
+/// The window that the matches ask for; `None` if they ask for none. An error is `Window` if a text
+/// is no time, or the times are in the wrong order; and `Out` if there is a window and no path is
+/// given for what is written: a part must not replace the whole.
 pub fn window_of(matches: &ArgMatches<'_>) -> Result<Option<Window>, OptionFault>
     ensures part { IfOk result (IsPart (found_of matches.now)) }
     ensures fault { IfErr result (HasFault (found_of matches.now)) }

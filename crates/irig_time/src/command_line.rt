@@ -4,7 +4,8 @@
 //! the value without the option. Only memory can run out for a `Command` or an `Arg`. The options
 //! come in this order: `taking`, `reading`, `placing`, `writing`, `marking`, and each adds some to
 //! those before, and `command` adds the track. A `UsageFault` is `Words` if `clap` does not accept
-//! the words, or they ask for help, and `Value` if an option has a value that it cannot have.
+//! the words, they ask for help, or memory runs out, and `Value` if an option has a value that it
+//! cannot have.
 
 ghost use Rattle.std.specs.Prelude.{◌≡◌, IfErr, IfOk, map, string_bytes};
 ghost use Rattle.clap.specs.Words.{HasMatchesOf, app_of, found_of};

@@ -8,7 +8,7 @@ use irig_words::UsageFault;
 /// How the program ends, before it is reported.
 #[derive(Drop)]
 pub enum Ending<'a> {
-    /// The words of the command line ask for help, or are not valid.
+    /// The words of the command line ask for help, or are not valid, or memory ran out for them.
     Usage(UsageFault<OptionFault>),
     /// The track at this path was not read.
     Unread(&'a str, TrackFault),
@@ -18,8 +18,8 @@ pub enum Ending<'a> {
     Listed,
     /// All lines were printed, or the table, but no frame of the track at this path is fine.
     Timeless(&'a str),
-    /// All lines were printed, or the table, but of the track at this path as many frames have a time
-    /// and are not believed.
+    /// All lines were printed, or the table, but this many frames of the track at this path have a
+    /// time and are not believed.
     Doubted(&'a str, usize),
     /// The run was broken off.
     Broken(RunFault),

@@ -60,7 +60,8 @@ fn arguments<R: Runtime + AllocGlobal>(rt: &R) -> io::Result<Vec<String>> {
 }
 
 /// Aligns lines with the track that the words name, by the files of this system (`disk`), and
-/// reports how that ended. `out` is the output for the lines, and `help` that for the help.
+/// reports how that ended: the answer is the exit status. `out` is the output for the lines, and
+/// `help` that for the help.
 fn start<P: Eprint + AllocGlobal, C: FileSystem, R: Read, W: Write, H: Write>(
     rt: &P,
     words: &[String],

@@ -14,8 +14,9 @@ use crate::chosen::OptionFault;
 use irig_words::text_or;
 
 /// The name of the column of times, `time` if none is given. `comma` parts columns, or white space
-/// without it, and the header has `header` lines. The error is `Name` if a column cannot have the
-/// name, `Unnamed` if it is given and there is no header to write it in.
+/// without it, and the header has `header` lines: what `--header` says, at most 2^32, or 0 without
+/// it. The error is `Name` if a column cannot have the name, `Unnamed` if it is given and there is
+/// no header to write it in.
 pub fn name_of<'a>(
     asked: &Asked<'a>,
     comma: Option<u8>,

@@ -85,8 +85,9 @@ fn tells_of_lines(asked: &Asked<'_>) -> bool
         || asks_why(asked)
 }
 
-/// How lines are read and stamped; or the first fault of an option. The first day and the length of
-/// the track are found later, so they are 0 here.
+/// How lines are read and stamped; or the first fault of an option. `early` says that the offset is
+/// below zero. The first day and the length of the track (`micros`) are found later, so they are 0
+/// here.
 fn settings_of<'a>(asked: &Asked<'a>) -> Result<Settings<'a>, OptionFault>
     ensures settings { IfOk result (HasSettings asked.now) }
     ensures sound { IfOk result IsSound }

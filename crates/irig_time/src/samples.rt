@@ -54,7 +54,8 @@ pub struct Column<'a> {
 
 /// Where the recorder's time is in a line: its unit, its offset, its column and what parts columns.
 /// Without the options: microseconds, no offset, column 1 and white space. `Unit`, `Offset`,
-/// `Column` or `Comma` if that option has a value that it cannot have.
+/// `Column` or `Comma` if that option has a value that it cannot have, the first in this order. An
+/// offset is at most 2^119 picoseconds from zero.
 pub fn columns_of<'a>(asked: &Asked<'a>) -> Result<Columns<'a>, OptionFault>
     ensures columns { IfOk result (λ c. HasColumns asked.now c.places c.offset c.column c.comma) }
     ensures sound { IfOk result (λ c. c.offset.size ≤ 2 ^ 119) }
@@ -112,9 +113,9 @@ fn is_column_name(text: &[u8]) -> bool
     !text.is_empty() && whole(text).is_none()
 }
 
-/// How many lines are the header: 0 if that is not given. `Header` if it is no number of lines, up
-/// to 2^32; `Headless` if it is 0 and a column is given by its name (`named`), which is looked for
-/// in the header.
+/// How many lines are the header: 0 if that is not given. `Header` if it is no whole number up to
+/// 2^32; `Headless` if it is 0 and a column is given by its name (`named`), which is looked for in
+/// the header.
 pub fn header_of(asked: &Asked<'_>, named: Option<&[u8]>) -> Result<u64, OptionFault>
     requires { IfSome named (λ n. names_column asked.now ≡ true) }
     ensures header { IfOk result (λ header.

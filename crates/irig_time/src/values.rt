@@ -26,7 +26,7 @@ pub fn whole_between(first: u128, last: u128, text: &[u8]) -> Option<u128>
     }
 }
 
-/// A number, if it is one from `first` to `last`, both included.
+/// A number, if it is one from `first` to `last`, both included; else `None`.
 fn within(first: u128, last: u128, number: u128) -> Option<u128>
     ensures value { result ≡ within first last (Some number) }
     ensures range { IfSome result (λ v. (first ≤ v) × (v ≤ last)) }
@@ -50,7 +50,8 @@ pub fn offset_named(places: usize, text: &[u8]) -> Option<Picos>
     }
 }
 
-/// A time, if it is no further than 2^119 picoseconds from zero, before it or after it.
+/// A time, if it is no further than 2^119 picoseconds from zero, before it or after it; else
+/// `None`.
 fn near(picos: Picos) -> Option<Picos>
     ensures value { result ≡ near (Some picos) }
     ensures range { IfSome result (λ v. v.size ≤ 2 ^ 119) }

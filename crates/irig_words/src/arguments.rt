@@ -1,5 +1,6 @@
 //! The arguments of a command line, as `clap` takes them: each has a name by which its value is
-//! asked for later, and `help` says what it is for.
+//! asked for later, and `help` says what it is for. In a contract, the rule of an argument is what
+//! `clap` accepts for it, and `global` would make it one of subcommands, too.
 
 ghost use Rattle.std.specs.Prelude.{◌≡◌, None, false};
 ghost use Rattle.clap.specs.Words.{rule_of};
@@ -8,7 +9,7 @@ ghost use Rattle.irig_words.specs.Arguments.{flag, needed, option};
 use clap::{Arg, ArgAction};
 use std::alloc::Global;
 
-/// An option `--name` with a value, which its help calls `value`.
+/// An option `--name` with a value, which its help calls `value`. It can be left out.
 pub fn option_arg<'a>(alloc: Global, name: &'a str, value: &'a str, help: &'a str) -> Arg<'a>
     ensures rule { rule_of result ≡ option name.entry.now None }
     ensures local { result.global ≡ false }
@@ -20,7 +21,7 @@ pub fn option_arg<'a>(alloc: Global, name: &'a str, value: &'a str, help: &'a st
         .action(ArgAction::Set)
 }
 
-/// An option `--name` that has no value.
+/// An option `--name` that has no value: if it is given, `clap` stores `true` for it.
 pub fn flag_arg<'a>(alloc: Global, name: &'a str, help: &'a str) -> Arg<'a>
     ensures rule { rule_of result ≡ flag name.entry.now }
     ensures local { result.global ≡ false }
@@ -31,7 +32,8 @@ pub fn flag_arg<'a>(alloc: Global, name: &'a str, help: &'a str) -> Arg<'a>
         .action(ArgAction::SetTrue)
 }
 
-/// A word by itself, without an option's name, that has to be there.
+/// A word by itself, without an option's name, that has to be there: `clap` refuses a command line
+/// without it.
 pub fn needed_arg<'a>(alloc: Global, name: &'a str, help: &'a str) -> Arg<'a>
     ensures rule { rule_of result ≡ needed name.entry.now }
     ensures local { result.global ≡ false }

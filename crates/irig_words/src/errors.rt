@@ -24,8 +24,9 @@ pub fn matches_of<'a>(command: Command<'a>, words: &'a [String]) -> Result<ArgMa
     command.try_get_matches_from(words)
 }
 
-/// What `clap` says of an argument that is not UTF-8. `command` is the program's own, or it says
-/// that memory ran out for it: then that is what is said. Either is an error to print.
+/// The error of `clap`, to be printed, for an argument that is not UTF-8. `command` is the
+/// program's own, which `clap` needs for it. If memory ran out for the command, or runs out here,
+/// the error says that memory ran out.
 pub fn not_text(command: Result<Command<'_>, AllocError>) -> Error
     ensures { IsMistake result }
 {
@@ -36,8 +37,8 @@ pub fn not_text(command: Result<Command<'_>, AllocError>) -> Error
     }
 }
 
-/// What `clap` says of an argument that is not UTF-8; an error if memory ran out for the command or
-/// runs out for what is said.
+/// The error of `clap` for an argument that is not UTF-8, as `Ok`. `Err` if memory ran out for the
+/// command, or runs out for that error.
 fn said_of_bytes(command: Result<Command<'_>, AllocError>) -> Result<Error, AllocError>
     ensures { IfOk result IsMistake }
 {
@@ -47,7 +48,8 @@ fn said_of_bytes(command: Result<Command<'_>, AllocError>) -> Result<Error, Allo
     }
 }
 
-/// The error of a command for an argument that is not UTF-8. It fails only if memory runs out.
+/// The error of a command for an argument that is not UTF-8, as `Ok`. It fails only if memory runs
+/// out.
 fn error_of_bytes(command: &mut Command<'_>) -> Result<Error, AllocError>
     ensures { IfOk result IsMistake }
 {

@@ -18,8 +18,9 @@ pub enum FormatFault {
     Expression,
 }
 
-/// The format with a letter and an expression; one that is not given is B or 2. An error says which
-/// of them is wrong, the letter first. E and G do not permit all expressions 0 to 7.
+/// The format with a letter and an expression. A letter that is not given is B, an expression that
+/// is not given is 2. An error says which of them is wrong, the letter first: `Expression` if it is
+/// no digit, or the format does not permit it, as E and G do not permit all of 0 to 7.
 pub fn format_named(letter: Option<&str>, number: Option<&str>) -> Result<Format, FormatFault>
     ensures format { IfOk result (IsFormat (given letter.entry) (given number.entry)) }
     ensures fault { IfErr result (HasFormatFault (given letter.entry) (given number.entry)) }

@@ -58,8 +58,9 @@ impl<'a> Program<'a> {
     }
 
     /// Says why the words of the command line could not be read, and returns the status, 2: one of
-    /// them is not UTF-8, which is `InvalidData`, or the system gave none. `command` is the
-    /// program's own, which `clap` needs for what it says, or it says that memory ran out for it.
+    /// them is not UTF-8, which is `InvalidData`, the system gave none, or memory ran out.
+    /// `command` is the program's own, which `clap` needs for what it says of a word that is not
+    /// UTF-8; it is an error if memory ran out for it.
     pub fn tell_no_words<R: Eprint>(
         &self,
         rt: &R,
@@ -76,7 +77,8 @@ impl<'a> Program<'a> {
     }
 
     /// Says why a command line asks for nothing, and returns the status, 2. If the words ask for
-    /// help, it is printed on `help`, the program's output, and the status is that of `print_help`.
+    /// help, it is printed on `help`, the program's output, and the status is that of `print_help`:
+    /// 0, or `self.status` if the output fails.
     pub fn explain<R: Eprint, F: Display, H: Write>(
         &self,
         rt: &R,
@@ -93,8 +95,8 @@ impl<'a> Program<'a> {
     }
 
     /// Prints the help on `help`, the program's output, if the words ask for it; else says which
-    /// mistake they have, and returns 2. For `clap` both are an error; `use_stderr` is true of a
-    /// mistake.
+    /// mistake they have, or that memory ran out, and returns 2. For `clap` all of these are an
+    /// error; `use_stderr` is false of one that asks for help.
     fn answer<R: Eprint, H: Write>(&self, rt: &R, error: &Error, help: &mut H) -> ExitCode
         ensures mistake { IsMistake error.now → EndsWith 2 (H.contents help.old)
             (H.contents help.new) (exit_status result) }

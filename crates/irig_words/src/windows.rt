@@ -1,5 +1,6 @@
 //! The window of a dump that the options of a command line name: the part that is read, from the
-//! first microsecond of it to the first one after it.
+//! first microsecond of it to the first one after it. In a text of the help, what is after the last
+//! colon is the value without the option. An argument that is `global` is one of subcommands, too.
 
 ghost use Rattle.std.specs.Prelude.{◌≡◌, ◌||◌, IfErr, IfOk, None, codes, false, is_some};
 ghost use Rattle.clap.specs.Words.{app_of, rule_of};
@@ -128,7 +129,8 @@ fn time_named(text: &[u8]) -> Option<u64>
 }
 
 /// The number that digits spell, or 2^64 if it is above, so that no step overflows; `None` if a
-/// byte is no digit. No digits are 0; the caller has tested that some are there.
+/// byte is no digit. No digits are 0; the caller has tested that some are there. In the contract, 0
+/// is the number before the first digit.
 fn spelt(digits: &[u8]) -> Option<u128>
     ensures { result ≡ spelt 0 digits.now }
 {

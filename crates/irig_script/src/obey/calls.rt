@@ -3,7 +3,7 @@
 //! the session is before the call. Pulses count from 1 here; the number 0 is that of one that is
 //! not there, and the session refuses it. Times are in microseconds; that of a mark which is not
 //! set is above each length, and is refused, too. A refused edit changes nothing; the reply then
-//! has why, a `Refusal`.
+//! has why, a `Refusal`. An edit can also be refused because memory runs out (`OutOfMemory`).
 
 ghost use Rattle.std.specs.Prelude.{◌≡◌};
 ghost use Rattle.irig_lines.specs.declared.command.Command.{Command};
@@ -28,7 +28,8 @@ fn reply_to(outcome: Result<(), Refusal>) -> Reply
 }
 
 /// Moves the cursor to a pulse, and lists that pulse alone: the reply has how many come before it,
-/// and 1. Refused if the pulse is not there, which number 0 never is.
+/// and 1. Refused if the pulse is not there (`NoPulse`). Number 0 is always refused, so the
+/// subtraction of 1 does not go below 0.
 pub fn show(session: &mut Session, address: Address) -> Reply
     ensures { Obeys (Command.Show address) session.old result session.new }
 {
@@ -40,7 +41,7 @@ pub fn show(session: &mut Session, address: Address) -> Reply
 }
 
 /// Lists the pulses of a range: the reply has how many come before them, and how many they are.
-/// Refused if it has a pulse that is not there, or ends before it begins.
+/// Refused if the range has a pulse that is not there, or ends before it begins (`NoPulse`).
 pub fn list(session: &Session, range: Range) -> Reply
     ensures { Obeys (Command.List range) session.now result session.now }
 {
@@ -52,7 +53,8 @@ pub fn list(session: &Session, range: Range) -> Reply
     }
 }
 
-/// Removes the pulses of a range, its ends included.
+/// Removes the pulses of a range, its ends included. Refused if one of them is not there, or the
+/// range ends before it begins (`NoPulse`).
 pub fn delete(session: &mut Session, range: Range) -> Reply
     ensures { Obeys (Command.Delete range) session.old result session.new }
 {
@@ -61,6 +63,8 @@ pub fn delete(session: &mut Session, range: Range) -> Reply
 }
 
 /// Moves the pulses of a range by this many microseconds: later, or earlier if it is below zero.
+/// Refused if one is not there (`NoPulse`), or if they would leave the track (`OutOfRange`) or meet
+/// the pulse before or after them (`Touching`).
 pub fn shift(session: &mut Session, range: Range, by: i64) -> Reply
     ensures { Obeys (Command.Shift range by) session.old result session.new }
 {
@@ -69,7 +73,7 @@ pub fn shift(session: &mut Session, range: Range, by: i64) -> Reply
 }
 
 /// Makes one pulse of those of a range; of one address, that pulse and the next are joined
-/// (`join_ends`).
+/// (`join_ends`). Refused if one is not there, or they are not at least two (`NoPulse`).
 pub fn join(session: &mut Session, range: Range) -> Reply
     ensures { Obeys (Command.Join range) session.old result session.new }
 {
@@ -77,7 +81,9 @@ pub fn join(session: &mut Session, range: Range) -> Reply
     reply_to(session.join(i, j))
 }
 
-/// Makes the level low from one time to another inside of a pulse, so that it becomes two.
+/// Makes the level low from one time to another inside of a pulse, so that it becomes two. Refused
+/// if the times are not in order or beyond the length (`OutOfRange`), the pulse is not there
+/// (`NoPulse`), a time is not inside of it (`NotInside`), or there are 2^22 pulses (`TooMany`).
 pub fn split(session: &mut Session, address: Address, from: Time, to: Time) -> Reply
     ensures { Obeys (Command.Split address from to) session.old result session.new }
 {
@@ -86,7 +92,9 @@ pub fn split(session: &mut Session, address: Address, from: Time, to: Time) -> R
     reply_to(session.split(i, a, b))
 }
 
-/// Gives a pulse the nominal width of an element: its rise stays.
+/// Gives a pulse the nominal width of an element: its rise stays, and its fall moves. Refused if
+/// the pulse is not there (`NoPulse`), or the new fall would be beyond the length (`OutOfRange`) or
+/// not before the next rise (`Touching`).
 pub fn force(session: &mut Session, address: Address, element: Element) -> Reply
     ensures { Obeys (Command.Force address element) session.old result session.new }
 {
@@ -94,7 +102,9 @@ pub fn force(session: &mut Session, address: Address, element: Element) -> Reply
     reply_to(session.force(i, element))
 }
 
-/// Inserts a pulse from one time to another.
+/// Inserts a pulse from one time to another. Refused if the times are not in order or beyond the
+/// length (`OutOfRange`), an edge is there or the level is high (`Touching`), or there are 2^22
+/// pulses (`TooMany`).
 pub fn insert(session: &mut Session, from: Time, to: Time) -> Reply
     ensures { Obeys (Command.Insert from to) session.old result session.new }
 {
@@ -102,7 +112,8 @@ pub fn insert(session: &mut Session, from: Time, to: Time) -> Reply
     reply_to(session.insert(a, b))
 }
 
-/// Inverts the level from one time to another.
+/// Inverts the level from one time to another. Refused if the times are not in order or beyond the
+/// length (`OutOfRange`), or there would be more than 2^22 pulses (`TooMany`).
 pub fn invert(session: &mut Session, from: Time, to: Time) -> Reply
     ensures { Obeys (Command.Invert from to) session.old result session.new }
 {
@@ -110,8 +121,12 @@ pub fn invert(session: &mut Session, from: Time, to: Time) -> Reply
     reply_to(session.invert(a, b))
 }
 
-/// Generates `frames` frames from the time `start` on. The first has the moment `from`, a date and
-/// a time of day; the lowest bit of `control` is the first control function.
+/// Generates `frames` frames from the time `start` on, in place of the pulses that rise there. The
+/// first has the moment `from`, a date and a time of day; the lowest bit of `control` is the first
+/// control function. Refused unless there are 1 to 10,000 frames within the length (`OutOfRange`);
+/// or if a pulse rises before `start` and does not fall before it (`Touching`), there would be more
+/// than 2^22 pulses (`TooMany`), no frame begins at the moment (`BadTime`), or `control` has more
+/// bits than the format (`BadControl`).
 pub fn regen(session: &mut Session, start: Time, frames: u64, from: Moment, control: u64) -> Reply
     ensures { Obeys (Command.Regen start frames from control) session.old result session.new }
 {
@@ -120,7 +135,7 @@ pub fn regen(session: &mut Session, start: Time, frames: u64, from: Moment, cont
 }
 
 /// Reads frames in another format: a kind of time code, and the number of a coded expression.
-/// Refused if the kind has no such expression.
+/// Refused if the kind has no such expression (`BadExpression`).
 pub fn set_format(session: &mut Session, kind: Kind, expression: u8) -> Reply
     ensures { Obeys (Command.Format kind expression) session.old result session.new }
 {
@@ -130,7 +145,8 @@ pub fn set_format(session: &mut Session, kind: Kind, expression: u8) -> Reply
     }
 }
 
-/// Sets the mark of a letter to a time; `byte` is the letter as the session takes it.
+/// Sets the mark of a letter to a time. Refused if the time is beyond the length (`OutOfRange`).
+/// `byte` gives the letter as the session takes it.
 pub fn mark(session: &mut Session, letter: Letter, at: Time) -> Reply
     ensures { Obeys (Command.Mark letter at) session.old result session.new }
 {
@@ -138,22 +154,23 @@ pub fn mark(session: &mut Session, letter: Letter, at: Time) -> Reply
     reply_to(session.mark(letter.byte(), Some(time)))
 }
 
-/// Clears the mark of a letter.
+/// Clears the mark of a letter, also if it is not set. Refused only if memory runs out: this is a
+/// step, too, that can be undone.
 pub fn unmark(session: &mut Session, letter: Letter) -> Reply
     ensures { Obeys (Command.Unmark letter) session.old result session.new }
 {
     reply_to(session.mark(letter.byte(), None))
 }
 
-/// Undoes the newest step, which is an edit or a group of them. Refused if there is none, or it was
-/// made before the open group was begun.
+/// Undoes the newest step, which is an edit or a group of them. Refused if there is none
+/// (`NothingToUndo`), or it was made before the open group was begun (`GroupFloor`).
 pub fn undo(session: &mut Session) -> Reply
     ensures { Obeys Command.Undo session.old result session.new }
 {
     reply_to(session.undo())
 }
 
-/// Redoes the step that was undone last. Refused if there is none.
+/// Redoes the step that was undone last. Refused if there is none (`NothingToRedo`).
 pub fn redo(session: &mut Session) -> Reply
     ensures { Obeys Command.Redo session.old result session.new }
 {
@@ -161,21 +178,23 @@ pub fn redo(session: &mut Session) -> Reply
 }
 
 /// Opens a group: what is done from here on becomes one step (`end`), or is undone (`abort`).
-/// Refused if one is open.
+/// Refused if one is open (`GroupOpen`).
 pub fn begin(session: &mut Session) -> Reply
     ensures { Obeys Command.Begin session.old result session.new }
 {
     reply_to(session.begin())
 }
 
-/// Makes one step of what was done since the group was opened. Refused if no group is open.
+/// Makes one step of what was done since the group was opened. Refused if no group is open
+/// (`NoGroup`).
 pub fn end(session: &mut Session) -> Reply
     ensures { Obeys Command.End session.old result session.new }
 {
     reply_to(session.end())
 }
 
-/// Undoes what was done since the group was opened, for good. Refused if no group is open.
+/// Undoes what was done since the group was opened, for good: it cannot be redone. Refused if no
+/// group is open (`NoGroup`).
 pub fn abort(session: &mut Session) -> Reply
     ensures { Obeys Command.Abort session.old result session.new }
 {

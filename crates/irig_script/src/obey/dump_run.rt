@@ -1,8 +1,10 @@
 //! A script run on a dump. A dump can carry a journal, the history of a session as text; both have
 //! at most 2^28 bytes. The screen is the output with the witness that watches it, and the shelf is
 //! where the lines `write` and `save` write. A witness is shown the output and the shelf after each
-//! line was obeyed, before its answer is printed. An error is a fault of the dump, then no line was
-//! read, or a fault of the run. `Status` says whether a line was refused.
+//! line was obeyed, before its answer is printed. An error is a fault of the dump (then no line was
+//! read), or a fault of the run. `Status` says whether a line was refused. In a contract, a desk is
+//! what is known of the screen and the shelf, and `IsOpened` says that a session is the one that a
+//! dump gives.
 
 ghost use Rattle.std.specs.Prelude.{◌≡◌, ◌≢◌, ◌⊎◌, ◌≤◌, ◌^◌, ℕ, List, Option, length, Ok, Err};
 ghost use Rattle.std.specs.Prelude.{IfSome, MatchResult};
@@ -36,9 +38,10 @@ pub enum DumpRunFault {
 }
 
 /// Opens a dump and obeys a script on its session, from the bytes that come in to those that go
-/// out. The wire is chosen by its name; without one there has to be one of one bit. Frames are read
-/// in the format, unless the dump has a journal with another. The bytes of the dump are dropped
-/// before the script is read.
+/// out. The wire is chosen by its name; without a name the dump has to have one wire of one bit.
+/// Frames are read in the format, unless the dump has a journal with another. The bytes of the dump
+/// (`source`) are dropped before the script is read. That memory ran out for the dump is reported
+/// only if the wire has an edge, or the dump itself can be read: then its session needs memory.
 pub fn run_on_dump<R: Read, W: Write, N: Witness, S: Shelf>(
     alloc: Global,
     source: Vec<u8>,
@@ -66,9 +69,9 @@ pub fn run_on_dump<R: Read, W: Write, N: Witness, S: Shelf>(
     }
 }
 
-/// Obeys a script on the session of a recording and the text of the journal, as `irig_vcd` reads
-/// them from a dump: `run_on_dump` without its bytes. The text is dropped before the script is
-/// read.
+/// Obeys a script on the session of a recording and the text of the journal, if there is one, as
+/// `irig_vcd` reads both from a dump: it does what `run_on_dump` does with the bytes of that dump.
+/// A journal that is wrong is a fault of the dump. The text is dropped before the script is read.
 pub fn run_on_parts<R: Read, W: Write, N: Witness, S: Shelf>(
     alloc: Global,
     recording: Recording,
@@ -97,7 +100,7 @@ pub fn run_on_parts<R: Read, W: Write, N: Witness, S: Shelf>(
 }
 
 /// Obeys a script on the session of a dump, as `engine::run` does: to its end, or to its line
-/// `quit`.
+/// `quit`. An error is always one of the run, `Run`.
 fn run_opened<R: Read, W: Write, N: Witness, S: Shelf>(
     mut session: Session,
     script: &mut R,

@@ -2,7 +2,9 @@
 //! whether a line was refused. The screen is the output with the witness that watches it, and the
 //! shelf is where the lines `write` and `save` write. A witness is shown the output and the shelf
 //! after each line was obeyed, before its answer is printed. `PrintFault` says that a write of the
-//! output failed.
+//! output failed. In a contract, `Holds text` says that the bytes `text` of a line have come; a
+//! desk is what is known of the screen and the shelf; `Obeyed` says what the bytes of a script did,
+//! and `BrokeIn` that they were obeyed up to an answer that was not printed whole.
 //!
 //! Where `match` or `let Ok(..) else` returns an error, `?` would do the same; the proof of it
 //! takes longer.
@@ -76,7 +78,9 @@ pub fn run<R: Read, W: Write, N: Witness, S: Shelf>(
 
 /// Reads a part of a script and obeys it. Returns whether the script has ended: there was nothing
 /// left to read, or a line was `quit`. At the end the last line may lack its newline, and is
-/// obeyed, too.
+/// obeyed, too. A line that has not ended waits in `line`. `ReadFailed` if the read fails, and
+/// `PrintFailed` if an answer cannot be printed. In the contract, `reads` is how many reads were
+/// made before; `start`, `from` and `first` are script, desk and session as the run began.
 fn obey_read<R: Read, W: Write, N: Witness, S: Shelf>(
     script: &mut R,
     buffer: &mut [u8; READ_LIMIT],
@@ -121,8 +125,8 @@ fn read_part<R: Read>(script: &mut R, buffer: &mut [u8; READ_LIMIT]) -> Result<u
     }
 }
 
-/// The bytes to obey after a read of `count` bytes: those that it gave. If it gave none the script
-/// ends: then a newline, which its last line lacks, or no byte if that line has none.
+/// The bytes to obey after a read of `count` bytes: those that it gave. If it gave none, the script
+/// ends: then a newline, if `line` has bytes of a last line that lacks one; else no byte.
 fn with_end<'a>(buffer: &'a [u8; READ_LIMIT], count: usize, line: &Line) -> &'a [u8]
     requires { count ≤ length buffer.now }
     ensures { (text : List ℕ) → Holds text line.now
@@ -137,8 +141,9 @@ fn with_end<'a>(buffer: &'a [u8; READ_LIMIT], count: usize, line: &Line) -> &'a 
     b"\n"
 }
 
-/// Obeys the bytes that come after a line's front, which `line` has, and returns whether the script
-/// ends in them. Bytes after its end are passed over. A front that is left waits in `line`.
+/// Obeys the bytes that come after a line's front, which `line` has, and returns whether a line in
+/// them is `quit`, which ends the script. Bytes after it are passed over. If there is none, the
+/// front of a line that has not ended waits in `line`.
 fn obey_part<W: Write, N: Witness, S: Shelf>(
     line: &mut Line,
     bytes: &[u8],
@@ -168,8 +173,8 @@ fn obey_part<W: Write, N: Witness, S: Shelf>(
 }
 
 /// Obeys a byte that comes after the front of a line: a newline ends the line, which is obeyed and
-/// answered. Returns whether the script ends with this line, which only `quit` does: `obey_line`
-/// has no reply to it (`None`).
+/// answered; any other byte is added to it. Returns whether the script ends with this line: only
+/// `quit` ends it, and `obey_line` has no reply (`None`) to that.
 fn obey_byte<W: Write, N: Witness, S: Shelf>(
     line: &mut Line,
     byte: u8,
@@ -202,8 +207,8 @@ fn obey_byte<W: Write, N: Witness, S: Shelf>(
     Ok(false)
 }
 
-/// Prints a reply after the witness saw the shelf, and notes a refusal in the status. So what a
-/// line wrote is there before its answer goes out.
+/// Notes a refusal in the status, shows output and shelf to the witness, and then prints the reply.
+/// So the witness sees that what a line wrote is there before its answer goes out.
 fn answer<W: Write, N: Witness, S: Shelf>(
     reply: Reply,
     session: &Session,

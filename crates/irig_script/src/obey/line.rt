@@ -1,4 +1,5 @@
-//! The line of a script that is being read.
+//! The line of a script that is being read. `Holds text` in a contract says that the bytes `text`
+//! came since the line was empty.
 
 ghost use Rattle.std.specs.Prelude.{◌≡◌, ◌≤◌, ◌<◌, ◌++◌, ◌∷◌, [], ◌≢◌, ℕ, List, IfSome, IfNone};
 ghost use Rattle.std.specs.Prelude.{length, ◌==◌};
@@ -52,14 +53,14 @@ impl Line {
         }
     }
 
-    /// Whether no byte has come.
+    /// Whether no byte has come since the line was made empty.
     pub fn is_empty(&self) -> bool
         ensures { (text : List ℕ) → Holds text self.now → result ≡ (length text == 0) }
     {
         self.len == 0
     }
 
-    /// The line, unless it is too long: then `None`.
+    /// The bytes of the line; `None` if more than 1,000 came.
     pub fn text(&self) -> Option<&[u8]>
         ensures whole { IfSome result (λ bytes. (text : List ℕ) → Holds text self.now
             → (bytes.now ≡ text) × (length text ≤ 1000)) }

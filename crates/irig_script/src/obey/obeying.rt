@@ -1,6 +1,7 @@
 //! What is replied to a line of a script, and done for it. Each function below `obey` is called
 //! only with the commands of its purpose, so its last case never comes. The shelf is where `write`
-//! and `save` write their texts.
+//! and `save` write their texts. In a contract, `Obeys` says that the session may give this reply
+//! to a command, and what it has then.
 
 ghost use Rattle.std.specs.Prelude.{◌≡◌, ◌≢◌, length};
 ghost use Rattle.irig_script.specs.Obey.Obeying.{Obeys};
@@ -23,7 +24,8 @@ use irig_lines::{BadLine, Command, Purpose, parse_line};
 use irig_text::Shelf;
 
 /// Obeys a line and returns its answer, refused or not; `None` if it is `quit`, which ends the
-/// script. A refused line changes nothing.
+/// script. A line of more than 1,000 bytes is `LineTooLong`, one that is not valid `BadLine`. A
+/// refused line changes nothing of the session.
 pub fn obey_line<S: Shelf>(line: &Line, session: &mut Session, shelf: &mut S) -> Option<Reply>
     ensures answers { Answers result (S.known shelf.old) (S.known shelf.new)
         session.old session.new line.now }
@@ -39,8 +41,8 @@ pub fn obey_line<S: Shelf>(line: &Line, session: &mut Session, shelf: &mut S) ->
     }
 }
 
-/// Obeys a command that does not end the script: `write` and `save` need the shelf, all others do
-/// not.
+/// Obeys a command that does not end the script. `write` and `save` write their text to the shelf;
+/// all others do not need it.
 fn write_or_obey<S: Shelf>(command: Command, session: &mut Session, shelf: &mut S) -> Reply
     requires { command ≢ Command.Quit }
     ensures answer { Obeys command session.old result session.new }
@@ -58,8 +60,8 @@ fn write_or_obey<S: Shelf>(command: Command, session: &mut Session, shelf: &mut 
 }
 
 /// Obeys a command that neither writes a text nor ends the script, so its purpose is not `Text` or
-/// `End`. A blank line or a comment, whose purpose is `Nothing`, changes nothing and prints
-/// nothing.
+/// `End`, and no reply is `Written` or `WriteFailed` (`IsQuiet`). A blank line or a comment, whose
+/// purpose is `Nothing`, changes nothing and prints nothing.
 pub fn obey(command: Command, session: &mut Session) -> Reply
     requires goes_on { command ≢ Command.Quit }
     requires writes_none { command ≢ Command.Write }
@@ -77,7 +79,7 @@ pub fn obey(command: Command, session: &mut Session) -> Reply
     }
 }
 
-/// Obeys an edit of the level.
+/// Obeys an edit of the pulses. The reply is `Silent`, or says why the session refuses the edit.
 fn edit(command: Command, session: &mut Session) -> Reply
     requires { purpose_of command ≡ Purpose.Edit }
     ensures answer { Obeys command session.old result session.new }
@@ -98,7 +100,7 @@ fn edit(command: Command, session: &mut Session) -> Reply
     }
 }
 
-/// Sets or clears a mark.
+/// Sets or clears a mark. The reply is `Silent`, or says why the session refuses it.
 fn set_mark(command: Command, session: &mut Session) -> Reply
     requires { purpose_of command ≡ Purpose.Mark }
     ensures answer { Obeys command session.old result session.new }
@@ -111,7 +113,8 @@ fn set_mark(command: Command, session: &mut Session) -> Reply
     }
 }
 
-/// Sets the format in which frames are read.
+/// Sets the format in which frames are read. The reply is `Silent`, or says why it is refused: the
+/// kind has no such expression, or memory runs out.
 fn choose_format(command: Command, session: &mut Session) -> Reply
     requires { purpose_of command ≡ Purpose.Format }
     ensures answer { Obeys command session.old result session.new }
@@ -123,8 +126,8 @@ fn choose_format(command: Command, session: &mut Session) -> Reply
     }
 }
 
-/// Answers a question: the reply says what is to be listed. `show`, which names a pulse, moves the
-/// cursor to it.
+/// Answers a question: the reply says what is to be listed, or, for `show` and `list`, that a pulse
+/// is not there. `show`, which names a pulse, moves the cursor to it.
 fn answer(command: Command, session: &mut Session) -> Reply
     requires { purpose_of command ≡ Purpose.Question }
     ensures answer { Obeys command session.old result session.new }
@@ -140,7 +143,8 @@ fn answer(command: Command, session: &mut Session) -> Reply
     }
 }
 
-/// Undoes or redoes a step, or opens or closes a group.
+/// Undoes or redoes a step, or opens or closes a group of steps. The reply is `Silent`, or says why
+/// the session refuses it.
 fn change_steps(command: Command, session: &mut Session) -> Reply
     requires { purpose_of command ≡ Purpose.Steps }
     ensures answer { Obeys command session.old result session.new }

@@ -38,7 +38,8 @@ fn base(session: &Session, base: &Base) -> Option<u64>
 }
 
 /// The number `number + by + offset`, of pulses; 0 if that is below 0. The answer has 128 bits, so
-/// that the sum of these 64-bit numbers fits.
+/// that the sum of these 64-bit numbers fits. In the contract, `ahead` is an offset above 0 and
+/// `back` the size of one below 0; the other one is 0.
 fn counted(number: u64, by: u64, offset: i64) -> u128
     ensures { result ≡ number + by + ahead offset - back offset }
 {
@@ -51,8 +52,8 @@ fn counted(number: u64, by: u64, offset: i64) -> u128
     }
 }
 
-/// The pulse that is `by` pulses after the one of an address, from 1; 0 if the address or the track
-/// has none there.
+/// The pulse that is `by` pulses after the one of an address, from 1; 0 if the address names a mark
+/// that is not set, or the track has no pulse of that number.
 fn pulse_at(session: &Session, by: u64, address: &Address) -> usize
     ensures { result ≡ pulse_at by address.now (present_in session.now) }
 {
@@ -67,14 +68,16 @@ fn pulse_at(session: &Session, by: u64, address: &Address) -> usize
     }
 }
 
-/// The pulse of an address, from 1; 0 if there is none.
+/// The pulse of an address, from 1; 0 if the track has no such pulse, or the address names a mark
+/// that is not set.
 pub fn number_at(session: &Session, address: &Address) -> usize
     ensures { result ≡ number_at address.now (present_in session.now) }
 {
     pulse_at(session, 0, address)
 }
 
-/// The first and the last pulse of a range, from 1; 0 for one that is not there.
+/// The first and the last pulse of a range, from 1; 0 for one that is not there. Of one address
+/// both are its pulse. Whether the first is before the last is not tested here.
 pub fn ends(session: &Session, range: &Range) -> (usize, usize)
     ensures { result ≡ (
       first_of range.now (present_in session.now),
@@ -90,8 +93,8 @@ pub fn ends(session: &Session, range: &Range) -> (usize, usize)
     }
 }
 
-/// The first and the last pulse that are joined, from 1; 0 for one that is not there. One address
-/// joins its pulse and the next.
+/// The first and the last pulse that the command `join` makes one of, from 1; 0 for one that is not
+/// there. One address means its pulse and the next; two addresses mean what `ends` says.
 pub fn join_ends(session: &Session, range: &Range) -> (usize, usize)
     ensures { result ≡ (
       first_of range.now (present_in session.now),
@@ -104,8 +107,8 @@ pub fn join_ends(session: &Session, range: &Range) -> (usize, usize)
     }
 }
 
-/// A time in microseconds; that of a mark which is not set is beyond every length, so the session
-/// refuses it.
+/// A time in microseconds: the number itself, or the time of a mark. If the mark is not set, it is
+/// 2^64 - 1, which is beyond every length, so the session refuses it.
 pub fn time(session: &Session, time: &Time) -> u64
     ensures { result ≡ time_of time.now (present_in session.now) }
 {

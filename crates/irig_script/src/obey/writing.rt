@@ -1,4 +1,5 @@
-//! The lines `write` and `save`. A shelf is where texts are written.
+//! The lines `write` and `save`. A shelf is where texts are written. A reply to them is `Written`,
+//! with how many bytes the text has, or `WriteFailed`.
 
 ghost use Rattle.std.specs.Prelude.{◌∷◌, []};
 ghost use Rattle.irig_edit.specs.{Saved.SavedSession.saved_text, Session.Session.work_in};
@@ -10,7 +11,7 @@ use crate::print::reply::Reply;
 use irig_edit::Session;
 use irig_text::{Shelf, Text};
 
-/// Writes the text of the track. It takes no memory.
+/// Writes the text of the track to the shelf. The text is made in parts, so this takes no memory.
 ///
 /// It is a call of its own, so that no other line pays for the room that a text in parts has on the
 /// stack.
@@ -24,8 +25,9 @@ pub fn write_dump<S: Shelf>(session: &Session, shelf: &mut S) -> Reply
     write(&mut session.text_parts(), shelf)
 }
 
-/// Writes the text of the track with its journal. It takes no memory, and is a call of its own, so
-/// that no other line pays for the room that the text has on the stack.
+/// Writes the text of the track with its journal, the history of the session, to the shelf. The
+/// text is made in parts, so this takes no memory. It is a call of its own, so that no other line
+/// pays for the room that a text in parts has on the stack.
 #[inline(never)]
 pub fn write_saved<S: Shelf>(session: &Session, shelf: &mut S) -> Reply
     ensures answer { Writes (saved_text (work_in session.now)) result }
@@ -36,8 +38,8 @@ pub fn write_saved<S: Shelf>(session: &Session, shelf: &mut S) -> Reply
     write(&mut session.saved_parts(), shelf)
 }
 
-/// Writes a text to the shelf. The reply has how many bytes the text has, or says that the write
-/// failed.
+/// Writes a text to the shelf. The reply is `Written`, with how many bytes the text has, or
+/// `WriteFailed`.
 fn write<T: Text, S: Shelf>(text: &mut T, shelf: &mut S) -> Reply
     ensures answer { Writes (T.rest text.old) result }
     ensures put { Puts (S.known shelf.old) (S.known shelf.new)

@@ -1,5 +1,6 @@
 //! The line that the command `info` prints. A row is this line in memory, while it is put together;
-//! it has room for 256 bytes. `PrintFault` says that a write of the output failed.
+//! it has room for 256 bytes. `PrintFault` says that a write of the output failed; the front of the
+//! line may be printed then.
 
 ghost use Rattle.std.specs.Prelude.{◌≡◌, ◌≤◌, ◌+◌, ◌++◌, [], codes, length, decimal};
 ghost use Rattle.irig_codes.specs.Words.{kind_word};
@@ -28,7 +29,8 @@ pub fn print_info<W: Write>(session: &Session, out: &mut W) -> Result<(), PrintF
 }
 
 /// Writes the length of the track in microseconds, how many pulses and frames it has, and their
-/// format: its kind, and the number of its coded expression. The row is empty before.
+/// format: its kind, and the number of its coded expression. The row is empty before. These are at
+/// most 120 bytes, so the rest of the line has room.
 fn put_track(row: &mut Row, session: &Session)
     requires { row.old ≡ [] }
     ensures text { row.new ≡ codes "length " ++ decimal session.now.state.micros

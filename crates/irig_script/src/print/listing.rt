@@ -1,5 +1,6 @@
 //! The listing of the frames. Lines wait in a block until it is full; a row is one line, while it
-//! is put together. `PrintFault` says that a write of the output failed.
+//! is put together. `PrintFault` says that a write of the output failed; the front of the listing
+//! may be printed then.
 //!
 //! Where `let .. else` hands an error on, `?` would do the same; the proof of it takes longer.
 

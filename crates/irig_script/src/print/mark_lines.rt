@@ -1,5 +1,6 @@
 //! The listing of the marks. Lines wait in a block until it is full; a row is one line, while it is
-//! put together. `PrintFault` says that a write of the output failed.
+//! put together. `PrintFault` says that a write of the output failed; the front of the listing may
+//! be printed then.
 //!
 //! Where `let .. else` hands an error on, `?` would do the same; the proof of it takes longer.
 
@@ -12,9 +13,9 @@ use irig_print::{Block, PrintFault, Row};
 use irig_saved::Letter;
 use std::io::Write;
 
-/// Prints a line for each mark that is set, a to z: places 0 to 25. One that is not set has an
-/// empty row. At the end what still waits in the block goes out. It is a call of its own, so that
-/// no other line pays for the block on the stack.
+/// Prints a line for each mark that is set, a to z: places 0 to 25. A mark that is not set has an
+/// empty row, which prints nothing. At the end what still waits in the block goes out. It is a call
+/// of its own, so that no other line pays for the block on the stack.
 #[inline(never)]
 pub fn print_marks<W: Write>(session: &Session, out: &mut W) -> Result<(), PrintFault>
     ensures { Prints (W.contents out.old) (W.contents out.new)

@@ -1,6 +1,6 @@
 //! The listing of pulses. A line has at most `LINE_ROOM` bytes, which are 72. A block is bytes on
 //! the stack, in which lines are put together that go out by one write. `PrintFault` says that a
-//! write of the output failed.
+//! write of the output failed; the front of the listing may be printed then.
 //!
 //! Where `let .. else` hands an error on, `?` would do the same; the proof of it takes longer.
 
@@ -19,8 +19,9 @@ const FEW: usize = 14;
 /// The bytes of a block of a longer listing: 227 lines have room in it.
 const BLOCK: usize = 16384;
 
-/// Prints a line for each of `count` pulses after the first `before`, by the shortest block that
-/// has room for all of them: then they go out by one write. Without such a block, by the longest.
+/// Prints a line for each of `count` pulses after the first `before`, as far as the track has them.
+/// It uses the shortest block that has room for all lines, so that they go out by one write; if
+/// none has, the longest, which goes out more than once.
 pub fn print_pulses<W: Write>(
     session: &Session,
     before: usize,
@@ -39,8 +40,8 @@ pub fn print_pulses<W: Write>(
     }
 }
 
-/// Prints the lines by a long block, `BLOCK`. It is a call of its own, so that a short listing does
-/// not pay for the block on the stack.
+/// Prints a line for each of `count` pulses after the first `before`, by a long block, `BLOCK`. It
+/// is a call of its own, so that a short listing does not pay for the block on the stack.
 #[inline(never)]
 fn print_many<W: Write>(
     session: &Session,

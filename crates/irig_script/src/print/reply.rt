@@ -1,4 +1,5 @@
-//! What is answered to a line of a script. `PrintFault` says that a write of the output failed.
+//! What is answered to a line of a script. `PrintFault` says that a write of the output failed; the
+//! front of the answer may be printed then.
 
 ghost use Rattle.std.specs.Prelude.{◌≡◌, ◌++◌, ◌∷◌, [], true, decimal};
 ghost use Rattle.irig_script.specs.Print.Printed.{refusal_text, reply_text};
@@ -104,8 +105,9 @@ fn refusal_line(why: Refusal) -> &'static [u8]
     }
 }
 
-/// Prints a number and a newline: the digits end before place 23, from 0, where the newline is. A
-/// number has at most 20 digits. `write_digits` gives the place of the first one.
+/// Prints a number and a newline. The buffer is full of newlines at first; the digits are written
+/// into it so that they end before its last place, 23 (from 0), which stays a newline. A number has
+/// at most 20 digits. `write_digits` gives the place of the first one.
 fn put_number<W: Write>(out: &mut W, number: u64) -> Result<(), PrintFault>
     ensures { Prints (W.contents out.old) (W.contents out.new) (decimal number ++ 10 ∷ []) result }
 {

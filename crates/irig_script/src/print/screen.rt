@@ -1,6 +1,6 @@
 //! An output with the witness that watches it. A witness is shown the output and the shelf after
 //! each line was obeyed, before its answer is printed. `PrintFault` says that a write of the output
-//! failed.
+//! failed; the front of the answer may be printed then.
 
 ghost use Rattle.std.specs.Prelude.{◌≡◌, ◌∷◌, []};
 ghost use Rattle.irig_script.specs.Print.Printed.{reply_text};

@@ -26,6 +26,6 @@ pub struct NoWitness;
 impl Witness for NoWitness {
     ghost seen = { λ _. None };
 
-    // Does nothing.
+    // Does nothing. What it saw is not shown (`seen` is `None`), so its contract asks for nothing.
     fn see<W: Write, S: Shelf>(&mut self, _: &W, _: &S) {}
 }
