@@ -13,8 +13,9 @@ use irig_folders::{Call, Memory, MemoryFault, bytes_of, file_at, is_kept};
 use irig_text::{Bytes, ENOUGH, Text};
 use std::alloc::{AllocError, Global};
 
-/// A text that finds no memory for one of its parts, the one of the number `fails_at`, from 0; with
-/// `None` for none of them. `given` is how many parts were given.
+/// A text that finds no memory for its part number `fails_at`, counted from 0. With `None` each
+/// part finds some. `given` is how many parts were given. A part is what one call of `fill` gives:
+/// here a block.
 #[derive(Drop)]
 struct Failing<T: Text> {
     text: T,
@@ -25,7 +26,8 @@ struct Failing<T: Text> {
 impl<T: Text> Text for Failing<T> {
     ghost rest = { λ f. T.rest f.text };
 
-    // Gives the next part of the text, or fails if that is the one that finds no memory.
+    // Adds the next part of the text to the block, as `text` does, and returns whether the text has
+    // ended. Part `fails_at` fails before anything is added.
     fn fill(&mut self, block: &mut Vec<u8>, enough: usize) -> Result<bool, AllocError> {
         if self.fails_at == Some(self.given) {
             return Err(AllocError);
@@ -35,8 +37,8 @@ impl<T: Text> Text for Failing<T> {
     }
 }
 
-/// Writes these bytes at the name `t`, as a text whose part `fails_at`, from 0, finds no memory;
-/// with `None` each finds some.
+/// Writes these bytes at the name `t`, as a text whose part `fails_at` finds no memory, and returns
+/// the answer of `put_text`. The `None` given to `put_text` is for the usual mode.
 fn write(
     alloc: Global,
     folder: &mut Memory,
@@ -62,7 +64,7 @@ fn write(
     )
 }
 
-/// A text of three blocks: two full ones, and one byte.
+/// A text of three blocks: two full ones, and one byte. It fails only if memory runs out.
 fn new_text(alloc: Global) -> Result<Vec<u8>, AllocError> {
     let mut text = Vec::new(alloc);
     text.resize(2 * ENOUGH + 1, b'n')?;
@@ -79,7 +81,8 @@ fn old_folder(alloc: Global) -> Option<Memory> {
 }
 
 /// Whether the name `t` leads, after these calls, the newest first, to a file with these bytes, and
-/// no crash would lose them now (`is_kept`). It is false, too, if memory runs out.
+/// no crash would lose them now (`is_kept`). It is false, too, if `t` leads to no file, or memory
+/// runs out.
 fn holds(alloc: Global, calls: &[Call], bytes: &[u8]) -> bool {
     let Some(file) = file_at(calls, b"t") else {
         return false;
@@ -90,7 +93,8 @@ fn holds(alloc: Global, calls: &[Call], bytes: &[u8]) -> bool {
     }
 }
 
-/// Whether a write of the text `new` over `old` leaves one of them whole at each stop.
+/// Whether a write of the text `new` over `old`, in a folder of its own, is as `is_written` says:
+/// at each stop one of the two texts is there, whole. It is false, too, if `old` cannot be written.
 fn is_whole_at_each_stop(alloc: Global, new: &[u8]) -> bool {
     match old_folder(alloc) {
         Some(mut folder) => is_written(alloc, &mut folder, new),
@@ -98,8 +102,8 @@ fn is_whole_at_each_stop(alloc: Global, new: &[u8]) -> bool {
     }
 }
 
-/// Whether the text `new` is written by the seven calls that `STOPS` names, and the old text or the
-/// new one is there, whole, at each stop.
+/// Whether the text `new` is written by the seven calls that `STOPS` names, in this folder with the
+/// old text, and at each stop the text that `STOPS` says is there, whole.
 fn is_written(alloc: Global, folder: &mut Memory, new: &[u8]) -> bool {
     let before = folder.calls().len();
     match write(alloc, folder, new, None) {
@@ -123,7 +127,8 @@ fn is_whole(alloc: Global, calls: &[Call], new: &[u8]) -> bool {
     true
 }
 
-/// Whether these bytes are there if the newest `left_out` calls are left out.
+/// Whether the name `t` has these bytes, as `holds` says, if the newest `left_out` calls are left
+/// out. It is false if there are not that many calls.
 fn holds_without(alloc: Global, calls: &[Call], left_out: usize, bytes: &[u8]) -> bool {
     match calls.get(left_out..) {
         Some(calls) => holds(alloc, calls, bytes),
@@ -211,8 +216,8 @@ fn is_left(alloc: Global, new: &[u8], row: Fault) -> bool {
     }
 }
 
-/// Whether the write of a row, in this folder with the old text, gives the answer of the row and
-/// leaves what it says.
+/// Whether the write of a row, in this folder with the old text, gives the answer of the row, and
+/// leaves the text of the row at the name `t`, and the new file `next0` only if the row says so.
 fn leaves(alloc: Global, folder: &mut Memory, new: &[u8], row: Fault) -> bool {
     let (from, to, fails_at, answer, is_new, remains) = row;
     folder.fail(from, to);
@@ -222,7 +227,7 @@ fn leaves(alloc: Global, folder: &mut Memory, new: &[u8], row: Fault) -> bool {
         && file_at(folder.calls(), b"next0").is_some() == remains
 }
 
-// A crash at each call leaves the old text or the new one.
+// A crash after each call of a write leaves the old text or the new one, as `STOPS` says.
 #[test]
 fn a_text_of_three_blocks_is_whole_at_each_stop(rt: HostRuntime) {
     let Ok(new) = new_text(rt.alloc()) else {
@@ -233,7 +238,8 @@ fn a_text_of_three_blocks_is_whole_at_each_stop(rt: HostRuntime) {
 }
 
 // A call that fails, and memory that runs out, leave the old text, and the fault says whether the
-// new file remains.
+// new file remains. Only if the last sync fails, the new text is there. The rows of `FAULTS` follow
+// from what irig_disk says of each `PutFault`.
 #[test]
 fn a_text_of_three_blocks_fails_at_each_call(rt: HostRuntime) {
     let Ok(new) = new_text(rt.alloc()) else {

@@ -45,7 +45,8 @@ pub static LINKS: [(&str, &str); 9] = [
     ("a/answered", "../answers"),
 ];
 
-/// A write that succeeds: its path, the place that it goes to, and whether a file is there.
+/// A write that succeeds: its path, the place that it goes to, and whether a regular file is there
+/// before the write.
 #[derive(Clone, Copy)]
 pub struct Row {
     pub path: &'static str,
@@ -53,7 +54,7 @@ pub struct Row {
     pub is_there: bool,
 }
 
-/// A write that succeeds, as a `Row`.
+/// The `Row` of a write that succeeds: its path, its place, and whether a file is there before.
 pub fn row_of(path: &'static str, place: &'static str, is_there: bool) -> Row {
     Row {
         path,
@@ -77,7 +78,8 @@ pub static WRITES: [(&str, &str, bool); 8] = [
 ];
 
 /// The folders that the tests write in: those of `PATHS`, the files of `OLD`, the links of `LINKS`,
-/// a file that must not be written, a pipe, and the file that the program's answers go to.
+/// a file that must not be written, a pipe, and the file that the program's answers go to. It fails
+/// only if memory runs out, as no two of these places are the same.
 pub fn folders(alloc: Global) -> Result<Tree, MemoryFault> {
     let mut tree = Tree::new(alloc, LIMIT);
     for (path, front) in PATHS.iter() {
@@ -95,7 +97,8 @@ pub fn folders(alloc: Global) -> Result<Tree, MemoryFault> {
     Ok(tree)
 }
 
-/// Writes the text `new`, three bytes, to a path. It fails if the write does, or memory runs out.
+/// Writes the text `new`, three bytes, to a path. `Written` says whether the file was replaced or
+/// written in place. It fails if the write does, or memory runs out.
 pub fn write(alloc: Global, files: &mut Files<Tree>, path: &str) -> Result<Written, ShelfFault> {
     let Ok(mut room) = Room::new(alloc) else {
         return Err(ShelfFault);
@@ -103,7 +106,8 @@ pub fn write(alloc: Global, files: &mut Files<Tree>, path: &str) -> Result<Writt
     files.put(path, &mut Bytes::new(b"new"), &mut room)
 }
 
-/// The files of a tree of folders. They need a place in memory for the folder that a write opens.
+/// The files of a tree of folders, as irig_files writes them. The `TreeDir` is the place in memory
+/// for the folder that a write opens; the write sets its front.
 pub fn files_of(alloc: Global, tree: Tree) -> Files<Tree> {
     Files::new(
         tree,

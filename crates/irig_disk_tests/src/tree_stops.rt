@@ -11,8 +11,8 @@ use crate::tree_folders::{LINKS, MODE, OLD, Row, WRITES, files_of, folders, row_
 use irig_folders::{Call, Tree, USUAL, bytes_of, file_at, is_kept, mode_of};
 use std::alloc::Global;
 
-/// Whether a file holds all of the old text or of the new one, with the mode of the row, and each
-/// crash leaves it so.
+/// Whether a file, given by its number, holds all of the old text or of the new one, has the mode
+/// that the row asks for, and each crash leaves it so. It is false, too, if memory runs out.
 fn is_whole(alloc: Global, calls: &[Call], file: usize, row: Row) -> bool {
     match bytes_of(alloc, calls, file) {
         Ok(held) => {
@@ -25,9 +25,10 @@ fn is_whole(alloc: Global, calls: &[Call], file: usize, row: Row) -> bool {
     }
 }
 
-/// Whether each crash after these calls leaves a whole text at the place of the row: in the file
-/// that it leads to, and in each that it led to since its name was last kept. No file may be there
-/// only if none was before the write.
+/// Whether each crash after these calls leaves a whole text at the place of the row. A crash can
+/// leave there the file to which the place leads, and each to which it led since its name was last
+/// kept: all of them have to be whole. The place may have no file only if it had none before the
+/// write. It is false, too, if the name was never kept.
 fn leaves_whole(alloc: Global, calls: &[Call], row: Row) -> bool {
     // Back from the newest call to the last one that kept the name.
     for gone in 0..=calls.len() {
@@ -56,7 +57,8 @@ fn keeps_name(calls: &[Call], place: &str) -> bool {
 }
 
 /// Whether the names of `OLD` and `LINKS`, the pipe and the output lead where they led before the
-/// newest `last` calls. That of the row is left out, as the write changes it.
+/// newest `last` calls. The name of the row is left out, as the write changes it. It is false, too,
+/// if there are fewer than `last` calls.
 fn others_stay(calls: &[Call], last: usize, row: Row) -> bool {
     let Some(before) = calls.get(last..) else {
         return false;
@@ -82,7 +84,9 @@ fn is_same(calls: &[Call], before: &[Call], place: &str) -> bool {
 }
 
 /// Whether the write of the row, the newest `last` calls, leaves a whole text and all other names
-/// at each stop: after each of these calls, and before the first.
+/// at each stop: after each of these calls, and before the first. If the newest `gone` calls are
+/// left out, `last - gone` of the write are still there; `saturating_sub` saves a proof that this
+/// is not below 0.
 fn is_whole_at_each_stop(alloc: Global, calls: &[Call], last: usize, row: Row) -> bool {
     for gone in 0..=last {
         match calls.get(gone..) {
@@ -95,7 +99,7 @@ fn is_whole_at_each_stop(alloc: Global, calls: &[Call], last: usize, row: Row) -
     true
 }
 
-/// Whether a place leads to a file with just this text.
+/// Whether a place leads to a file with just this text. It is false, too, if memory runs out.
 fn holds(alloc: Global, calls: &[Call], place: &str, text: &[u8]) -> bool {
     let Some(file) = file_at(calls, place.as_bytes()) else {
         return false;
@@ -112,9 +116,10 @@ fn calls_of(row: Row) -> u64 {
     if row.is_there { 6 } else { 5 }
 }
 
-/// Whether the write of a row, of whose calls the one of number `fails`, from 0, fails, returns an
-/// error, and leaves a whole text at each stop. If `fails` is the count of its calls, none fails:
-/// then it succeeds, and the new text is there.
+/// Writes as the row says in this tree, and lets call number `fails` of the write fail, counted
+/// from 0. True if the write returns an error, and a whole text and all other names are there at
+/// each stop. If `fails` is the count of the calls of the write (`calls_of`), none of them fails:
+/// then the write has to succeed, and the new text to be there at the end.
 pub fn is_written(alloc: Global, mut tree: Tree, row: Row, fails: u64) -> bool {
     let before = tree.memory.calls().len();
     tree.memory.fail(fails, fails.saturating_add(1));
@@ -129,8 +134,8 @@ pub fn is_written(alloc: Global, mut tree: Tree, row: Row, fails: u64) -> bool {
         }
 }
 
-/// Whether the write of a row is as `is_written` says with each of its calls that fails, and with
-/// none.
+/// Whether the write of a row is as `is_written` says, first for each of its calls that fails, then
+/// if none fails. Each of these writes is done once, in folders of its own.
 fn is_written_once(alloc: Global, row: Row) -> bool {
     for fails in 0..=calls_of(row) {
         let Ok(tree) = folders(alloc) else {

@@ -12,7 +12,8 @@ use irig_files::Written;
 use irig_folders::{MemoryFault, Plain, Tree};
 use std::alloc::Global;
 
-/// Whether a write to a path returns an error, and no call changed anything.
+/// Whether a write to a path in this tree returns an error, and no call changed anything. `blind`
+/// is the call that fails, if one does.
 fn is_refused(alloc: Global, mut tree: Tree, path: &str, blind: Option<Plain>) -> bool {
     let before = tree.memory.calls().len();
     tree.blind = blind;
@@ -20,7 +21,8 @@ fn is_refused(alloc: Global, mut tree: Tree, path: &str, blind: Option<Plain>) -
     write(alloc, &mut files, path).is_err() && files.system().memory.calls().len() == before
 }
 
-/// Whether a write to a path is refused in the folders of `tree_folders`, without a change.
+/// Whether a write to a path is refused in the folders of `tree_folders`, without a change. They
+/// are made for this one write. It is false, too, if memory runs out for them.
 fn is_refused_once(alloc: Global, path: &str, blind: Option<Plain>) -> bool {
     match folders(alloc) {
         Ok(tree) => is_refused(alloc, tree, path, blind),
@@ -55,8 +57,8 @@ fn a_write_that_is_refused_changes_nothing(rt: HostRuntime) {
     }
 }
 
-/// Whether the text is written in place to a path: all three bytes of it, without a call that makes
-/// or changes a file.
+/// Whether the text is written in place to a path of the folders of `tree_folders`: all three bytes
+/// of it, without a call that makes or changes a file. It is false, too, if the write fails.
 fn is_in_place(alloc: Global, path: &str) -> bool {
     let Ok(tree) = folders(alloc) else {
         return false;
@@ -80,8 +82,8 @@ fn a_pipe_and_the_standard_output_are_written_in_place(rt: HostRuntime) {
     }
 }
 
-/// Adds `count` links, which is at least 1: `0` leads to `1`, and so on, and the last to the file
-/// `a/t`.
+/// Adds `count` links to a tree; `count` is at least 1. The link `0` leads to `1`, and so on, and
+/// the last one to the file `a/t`. It fails only if memory runs out.
 fn add_links(alloc: Global, tree: &mut Tree, count: u32) -> Result<(), MemoryFault> {
     for number in 0..count {
         let place = format!(in alloc; "/{number}")?;
@@ -95,7 +97,8 @@ fn add_links(alloc: Global, tree: &mut Tree, count: u32) -> Result<(), MemoryFau
     Ok(())
 }
 
-/// Whether a write through `count` links is done (`is_done`), or is refused without a change.
+/// Whether a write to `0`, which leads to the file `a/t` through `count` links, is done, if
+/// `is_done` says so; else whether it is refused without a change.
 fn links_are_followed(alloc: Global, count: u32, is_done: bool) -> bool {
     let Ok(mut tree) = folders(alloc) else {
         return false;

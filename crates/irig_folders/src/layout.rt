@@ -17,7 +17,7 @@ pub struct FolderPath {
     pub front: String,
 }
 
-/// A file that is no regular one, or one that is written in place.
+/// A file that counts as no regular one: a link, a pipe, or the file that the answers go to.
 #[derive(Drop)]
 pub struct Other {
     /// Its number.

@@ -95,7 +95,7 @@ fn add(calls: &mut Vec<Call>, call: Call) -> Result<(), MemoryFault>
 }
 
 impl Memory {
-    /// An empty folder.
+    /// An empty folder, with an empty log. No call on it is planned to fail.
     pub fn new(alloc: Global) -> Self
         ensures empty { result.calls.items ≡ [] }
         ensures unplanned { result.fails_to ≡ 0 }
@@ -130,7 +130,7 @@ impl Memory {
     }
 
     /// Whether this call is planned to fail. It counts the call, so it is asked just once in each
-    /// call.
+    /// call. The count stays at 2^64 - 1.
     fn is_planned(&mut self) -> bool
         ensures planned { IsTrue result
             ↔ (self.old.fails_from ≤ self.old.done) × (self.old.done < self.old.fails_to) }
@@ -240,8 +240,8 @@ impl Folder for Memory {
 
     ghost only_now = { λ folder. log_only_now folder.calls.items };
 
-    // Makes a new file under a name if that is free, a hidden one with its owner's mode; `None`: it
-    // is taken. There is one folder, so its argument says nothing.
+    // Makes a new file under a name if the name is free, a hidden one for its owner alone; `None`:
+    // the name is taken. There is one folder, so the argument for the folder is not used.
     fn make(
         &mut self,
         _: &(),
@@ -279,8 +279,8 @@ impl Folder for Memory {
         add(&mut self.calls, Call::SyncFile(file.number))
     }
 
-    // Gives a file another name, instead of the file that had it. `NoSuchName`: no file has the
-    // first name.
+    // Gives the file of the name `from` the name `to`, instead of the file that had it, if there
+    // was one. `NoSuchName`: no file has the name `from`.
     fn rename(&mut self, _: &(), from: &str, to: &str) -> Result<(), MemoryFault> {
         if self.is_planned() {
             return Err(MemoryFault::Planned);

@@ -61,7 +61,8 @@ impl PlainCalls for Memory {
         Nothing
     }
 
-    // What is no regular file, open to be written. There is none here, so it takes no byte.
+    // What is no regular file, open to be written. There is none here, whatever the path is, so
+    // what is given takes no byte. It never fails.
     fn open_other(&self, _: &str) -> Result<Nothing, MemoryFault> {
         Ok(Nothing)
     }
@@ -102,9 +103,10 @@ impl FileSystem for Memory {
 
     ghost ids_differ = { λ _ one other same. ap (λ id. id.1) same };
 
-    // Reads the dump in the file at a path. The outer error is that no file is there, that it is
-    // too long, or that memory runs out, the only error of `bytes_of`; the inner one is a fault of
-    // the dump. `wire` is the name of the wire to be read, if one is given.
+    // Reads the dump in the file at a path. `wire` is the name of the wire to be read; if none is
+    // given, the dump has to have one wire of one bit. The inner error is a fault of the dump. The
+    // outer one is `CannotBeRead` if no file is at the path, `OutOfMemory`, which is the only error
+    // of `bytes_of`, or `TooLong`, which `read_whole` finds.
     fn read(
         &self,
         alloc: Global,
@@ -120,8 +122,9 @@ impl FileSystem for Memory {
         read_whole(alloc, bytes.as_slice(), wire)
     }
 
-    // Reads the dump in a file, and keeps as much as `extent` says: a part from one microsecond to
-    // another or all, and up to a count of pulses. The errors are those of `read`.
+    // Reads the dump in the file at a path, and keeps as much as `extent` says: a part from one
+    // microsecond to another or all, and up to a count of pulses. `wire` and the errors are those
+    // of `read`; here the function `read_extent` of irig_files finds `TooLong`.
     fn read_extent(
         &self,
         alloc: Global,

@@ -52,7 +52,8 @@ pub struct TreeDir {
 }
 
 impl Tree {
-    /// Folders with no file. A path may follow `limit` links.
+    /// A tree with no folder and no file yet. No call on it is planned to fail. A path may follow
+    /// `limit` links.
     pub fn new(alloc: Global, limit: u64) -> Tree {
         Tree {
             memory: Memory::new(alloc),
@@ -67,7 +68,8 @@ impl Tree {
     }
 
     /// Adds a path of a folder. The places of the names in the folder begin with `front`. Two paths
-    /// with one front lead to one folder. It fails only if memory runs out.
+    /// with one front lead to one folder. A path that was added before keeps the front that it had.
+    /// It fails only if memory runs out.
     pub fn add_path(&mut self, path: &str, front: &str) -> Result<(), MemoryFault> {
         let path = String::from_str(self.alloc, path)?;
         let front = String::from_str(self.alloc, front)?;
@@ -76,21 +78,24 @@ impl Tree {
     }
 
     /// Adds a file that is no regular one: a link to the path `text`, or without a text a pipe.
-    /// Each crash leaves it. `NoSuchName`: its place is taken.
+    /// Each crash leaves it. `NoSuchName`: its place is taken, and nothing changes. After any other
+    /// error it may be there in part.
     pub fn add_other(&mut self, place: &str, text: Option<String>) -> Result<(), MemoryFault> {
         self.add_in_place(place, text, false)
     }
 
-    /// Adds the file that the program's answers (its standard output) go to. `NoSuchName`: its
-    /// place is taken.
+    /// Adds the file that the program's answers (its standard output) go to. Of two such files, the
+    /// first counts. `NoSuchName`: its place is taken, and nothing changes. After any other error
+    /// it may be there in part.
     pub fn add_output(&mut self, place: &str) -> Result<(), MemoryFault> {
         self.add_in_place(place, None, true)
     }
 
-    /// Adds a file that is written in place, not replaced by a new one. Each crash leaves it.
-    /// `text` is where it leads, if it is a link; `takes_answers` says that the program's answers
-    /// go to it. `NoSuchName`: its place is taken. After any other error nothing is said of the
-    /// tree.
+    /// Adds a file of `others`. A write to such a file goes into it, and does not replace it by a
+    /// new one; a write to a link goes to where the link leads. Each crash leaves the file. `text`
+    /// is the path that it leads to, if it is a link; `takes_answers` says that the program's
+    /// answers go to it. `NoSuchName`: its place is taken, and nothing changes. After any other
+    /// error the file may be there in part.
     fn add_in_place(
         &mut self,
         place: &str,
@@ -111,8 +116,9 @@ impl Tree {
         self.memory.sync_front("")
     }
 
-    /// Adds a regular file with bytes and a mode, all of which each crash leaves. `NoSuchName`: its
-    /// place is taken.
+    /// Adds a regular file with bytes and a mode. Each crash leaves the file with both.
+    /// `NoSuchName`: its place is taken, and nothing changes. After any other error the file may be
+    /// there in part.
     pub fn add_file(&mut self, place: &str, bytes: &[u8], mode: u32) -> Result<(), MemoryFault> {
         let Some(mut file) = self.memory.make_new(place, false)? else {
             return Err(MemoryFault::NoSuchName);
@@ -160,10 +166,11 @@ impl Folder for Tree {
 
     ghost only_now = { λ t. log_only_now t.memory.calls.items };
 
-    // Makes a new file under a name in a folder if that is free, a hidden one for its owner alone;
-    // `None`: it is taken. The new file gets the number of calls so far. It fails with `NoSuchName`
-    // if `others` (the files that are no regular ones) has that number, since the file would not be
-    // regular then.
+    // Makes a new file under a name in a folder if the name is free, a hidden one for its owner
+    // alone; `None`: the name is taken. The new file gets the number of calls so far. It fails with
+    // `NoSuchName` if `others` (the files that are no regular ones) has that number, since the file
+    // would not be regular then. The methods here never fill `others` so, but the contract holds of
+    // any `others`.
     fn make(
         &mut self,
         dir: &TreeDir,
@@ -177,8 +184,8 @@ impl Folder for Tree {
         self.memory.make_new(place.as_str(), hidden)
     }
 
-    // Adds bytes at the end of a file. If the call is planned to fail, half of them are written,
-    // rounded down.
+    // Adds bytes at the end of a file. If the call is planned to fail, half of them (rounded down)
+    // are written.
     fn append(&mut self, file: &mut MemoryFile, bytes: &[u8]) -> Result<(), MemoryFault> {
         self.memory.append(file, bytes)
     }
@@ -193,8 +200,8 @@ impl Folder for Tree {
         self.memory.sync_file(file)
     }
 
-    // Gives a file of a folder another name in it, instead of the file that had it. `NoSuchName`:
-    // no file has the first name.
+    // Gives the file of the name `from` in a folder the name `to` in it, instead of the file that
+    // had the name `to`, if there was one. `NoSuchName`: no file has the name `from`.
     fn rename(&mut self, dir: &TreeDir, from: &str, to: &str) -> Result<(), MemoryFault> {
         let old_place = both(self.alloc, dir.front.as_str(), from)?;
         let new_place = both(self.alloc, dir.front.as_str(), to)?;
@@ -208,8 +215,8 @@ impl Folder for Tree {
         self.memory.remove(&(), place.as_str())
     }
 
-    // Keeps the names in a folder, those with its front: after this call, a crash leaves each as it
-    // is seen.
+    // Keeps the names in a folder, whose places begin with its front: after this call, a crash
+    // leaves each name as it is seen.
     fn sync_names(&mut self, dir: &TreeDir) -> Result<(), MemoryFault> {
         self.memory.sync_front(dir.front.as_str())
     }

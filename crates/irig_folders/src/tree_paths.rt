@@ -23,8 +23,8 @@ use irig_files::folder_of;
 use std::alloc::{AllocError, Global};
 use std::path::{Path, PathBuf};
 
-/// The place of a path, whether a file is there or not. No link is followed. `None` if there is no
-/// such folder, or the path has no name at its end, as `a/..`.
+/// The place of a path, whether a file is there or not. No link is followed. `None` if the path has
+/// no name at its end, as `a/..`, or if what is before the name is no path of a folder.
 pub fn place_at(tree: &Tree, path: &str) -> Result<Option<String>, AllocError>
     ensures { IfOk result (λ place. option_map string_bytes place
         ≡ place_in tree.now.layout.folders.items path.now) }
@@ -87,8 +87,8 @@ pub fn link_text<'t>(tree: &'t Tree, path: &str) -> Result<Option<&'t str>, Allo
     Ok(text_in(other_at(&tree.layout.others, file)))
 }
 
-/// Follows links from a path, at most `links` of them, and returns the path where no link is.
-/// `None` if there are more links, as in a chain without an end.
+/// Follows links from a path, at most `links` of them, and returns the path where no link is,
+/// whether a file is there or not. `None` if there are more links, as in a chain without an end.
 pub fn end_at(tree: &Tree, path: PathBuf, links: u64) -> Result<Option<PathBuf>, AllocError>
     ensures { IfOk result (λ end. option_map path_buf_bytes end ≡ end_of
         (text_at tree.now.layout.folders.items
@@ -105,9 +105,9 @@ pub fn end_at(tree: &Tree, path: PathBuf, links: u64) -> Result<Option<PathBuf>,
     }
 }
 
-/// The path to which the link at `path` leads; `text` is that of the link. The text counts from the
-/// folder of the link, so the link's name goes first; or from the root if the text begins with a
-/// slash, and then `push` replaces the whole path.
+/// The path to which the link at `path` leads; `text` is the text of the link. The text counts from
+/// the folder of the link, so `pop` first takes the link's own name away. A text that begins with a
+/// slash counts from the root: then `push` replaces the whole path.
 fn next_path(mut path: PathBuf, text: &str) -> Result<PathBuf, AllocError>
     ensures { IfOk result (λ next. path_buf_bytes next ≡ followed (path_buf_bytes path) text.now) }
 {
@@ -116,9 +116,10 @@ fn next_path(mut path: PathBuf, text: &str) -> Result<PathBuf, AllocError>
     Ok(path)
 }
 
-/// The number of the file that a path leads to, over links; `None` if its folder has no such name.
-/// `NoSuchName` if the path leads over more links than the tree allows (`limit`), or to no folder.
-/// The only other fault is `NoMemory`: memory runs out.
+/// The number of the file that a path leads to, over links; `None` if the links end at a place
+/// where no file is. `NoSuchName` if the path leads over more links than the tree allows (`limit`),
+/// or ends at a path without a place: it is in no folder, or has no name at its end. The only other
+/// fault is `NoMemory`: memory runs out.
 pub fn find(tree: &Tree, path: &str) -> Result<Option<usize>, MemoryFault>
     ensures found { IfOk result (λ found. IsFound tree.now.layout
         (leads_in tree.now.memory.calls.items) path.now found) }

@@ -58,12 +58,12 @@ impl PlainCalls for Tree {
 
     ghost may_write = { λ t i. IsWritable (holds_in t.memory.calls.items i).mode };
 
-    // What the answers go to, open to be written.
+    // What the answers go to, open to be written, whatever the path is.
     fn open_output(&self, _: &str) -> Pipe {
         Pipe
     }
 
-    // Opens what is no regular file to be written, unless the test planned that this fails.
+    // Opens what is no regular file to be written. `Planned`: the test planned that this fails.
     fn open_other(&self, _: &str) -> Result<Pipe, MemoryFault> {
         match self.blind {
             Some(Plain::OpenOther) => Err(MemoryFault::Planned),
@@ -72,8 +72,8 @@ impl PlainCalls for Tree {
     }
 
     // Opens the file at a path as if to write to it, which shows whether it may be written.
-    // `NoSuchName`: none is there, or it must not be written, or `find` has a fault, whichever: who
-    // calls this asks only whether it failed.
+    // `NoSuchName` for all other errors than `Planned`: no file is there, it must not be written,
+    // or `find` failed, also for memory. A caller asks only whether this failed.
     fn open_seen(&self, path: &str) -> Result<SeenFile, MemoryFault> {
         if self.blind == Some(Plain::OpenSeen) {
             return Err(MemoryFault::Planned);
@@ -175,9 +175,9 @@ impl FileSystem for Tree {
 
     ghost ids_differ = { λ _ one other same. ap (λ id. id.1) same };
 
-    // Reads the dump in the file that a path leads to. The outer error is of the file, the inner
-    // one of the dump. `wire` is the name of the wire to be read, if one is given. `read_of` is for
-    // the contract: it lets no `CannotBeRead` through, which a read of bytes never answers.
+    // Reads the dump in the file that a path leads to: the wire named `wire`, or without a name the
+    // one wire of one bit. The outer error is of the file: none is there, too long, no memory; the
+    // inner one is of the dump. `read_of` hands the answer on: its contract is needed here.
     fn read(
         &self,
         alloc: Global,
@@ -188,8 +188,8 @@ impl FileSystem for Tree {
         read_of(read_whole(alloc, bytes.as_slice(), wire))
     }
 
-    // Reads the dump in a file, and keeps as much as `extent` says: a part from one microsecond to
-    // another or all, and up to a count of pulses. The errors are those of `read`.
+    // As `read`, with the same errors, but keeps as much of the dump as `extent` says: a part from
+    // one microsecond to another or all, and up to a count of pulses.
     fn read_extent(
         &self,
         alloc: Global,
@@ -201,8 +201,8 @@ impl FileSystem for Tree {
         read_of(read_extent(alloc, bytes.as_slice(), wire, extent))
     }
 
-    // What a path leads to; `None` if its folder has no such name. `NoSuchName`: too many links, or
-    // no folder.
+    // What a path leads to, over links; `None` if no file is there. `NoSuchName`: too many links,
+    // or they end in no folder.
     fn describe(&self, path: &str) -> Result<Option<Described>, MemoryFault> {
         if self.blind == Some(Plain::Describe) {
             return Err(MemoryFault::Planned);
@@ -222,8 +222,8 @@ impl FileSystem for Tree {
         }
     }
 
-    // The text of the link at a path, as a path; `None` if no link is there. The faults are those
-    // of `read_text`.
+    // The text of the link at a path, as a path; `None` if no link is there. `NoSuchName`: more
+    // links follow one another from there than the tree allows.
     fn read_link(&self, path: &str) -> Result<Option<PathBuf>, MemoryFault> {
         if self.blind == Some(Plain::ReadLink) {
             return Err(MemoryFault::Planned);
@@ -234,7 +234,7 @@ impl FileSystem for Tree {
         }
     }
 
-    // Opens the folder that has this path, and leaves it in `dir`. `NoSuchName`: none has it.
+    // Leaves in `dir` the folder of a path. `NoSuchName`: there is none. `NoMemory` empties `dir`.
     fn open_folder(&self, dir: &mut TreeDir, path: &str) -> Result<(), MemoryFault> {
         if self.blind == Some(Plain::OpenFolder) {
             return Err(MemoryFault::Planned);

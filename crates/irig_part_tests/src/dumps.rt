@@ -31,7 +31,7 @@ enum Wanted {
 /// 63 bytes of the header too.
 type Row = (&'static str, Wanted);
 
-/// Whether a recording is what is wanted.
+/// Whether a recording has the length and the edges that are wanted. False if a fault is wanted.
 fn is_recording(recording: &Recording, want: &Wanted) -> bool {
     match want {
         Wanted::Edges(length, edges) => {
@@ -41,7 +41,7 @@ fn is_recording(recording: &Recording, want: &Wanted) -> bool {
     }
 }
 
-/// Whether a fault is what is wanted.
+/// Whether a fault is the one that is wanted, at the same offset. False if edges are wanted.
 fn is_fault(told: VcdFault, want: &Wanted) -> bool {
     match want {
         Wanted::Edges(_, _) => false,
@@ -49,7 +49,7 @@ fn is_fault(told: VcdFault, want: &Wanted) -> bool {
     }
 }
 
-/// Whether a dump, of at most 2^28 bytes, is read as is wanted.
+/// Whether a dump, of at most 2^28 bytes, is read by `read` as `want` says.
 fn is_read(alloc: Global, dump: &[u8], wire: Option<&[u8]>, want: &Wanted) -> bool
     requires { length dump.now ≤ 2 ^ 28 }
 {
@@ -59,7 +59,8 @@ fn is_read(alloc: Global, dump: &[u8], wire: Option<&[u8]>, want: &Wanted) -> bo
     }
 }
 
-/// Whether a dump, of at most 2^28 bytes, is read with its parts as is wanted, and has no journal.
+/// Whether a dump, of at most 2^28 bytes, is read by `read_parts` as `want` says, and has no
+/// journal.
 fn is_read_alone(alloc: Global, dump: &[u8], wire: Option<&[u8]>, want: &Wanted) -> bool
     requires { length dump.now ≤ 2 ^ 28 }
 {
@@ -69,8 +70,8 @@ fn is_read_alone(alloc: Global, dump: &[u8], wire: Option<&[u8]>, want: &Wanted)
     }
 }
 
-/// Whether a dump without a journal is read as is wanted, with its parts too. False if it has more
-/// than 2^28 bytes: `read` takes no more.
+/// Whether a dump without a journal is read as `want` says, both by `read` and by `read_parts`.
+/// False if it has more than 2^28 bytes: they take no more.
 fn is_right(alloc: Global, dump: &[u8], wire: Option<&[u8]>, want: &Wanted) -> bool {
     dump.len() <= 1 << 28
         && is_read(alloc, dump, wire, want)
@@ -87,13 +88,15 @@ fn put_texts(dump: &mut Vec<u8>, texts: &[&str]) -> bool {
     true
 }
 
-/// Whether the dump of these texts, one after another, is read as is wanted. It has one wire.
+/// Whether the dump of these texts, one after another, is read as `want` says. It has one wire, so
+/// none is named. False if memory runs out.
 fn are_right(alloc: Global, texts: &[&str], want: &Wanted) -> bool {
     let mut dump = Vec::new(alloc);
     put_texts(&mut dump, texts) && is_right(alloc, dump.as_slice(), None, want)
 }
 
-/// Each dump is read as its row wants: the header, and the changes of the row.
+/// Asserts for each row that its dump, which is the header and the changes of the row, is read as
+/// the row says.
 fn check_rows(rt: &impl Abort, alloc: Global, rows: &[Row]) {
     for (changes, want) in rows {
         assert!(rt; are_right(alloc, &[HEADER, changes], want));

@@ -19,8 +19,8 @@ pub(crate) fn have_edges(pulses: &Gap<Pulse>, edges: &[u64]) -> bool {
     left.is_empty()
 }
 
-/// The track of a length and edges, in microseconds. If these are no recording, the error is that
-/// of memory, too: no test uses such edges here.
+/// The track of a length and edges, in microseconds. The error is that memory ran out. It comes
+/// also if length and edges are no recording, but no test gives such here.
 pub(crate) fn track_of(alloc: Global, length: u64, edges: &[u64]) -> Result<Track, AllocError> {
     match Recording::new(alloc, length, edges)? {
         Some(recording) => Track::new(recording),
@@ -28,8 +28,8 @@ pub(crate) fn track_of(alloc: Global, length: u64, edges: &[u64]) -> Result<Trac
     }
 }
 
-/// The edges of 2^22 pulses, the most there may be: up at each even microsecond from 0 on, and down
-/// at the next.
+/// The edges of 2^22 pulses, the most that a track may have: up at each even microsecond from 0 on,
+/// and down at the next. So the edges are the numbers from 0 up to 2^23, which is not included.
 pub(crate) fn most_edges(alloc: Global) -> Result<Vec<u64>, AllocError> {
     let mut edges = Vec::with_capacity(alloc, 1 << 23)?;
     for edge in 0..1u64 << 23 {

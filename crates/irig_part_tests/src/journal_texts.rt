@@ -35,7 +35,7 @@ fn fault(alloc: Global, text: &[u8]) -> usize
     }
 }
 
-/// Each text, far below the 2^63 bytes of `fault`, has its wrong line as its row says.
+/// Asserts that each text, far below the 2^63 bytes of `fault`, has its wrong line as its row says.
 fn check(rt: &impl Abort, alloc: Global, rows: &[(&[u8], usize)]) {
     for (text, line) in rows {
         assert!(rt; text.len() < 1 << 20 && fault(alloc, text) == *line);
@@ -129,7 +129,7 @@ fn the_first_line_at_fault_in_a_step_is_told(rt: HostRuntime) {
     check(&rt, rt.alloc(), &STEPS);
 }
 
-/// Whether a step leads to the second pulse and inserts the one that was deleted.
+/// Whether a step leads to cursor 2, and inserts the pulse that was deleted as pulse 1.
 fn is_splice(step: &SavedStep) -> bool {
     let Change::One(Single::Splice { at, count, put }) = &step.change else {
         return false;
@@ -137,7 +137,7 @@ fn is_splice(step: &SavedStep) -> bool {
     step.cursor == 2 && *at == 1 && *count == 0 && put.len() == 1 && put.get(0) == DELETED
 }
 
-/// Whether a step leads to the first pulse and sets the mark a.
+/// Whether a step leads to cursor 1, and sets the mark a (place 0) to 110 microseconds.
 fn is_mark(step: &SavedStep) -> bool {
     let Change::One(Single::SetMark { letter, time }) = &step.change else {
         return false;
@@ -150,13 +150,13 @@ fn has_head(saved: &Saved) -> bool {
     saved.kind == Kind::G && saved.expression == 2 && saved.cursor == 1 && saved.marks == [None; 26]
 }
 
-/// Whether the journal has the steps of the worked one.
+/// Whether the journal has the steps of the worked one: one back, and one forward.
 fn has_steps(saved: &Saved) -> bool {
     let (past, future) = (saved.past.as_slice(), saved.future.as_slice());
     past.len() == 1 && is_splice(&past[0]) && future.len() == 1 && is_mark(&future[0])
 }
 
-/// Whether the worked journal is read as it is.
+/// Whether `WORKED` is read as the journal that it is. False if memory runs out.
 fn is_worked_read(alloc: Global) -> bool {
     match parse(alloc, WORKED) {
         Ok(saved) => has_head(&saved) && has_steps(&saved),

@@ -3,8 +3,9 @@
 //! to make its change to the stack, and to keep the change that leads back. The cursor is a number
 //! that each step keeps and gives back.
 //!
-//! That a journal is ready at a stack, as the contracts ask, says that its steps fit the stack. A
-//! group is steps from `begin` to `end`, which become one step; `abort` undoes them instead.
+//! That a journal is ready at a stack (`AreReady`), as the contracts ask, says that its steps fit
+//! the stack. A group is steps from `begin` to `end`, which become one step; `abort` undoes them
+//! instead. A `JournalFault` says why a journal refuses a call; then nothing changes.
 
 ghost use Rattle.std.specs.Prelude.{◌≡◌, None, vec_capacity};
 ghost use Rattle.irig_journal.specs.Journal.{AreReady};
@@ -53,8 +54,9 @@ type Row = (
     (u128, u128),
 );
 
-/// Undoes, redoes or groups steps, over any state. An edit or a move, which does not come here,
-/// does nothing.
+/// Makes an undo, a redo, or a call on a group, over any state. An undo, a redo and an abort lead
+/// to another state and its cursor; a begin and an end leave both. An error is why the journal
+/// refuses the call. For an edit or a move, which do not come here, it does nothing.
 fn step<R: Reversible>(
     journal: &mut Journal<R>,
     state: &mut R,
@@ -77,7 +79,8 @@ fn step<R: Reversible>(
 }
 
 /// Makes a change if it applies, over any state, as a step that keeps the cursor before it; the
-/// cursor is `after` then. `Unfit` if it does not apply: nothing changes.
+/// cursor is `after` then. `Unfit` if it does not apply: nothing changes. `Refused` only if memory
+/// runs out: the state stays, but the cursor is `after` also then. No row has this.
 fn make<R: Reversible>(
     journal: &mut Journal<R>,
     state: &mut R,
@@ -107,8 +110,8 @@ fn reply_to(answer: Result<(), JournalFault>) -> Reply {
 }
 
 /// Obeys a call: an edit (`make`), a move of the cursor to a place, or any other (`step`). An edit
-/// leaves the cursor `after`, and its step keeps the one before it. One that does not apply is
-/// `Unfit`.
+/// leaves the cursor `after`, and its step keeps the cursor before it. `Unfit` is an edit that does
+/// not apply, `Refused` a call that the journal refuses, else it is `Done`.
 fn obey(journal: &mut Journal<Stack>, stack: &mut Stack, cursor: &mut usize, call: Call) -> Reply
     requires { AreReady CanEdit edited (λ d. d) (HasPlaceFor (vec_capacity stack.old.items))
         stack.old.items.items journal.old }
@@ -126,7 +129,8 @@ fn obey(journal: &mut Journal<Stack>, stack: &mut Stack, cursor: &mut usize, cal
     }
 }
 
-/// A journal with no steps, which is ready at the stack. Only the contract reads the stack.
+/// A journal with no steps and no open group (`floor` is `None`), which is ready at the stack. Only
+/// the contract reads the stack.
 fn fresh(alloc: Global, _stack: &Stack) -> Journal<Stack>
     ensures ready { AreReady CanEdit edited (λ d. d) (HasPlaceFor (vec_capacity _stack.now.items))
         _stack.now.items.items result }
@@ -148,7 +152,8 @@ fn is_left(journal: &Journal<Stack>, stack: &Stack, cursor: usize, row: &Row) ->
         && held.1 == *future
 }
 
-/// Obeys calls, and returns whether each answers and leaves what its row says.
+/// Obeys the calls of rows, one after another, with the cursor at 0 before the first. Returns
+/// whether each answers and leaves what its row says.
 fn are_answered(journal: &mut Journal<Stack>, stack: &mut Stack, rows: &[Row]) -> bool
     requires { AreReady CanEdit edited (λ d. d) (HasPlaceFor (vec_capacity stack.old.items))
         stack.old.items.items journal.old }
@@ -163,8 +168,8 @@ fn are_answered(journal: &mut Journal<Stack>, stack: &mut Stack, rows: &[Row]) -
     true
 }
 
-/// Obeys the calls of rows from an empty stack on. The test fails if one does not answer or leave
-/// what its row says.
+/// Obeys the calls of rows, from an empty stack and a new journal on. The test fails if one does
+/// not answer or leave what its row says.
 fn check(rt: &impl Abort, alloc: Global, rows: &[Row]) {
     let mut stack = Stack {
         items: Vec::new(alloc),

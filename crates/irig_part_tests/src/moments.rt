@@ -23,13 +23,15 @@ const DAY: Fields = Fields {
     control: None,
 };
 
-/// Whether frame k, from 0 at the moment, has these fields; 0 is no control function set. The calls
-/// need a frame that begins there, and no row has more than 10,000.
+/// Whether frame `k`, counted from 0 at the moment, has these fields with no control function set
+/// (the 0). False if no frame of the format begins at the moment, or `k` is 10,000 or more: the
+/// contract of `fields` permits neither.
 fn has_fields(moment: Moment, format: Format, k: u64, fields: &Fields) -> bool {
     moment.starts(format) && k < 10_000 && moment.fields(format, k, 0) == *fields
 }
 
-/// Whether the frame of a row has its fields; a moment or a format that is none is false.
+/// Whether the frame of a row has the fields of the row. False if the text is no moment, or the
+/// format is not permitted.
 fn is_told((text, kind, expression, k, fields): &Row) -> bool {
     match (Moment::parse(text), Format::new(*kind, *expression)) {
         (Some(moment), Ok(format)) => has_fields(moment, format, *k, fields),
@@ -37,7 +39,7 @@ fn is_told((text, kind, expression, k, fields): &Row) -> bool {
     }
 }
 
-/// The frame of each row has its fields.
+/// Asserts that the frame of each row has the fields of the row.
 fn check(rt: &impl Abort, rows: &[Row]) {
     for row in rows {
         assert!(rt; is_told(row));
@@ -76,6 +78,7 @@ static WHOLE: [Row; 3] = [
     ),
 ];
 
+// Frame 1 of B carries the time one second after the moment.
 #[test]
 fn frames_of_b_tell_the_moment_and_whole_periods(rt: HostRuntime) {
     check(&rt, &WHOLE);
@@ -111,6 +114,7 @@ static PARTS: [Row; 2] = [
     ),
 ];
 
+// Frames of G carry the hundredths of their time, frames of A the tenths.
 #[test]
 fn frames_of_a_and_g_tell_parts_of_a_second(rt: HostRuntime) {
     check(&rt, &PARTS);
@@ -153,6 +157,8 @@ static TENS: [Row; 3] = [
     ),
 ];
 
+// Frame 1 of E carries the time ten seconds after the moment, and frame 9,999 the time 99,990
+// seconds after it.
 #[test]
 fn frames_of_e_tell_whole_ten_seconds(rt: HostRuntime) {
     check(&rt, &TENS);
@@ -169,7 +175,8 @@ static STARTS: [(&[u8], Kind, bool); 6] = [
     (b"2024-061T12:34:55.55", Kind::G, true),
 ];
 
-/// Whether a frame begins at a moment as its row says; false for a text or a format that is none.
+/// Whether a frame begins at the moment of a row just if the row says so. False if the text is no
+/// moment.
 fn begins((text, kind, want): &(&[u8], Kind, bool)) -> bool {
     match (Moment::parse(text), Format::new(*kind, 2)) {
         (Some(moment), Ok(format)) => moment.starts(format) == *want,
@@ -177,6 +184,7 @@ fn begins((text, kind, want): &(&[u8], Kind, bool)) -> bool {
     }
 }
 
+// A frame begins at a moment if that is a whole number of periods after midnight.
 #[test]
 fn frames_begin_at_whole_periods(rt: HostRuntime) {
     for row in STARTS.iter() {
@@ -201,7 +209,8 @@ static OTHERS: [&[u8]; 10] = [
     b"",
 ];
 
-/// Whether leap days are moments, by both ways to write a date: day 60 of 2024 is 29 February.
+/// Whether texts of leap days are moments, in both ways to write a date. Day 366 of 2024 is there,
+/// and its day 60 is the same moment as 29 February.
 fn are_leap_days() -> bool {
     let day = Moment::parse(b"2024-060T00:00:00");
     Moment::parse(b"2024-366T23:59:59.99").is_some()
@@ -209,6 +218,8 @@ fn are_leap_days() -> bool {
         && day == Moment::parse(b"2024-02-29T00:00:00.00")
 }
 
+// Texts of another form, and of days and times that are not there, are no moments; those of leap
+// days are.
 #[test]
 fn other_texts_are_no_moments(rt: HostRuntime) {
     for text in OTHERS.iter() {

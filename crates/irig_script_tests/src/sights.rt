@@ -1,6 +1,7 @@
 //! A witness that keeps what it sees, for clauses alone: it takes no memory, and in the program it
 //! does nothing. A witness sees the output and the shelf, where texts are written, after each line
-//! of a script is obeyed.
+//! of a script is obeyed. Its `list` is nothing in the program, so no body can set it: the proofs
+//! of `new` and `and`, written by hand, do.
 
 ghost use Rattle.std.specs.Prelude.{◌≡◌, ◌++◌, ◌∷◌, [], List, Some, refl};
 ghost use Rattle.std.specs.Borrow.{ftrue};
@@ -22,14 +23,15 @@ impl Model for Sights {
 }
 
 impl Sights {
-    /// Nothing was seen yet.
+    /// A witness that has seen nothing yet.
     pub fn new() -> Sights
         ensures none { result.list ≡ [] }
     {
         Sights {}
     }
 
-    /// What was seen before, and then an output and a shelf as they are now.
+    /// A new witness whose list is that of this one and after it one sight more: the output and the
+    /// shelf as they are now.
     pub fn and<W: Write, S: Shelf>(&self, out: &W, shelf: &S) -> Sights
         ensures more { result.list ≡ self.now.list
             ++ sight (W.contents out.now) (S.known shelf.now).texts ∷ [] }
@@ -41,7 +43,7 @@ impl Sights {
 impl Witness for Sights {
     ghost seen = { λ sights. Some sights.list };
 
-    // Adds an output and a shelf as they are now to what was seen.
+    // Adds an output and a shelf, as they are now, at the end of the list.
     fn see<W: Write, S: Shelf>(&mut self, out: &W, shelf: &S) {
         *self = self.and(out, shelf);
     }

@@ -2,12 +2,13 @@
 //! standard gives each digit of a field four elements at most, of weights 1, 2, 4 and 8, the lowest
 //! first: seconds from 1 on, tens of seconds from 6, minutes 10 and 15, hours 20 and 25, days 30,
 //! 35 and 40. The seconds of the day (sbs) are one binary number: bits 0 to 8 are elements 80 to
-//! 88, and bits 9 to 16 are 90 to 97.
+//! 88, and bits 9 to 16 are 90 to 97. A note says what is wrong with a frame; `Fine` is nothing.
 
 use irig_codes::{Element, Fields, Format, Kind, Name, Note, decode, encode, fits};
 
-/// The frame with these elements as ones, and its position identifiers: 0, 9, 19 and so on to 99. A
-/// number from 100 on is no element: it fills a row.
+/// The frame with these elements as ones. Its position identifiers are 0, 9, 19 and so on to 99,
+/// also if `ones` names one of them; all other elements are zeros. A number from 100 on is no
+/// element: it only fills a row.
 fn frame_with(ones: &[usize]) -> [Element; 100] {
     let mut frame = [Element::Zero; 100];
     for element in 0..100 {
@@ -35,14 +36,16 @@ const NOTHING: Fields = Fields {
 /// A format, the fields of a frame, and its ones. Nothing is wrong with it, so its note is `Fine`.
 type Carried = (Kind, u8, Fields, &'static [usize]);
 
-/// Whether the fields give the frame, and the frame gives the fields.
+/// Whether the fields are some that the format can carry (`fits`), their frame is `frame`, and from
+/// `frame` the fields are read again, with nothing wrong.
 fn carries(format: Format, fields: &Fields, frame: &[Element; 100]) -> bool {
     fits(format, fields)
         && encode(format, fields) == *frame
         && decode(format, frame) == (*fields, Note::Fine)
 }
 
-/// Whether the fields of a row give the frame with its ones, and the frame gives the fields.
+/// Whether the fields of a row give the frame with its ones, and the fields are read from that
+/// frame again. False if the format is not permitted.
 fn is_carried((kind, expression, fields, ones): &Carried) -> bool {
     match Format::new(*kind, *expression) {
         Ok(format) => carries(format, fields, &frame_with(ones)),
@@ -137,6 +140,8 @@ static CONTROLS: [Carried; 2] = [
     ),
 ];
 
+// The fields of each row, of which some are control functions, give a frame with just the ones of
+// the row, and are read from it again.
 #[test]
 fn frames_carry_their_control_functions_both_ways(rt: HostRuntime) {
     for row in CONTROLS.iter() {
@@ -184,7 +189,7 @@ static NOTED: [Noted; 4] = [
     ),
 ];
 
-/// Whether a frame of B is read as its row says.
+/// Whether a frame of B with the ones of a row is read as the fields and the note of the row.
 fn is_noted((expression, ones, fields, note): &Noted) -> bool {
     match Format::new(Kind::B, *expression) {
         Ok(format) => decode(format, &frame_with(ones)) == (*fields, *note),
@@ -192,7 +197,8 @@ fn is_noted((expression, ones, fields, note): &Noted) -> bool {
     }
 }
 
-// Each frame is read as the fields of its row, with a note of what is wrong.
+// Each frame is read as the fields of its row, also those that are wrong, with a note of what is
+// wrong.
 #[test]
 fn what_is_wrong_with_a_frame_is_noted(rt: HostRuntime) {
     for row in NOTED.iter() {

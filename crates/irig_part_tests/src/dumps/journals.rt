@@ -9,7 +9,8 @@ use irig_vcd::{VcdFault, read_parts};
 use std::alloc::Global;
 
 /// Whether a dump, of at most 2^28 bytes, gives the journal that is wanted. If `want` is `None`,
-/// whether it gives the fault of a second journal, at line 1.
+/// whether it gives the fault of a second journal: `BadJournal` at line 1. False for any other
+/// fault.
 fn gives(alloc: Global, dump: &[u8], want: Option<&[u8]>) -> bool
     requires { length dump.now ≤ 2 ^ 28 }
 {
@@ -78,6 +79,8 @@ const BEFORE: &[u8] =
     b"$comment irig-journal-1 $end $timescale 1 us $end $var wire 1 ! c $end $enddefinitions $end \
     #5";
 
+// Each dump is read as its row says, without a journal: its comments are none, or another fault
+// comes first.
 #[test]
 fn other_comments_are_no_journal(rt: HostRuntime) {
     check_rows(&rt, rt.alloc(), &OTHERS);

@@ -20,15 +20,16 @@ static EDGES: [Row; 6] = [
     (1099511627777, &[], false),
 ];
 
-/// Whether a recording gives a length and edges, by `pulses` and by `into_pulses`.
+/// Whether a recording has this length and these edges, both in the pulses that `pulses` lends and
+/// in those that `into_pulses` gives away.
 fn gives(recording: Recording, length: u64, edges: &[u64]) -> bool {
     recording.length() == length
         && have_edges(recording.pulses(), edges)
         && have_edges(&recording.into_pulses(), edges)
 }
 
-/// Whether edges make a recording that gives them, or none, as their row says. False without
-/// memory.
+/// Whether the length and the edges of a row make a recording that has them, or make none, as the
+/// row says. False if memory runs out.
 fn is_answered(alloc: Global, (length, edges, accepted): &Row) -> bool {
     match Recording::new(alloc, *length, edges) {
         Ok(Some(recording)) => *accepted && gives(recording, *length, edges),
@@ -37,6 +38,7 @@ fn is_answered(alloc: Global, (length, edges, accepted): &Row) -> bool {
     }
 }
 
+// Edges in order within the length, of at most 2^40 microseconds, make a recording; others do not.
 #[test]
 fn edges_that_make_no_recording_give_none(rt: HostRuntime) {
     for row in EDGES.iter() {
@@ -55,7 +57,8 @@ static TOKENS: [(Kind, &[u8], usize); 7] = [
     (Kind::Other, b"U", 24),
 ];
 
-/// Whether the next token is of a kind, has these bytes, and is at a place in bytes from 0.
+/// Whether the next token is of a kind, has these bytes, and is at a place in bytes from 0. False
+/// if no token is left.
 fn is_next(tokens: &mut Tokens<'_>, (kind, slice, offset): &(Kind, &[u8], usize)) -> bool {
     match tokens.next() {
         Some(token) => token.kind == *kind && token.slice == *slice && token.offset == *offset,
@@ -68,6 +71,7 @@ fn is_end(tokens: &mut Tokens<'_>) -> bool {
     tokens.next().is_none()
 }
 
+// The tokens of a text come in order, each with its kind and its place; then none is left.
 #[test]
 fn tokens_with_their_places(rt: HostRuntime) {
     // A space, a tab, a line end of two bytes and a vertical tab are all white space.
@@ -96,7 +100,7 @@ static FAULTS: [(VcdFault, &str); 14] = [
     (VcdFault::OutOfMemory, "V14 OutOfMemory"),
 ];
 
-/// Whether a fault has this text.
+/// Whether a fault is printed as this text. False if memory runs out.
 fn has_text(alloc: Global, fault: VcdFault, text: &str) -> bool {
     match format!(in alloc; "{fault}") {
         Ok(told) => told.as_str() == text,
@@ -104,7 +108,7 @@ fn has_text(alloc: Global, fault: VcdFault, text: &str) -> bool {
     }
 }
 
-// Each fault prints as the text of its row.
+// Each fault is printed as the text of its row, which is the one in `docs/FORMATS.md`.
 #[test]
 fn faults_have_their_texts(rt: HostRuntime) {
     for (fault, text) in FAULTS.iter() {

@@ -8,7 +8,7 @@ use irig_recording::{Recording, text};
 use irig_vcd::{VcdFault, read};
 use std::alloc::{AllocError, Global};
 
-/// The text of a length and edges.
+/// The text that is written of the recording of a length and edges.
 fn lines_of(alloc: Global, length: u64, edges: &[u64]) -> Result<Vec<u8>, AllocError> {
     match Recording::new(alloc, length, edges)? {
         Some(recording) => text(alloc, &recording),
@@ -43,7 +43,8 @@ static TEXTS: [(u64, &[u64], usize, &[u8]); 3] = [
     (1000, &[100, 120], 125, b"#100\n1!\n#120\n0!\n#1000\n"),
 ];
 
-/// Whether the text of a length and edges, in microseconds, from a byte on, is this one.
+/// Whether the text of a length and edges, from byte `from` on, is `text`. False if memory runs
+/// out.
 fn is_text(alloc: Global, length: u64, edges: &[u64], from: usize, text: &[u8]) -> bool {
     match lines_of(alloc, length, edges) {
         Ok(lines) => lines.as_slice().get(from..) == Some(text),
@@ -51,6 +52,7 @@ fn is_text(alloc: Global, length: u64, edges: &[u64], from: usize, text: &[u8]) 
     }
 }
 
+// Recordings are written as the texts of `TEXTS`, which are made by hand from the format of dumps.
 #[test]
 fn lines_are_written(rt: HostRuntime) {
     for (length, edges, from, text) in TEXTS.iter() {
@@ -58,7 +60,8 @@ fn lines_are_written(rt: HostRuntime) {
     }
 }
 
-/// Whether the text of a length and edges is read as these.
+/// Whether the text of a length and edges is read as this length and these edges. False if memory
+/// runs out.
 fn is_read_back(alloc: Global, length: u64, edges: &'static [u64]) -> bool {
     match lines_of(alloc, length, edges) {
         Ok(lines) => is_right(alloc, lines.as_slice(), None, &Edges(length, edges)),
@@ -66,6 +69,7 @@ fn is_read_back(alloc: Global, length: u64, edges: &'static [u64]) -> bool {
     }
 }
 
+// A recording with a rise at 0 and a fall at its length is written, and read back.
 #[test]
 fn what_is_written_is_read(rt: HostRuntime) {
     assert!(rt; is_read_back(rt.alloc(), 70, &[0, 5, 9, 70]));
@@ -78,8 +82,8 @@ fn full_dump(alloc: Global) -> Result<Vec<u8>, AllocError> {
     lines_of(alloc, 1 << 23, edges.as_slice())
 }
 
-/// Whether that many pulses are read of a dump, or it has that fault. False for more than 2^28
-/// bytes: `read` takes no more.
+/// Whether a dump is read as `want` says: as that many pulses, or with that fault. False for more
+/// than 2^28 bytes: `read` takes no more.
 fn has_count(alloc: Global, dump: &[u8], want: Result<usize, VcdFault>) -> bool {
     if dump.len() > 1 << 28 {
         return false;
@@ -93,8 +97,8 @@ fn has_count(alloc: Global, dump: &[u8], want: Result<usize, VcdFault>) -> bool 
 /// Lines after those of a full dump, of one more pulse. It rises at the last time of that dump.
 const MORE: &[u8] = b"1!\n#8388609\n0!\n";
 
-/// Whether a full dump is read, and is not with one pulse more, which is added to it. It is false,
-/// too, if memory runs out.
+/// Whether `dump`, a full one, is read as 2^22 pulses, and has the fault `TooManyPulses` after the
+/// lines of one more pulse are added to it. It is false, too, if memory runs out.
 fn takes_no_more(alloc: Global, dump: &mut Vec<u8>) -> bool {
     has_count(alloc, dump.as_slice(), Ok(1 << 22))
         && dump.extend_from_slice(MORE).is_ok()

@@ -138,15 +138,17 @@ static UNITS: [(&str, &str, Wanted); 10] = [
 /// The declarations of a wire after the unit, before the changes.
 const WIRE: &str = " $end\n$var wire 1 ! c $end\n$enddefinitions $end\n";
 
-/// Whether the dump of a wire in a unit is read as is wanted, alone and with the comment after it.
-/// `first` and `second` are its changes, one after the other. With the comment pulses are read in
-/// one step, without it the last ones token by token.
+/// Whether the dump of a wire in a unit is read as `want` says, alone and with the comment after
+/// it. `first` and `second` are its changes, one after the other. With the comment pulses are read
+/// in one step, without it the last ones token by token.
 fn are_right_in(alloc: Global, unit: &str, first: &str, second: &str, want: &Wanted) -> bool {
     let short = ["$timescale ", unit, WIRE, first, second];
     let longer = ["$timescale ", unit, WIRE, first, second, COMMENT];
     are_right(alloc, &short, want) && are_right(alloc, &longer, want)
 }
 
+// Each dump is a first pulse and the changes of a row, in nanoseconds. Both ways to read it give
+// what the row says, worked out by hand.
 #[test]
 fn pulses_in_nanoseconds(rt: HostRuntime) {
     for (changes, want) in NANOSECONDS.iter() {
@@ -154,6 +156,8 @@ fn pulses_in_nanoseconds(rt: HostRuntime) {
     }
 }
 
+// Each dump is the changes of a row, in its unit. Both ways to read it give what the row says,
+// worked out by hand.
 #[test]
 fn pulses_in_other_units(rt: HostRuntime) {
     for (unit, changes, want) in UNITS.iter() {

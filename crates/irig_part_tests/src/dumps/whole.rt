@@ -102,6 +102,8 @@ static WHOLE: [(&str, Option<&[u8]>, Wanted); 17] = [
     ),
 ];
 
+// Each dump of `WHOLE`, by hand or as a simulator writes it, is read as its row says, or has the
+// fault of the row.
 #[test]
 fn whole_dumps(rt: HostRuntime) {
     for (dump, wire, want) in WHOLE.iter() {
@@ -140,7 +142,8 @@ static CHANGES: [Row; 13] = [
     ("#1 1! #2 U!", Fault(VcdFault::BadToken(72))),
 ];
 
-// Each dump is the header, 63 bytes, and the changes of a row.
+// Each dump is the header, 63 bytes, and the changes of a row: it is read as the row says, or has
+// the fault of the row at its byte.
 #[test]
 fn changes_behind_a_header(rt: HostRuntime) {
     check_rows(&rt, rt.alloc(), &CHANGES);
@@ -162,6 +165,8 @@ static WIRES: [(Option<&[u8]>, Wanted); 6] = [
     (Some(b"!"), Edges(4, &[3, 4])),
 ];
 
+// A wire is asked for by its reference, or by its code if no reference is that. Without a name the
+// three wires are too many.
 #[test]
 fn wires_by_reference_and_by_code(rt: HostRuntime) {
     for (wire, want) in WIRES.iter() {
@@ -184,7 +189,8 @@ static TORN: [(usize, Wanted); 6] = [
     (94, Edges(280, &[100, 120, 200, 280])),
 ];
 
-// Each dump is the first bytes of that of two pulses, as many as its row says.
+// Each dump is the first bytes of the dump of two pulses, as many as its row says. It is read as
+// what is left of it, or has a fault.
 #[test]
 fn a_torn_dump_says_what_is_left(rt: HostRuntime) {
     for (len, want) in TORN.iter() {

@@ -35,9 +35,9 @@ pub(crate) fn format_g(rt: &impl Abort) -> Format {
         .expect(rt, "G permits expression 2")
 }
 
-/// The width, in microseconds, of an element of a frame of day 1, 00:00:00.00, or .01 if
-/// `hundredths` is 1: 80 for a position identifier, 50 for a 1, 20 for a 0. The units of the day
-/// are elements 30 to 33, those of the hundredths 50 to 53.
+/// The width, in microseconds, of an element of a frame of day 1, 00:00:00.01 if `hundredths` is 1,
+/// 00:00:00.00 if it is any other number: 80 for a position identifier, 50 for a 1, 20 for a 0. The
+/// units of the day are elements 30 to 33, those of the hundredths 50 to 53.
 fn width(hundredths: u64, element: u64) -> u64
     ensures { result < 100 }
 {
@@ -78,7 +78,7 @@ pub(crate) fn positions(alloc: Global) -> Result<Track, AllocError> {
 }
 
 /// Removes `count` pulses from `at` on, from 0, if they are there, and returns the place (`Span`);
-/// else `None`, and nothing changes.
+/// else `None`, and nothing changes. An error also leaves the track as it was.
 fn cut(
     alloc: Global,
     track: &mut Track,
@@ -116,7 +116,9 @@ fn make(alloc: Global, track: &mut Track, edit: Edit) -> Result<Option<Span>, Al
     }
 }
 
-/// The edit that reverses an inversion, which is itself, or a move. A removal is not reversed.
+/// The edit that reverses an edit: an inversion again, or a move by as much the other way. A
+/// removal cannot be reversed so, and is given back as it is. `wrapping_sub` saves a proof that a
+/// move is not by -2^63.
 pub(crate) fn back(edit: Edit) -> Edit {
     match edit {
         Edit::Move(pulse, by) => Edit::Move(pulse, 0i64.wrapping_sub(by)),
@@ -124,9 +126,9 @@ pub(crate) fn back(edit: Edit) -> Edit {
     }
 }
 
-/// Makes an edit, if it can be made, and repairs the index, which gets places for the frames
-/// afterwards first. False if memory runs out, or too many looks were made. True also if the edit
-/// cannot be made: nothing changes then.
+/// Makes an edit, if it can be made, and then repairs the index; before the repair the index gets
+/// room for all frames that there are now. False if memory runs out, or the repair made too many
+/// looks (`took_few`). True also if the edit cannot be made: nothing changes then.
 pub(crate) fn repairs(
     alloc: Global,
     track: &mut Track,
@@ -157,15 +159,17 @@ pub(crate) fn repairs(
     took_few(&lens, index, before, span.new)
 }
 
-/// Whether a repair took few looks for the pulses that came, three at most for each of these and of
-/// 200 around them: a frame that an edit touches is within a hundred pulses before and after it.
-/// Also, the index counted each look. `before` is its count before the repair.
+/// Whether a repair took few looks for the pulses that came: three at most for each of them, and
+/// for each of 200 around them, as a frame that an edit touches is within a hundred pulses before
+/// and after it. Also whether the index counted each look; `before` is its count before the repair.
+/// No number here is near 2^64: the saturating and wrapping calls only save the proof of that.
 fn took_few(lens: &Lens<'_>, index: &Index, before: u64, came: usize) -> bool {
     let most = (came as u64).saturating_add(200).saturating_mul(3);
     lens.looks() <= most && index.looks().wrapping_sub(before) == lens.looks()
 }
 
-/// Makes the index that of the track, by reading the whole of it. False if memory runs out.
+/// Makes the index that of the track, by reading the whole of it. False if memory runs out; then
+/// the index stays as it was.
 pub(crate) fn rebuilds(index: &mut Index, track: &Track, format: Format) -> bool {
     let mut lens = track.lens();
     let count = Index::count(&mut lens, format);

@@ -17,7 +17,8 @@ fn built(alloc: Global, track: &Track) -> Option<Index> {
     }
 }
 
-/// Whether pulse k, from 0, of eight rises within a hundred microseconds of 100 k.
+/// Whether there are eight pulses, and pulse k, from 0, rises from 100 k microseconds on, before
+/// 100 k + 100.
 fn has_pulses(track: &Track) -> bool {
     for k in 0..track.len() {
         if track.pulse(k).rise / 100 != k as u64 {
@@ -27,7 +28,8 @@ fn has_pulses(track: &Track) -> bool {
     track.len() == 8
 }
 
-/// Whether each pulse but the first of eight is a marker: a position identifier after another one.
+/// Whether the index has the records of seven markers: each of eight pulses but the first, as each
+/// of these is a position identifier after another one.
 fn has_markers(index: &Index) -> bool {
     for k in 0..index.len() {
         if index.record(k).marker != k + 1 {
@@ -37,15 +39,17 @@ fn has_markers(index: &Index) -> bool {
     index.len() == 7
 }
 
-/// Whether both make room for 100 more pulses or records; an error leaves the index's room, and the
-/// next call makes it.
+/// Whether the track makes room for 100 more pulses, and the index for 100 more records. If one of
+/// them runs out of memory, the same call has to succeed when it is made again; and the error has
+/// to leave the room that the index had.
 fn both_reserve(track: &mut Track, index: &mut Index) -> bool {
     let room = index.room();
     (track.reserve(100).is_ok() || track.reserve(100).is_ok())
         && (index.reserve(100).is_ok() || index.room() == room && index.reserve(100).is_ok())
 }
 
-/// Whether pulses and frames are as they were after both have made room.
+/// Whether pulses and frames are as they were after track and index have made room, as
+/// `both_reserve` says.
 fn are_kept(alloc: Global, track: &mut Track) -> bool {
     match built(alloc, track) {
         Some(mut index) => {
@@ -55,7 +59,8 @@ fn are_kept(alloc: Global, track: &mut Track) -> bool {
     }
 }
 
-// A call that runs out of memory leaves pulses and frames, and then succeeds.
+// A call that runs out of memory leaves pulses and frames, and then succeeds. If memory runs out
+// for the track itself, nothing is tested in that run.
 #[test]
 fn a_refused_call_leaves_pulses_and_frames(rt: HostRuntime) {
     if let Ok(mut track) = positions(rt.alloc()) {

@@ -14,8 +14,8 @@ use irig_index::Index;
 use irig_track::Track;
 use std::alloc::Global;
 
-/// Whether one index, repaired after an edit, and one built from nothing are the same. The edit is
-/// made if it can be.
+/// Makes an edit, if it can be made, and repairs the index. Whether the repair took few looks, and
+/// an index of the track that is built from nothing is the same.
 fn agrees(alloc: Global, track: &mut Track, index: &mut Index, format: Format, edit: Edit) -> bool
     requires { index.old.records ≡ frames format track.old.pulses }
     ensures { IsTrue result → index.new.records ≡ frames format track.new.pulses }
@@ -49,7 +49,8 @@ fn each_agrees(
     true
 }
 
-/// Whether edits in turn agree with indexes built from nothing.
+/// Whether each of these edits in turn agrees, on this track and an index that is built of it
+/// first.
 fn all_agree(alloc: Global, track: &mut Track, format: Format, edits: &[Edit]) -> bool {
     match Index::build(alloc, &mut track.lens(), format) {
         Ok(mut index) => each_agrees(alloc, track, &mut index, format, edits),
@@ -57,7 +58,7 @@ fn all_agree(alloc: Global, track: &mut Track, format: Format, edits: &[Edit]) -
     }
 }
 
-/// Whether edits of a short track, of eight pulses, agree.
+/// Whether these edits in turn agree, on a new short track, of eight pulses.
 fn short_agrees(alloc: Global, format: Format, edits: &[Edit]) -> bool {
     match positions(alloc) {
         Ok(mut track) => all_agree(alloc, &mut track, format, edits),
@@ -65,7 +66,7 @@ fn short_agrees(alloc: Global, format: Format, edits: &[Edit]) -> bool {
     }
 }
 
-/// Whether edits of a track of four frames agree.
+/// Whether these edits in turn agree, on a new track of four sound frames.
 fn long_agrees(alloc: Global, format: Format, edits: &[Edit]) -> bool {
     match sound(alloc, 400) {
         Ok(mut track) => all_agree(alloc, &mut track, format, edits),
@@ -73,14 +74,14 @@ fn long_agrees(alloc: Global, format: Format, edits: &[Edit]) -> bool {
     }
 }
 
-/// Whether an edit of a short track agrees, made and undone.
+/// Whether an edit of a new short track agrees, and so does the edit that reverses it (`back`).
 fn both_ways(alloc: Global, format: Format, edit: Edit) -> bool {
     short_agrees(alloc, format, &[edit, back(edit)])
 }
 
-// Inversions between all multiples of 20 microseconds of the short track, which has 800: from 0 to
-// 780, to 20 to 800. Those whose end is not after their begin cannot be made. All edges of the
-// track are at such multiples.
+// Each inversion from one multiple of 20 microseconds (0 to 780) to another (20 to 800), which is
+// the length of the short track. All edges of the track are at such multiples. An inversion whose
+// end is not after its begin cannot be made.
 #[test]
 fn an_inversion_at_each_place_of_a_short_track(rt: HostRuntime) {
     let format = format_g(&rt);
@@ -105,7 +106,7 @@ fn a_move_at_each_place_of_a_short_track(rt: HostRuntime) {
     }
 }
 
-// From each of the eight pulses on, 1 to 8 are cut; more than there are cannot be.
+// From each of the eight pulses on, 1 to 8 pulses are cut. If there are fewer, nothing can be cut.
 #[test]
 fn a_cut_at_each_place_of_a_short_track(rt: HostRuntime) {
     let format = format_g(&rt);
@@ -115,8 +116,9 @@ fn a_cut_at_each_place_of_a_short_track(rt: HostRuntime) {
     }
 }
 
-// A pulse takes up to 80 microseconds of its 100, so the level is low there; the second edit undoes
-// the first.
+// In each 100 microseconds of four frames an inversion makes one pulse more, from 84 to 88: the
+// pulse there takes at most the first 80, so the level is low. The second edit, the same inversion,
+// undoes the first.
 #[test]
 fn a_pulse_more_at_each_place_of_four_frames(rt: HostRuntime) {
     let format = format_g(&rt);

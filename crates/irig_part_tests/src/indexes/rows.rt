@@ -38,8 +38,8 @@ static SOUND: [Record; 1] = [Record {
     verdict: SECOND,
 }];
 
-/// Whether one index, repaired near an edit, and another, rebuilt from the whole track, hold these
-/// records.
+/// Makes an edit, if it can be made. Whether one index (`index`), repaired near the edit, and
+/// another (`other`), rebuilt from the whole track, then hold just these records.
 fn both_hold(
     alloc: Global,
     track: &mut Track,
@@ -58,8 +58,8 @@ fn both_hold(
         && holds(other, records)
 }
 
-/// Whether the two frames of a sound track are read, with as few looks as they take, and the index
-/// has a place for its one record.
+/// Whether an index of two sound frames holds the record of the second, with room for it, and both
+/// the index and its lens have counted just the looks that this takes.
 fn is_read(index: &Index, lens: &Lens<'_>) -> bool {
     // A marker is the second of two identifiers in a row. So if a pulse is none, the pass looks
     // next at the one two places later: at 1, 3, 5, 7 and 10, 12 .. 98 of the first frame, 49
@@ -187,7 +187,8 @@ fn is_repaired(alloc: Global, track: &mut Track, other: &mut Index, format: Form
     }
 }
 
-/// Whether two indexes of the sound track hold the records of each row.
+/// Whether two indexes of the sound track, one repaired and one rebuilt, hold the records of each
+/// row, as `rows_hold` says.
 fn are_read(alloc: Global, track: &mut Track, format: Format) -> bool {
     match Index::build(alloc, &mut track.lens(), format) {
         Ok(mut other) => is_repaired(alloc, track, &mut other, format),
@@ -213,13 +214,14 @@ static RISES: [(u64, usize); 6] = [
     (u64::MAX, 200),
 ];
 
-/// Whether a search for a time finds that `count` pulses rise at or before it, with at most this
-/// many looks.
+/// Whether a search for a time, in microseconds, finds that `count` pulses rise at or before it,
+/// with at most `looks` looks.
 fn is_found(track: &Track, time: u64, count: usize, looks: u64) -> bool {
     let mut lens = track.lens();
     Index::find(&mut lens, time) == count && lens.looks() <= looks
 }
 
+// A search finds how many rises are at or before a time, with few looks.
 #[test]
 fn a_time_is_found_among_the_rises(rt: HostRuntime) {
     let track = sound(rt.alloc(), 200).expect(&rt, "memory");
@@ -229,6 +231,7 @@ fn a_time_is_found_among_the_rises(rt: HostRuntime) {
     }
 }
 
+// A search among a million rises takes 20 looks at most.
 #[test]
 fn a_time_is_found_among_a_million_rises(rt: HostRuntime) {
     let track = sound(rt.alloc(), 1_000_000).expect(&rt, "memory");

@@ -52,8 +52,9 @@ static STATES: [Row; 23] = [
     (Call::Redo, NO_STEP_ON, b"ac", 3, 2, 0, 14, (0, 0)),
 ];
 
-// The four calls at the end are laws of a journal, and do nothing as they run. That they can be
-// called for a stack shows that they hold of it.
+// Each undo and each redo gives back the bytes and the cursor of the state that it leads to. The
+// four calls at the end are laws of a journal, and do nothing as they run. That they can be called
+// for a stack shows that they hold of it.
 #[test]
 fn a_journal_is_the_machine_of_whole_states(rt: HostRuntime) {
     check(&rt, rt.alloc(), &STATES);
@@ -99,7 +100,8 @@ static GROUPS: [Row; 27] = [
     (Call::Undo, Reply::Done, b"bc", 3, 2, 1, 20, (1, 0)),
 ];
 
-// The edits of a group are undone and redone as one step.
+// The edits of a group are undone and redone as one step. An undo does not go back past the begin
+// of an open group.
 #[test]
 fn a_group_is_taken_back_whole(rt: HostRuntime) {
     check(&rt, rt.alloc(), &GROUPS);

@@ -25,7 +25,7 @@ fn empty(alloc: Global) -> Stack {
 }
 
 /// Pushes a byte on a stack, as a step whose undo leads to this cursor. If memory runs out nothing
-/// is pushed.
+/// is pushed; that answer is dropped (`_done`), as the test then fails at what it compares.
 fn push(journal: &mut Journal<Stack>, stack: &mut Stack, byte: u8, cursor: usize)
     requires ready { AreReady CanEdit edited (λ d. d) (HasPlaceFor (vec_capacity stack.old.items))
         stack.old.items.items journal.old }
@@ -60,15 +60,15 @@ fn gather(journal: &mut Journal<Stack>, stack: &Stack, count: usize, cursor: usi
     count <= journal.steps_back() && journal.gather(stack, count, cursor).is_ok()
 }
 
-/// The cursors of the next two steps, if there are two.
+/// The cursors of the next two steps; `None` if there are not two.
 fn next_two(mut steps: StepsLeft<'_, Single>) -> Option<(usize, usize)> {
     let first = steps.next()?;
     let second = steps.next()?;
     Some((first.cursor, second.cursor))
 }
 
-/// Whether a step is a group of these changes, that leads to this cursor. The change that an undo
-/// or a redo makes first is the last.
+/// Whether there is a step, it is a group of just these changes, and it leads to this cursor. Of
+/// the changes an undo or a redo makes the last one first.
 fn is_group_of(step: Option<Step<'_, Single>>, changes: &[Single], cursor: usize) -> bool {
     match step {
         None => false,
@@ -135,6 +135,7 @@ fn goes_both_ways(journal: &mut Journal<Stack>, stack: &mut Stack) -> bool
         && is_redone(journal, stack, &mut cursor)
 }
 
+// After two pushes the journal is turned round: then the newest step back is the next one forward.
 #[test]
 fn the_newest_step_back_becomes_the_next_forward(rt: HostRuntime) {
     let mut stack = empty(rt.alloc());
@@ -143,6 +144,7 @@ fn the_newest_step_back_becomes_the_next_forward(rt: HostRuntime) {
     assert!(rt; turns_round(&mut journal));
 }
 
+// Two pushes that are gathered are one group, which an undo and a redo make whole.
 #[test]
 fn gathered_steps_are_one_group(rt: HostRuntime) {
     let mut stack = empty(rt.alloc());
@@ -160,6 +162,7 @@ fn gathers_none(journal: &mut Journal<Stack>, stack: &Stack) -> bool
     gather(journal, stack, 0, 5) && is_group_of(journal.past_steps().next(), &[], 5)
 }
 
+// Of no steps `gather` makes a group without changes, which is a step, too.
 #[test]
 fn a_group_of_none_is_a_step(rt: HostRuntime) {
     let stack = empty(rt.alloc());

@@ -21,7 +21,8 @@ pub(crate) fn pulses_of(alloc: Global, track: &Track) -> Result<Gap<Pulse>, Allo
     Ok(pulses)
 }
 
-/// Whether the recording of a track has these edges and the track's length, and both have one text.
+/// Whether the recording of a track has these edges and the track's length, and track and recording
+/// are written as the same text.
 pub(crate) fn has_edges(alloc: Global, track: &Track, edges: &[u64]) -> bool {
     match track.recording(alloc) {
         Ok(recording) => is_recording_of(alloc, track, &recording, edges),
@@ -36,7 +37,7 @@ fn is_recording_of(alloc: Global, track: &Track, recording: &Recording, edges: &
         && have_one_text(alloc, track, recording)
 }
 
-/// Whether a track and a recording have one text.
+/// Whether a track and a recording are written as the same text.
 fn have_one_text(alloc: Global, track: &Track, recording: &Recording) -> bool {
     match track.text(alloc) {
         Ok(text) => is_text_of(alloc, recording, text.as_slice()),
@@ -44,7 +45,7 @@ fn have_one_text(alloc: Global, track: &Track, recording: &Recording) -> bool {
     }
 }
 
-/// Whether a recording has this text.
+/// Whether a recording is written as this text.
 fn is_text_of(alloc: Global, recording: &Recording, text: &[u8]) -> bool {
     match irig_recording::text(alloc, recording) {
         Ok(written) => written.as_slice() == text,
@@ -52,9 +53,10 @@ fn is_text_of(alloc: Global, recording: &Recording, text: &[u8]) -> bool {
     }
 }
 
-/// Whether a splice takes place at this span (`want`), or cannot be made if there is none. `count`
-/// pulses from `at` on, from 0, go and those of `put` come. `can_splice` needs room for those that
-/// come, and `splice` room in `taken` for those that go.
+/// Makes a splice, if it can be made: `count` pulses from `at` on, from 0, go and those of `put`
+/// come. True if its span is `want`; if `want` is `None`, true if the splice cannot be made.
+/// `can_splice` needs room for the pulses that come, and `splice` room in `taken` for those that
+/// go.
 pub(crate) fn splices(
     alloc: Global,
     track: &mut Track,
@@ -73,8 +75,10 @@ pub(crate) fn splices(
     taken.reserve(count).is_ok() && exchanges(track, at, count, put, &mut taken, want)
 }
 
-/// Whether a splice takes place at this span, takes all of `put`, and leaves `count` pulses in
-/// `taken`, which is empty before.
+/// Makes a splice that can be made. True if its span is `want`, it takes all of `put`, and it
+/// leaves `count` pulses in `taken`, which is empty before. The conditions are those of `splice`:
+/// the track has room for the pulses that come (`spare` is how many more fit in it; those that go
+/// make room, too), and `taken` has room for those that go.
 fn exchanges(
     track: &mut Track,
     at: usize,
@@ -92,8 +96,8 @@ fn exchanges(
     put.len() == 0 && taken.len() == count && want == Some(span)
 }
 
-/// Makes a shift of the pulses `i` to `j` with both, from 0, by `by` microseconds, and returns its
-/// span; `None` if it cannot be made.
+/// Shifts the pulses `i` to `j`, both included and from 0, by `by` microseconds, and returns the
+/// span; `None` if that cannot be done.
 pub(crate) fn shift(track: &mut Track, i: usize, j: usize, by: i64) -> Option<Span> {
     if track.can_shift(i, j, by) {
         Some(track.shift(i, j, by))

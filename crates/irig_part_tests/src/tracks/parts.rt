@@ -18,9 +18,9 @@ static LINES: [&[u8]; 4] = [
     b"#1000\n",
 ];
 
-/// How many bytes are enough for a part: it ends after the line or the lines of a pulse with which
-/// it has that many. And how many of the rows above each part has. The line of the length is in the
-/// part of the last pulse. The bytes are those around 8, 125 and 133 = 125 + 8.
+/// How many bytes are enough for a part: it ends after the row of `LINES` with which it has that
+/// many. And how many rows of `LINES` each part has. The line of the length is in the part of the
+/// last pulse. The numbers of bytes are those around 8, 125 and 133 = 125 + 8.
 static PARTS: [(usize, &[usize]); 8] = [
     (1, &[1, 1, 2]),
     (8, &[1, 1, 2]),
@@ -32,7 +32,8 @@ static PARTS: [(usize, &[usize]); 8] = [
     (usize::MAX, &[4]),
 ];
 
-/// Whether bytes are these lines, one after another.
+/// Whether bytes are these lines, one after another, and nothing more. `saturating_add` saves a
+/// proof that the sum is below 2^64.
 fn are_lines(bytes: &[u8], lines: &[&[u8]]) -> bool {
     let mut from = 0;
     for line in lines {
@@ -45,13 +46,16 @@ fn are_lines(bytes: &[u8], lines: &[&[u8]]) -> bool {
     from == bytes.len()
 }
 
-/// Takes a part of a text, and returns whether it is these lines. False if memory runs out.
+/// Takes the next part of a text, of at least `enough` bytes if there are that many left, and
+/// returns whether it is these lines. False if memory runs out. Whether the text says that it has
+/// ended is not compared.
 fn is_part(alloc: Global, text: &mut TrackText<'_>, enough: usize, lines: &[&[u8]]) -> bool {
     let mut block = Vec::new(alloc);
     text.fill(&mut block, enough).is_ok() && are_lines(block.as_slice(), lines)
 }
 
-/// Whether a text ends after these parts, each of that many lines: the part after them is empty.
+/// Whether a text comes in these parts, each of that many rows of `LINES`, and ends then: all of
+/// `LINES` have come, and the part after them is empty. `saturating_add` is there as above.
 fn has_parts(alloc: Global, text: &mut TrackText<'_>, enough: usize, parts: &[usize]) -> bool {
     let mut from = 0;
     for count in parts {
@@ -64,7 +68,7 @@ fn has_parts(alloc: Global, text: &mut TrackText<'_>, enough: usize, parts: &[us
     from == LINES.len() && is_part(alloc, text, enough, &[])
 }
 
-/// Whether the text of a track comes in the parts of each row.
+/// Whether the text of a track comes in the parts of each row of `PARTS`, from its begin each time.
 fn comes_in_parts(alloc: Global, track: &Track) -> bool {
     for (enough, parts) in PARTS.iter() {
         if !has_parts(alloc, &mut track.text_parts(), *enough, parts) {

@@ -1,4 +1,4 @@
-//! The worked rows of a track of two pulses, and a track at its limit. An error is that of memory.
+//! Rows of a track of two pulses, worked by hand, and a full track. An error: memory ran out.
 
 use super::helpers::{has_edges, pulses_of, shift, splices, toggle};
 use crate::edges::{most_edges, track_of};
@@ -49,12 +49,12 @@ fn one_pulse(alloc: Global, rise: u64, fall: u64) -> Result<Gap<Pulse>, AllocErr
     Ok(put)
 }
 
-/// Whether a track has this pulse at a place.
+/// Whether pulse `index` of a track, from 0, is there and has this rise and this fall.
 fn has_pulse(track: &Track, index: usize, rise: u64, fall: u64) -> bool {
     index < track.len() && track.pulse(index) == Pulse { rise, fall }
 }
 
-/// Whether a splice of one pulse takes place at `place`, or cannot be made if there is none.
+/// Whether one pulse replaces `count` from `at` on, at `place`. `None`: whether it cannot be done.
 fn splices_one(
     alloc: Global,
     track: &mut Track,
@@ -70,7 +70,7 @@ fn splices_one(
     }
 }
 
-/// Whether a toggle takes place at `place`, or cannot be made if there is none.
+/// Whether the inversion from `a` to `b` is done, at `place`. `None`: whether it cannot be done.
 fn toggles(track: &mut Track, a: u64, b: u64, place: Option<Place>) -> bool {
     match toggle(track, a, b) {
         Ok(answer) => answer == span_of(place),
@@ -78,7 +78,7 @@ fn toggles(track: &mut Track, a: u64, b: u64, place: Option<Place>) -> bool {
     }
 }
 
-/// Whether a call answers what it should.
+/// Makes a call on a track, and returns whether its answer is the one that `call` has.
 fn answers(alloc: Global, track: &mut Track, call: Call) -> bool {
     match call {
         Call::Len(len) => track.len() == len,
@@ -94,7 +94,7 @@ fn answers(alloc: Global, track: &mut Track, call: Call) -> bool {
     }
 }
 
-/// Whether a call on the track of two pulses is as its row says.
+/// Whether a call on a new track of two pulses answers as its row says, and leaves those edges.
 fn is_right(alloc: Global, (call, edges): &Row) -> bool {
     match two_pulses(alloc) {
         Ok(mut track) => { answers(alloc, &mut track, *call) && has_edges(alloc, &track, edges) }
@@ -102,7 +102,7 @@ fn is_right(alloc: Global, (call, edges): &Row) -> bool {
     }
 }
 
-/// Makes the call of each row.
+/// Asserts that the call of each row, on a new track of two pulses each, is as its row says.
 fn check(rt: &impl Abort, alloc: Global, rows: &[Row]) {
     for row in rows {
         assert!(rt; is_right(alloc, row));
@@ -235,7 +235,7 @@ fn counts_looks(track: &Track) -> bool {
         && lens.looks() == 2
 }
 
-/// Whether a track gives two pulses, and a lens shows them.
+/// Whether a track has two pulses, and a lens shows them. False if memory runs out.
 fn shows_two(alloc: Global, track: &Track) -> bool {
     match pulses_of(alloc, track) {
         Ok(pulses) => pulses.len() == 2 && counts_looks(track),

@@ -24,7 +24,7 @@ struct Broken<'a> {
 }
 
 impl<'a> Read for Broken<'a> {
-    // The next bytes of the text, or the error if none is left.
+    // Gives the next bytes of the text, at most `step`, or the error if none is left.
     fn read(&mut self, buf: &mut [u8]) -> io::Result<usize> {
         if self.text.is_empty() {
             return Err(io::Error::from(self.kind));
@@ -46,7 +46,8 @@ struct Full {
 }
 
 impl Write for Full {
-    // Takes the bytes for which there is room. A write that was interrupted is a failed one, too.
+    // Takes as many bytes as there is room for. If that is none: an error if `fails`, else 0. The
+    // error is `Interrupted`: the program has to end the run also then, not to try again.
     fn write(&mut self, buf: &[u8]) -> io::Result<usize> {
         let count = self.room.min(buf.len());
         if count == 0 && self.fails {
@@ -57,15 +58,15 @@ impl Write for Full {
         Ok(count)
     }
 
-    // Nothing is held back.
+    // Nothing waits to be written, so there is nothing to do.
     fn flush(&mut self) -> io::Result<()> {
         Ok(())
     }
 }
 
-/// Whether only the whole lines of a script are obeyed and answered if its reads fail after this
-/// many bytes. A read gives three bytes, so that it ends within a line. `worked.stops` has what
-/// each line leaves.
+/// Whether the run ends with `ReadFailed`, and only the whole lines of a script are obeyed and
+/// answered, if its reads fail after this many bytes with an error of this kind. A read gives three
+/// bytes at most, so that it can end within a line. `worked.stops` has what each line leaves.
 fn is_read(
     alloc: Global,
     session: &mut Session,
@@ -98,22 +99,26 @@ fn is_read_once(alloc: Global, worked: Worked<'_>, bytes: usize, kind: ErrorKind
     }
 }
 
-/// Each byte of a script is once the byte that cannot be read.
+/// Asserts that the run is as `is_read` says, whichever byte of the script cannot be read: the
+/// first, each later one, or what comes after the last.
 fn check_reads(rt: &impl Abort, alloc: Global, worked: Worked<'_>, kind: ErrorKind) {
     for bytes in 0..=worked.script.len() {
         assert!(rt; is_read_once(alloc, worked, bytes, kind));
     }
 }
 
-// An interrupted read is not tried again: it ends the run as each other error does.
+// A read that fails ends the run, and only the whole lines before it were obeyed. An interrupted
+// read is not tried again: it ends the run as each other error does.
 #[test]
 fn a_failed_read_ends_the_run(rt: HostRuntime) {
     check_reads(&rt, rt.alloc(), INVERTED, ErrorKind::Other);
     check_reads(&rt, rt.alloc(), DELETED, ErrorKind::Interrupted);
 }
 
-/// Whether an output that has room for this many bytes gets them, and the line whose answer was not
-/// printed whole is the last one obeyed.
+/// Whether an output that has room for this many bytes gets them, the run ends with `PrintFailed`,
+/// and the line whose answer was not printed whole is the last one obeyed. `fails`: a full output
+/// returns an error; else it takes no byte. It is false, too, if the script prints no more bytes
+/// than there is room for.
 fn is_printed(
     alloc: Global,
     session: &mut Session,
@@ -142,7 +147,8 @@ fn is_printed_once(alloc: Global, worked: Worked<'_>, room: usize, fails: bool) 
     }
 }
 
-/// Each byte of what a script prints is once the byte that is not taken.
+/// Asserts that the run is as `is_printed` says, whichever byte of what the script prints is the
+/// first that is not taken.
 fn check_writes(rt: &impl Abort, alloc: Global, worked: Worked<'_>, fails: bool) {
     for room in 0..worked.printed.len() {
         assert!(rt; is_printed_once(alloc, worked, room, fails));
@@ -182,7 +188,8 @@ const REFUSED_STOP: Stop = Stop {
     texts: 1,
 };
 
-/// Whether only the line whose write fails is refused. `fails` is the number of that write, from 1.
+/// Whether only the line whose write fails is refused: the run comes to its end, prints `printed`,
+/// and leaves what `REFUSED_STOP` says. `fails` is the number of that write, from 1.
 fn is_put(alloc: Global, session: &mut Session, fails: u64, printed: &[u8]) -> bool {
     let mut script = INVERTED.script;
     let mut out = Vec::new(alloc);
@@ -209,7 +216,7 @@ fn a_failed_put_refuses_its_line(rt: HostRuntime) {
     }
 }
 
-/// Whether a fault has this text.
+/// Whether a fault is printed as this text. False if memory runs out.
 fn has_text(alloc: Global, fault: RunFault, text: &str) -> bool {
     match format!(in alloc; "{fault}") {
         Ok(told) => told.as_str() == text,
@@ -217,7 +224,8 @@ fn has_text(alloc: Global, fault: RunFault, text: &str) -> bool {
     }
 }
 
-// No script of a test takes that many reads: only its text is tested here.
+// A script that takes 2^32 reads ends with `TooManyReads`. No test runs that long: only the text of
+// this fault is tested here, as `docs/SCRIPT.md` has it.
 #[test]
 fn many_reads_have_their_text(rt: HostRuntime) {
     assert!(rt; has_text(rt.alloc(), RunFault::TooManyReads, "S5 TooManyReads"));

@@ -11,6 +11,7 @@ pub const TWO_PULSES: &[u8] =
     0! #1000";
 
 /// A session in format G 2 with pulses 100 to 120 and 200 to 280 in a track of 1,000 microseconds.
+/// `None` only if memory runs out.
 pub fn two_pulses(alloc: Global) -> Option<Session> {
     let format = Format::new(Kind::G, 2).ok()?;
     let recording = Recording::new(alloc, 1_000, &[100, 120, 200, 280]).ok()??;

@@ -10,7 +10,8 @@ use irig_script::{DumpRunFault, MemoryShelf, NoWitness, Screen, Status, run_on_d
 use irig_vcd::VcdFault;
 use std::alloc::Global;
 
-/// Whether a third pulse is inserted; an error leaves pulses and steps, and the next call succeeds.
+/// Inserts a third pulse. True if it is there then, and the cursor at it. If memory runs out: true
+/// if pulses and steps stay as they were, and the same call succeeds when it is made again.
 fn inserts(session: &mut Session) -> bool {
     if session.insert(400, 450) == Err(Refusal::OutOfMemory) {
         session.len() == 2 && session.steps_back() == 0 && session.insert(400, 450) == Ok(())
@@ -19,13 +20,15 @@ fn inserts(session: &mut Session) -> bool {
     }
 }
 
-/// Whether the first insert is undone, whichever growth is refused: an undo takes no memory.
+/// Undoes the insert of `inserts`. True if two pulses are left and one step can be redone,
+/// whichever growth is refused: an undo takes no memory.
 fn undoes(session: &mut Session) -> bool {
     session.undo() == Ok(()) && session.len() == 2 && session.steps_forward() == 1
 }
 
-/// Whether another pulse is inserted and undone; an error leaves what can be redone. Either way one
-/// step can be redone then, and two pulses are there.
+/// Inserts another pulse, which drops what can be redone, and undoes this insert: true if the undo
+/// succeeds. If memory runs out for the insert: true if two pulses are there, and the step of
+/// `undoes` can still be redone. Either way two pulses are there then, and one step can be redone.
 fn inserts_another(session: &mut Session) -> bool {
     if session.insert(500, 510) == Err(Refusal::OutOfMemory) {
         session.len() == 2 && session.steps_forward() == 1
@@ -34,17 +37,20 @@ fn inserts_another(session: &mut Session) -> bool {
     }
 }
 
-/// Whether the undone step is redone, whichever growth is refused: a redo takes no memory.
+/// Redoes the step that was undone last. True if three pulses are there and nothing is left to
+/// redo, whichever growth is refused: a redo takes no memory.
 fn redoes(session: &mut Session) -> bool {
     session.redo() == Ok(()) && session.len() == 3 && session.steps_forward() == 0
 }
 
-/// Whether each of these calls in turn leaves what it says.
+/// Makes an insert, an undo, another insert with its undo, and a redo, each by the function above.
+/// True if each is true.
 fn is_left(session: &mut Session) -> bool {
     inserts(session) && undoes(session) && inserts_another(session) && redoes(session)
 }
 
-// A call that runs out of memory leaves pulses and steps, and then succeeds.
+// A call that runs out of memory leaves pulses and steps, and then succeeds. If memory runs out for
+// the session itself, nothing is tested in that run.
 #[test]
 fn a_refused_call_leaves_the_session(rt: HostRuntime) {
     if let Some(mut session) = two_pulses(rt.alloc()) {
@@ -69,7 +75,8 @@ static PRINTED: [&[u8]; 6] = [
     b"147\n? S3 WriteFailed\n",
 ];
 
-/// How a script ends on the dump of two pulses; `None` if the bytes of the dump found no room.
+/// Runs the script of `PRINTED` on the dump of two pulses, with `out` as the output. Returns how it
+/// ended; `None` if the bytes of the dump found no room, so that it did not run.
 fn ran(alloc: Global, out: &mut Vec<u8>) -> Option<Result<Status, DumpRunFault>> {
     let format = Format::new(Kind::G, 2).ok()?;
     let dump = Vec::from_slice(alloc, TWO_PULSES).ok()?;
@@ -107,7 +114,8 @@ fn is_printed(out: &[u8]) -> bool {
     false
 }
 
-// In a script only the line that runs out of memory is refused, and the next ones are obeyed.
+// In a script only the line that runs out of memory is refused, and the next ones are obeyed. If
+// memory runs out for the output, nothing is tested in that run.
 #[test]
 fn a_refused_line_leaves_the_rest(rt: HostRuntime) {
     // All that is printed has room in 200 bytes, so the output itself takes no memory later.

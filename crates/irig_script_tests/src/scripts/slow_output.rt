@@ -14,20 +14,21 @@ struct Slow {
 }
 
 impl Write for Slow {
-    // Takes the first byte, or none if there is none.
+    // Takes the first byte, or none if `buf` is empty. It fails only if memory runs out.
     fn write(&mut self, buf: &[u8]) -> io::Result<usize> {
         let count = buf.len().min(1);
         self.taken.extend_from_slice(&buf[..count])?;
         Ok(count)
     }
 
-    // Nothing is held back.
+    // Nothing waits to be written, so there is nothing to do.
     fn flush(&mut self) -> io::Result<()> {
         Ok(())
     }
 }
 
-/// Whether an output that takes one byte of each write gets all answers.
+/// Whether an output that takes one byte of each write gets all that `INVERTED` prints, and no line
+/// is refused.
 fn is_printed(alloc: Global, session: &mut Session) -> bool {
     let mut script = INVERTED.script;
     let taken = Vec::new(alloc);
@@ -46,7 +47,8 @@ fn is_printed_once(alloc: Global) -> bool {
     }
 }
 
-// A short write is no failure: the rest is written next.
+// An output may take a part of a write, here one byte: that is no failure, and the rest is written
+// next.
 #[test]
 fn an_output_that_takes_a_byte_at_a_time_gets_all(rt: HostRuntime) {
     assert!(rt; is_printed_once(rt.alloc()));

@@ -22,7 +22,9 @@ const BOTH: u64 = 11;
 /// length shows which text it is.
 const TEXTS: [usize; 2] = [179, 163];
 
-/// Runs the script of two writes to the name `t`.
+/// Runs the script of two writes, which write to the name `t`; what is printed goes to `out`.
+/// Returns how the run ended: whether a line was refused, or why it was broken off. `room` is the
+/// memory of the writes.
 fn run_on_files(
     session: &mut Session,
     files: &mut Files<Memory>,
@@ -40,7 +42,8 @@ fn run_on_files(
 }
 
 /// How many bytes a crash after these calls leaves at the name `t`, if it leaves the file there as
-/// it is seen; `None` if the file is not there, or not kept. The newest call is the first.
+/// it is seen. `None` if no file is there, if what it holds is not kept by a sync, or if memory
+/// runs out. The newest call is the first.
 pub fn left(alloc: Global, calls: &[Call]) -> Option<usize> {
     let file = file_at(calls, b"t")?;
     let held = bytes_of(alloc, calls, file).ok()?;
@@ -57,8 +60,8 @@ fn is_named(calls: &[Call]) -> bool {
     false
 }
 
-/// Whether after these calls one of the two texts is at the name, whole, or nothing if no name was
-/// kept.
+/// Whether after these calls one of the two texts is at the name `t`, whole. Nothing may be there
+/// only if no sync of the folder has kept a name yet. It is false, too, if memory runs out.
 fn is_whole(alloc: Global, calls: &[Call]) -> bool {
     match left(alloc, calls) {
         Some(bytes) => TEXTS.contains(&bytes),
@@ -66,8 +69,8 @@ fn is_whole(alloc: Global, calls: &[Call]) -> bool {
     }
 }
 
-/// Whether `is_whole` is true after each of the calls: the newest is the first in the list, and the
-/// newest `left_out` calls are left out in turn.
+/// Whether `is_whole` is true after each of the calls, and before the first: the newest call is the
+/// first in the list, and the newest `left_out` calls are left out, from none of them to all.
 fn is_whole_at_each_stop(alloc: Global, calls: &[Call]) -> bool {
     for left_out in 0..=calls.len() {
         match calls.get(left_out..) {
@@ -78,8 +81,9 @@ fn is_whole_at_each_stop(alloc: Global, calls: &[Call]) -> bool {
     true
 }
 
-/// Whether the run with one call that fails, number `fails` from 0, prints this, and leaves a whole
-/// text at each stop.
+/// Whether the run in which call number `fails` of the disk fails, counted from 0, comes to its
+/// end, prints `printed`, and leaves a whole text at each stop. It is false, too, if memory runs
+/// out.
 fn is_run(alloc: Global, session: &mut Session, fails: u64, printed: &[u8]) -> bool {
     let Ok(mut room) = Room::new(alloc) else {
         return false;
@@ -112,7 +116,8 @@ fn printed_without(fails: u64) -> &'static [u8] {
     }
 }
 
-// A crash after each call, and a call that fails, leave a whole text at the path.
+// A crash after each call, and a call that fails, leave a whole text at the path. Each call of the
+// two writes fails in one run, and in the last run none does.
 #[test]
 fn the_writes_of_a_script_are_whole_at_each_stop(rt: HostRuntime) {
     for fails in 0..=BOTH {

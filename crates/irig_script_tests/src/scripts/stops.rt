@@ -114,7 +114,7 @@ pub static DELETED: Worked<'static> = Worked {
     ],
 };
 
-/// The first bytes of a text: this many, if it has them.
+/// The first bytes of a text: this many, or all if it has fewer.
 pub fn front(text: &[u8], bytes: usize) -> &[u8] {
     text.split_at(bytes.min(text.len())).0
 }
@@ -142,7 +142,8 @@ pub fn first_printing(stops: &[Stop], bytes: usize) -> Option<Stop> {
     None
 }
 
-/// Whether session and shelf are those of a stop: pulses, steps back, and texts written.
+/// Whether session and shelf are those of a stop: how many pulses there are, how many steps back,
+/// and how many texts were written. `read` and `printed` of the stop are not compared.
 pub fn stands(stop: Stop, session: &Session, shelf: &MemoryShelf) -> bool {
     session.len() == stop.pulses
         && session.steps_back() == stop.past

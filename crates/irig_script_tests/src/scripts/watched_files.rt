@@ -14,7 +14,8 @@ use irig_files::Room;
 use irig_script::{Screen, Status};
 use std::alloc::Global;
 
-/// The dump of two pulses, and the format in which it is read. `None` if memory runs out.
+/// The dump of two pulses, and the format in which it is read, G 2. `None` if memory runs out. The
+/// clause is for `watch`, which takes a dump of at most 2^28 bytes.
 fn opening(alloc: Global) -> Option<(Vec<u8>, Format)>
     ensures { IfSome result (λ opened. length opened.0.items ≤ 2 ^ 28) }
 {
@@ -23,8 +24,8 @@ fn opening(alloc: Global) -> Option<(Vec<u8>, Format)>
     Some((dump, format))
 }
 
-/// Whether the script prints what it is to print, and leaves the text of its last write, 163 bytes:
-/// that of two pulses. False if memory runs out.
+/// Whether `watch` accepts all lines of the script, prints what `INVERTED` says, and leaves the
+/// text of the last write: that of two pulses, 163 bytes. False if memory runs out.
 fn is_right(alloc: Global, room: &mut Room) -> bool {
     let Some((dump, format)) = opening(alloc) else {
         return false;
@@ -47,8 +48,8 @@ fn is_right(alloc: Global, room: &mut Room) -> bool {
         && left(alloc, files.system().calls()) == Some(163)
 }
 
-/// Whether the script leaves that text, 163 bytes, if the run makes its screen and its files
-/// itself. False if memory runs out.
+/// Whether `watch_anew`, which makes its screen and its files itself, accepts all lines of the
+/// script, and leaves the text of the last write, 163 bytes. False if memory runs out.
 fn is_right_anew(alloc: Global, room: &mut Room) -> bool {
     let Some((dump, format)) = opening(alloc) else {
         return false;
@@ -58,7 +59,8 @@ fn is_right_anew(alloc: Global, room: &mut Room) -> bool {
     outcome == Ok(Status::AllAccepted) && left(alloc, files.system().calls()) == Some(163)
 }
 
-// A witness that keeps what it sees changes nothing.
+// With a witness that keeps what it sees, a script prints and writes the same as without one. If
+// memory runs out for the room, nothing is tested.
 #[test]
 fn a_watched_script_prints_and_writes_the_same(rt: HostRuntime) {
     let Ok(mut room) = Room::new(rt.alloc()) else {

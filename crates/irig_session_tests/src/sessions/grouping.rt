@@ -13,14 +13,16 @@ use std::process::Abort;
 /// there are afterwards; and how many pulses the steps back and the steps forward hold.
 type Row = (Call, Option<Refusal>, [usize; 3], (u128, u128));
 
-/// Whether a call is answered as its row says, and leaves what it says.
+/// Makes the call of a row. Whether it is refused, or accepted, as the row says, and leaves the
+/// pulses, the steps and the pulses held that the row says.
 fn leaves(session: &mut Session, (call, refusal, left, held): &Row) -> bool {
     let answered = obey(session, *call) == *refusal;
     let counts = [session.len(), session.steps_back(), session.steps_forward()];
     answered && counts == *left && session.held() == *held
 }
 
-/// Makes calls on two pulses, and compares what they leave.
+/// Makes the calls of the rows, one after another, on one session of two pulses, and asserts that
+/// each is answered, and leaves what there is, as its row says.
 fn check(rt: &impl Abort, alloc: Global, rows: &[Row]) {
     let mut session = two_pulses(alloc).expect(rt, "a session");
     for row in rows {
@@ -63,8 +65,8 @@ static REFUSED: [Row; 9] = [
     (Call::Abort, None, [2, 0, 0], (0, 0)),
 ];
 
-// Refused are an end and an abort if no group is open, a begin if one is, and an undo if no step is
-// left. A refused call leaves pulses and steps as they were.
+// Refused are an end and an abort if no group is open, a begin if a group is open, and an undo if
+// no step is left. A refused call leaves pulses and steps as they were.
 #[test]
 fn calls_of_groups_are_refused_in_their_order(rt: HostRuntime) {
     check(&rt, rt.alloc(), &REFUSED);
@@ -81,7 +83,8 @@ static ABORTED: [Row; 6] = [
     (Call::Undo, None, [2, 0, 1], (0, 0)),
 ];
 
-// An abort undoes the group alone, and the step before it can still be undone.
+// While a group is open, the step before it cannot be undone. An abort undoes the group alone, and
+// then the step before it can be undone.
 #[test]
 fn an_abort_goes_back_to_the_begin(rt: HostRuntime) {
     check(&rt, rt.alloc(), &ABORTED);

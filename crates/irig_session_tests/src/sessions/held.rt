@@ -1,7 +1,7 @@
 //! How many pulses the steps of a session hold, call by call. A step is what one undo reverses. An
-//! edit in the past holds the pulses that it removed, one in the future those that it inserts; a
-//! toggle, a shift and a mark hold none. Pulses count from 1, times are in microseconds, and 0 is
-//! the mark `a`.
+//! edit in the past (it can be undone) holds the pulses that it removed, one in the future (it can
+//! be redone) those that it inserts; an invert, a shift and a mark hold none. Pulses count from 1,
+//! times are in microseconds, and 0 is the mark `a`.
 
 use super::helpers::{Call, obey, open};
 use irig_codes::Element;
@@ -12,13 +12,14 @@ use std::process::Abort;
 /// A call, and how many pulses past and future hold after it.
 type Row = (Call, (u128, u128));
 
-/// Whether a call is accepted, and past and future hold what its row says after it.
+/// Makes the call of a row. Whether it is accepted, and past and future then hold as many pulses as
+/// the row says.
 fn leaves(session: &mut Session, (call, held): &Row) -> bool {
     obey(session, *call).is_none() && session.held() == *held
 }
 
 /// Makes the calls of the rows, one after another, on a track of this length and these edges, in
-/// microseconds, and compares what past and future hold after each.
+/// microseconds, and asserts after each what past and future hold.
 fn check(rt: &impl Abort, alloc: Global, length: u64, edges: &[u64], rows: &[Row]) {
     let mut session = open(alloc, length, edges).expect(rt, "a session");
     for row in rows {
@@ -45,7 +46,8 @@ static EDITS: [Row; 13] = [
     (Call::Undo, (0, 1)),
 ];
 
-// Each edit on two pulses, and what is held after its undo.
+// Each edit on two pulses holds the pulses that it removed, and after its undo those that it had
+// inserted. What is wanted follows from the calls alone.
 #[test]
 fn a_step_holds_what_its_edit_took_or_put(rt: HostRuntime) {
     check(&rt, rt.alloc(), 1_000, &[100, 120, 200, 280], &EDITS);

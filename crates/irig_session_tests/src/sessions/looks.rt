@@ -14,8 +14,8 @@ use std::process::Abort;
 /// and the last; and how many looks the last change took at most.
 type Row = (Call, [usize; 3], u64);
 
-/// How many frames there are, and the numbers, from 1, of the markers of the first and the last;
-/// all 0 if there is none.
+/// How many frames the track has, and the numbers of two pulses, from 1: the markers of the first
+/// frame and of the last; all 0 if there is no frame.
 fn frames(session: &Session) -> [usize; 3] {
     let count = session.frames();
     if count == 0 {
@@ -33,7 +33,7 @@ fn leaves(session: &mut Session, (call, left, most): &Row) -> bool {
 }
 
 /// Makes the calls of the rows, one after another, on a track of this length, in microseconds,
-/// without a pulse, and compares frames and looks.
+/// without a pulse, and asserts that each leaves the frames of its row and takes no more looks.
 fn check(rt: &impl Abort, alloc: Global, length: u64, rows: &[Row]) {
     let mut session = open(alloc, length, &[]).expect(rt, "a session");
     for row in rows {
@@ -59,7 +59,9 @@ static MILLION: [Row; 5] = [
     (Call::Mark(0, Some(5)), [9_999, 100, 999_900], 0),
 ];
 
-// An edit of a million pulses looks at some hundred of them.
+// An edit of a track of a million pulses takes some hundred looks, however many pulses there are.
+// Only the generation of the million takes more. The bounds of `MILLION` are those of
+// `Index::repair`.
 #[test]
 fn an_edit_of_a_million_pulses_looks_in_its_window(rt: HostRuntime) {
     check(&rt, rt.alloc(), 100_000_000, &MILLION);
@@ -82,8 +84,9 @@ static EACH_KIND: [Row; 8] = [
     (Call::Undo, [9, 101, 901], 100_000),
 ];
 
-// The call `generated_frames_read_back` does nothing: its contract is the law that generated frames
-// are read as they were made.
+// An edit of each kind takes no more looks than `Index::repair` allows, but for a new format, which
+// reads all frames again. The call `generated_frames_read_back` does nothing: its contract is the
+// law that generated frames are read as they were made.
 #[test]
 fn each_kind_of_edit_looks_in_its_window(rt: HostRuntime) {
     check(&rt, rt.alloc(), 100_000, &EACH_KIND);

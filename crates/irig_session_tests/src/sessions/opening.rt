@@ -31,8 +31,10 @@ fn dump(alloc: Global, lines: &[u8]) -> Result<Vec<u8>, AllocError> {
     Ok(text)
 }
 
-/// Opens the session of a dump with a journal of these lines, or returns the fault. The format is
-/// that of the journal.
+/// Opens the session of the dump of `BEGIN` with a journal of these lines, or returns the fault:
+/// `BadJournal` has the number of the wrong line. The session has the format of the journal.
+/// `OutOfMemory`: memory ran out. It comes also for a text of more than 1,000 bytes, but no row has
+/// one.
 fn opened(alloc: Global, lines: &[u8]) -> Result<Session, VcdFault> {
     let text = dump(alloc, lines)?;
     // Another format than that of the rows: the journal's is taken. The bound on the text is for
@@ -43,7 +45,8 @@ fn opened(alloc: Global, lines: &[u8]) -> Result<Session, VcdFault> {
     }
 }
 
-/// Whether a session is saved as the dump of `BEGIN` with a journal of these lines.
+/// Whether a session is saved as the dump of `BEGIN` with a journal of these lines. It is false,
+/// too, if memory runs out.
 fn is_saved_with(alloc: Global, session: &Session, lines: &[u8]) -> bool {
     match dump(alloc, lines) {
         Ok(same) => is_saved(session, same.as_slice()),
@@ -51,8 +54,9 @@ fn is_saved_with(alloc: Global, session: &Session, lines: &[u8]) -> bool {
     }
 }
 
-/// Whether this line is found as the wrong one of a journal of these lines. If `line` is `None`,
-/// whether the journal is opened, and saved again as the same lines.
+/// Whether the journal of these lines is answered as a row says. If `line` is a number, the line of
+/// that number has to be found as the wrong one. If `line` is `None`, the journal has to be opened,
+/// and to be saved again as the same lines. Any other fault is false.
 fn has_fault(alloc: Global, lines: &[u8], line: Option<usize>) -> bool {
     match opened(alloc, lines) {
         Ok(session) => line.is_none() && is_saved_with(alloc, &session, lines),
@@ -61,7 +65,8 @@ fn has_fault(alloc: Global, lines: &[u8], line: Option<usize>) -> bool {
     }
 }
 
-/// Opens the journal of each row, and compares the wrong line with that of the row.
+/// Asserts for each row that its journal is opened and saved again, or that its wrong line is
+/// found, as the row says.
 fn check(rt: &impl Abort, alloc: Global, rows: &[Row]) {
     for (lines, line) in rows {
         assert!(rt; has_fault(alloc, lines, *line));

@@ -79,7 +79,8 @@ fn joined(alloc: Global, session: &Session, enough: usize) -> Result<Vec<u8>, Al
     Err(AllocError)
 }
 
-/// Whether the blocks of a session's text, put together, are the text that is expected.
+/// Whether the blocks of a session's text, each but the last of at least `enough` bytes, are `TEXT`
+/// if they are put together. It is false, too, if memory runs out.
 fn is_joined(alloc: Global, session: &Session, enough: usize) -> bool {
     match joined(alloc, session, enough) {
         Ok(all) => all.as_slice() == TEXT,
@@ -87,8 +88,9 @@ fn is_joined(alloc: Global, session: &Session, enough: usize) -> bool {
     }
 }
 
-/// Makes the calls on two pulses, and an undo, and for each size puts the blocks of the saved
-/// session together.
+/// Makes the calls of `CALLS` on two pulses, and an undo. Asserts that the session is saved as
+/// `TEXT`, and for each of `sizes` that its blocks, each but the last of at least that many bytes,
+/// are `TEXT` if they are put together.
 fn check(rt: &impl Abort, alloc: Global, sizes: &[usize]) {
     let mut session = two_pulses(alloc).expect(rt, "a session");
     for call in &CALLS {
@@ -101,7 +103,8 @@ fn check(rt: &impl Abort, alloc: Global, sizes: &[usize]) {
     }
 }
 
-// Also with blocks of a single line (1 and 7 bytes at least), and with one block for all.
+// The blocks of a saved session are its text: blocks of a line or a few (at least 1, 7 or 100
+// bytes), and one block for all.
 #[test]
 fn the_parts_of_a_saved_session_are_its_text(rt: HostRuntime) {
     check(&rt, rt.alloc(), &[1, 7, 100, 65_536]);

@@ -22,15 +22,17 @@ fn put_journal(text: &mut Vec<u8>, lines: &[u8]) -> Result<(), AllocError> {
     text.extend_from_slice(b"$end\n")
 }
 
-/// The dump of a session's track with a journal of these lines. It fails only if memory runs out.
+/// The dump of a session's track, as `Session::text` gives it, with a journal of these lines. It
+/// fails only if memory runs out.
 fn dump_with(session: &Session, lines: &[u8]) -> Result<Vec<u8>, AllocError> {
     let mut text = session.text()?;
     put_journal(&mut text, lines)?;
     Ok(text)
 }
 
-/// Whether a session is saved, after the calls of a row, as the dump of its track with a journal of
-/// the row's lines.
+/// Makes the calls of a row on a session. Whether the session is saved then as the dump of its
+/// track with a journal of the row's lines. Whether a call is refused is not compared, only what
+/// all of them leave. It is false, too, if memory runs out.
 fn is_saved_after(session: &mut Session, (calls, lines): &Row) -> bool {
     for call in *calls {
         obey(session, *call);
@@ -41,7 +43,8 @@ fn is_saved_after(session: &mut Session, (calls, lines): &Row) -> bool {
     }
 }
 
-/// Makes the calls of each row on a session of its own, and compares the lines that are saved.
+/// Makes the calls of each row on a new session of two pulses, and asserts that the lines of the
+/// row are saved.
 fn check(rt: &impl Abort, alloc: Global, rows: &[Row]) {
     for row in rows {
         let mut session = two_pulses(alloc).expect(rt, "a session");
@@ -80,8 +83,8 @@ static STEPS: [Row; 4] = [
     ),
 ];
 
-// A step of the past is saved as the change that undoes it, one of the future as that which redoes
-// it.
+// A step of the past is saved as the change that undoes the step, a step of the future as the
+// change that redoes it.
 #[test]
 fn each_step_is_saved_as_the_change_that_leads_there(rt: HostRuntime) {
     check(&rt, rt.alloc(), &STEPS);
@@ -127,8 +130,8 @@ static GROUPS: [Row; 3] = [
     ),
 ];
 
-// The changes of a group are saved in the order in which they are made, also of one that is undone.
-// The steps of an open group are saved one by one.
+// The changes of a group are saved in the order in which its undo makes them, or its redo if the
+// group is undone. The steps of an open group are saved one by one.
 #[test]
 fn a_group_is_saved_in_the_order_of_its_turn(rt: HostRuntime) {
     check(&rt, rt.alloc(), &GROUPS);
