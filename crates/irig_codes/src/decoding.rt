@@ -27,16 +27,17 @@ use crate::width::Element;
 /// The fields that a frame carries, and the first note that holds of them. The fields may be out of
 /// range: the note says so.
 ///
-/// The order of the notes is this project's own choice.
+/// The order of the notes is this project's own choice: a wrong field, straight binary seconds that
+/// disagree with the time, an element that is One without a meaning; else the frame is `Fine`.
 pub fn decode(format: Format, frame: &[Element; 100]) -> (Fields, Note)
     ensures { result ≡ decoded format frame.now }
 {
     decode_ones(format, Ones::of(frame))
 }
 
-/// The fields that a frame carries, and the first note that holds of them, by which of its elements
-/// are One. `decode` calls this, and so does who knows no more of the frame. It suffices: a
-/// position identifier and a Zero carry nothing.
+/// The fields that a frame carries, and the first note that holds of them, as `decode` gives them,
+/// by which of its elements are One. This is for `decode`, and for callers that gathered only these
+/// (`Gathering`). The others are not needed: a position identifier and a Zero carry nothing.
 pub fn decode_ones(format: Format, ones: Ones) -> (Fields, Note)
     ensures { (frame : List Element) → length frame ≡ 100 → ones_of frame ≡ ones
         → result ≡ decoded format frame }

@@ -5,7 +5,8 @@
 //! the lowest bit. Elements 9, 19, 29 and so on are position identifiers, so a longer number is
 //! read in runs of nine. Straight binary seconds are the second of the day as one number, and
 //! control functions are bits for any use, in the control elements. What a format does not have is
-//! 0.
+//! 0. In contracts, `runs` are the elements of a field, run by run, and `digit_in` is the number in
+//! its run of the weight 1 (units) or 10 (tens).
 
 ghost use Rattle.std.specs.Prelude.{◌≡◌, ◌<◌, ◌+◌, ◌*◌, ◌^◌, [], ◌∷◌, false};
 ghost use Rattle.irig_codes.specs.OnesDigits.{control_number, digit_in, sbs_in, control_in};

@@ -72,8 +72,8 @@ macro_rules! part {
     ] };
 }
 
-// The ten parts of a frame, for the macro that is named, after what it wants with them: in each
-// kind without and with the year.
+// The ten parts of a frame, for the macro that is named (`$to`), in each kind without and with the
+// year. `$with`, in brackets, is passed on to that macro before them.
 macro_rules! frame {
     ($to:ident $with:tt A plain) => { $to![
         $with Seconds Minutes Hours Days HundredsAndTenths

@@ -1,7 +1,8 @@
 //! The frames that differ between two recordings. The place of a frame is when its marker rises, in
 //! microseconds. A place has two sides: the frame there of the recording before, and that of the
 //! recording after. They differ if only one of them is there, or if other fields, another note or
-//! another fault is reported of the one than of the other.
+//! another fault is reported of the one than of the other. In contracts, `shown_frames` are the
+//! frames of a recording, as lines show them.
 
 ghost use Rattle.std.specs.Prelude.{◌≡◌, [], ◌∷◌, ◌<◌, ◌^◌, MatchOption, length};
 ghost use Rattle.irig_comments.specs.Framed.{shown_frames};
@@ -30,7 +31,8 @@ impl<'a> Model for Changes<'a> {
 }
 
 impl<'a> Changes<'a> {
-    /// The frames that differ between the recordings `before` and `after`.
+    /// The frames that differ between the recordings `before` and `after`. `few`: each of the two
+    /// has fewer than 2^31 frames, so there are fewer than 2^32 places.
     pub fn between(before: &'a Framed, after: &'a Framed) -> Changes<'a>
         ensures exact { result ≡ changes before.now after.now }
         // One item for each place at which the sides differ, and for no other place.

@@ -46,7 +46,8 @@ impl Counts {
     }
 
     /// Counts the frames of one place, which differ: made, lost or changed. One side is there at
-    /// least, so the case without both does not come.
+    /// least, so the case without both does not come. `room`: two recordings have far fewer places
+    /// than 2^32, so no sum overflows.
     fn add(&mut self, sides: &Sides)
         requires room { (self.old.made < 2 ^ 32) × (self.old.lost < 2 ^ 32)
             × (self.old.changed < 2 ^ 32) }

@@ -3,7 +3,8 @@
 //!
 //! A clause `few`, `order` or `framed` says again what the types promise, for the proofs of
 //! callers: how many frames there can be, that their markers rise one after the other, and that
-//! they are those of the recording.
+//! they are those of the recording. A recording has at most 2^22 pulses, so 2^31 is a generous
+//! bound. In contracts, `shown_frames` are the frames of a recording, as lines show them.
 
 ghost use Rattle.std.specs.Prelude.{◌≡◌, ◌<◌, ◌^◌, IfOk, IfSome, length, slice_get};
 ghost use Rattle.irig_comments.specs.Counts.{fine_frames, is_fine};
@@ -76,8 +77,8 @@ impl Framed {
         self.index.len()
     }
 
-    /// The frame with this index in their list, from 0, as a line shows it: with its number from 1.
-    /// `None` if there is none.
+    /// The frame that is at `place` in the list of frames, from 0, as a line shows it: its number
+    /// counts from 1, so it is `place` + 1. `None` if there is none.
     pub(crate) fn shown(&self, place: usize) -> Option<Shown>
         ensures value { result ≡ slice_get (shown_frames self.now) place }
         ensures few { IfSome result (λ s. place < 2 ^ 31) }

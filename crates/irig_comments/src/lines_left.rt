@@ -105,7 +105,8 @@ fn first_change(change: &Option<Sides>, stretch: &Option<Pulse>) -> Option<Sides
 }
 
 /// The numbers of the last line; `None` if the recordings are the same, since nothing is written
-/// then: their lengths are, and there is no stretch. `stretch` is the first one, if there is one.
+/// then: their lengths are equal, and there is no stretch. `stretch` is the first stretch, if there
+/// is one.
 fn last_of(before: &Framed, after: &Framed, stretch: &Option<Pulse>) -> Option<Counts>
     ensures { result ≡ last_if before.now after.now stretch.now }
 {

@@ -22,7 +22,8 @@ pub struct Sides {
 
 impl Sides {
     /// Whether only one side has a frame, or both have one and something else is reported of the
-    /// one than of the other. Their numbers do not count.
+    /// one than of the other. Their numbers do not count. `false` if neither side has one, which
+    /// does not come.
     pub(crate) fn differ(&self) -> bool
         ensures { result ≡ differs self.now }
     {
@@ -106,7 +107,8 @@ fn is_same_part(one: Option<u32>, other: Option<u32>) -> bool
     }
 }
 
-/// Whether both have control functions and they are the same, or neither has them.
+/// Whether both have control functions and they are the same, or neither has them. It does what
+/// `is_same_part` does, for a number of 64 bits.
 fn is_same_control(one: Option<u64>, other: Option<u64>) -> bool
     ensures { result ≡ same_part one other }
 {

@@ -1,6 +1,7 @@
 //! The frames of two recordings by their places, one place after the other. The place of a frame is
 //! when its marker rises, in microseconds. Its two sides are the frame before there and the frame
-//! after, as far as they are there.
+//! after, as far as they are there. In contracts, `shown_frames` are the frames of a recording, as
+//! lines show them. `sides_of` puts those of two recordings together, by their places.
 
 ghost use Rattle.std.specs.Prelude.{◌≡◌, [], ◌∷◌, MatchOption, filter, length, ◌<◌, ◌^◌};
 ghost use Rattle.irig_comments.specs.Framed.{shown_frames};

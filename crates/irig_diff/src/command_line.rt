@@ -1,8 +1,9 @@
 //! The command line, read by `clap`. Its matches are what `clap` found in its words. Only memory
-//! can run out for a `Command` or an `Arg`. A `UsageFault` is `Words` if `clap` does not accept the
-//! words, they ask for help, or memory runs out, and `Value` if an option has a value that it
-//! cannot have. In a text of the help, what is after the last colon is the value without the
-//! option. An `Arg` that is `global` would be one of subcommands, too.
+//! can run out for a `Command` or an `Arg`. In a text of the help, what is after the last colon is
+//! the value without the option. An `Arg` that is `global` would be one of subcommands, too. In a
+//! contract, `IsWired`, `IsTaking`, `IsShowing` and `IsCommand` say that a command has just the
+//! arguments that the function of that name gives it; `MayRefuse` says that `clap` may give this
+//! error for the words, `WantsMemory` that memory ran out.
 
 ghost use Rattle.std.specs.Prelude.{◌≡◌, IfErr, IfOk, None, false, map, string_bytes};
 ghost use Rattle.clap.specs.Words.{HasMatchesOf, app_of, found_of, rule_of};
@@ -19,8 +20,9 @@ use clap::{Arg, ArgMatches, Command, Error};
 use irig_words::{UsageFault, flag_arg, matches_of, needed_arg, option_arg, windowed};
 use std::alloc::{AllocError, Global};
 
-/// What the words of a command line ask for, the program's name being the first. An error says why
-/// they ask for nothing.
+/// What the words of a command line ask for, the program's name being the first. The error is
+/// `Words` if `clap` does not accept the words, they ask for help, or memory runs out, and `Value`
+/// if an option has a value that it cannot have.
 pub fn settings<'a>(
     alloc: Global,
     words: &'a [String],

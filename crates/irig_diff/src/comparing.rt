@@ -1,9 +1,10 @@
 //! The tracks of two dumps are compared, as the words of a command line ask. The patch is a script
 //! that makes the track after of the track before: it has no byte if they are the same. It is
-//! printed by a block, in which its parts wait, and which is made before the tracks are read. The
-//! ending says whether the two tracks are the same. A window is the part of both that is read. If
-//! memory runs out, that is reported as a fault of a file, `File`; `Dump` is a fault of the dump in
-//! it.
+//! printed by a block: memory in which its parts wait, and which is taken before the tracks are
+//! read. The ending says whether the two tracks are the same. A window is the part of both that is
+//! read. If memory runs out, that is reported as a fault of a file, `File`; `Dump` is a fault of
+//! the dump in it. In a contract, `held` is what each file holds, if that is known, `unread` for
+//! which faults a file is not read, and `contents` what came to an output.
 
 ghost use Rattle.std.specs.Prelude.{◌≡◌, map, option_map, string_bytes};
 ghost use Rattle.irig_comments.specs.{Framed.framed, Parts.commented_text};
@@ -24,7 +25,8 @@ use std::alloc::Global;
 use std::io::Write;
 
 /// Prints the patch between the tracks of the dumps that the words of a command line name, the
-/// program's name being the first. `Usage` if they ask for help, or for nothing that can be done.
+/// program's name being the first. `Usage` if `settings` finds a mistake in the words, they ask for
+/// help, or memory runs out for them; else the ending is that of `compare_files`.
 pub fn compare_words<'a, D: Disk, W: Write>(
     alloc: Global,
     words: &'a [String],
@@ -41,7 +43,8 @@ pub fn compare_words<'a, D: Disk, W: Write>(
 }
 
 /// Prints the patch between the tracks of the settings. The memory for its block is taken before
-/// they are read. If there is none, the track before is reported as not read (`Unread`).
+/// they are read; if there is none, the track before is reported as not read (`Unread`). Else the
+/// ending is that of `compare_with_block`.
 fn compare_files<'a, D: Disk, W: Write>(
     alloc: Global,
     chosen: &Settings<'a>,
@@ -58,8 +61,9 @@ fn compare_files<'a, D: Disk, W: Write>(
 }
 
 /// Prints the patch between the tracks of the settings, by this block: both are read in the same
-/// window. The track before is read first. `Unread` with the path of the first track that cannot be
-/// read; nothing is printed then.
+/// window, the track before first. `Unread` with the path of the first track that cannot be read;
+/// nothing is printed then. Else the ending is that of `compare_recordings`, which can be `Unread`,
+/// too.
 fn compare_with_block<'a, D: Disk, W: Write>(
     alloc: Global,
     chosen: &Settings<'a>,
@@ -82,8 +86,9 @@ fn compare_with_block<'a, D: Disk, W: Write>(
 }
 
 /// Prints the patch between two recordings, with comments if frames are asked for. `Compared` says
-/// whether the two are the same. `Unprinted` if the output fails, and `Unread` if memory runs out
-/// for the frames.
+/// whether the two are the same. `Unprinted` if the output fails or memory runs out for the block:
+/// a front of the patch may be printed then. `Unread` if memory runs out for the frames: nothing is
+/// printed then. Of the settings it uses the format, and the paths for `Unread`.
 fn compare_recordings<'a, W: Write>(
     alloc: Global,
     chosen: &Settings<'a>,
@@ -103,6 +108,7 @@ fn compare_recordings<'a, W: Write>(
 
 /// Prints the patch between two recordings with comments that show their frames in this format. If
 /// memory runs out for the frames of one of them, that track is reported as not read (`Unread`).
+/// Else the ending is that of `print_frames`.
 fn compare_frames<'a, W: Write>(
     alloc: Global,
     chosen: &Settings<'a>,
@@ -124,9 +130,9 @@ fn compare_frames<'a, W: Write>(
     print_frames(&before, &after, out, block)
 }
 
-/// Prints the patch with comments between two recordings. It has no byte exactly if they are the
-/// same: the ending is `Compared(true)` then, else `Compared(false)`. `Unprinted` if the output
-/// fails.
+/// Prints the patch with comments between two recordings, whose frames have one format. It has no
+/// byte exactly if they are the same: the ending is `Compared(true)` then, else `Compared(false)`.
+/// `Unprinted` if the output fails, or memory runs out for the block.
 fn print_frames<'a, W: Write>(
     before: &Framed,
     after: &Framed,
@@ -144,7 +150,8 @@ fn print_frames<'a, W: Write>(
 }
 
 /// Prints the patch between two recordings. It has no byte exactly if they are the same: the ending
-/// is `Compared(true)` then, else `Compared(false)`. `Unprinted` if the output fails.
+/// is `Compared(true)` then, else `Compared(false)`. `Unprinted` if the output fails, or memory
+/// runs out for the block.
 fn print_patch<'a, W: Write>(
     before: &Recording,
     after: &Recording,

@@ -1,5 +1,10 @@
 //! What differs between two recorded time tracks, as a script that makes the one of the other: the
-//! patch.
+//! patch. The status is the number with which the program ends: 0 if the tracks are the same, 1 if
+//! they differ, and 2 for any fault, as a mistake in the command line, a track that was not read,
+//! or an output that failed. Help that was asked for ends with 0, or with 2 if it cannot be
+//! printed. In a contract, `held` is what each file holds, if that is known, `unread` for which
+//! faults a file is not read, and `contents` what came to an output; `Serves` says that the words
+//! were obeyed, and what the output of help and the status are then.
 #![tactic(auto)]
 
 mod asked;
@@ -26,8 +31,9 @@ use std::process::ExitCode;
 use std::rt::Runtime;
 use std::{env, io};
 
-// Gets the files of the system and the words of the command line; then the tracks are compared. The
-// status is 2 if one of these cannot be had: the tracks were not looked for then.
+// Gets the files of the system and the words of the command line; then the tracks are compared, and
+// the status is that of `start`. It is 2 if one of these cannot be had: the tracks were not looked
+// for then.
 fn main(rt: HostRuntime) -> ExitCode {
     let Ok(files) = system_files(&rt) else {
         return program().tell(&rt, 2, &io::Error::from(io::ErrorKind::OutOfMemory));
@@ -53,9 +59,9 @@ fn arguments<R: Runtime + AllocGlobal>(rt: &R) -> io::Result<Vec<String>> {
     Ok(words)
 }
 
-/// Compares the tracks that the words name, by the files of this system (`disk`) and this output
-/// (`out`), and reports how that ended: the answer is the exit status. `help` is the output for the
-/// help.
+/// Compares the tracks that the words name, by the files of this system (`disk`), prints the patch
+/// on `out`, and reports how that ended: the answer is the exit status, 0, 1 or 2 as the head of
+/// this file says. `help` is the output for the help.
 fn start<P: Eprint + AllocGlobal, C: FileSystem, W: Write, H: Write>(
     rt: &P,
     words: &[String],
@@ -63,8 +69,8 @@ fn start<P: Eprint + AllocGlobal, C: FileSystem, W: Write, H: Write>(
     out: &mut W,
     help: &mut H,
 ) -> ExitCode
-    // The words were obeyed. The output of help has the help that was asked for, and nothing else:
-    // there is no other way to print.
+    // The words were obeyed. The output of help has the help if it was asked for, and else nothing:
+    // `rt` prints on the standard error alone, and the patch goes to `out`.
     ensures { Serves (map string_bytes words.now) (C.held disk.now.system)
         (C.unread disk.now.system) (W.contents out.old) (W.contents out.new)
         (H.contents help.old) (H.contents help.new) (exit_status result) }

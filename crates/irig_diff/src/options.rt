@@ -9,8 +9,8 @@ use crate::chosen::{OptionFault, Settings};
 use irig_codes::Format;
 use irig_words::{format_named, window_named};
 
-/// What the values of a command line ask for; or the first fault: of the window, of the format, or
-/// a format without frames.
+/// What the values of a command line ask for; or the first fault: `Window` if a time of the window
+/// is wrong, `Format` if an option of the format is, or `Alone` if one is given without `--frames`.
 pub fn settings_of<'a>(asked: &Asked<'a>) -> Result<Settings<'a>, OptionFault>
     ensures chosen { IfOk result (IsChosen asked.now) }
     ensures fault { IfErr result (HasFault asked.now) }

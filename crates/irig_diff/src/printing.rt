@@ -1,5 +1,6 @@
 //! A text in parts is printed, block by block: a block is memory for at least 64 KiB, in which
-//! parts wait.
+//! parts wait. In a contract, `T.rest` is the bytes of a text that are still to come, `Appends`
+//! says that these bytes came to an output, `AppendsFront` that a front of them did, maybe none.
 
 ghost use Rattle.std.specs.Prelude.{◌≡◌, ◌≤◌, ◌↔◌, ◌+◌, ◌++◌, ℕ, List, [], false, true, length};
 ghost use Rattle.std.specs.Prelude.{IfOk, OnOk, OnErr};

@@ -2,7 +2,8 @@
 //! the same, 1 that they differ, and 2 any fault. `tell` and `tell_of` print a fault on the
 //! standard error, the latter with a path, and return the status that they get. `explain` prints
 //! the help with status 0, or with 2 what is wrong with the words. The status is 2, too, if the
-//! help cannot be printed.
+//! help cannot be printed. In a contract, `contents` is what came to an output, and `Reports` says
+//! what the output of help and the status are for an ending.
 
 ghost use Rattle.std.specs.Process.{exit_status};
 ghost use Rattle.irig_diff.specs.Statuses.{Reports};

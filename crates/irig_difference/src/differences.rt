@@ -1,5 +1,7 @@
 //! The stretches in which two recordings differ: the times in which one is high and the other low,
-//! in microseconds. An edge is where a recording rises or falls.
+//! in microseconds. An edge is where a recording rises or falls. In contracts, `flips` are the
+//! edges that only one of two lists has, and `patched` are edges after the level is inverted in
+//! each stretch.
 
 ghost use Rattle.std.specs.Prelude.{◌≡◌, ◌≤◌, ◌+◌, ◌↔◌, [], ◌∷◌, ℕ, List, MatchOption, length, max};
 ghost use Rattle.irig_recording.specs.Recording.{RisesFrom, UpTo, level_by_edges};

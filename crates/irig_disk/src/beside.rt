@@ -5,7 +5,10 @@
 //! folder in which all these names are, and `name` the memory for the name that is tried. A hidden
 //! file is its owner's alone. An error (`PutFault`) is `NamesTaken`, the fault of a call
 //! (`Failed`), or that memory ran out (`Memory`). `is_told` says whether the contracts know what
-//! the folders hold: true of folders in memory, false of those of the system.
+//! the folders hold: true of folders in memory, false of those of the system. In a contract,
+//! `IsWriting` says that the new file is there and has these bytes so far, none (`[]`) here;
+//! `IsUnchanged` and `NotBegun` that nothing has changed; `IsPassed` that a name cannot be used,
+//! and `AllTaken` that none can.
 //!
 //! Where `match` hands an error on, `?` would do the same; the proof of it takes longer.
 

@@ -3,7 +3,9 @@
 //! A ghost item is for contracts alone: it is nothing in the program. To keep something is to have
 //! it survive a crash. To sync is to ask the system to keep something. The mode of a file says who
 //! may read and write it. `Err` is the fault of the call. `Elapses` in a contract says that time
-//! goes on: what a crash might have left at an earlier moment stays on record.
+//! goes on: what a crash might have left at an earlier moment stays on record. `Stays` says that
+//! nothing has changed, `MaySpoil` that nothing but this file has, and it may hold anything; each
+//! other word says what the comment of its method says.
 
 ghost use Rattle.std.specs.Prelude.{◌≡◌, ◌≤◌, ◌⊎◌, ℕ, List, Option, OnOk, OnErr, MatchResult, Bool};
 ghost use Rattle.std.specs.Prelude.{IsTrue, MatchOption};

@@ -22,8 +22,8 @@ use std::rt::Files;
 use std::{fs, io};
 
 /// How many bytes a path has room for. A path of the system has at most 4,095 bytes, and so has the
-/// text of a link: a path made of a folder and such a text has no more than twice as many and a
-/// slash.
+/// text of a link: a path made of a folder, a slash and such a text has at most 4,095 + 1 + 4,095,
+/// which is 8,191.
 const PATH: usize = 8192;
 
 /// The names of folders of the system.
@@ -92,8 +92,9 @@ impl<F: Drop> SystemDir<F> {
     }
 }
 
-/// Writes to `path` the path of a name in a folder; that of the folder itself if the name is empty.
-/// It fails only if memory runs out, which is a fault of the system here.
+/// Writes to `path` the path of a name in a folder, or that of the folder itself if the name is
+/// empty; what `path` has before is lost. It fails only if memory runs out, which is a fault of the
+/// system here.
 fn put_path(path: &mut PathBuf, folder: &str, name: &str) -> Result<(), SystemFault> {
     path.clear();
     let Ok(()) = path.push(folder) else {
@@ -214,7 +215,7 @@ impl<R: Files> Folder for SystemFolder<'_, R> {
     }
 
     // Asks the system to keep the names of a folder over a crash. If no folder is open, the fault
-    // is `NotFound`.
+    // is `NotFound`. A file system that cannot sync a folder counts as if it did (`names_synced`).
     fn sync_names(&mut self, dir: &SystemDir<R::File>) -> Result<NamesSynced, SystemFault> {
         let Some(folder) = &dir.file else {
             return Err(SystemFault(io::Error::from(ErrorKind::NotFound)));

@@ -3,11 +3,16 @@
 //! the dump is read, so no write runs out of memory. A read has two faults: the outer one is of the
 //! file, the inner one, `VcdFault`, of the dump in it. `Parts` are the recording of a wire and the
 //! text of the journal, if there is one. A dump with a journal is a saved session. `disk` is the
-//! files by their paths, `chosen` the settings. The screen is the output for answers. In a
-//! contract, `files` is what is known of the disk before and after, `ends` what is known of the
-//! screen, the script and the writes; `IsApart` says that there is no window, or that the path to
-//! write does not lead to the dump; `few` says that a journal has no more bytes than a dump may
-//! have.
+//! files by their paths, `chosen` the settings. The screen is the output for answers.
+//!
+//! In a contract, `files` is what is known of the disk before and after, `ends` what is known of
+//! the screen, the script and the writes. Of a disk, `held` is what each file holds, if that is
+//! known, `unread` for which faults a file is not read, and `is_barred` says which files must not
+//! be written; `is_told` says whether the contracts know the folders: true of folders in memory,
+//! false of the system. `EndsBy`, `Obeys` and `RunsBy` say what was done: for the words, for the
+//! settings, and on the bytes of the dump. `IsApart` says that there is no window, or that the path
+//! to write does not lead to the dump; `few` (`HasBytes`) says that a journal has no more bytes
+//! than a dump may have.
 
 ghost use Rattle.std.specs.Prelude.{◌≡◌, ◌&&◌, ◌≤◌, ◌^◌, ℕ, List, IfErr, IfOk, IfSome, IsTrue, Ok};
 ghost use Rattle.std.specs.Prelude.{false, is_some, length, map, string_bytes, true};
@@ -29,8 +34,8 @@ use std::alloc::Global;
 use std::io::{Read, Write};
 
 /// Runs a script on the dump that the words of a command line name, the program's name being the
-/// first. `Usage` if `settings` finds a mistake in them, if they ask for help, or if memory runs
-/// out for them; else the ending is that of `run_on_track`.
+/// first, and returns how that ended. `Usage` if `settings` finds a mistake in the words, they ask
+/// for help, or memory runs out for them; else the ending is that of `run_on_track`.
 pub fn obey_words<'a, D: Disk, R: Read, W: Write, N: Witness>(
     alloc: Global,
     words: &'a [String],
@@ -52,7 +57,8 @@ pub fn obey_words<'a, D: Disk, R: Read, W: Write, N: Witness>(
 
 /// Runs a script on the dump of the settings. `Over` if what is written of a window would be
 /// written to the dump, and `Unknown` if that cannot be found out: the dump and the script are not
-/// read then. Else the ending is `Unread`, `Saved` or `Ran`, as the functions below say.
+/// read then. Else `Unread` if the file was not read or memory ran out, `Saved` if a window of a
+/// saved session is asked for, and `Ran` for each other end of the run.
 fn run_on_track<'a, D: Disk, R: Read, W: Write, N: Witness>(
     alloc: Global,
     chosen: &Settings<'a>,
@@ -90,8 +96,10 @@ fn is_over<D: Disk>(chosen: &Settings<'_>, disk: &D) -> Result<bool, ShelfFault>
     }
 }
 
-/// Runs a script on the dump of the settings. The memory of its writes is taken before the dump is
-/// read; if there is none, that is reported as a fault of the file, `Unread`.
+/// Runs a script on the dump of the settings, after `is_over` has found that no window would be
+/// written to the dump. The memory of its writes is taken before the dump is read; if there is
+/// none, that is reported as a fault of the file, `Unread`. Else the ending is that of
+/// `run_with_room`.
 fn run_apart<'a, D: Disk, R: Read, W: Write, N: Witness>(
     alloc: Global,
     chosen: &Settings<'a>,
@@ -113,7 +121,8 @@ fn run_apart<'a, D: Disk, R: Read, W: Write, N: Witness>(
 }
 
 /// Runs a script on the dump of the settings. Each write uses the room. `Unread` if the file could
-/// not be read; that the dump is no recording comes later, in `Ran`.
+/// not be read, is too long, or memory ran out for it; else `Saved` or `Ran`, as `run_on_read`
+/// answers. That the dump is no recording is `Ran`, too.
 fn run_with_room<'a, D: Disk, R: Read, W: Write, N: Witness>(
     alloc: Global,
     chosen: &Settings<'a>,
@@ -136,8 +145,10 @@ fn run_with_room<'a, D: Disk, R: Read, W: Write, N: Witness>(
 }
 
 /// Runs a script on what was read of a dump. Each write uses the room. `Saved` if a window of a
-/// saved session was read; else `Ran`, also with a dump that is no recording: its fault is in the
-/// result then.
+/// saved session was read: the script is not read then. Else `Ran`, with whether all lines were
+/// accepted, or with a fault: `Dump` if the dump is no recording, or the fault of
+/// `run_on_recording`. In the contract, `source` is the bytes of the dump: what was read is what
+/// they say (`Gives`).
 fn run_on_read<'a, D: Disk, R: Read, W: Write, N: Witness>(
     alloc: Global,
     chosen: &Settings<'a>,
@@ -172,7 +183,8 @@ fn run_on_read<'a, D: Disk, R: Read, W: Write, N: Witness>(
 }
 
 /// Whether a part of a saved session was read: there is a window, and the dump has a journal. Such
-/// a session opens only as a whole.
+/// a session opens only as a whole, since a step of its journal can reach over an end of the
+/// window.
 fn is_of_session(window: Option<Window>, journal: &Option<Vec<u8>>) -> bool
     ensures { result ≡ (is_some window && is_some journal.now) }
 {
@@ -180,7 +192,9 @@ fn is_of_session(window: Option<Window>, journal: &Option<Vec<u8>>) -> bool
 }
 
 /// Runs a script on a recording and the text of its journal, by the format and the path for writes
-/// of the settings. Each write uses the room. `Dump` if no session can be made of them.
+/// of the settings: the shelf is where the writes go, here to that path. Each write uses the room.
+/// `Ok` says whether all lines were accepted. `Dump` if no session can be made of the recording and
+/// the journal, also because memory ran out, `Run` if the run was broken off.
 fn run_on_recording<D: Disk, R: Read, W: Write, N: Witness>(
     alloc: Global,
     chosen: &Settings<'_>,
@@ -203,7 +217,8 @@ fn run_on_recording<D: Disk, R: Read, W: Write, N: Witness>(
         (ends screen.old (writes_on D.is_told (D.disk disk.old)) (R.remaining script.old))
         (ends screen.new (writes_on D.is_told (D.disk disk.new)) (R.remaining script.new)) result }
 {
-    // Called for its law alone: a dump that is written of a recording says the recording.
+    // Does nothing. It is called for its contract: a dump that is written of a recording says the
+    // recording. `RunsBy` says of a window that the script ran on such a dump.
     read_back_parts(&recording);
     let mut shelf = FileShelf::new(disk, chosen.out, room);
     run_on_parts(

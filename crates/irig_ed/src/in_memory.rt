@@ -1,5 +1,8 @@
 //! The program over folders in memory, where the standard output is one of the files. These folders
-//! give their whole state, so what is promised of a run holds of them without a condition.
+//! give their whole state, so what is promised of a run holds of them without a condition. In the
+//! contract, `calls` are the calls that changed the folders so far: what they hold follows from
+//! these. `files` and `ends` are what is known of the disk, and of the screen, the script and the
+//! writes.
 
 ghost use Rattle.std.specs.Prelude.{◌≡◌, Some, map, string_bytes, true, None};
 ghost use Rattle.std.specs.Process.{exit_status};
@@ -16,8 +19,8 @@ use irig_script::{NoWitness, Screen};
 use std::alloc::Global;
 use std::process::ExitCode;
 
-/// Edits the track that the words name, in folders in memory, and returns the exit status. It calls
-/// `start` alone; its contract says what that promises of these folders.
+/// Edits the track that the words name, in folders in memory, and returns the exit status. It only
+/// calls `start`. Its contract is that of `start`, with the state of these folders written out.
 fn start_in_memory<P: Eprint + AllocGlobal>(
     rt: &P,
     words: &[String],
@@ -62,7 +65,7 @@ static ROWS: [Row; 9] = [
     // A new file first, and then a file that is there: 5 and 6 calls.
     ("t", "w", 0, b"163\n163\n", 11),
     ("t", "t", 0, b"163\n163\n", 12),
-    // A link to it stays, and a file that must not be written does, too.
+    // A link to the track stays a link; and a file that must not be written stays as it is.
     ("t", "way", 0, b"163\n163\n", 12),
     ("t", "locked", 1, b"? S3 WriteFailed\n? S3 WriteFailed\n", 0),
     // In place: no file is made or renamed.
@@ -84,8 +87,9 @@ static WINDOW_ROWS: [Row; 4] = [
 ];
 
 /// A folder with the dump (`t`), a link to the dump (`way`), a file that must not be written
-/// (`locked`), the standard output (`out`), a link to the output (`link`), and a pipe. A path may
-/// follow 40 links. It fails only if memory runs out.
+/// (`locked`), the standard output (`out`), a link to the output (`link`), and a pipe. The path of
+/// the folder is `.`, and its places begin with `/`. A path may follow 40 links. It fails only if
+/// memory runs out.
 fn folder(alloc: Global) -> Result<Tree, MemoryFault> {
     let mut tree = Tree::new(alloc, 40);
     tree.add_path(".", "/")?;
@@ -98,8 +102,9 @@ fn folder(alloc: Global) -> Result<Tree, MemoryFault> {
     Ok(tree)
 }
 
-/// The words of a row: the program's name, `--from 0` for a window, `--out` with its path, and the
-/// track; `None` if memory runs out.
+/// The words of a row: the program's name, `--from 0` if a window is asked for, `--out` with its
+/// path, and the track; `None` if memory runs out. The places 1 and 2 are those of `--from 0`,
+/// which are left out without a window.
 fn words(alloc: Global, window: bool, track: &str, out: &str) -> Option<Vec<String>> {
     let mut words = Vec::new(alloc);
     let all = ["irig_ed", "--from", "0", "--out", out, track];
@@ -113,7 +118,8 @@ fn words(alloc: Global, window: bool, track: &str, out: &str) -> Option<Vec<Stri
 }
 
 /// Whether the run of a row ends, prints and writes as the row says, and prints no help. Its script
-/// is `write`, twice. It is false, too, if memory runs out for the words.
+/// is `write`, twice. The row counts the calls of the run alone, not those that made the folder
+/// before. It is false, too, if memory runs out for the words.
 fn is_run<R: Eprint + AllocGlobal>(rt: &R, tree: Tree, window: bool, row: Row) -> bool {
     let (track, out, status, printed, calls) = row;
     let alloc = rt.alloc();

@@ -3,7 +3,8 @@
 //! and 4 that the run was broken off, or that the system does not say where a path leads. `tell`
 //! and `tell_of` print a fault on the standard error, the latter with a path, and return the status
 //! that they get. `explain` prints the help with status 0, or with 2 what is wrong with the words;
-//! the status is 4 if the help cannot be printed.
+//! the status is 4 if the help cannot be printed. In a contract, `contents` is what came to an
+//! output, and `Reports` says what the output of help and the status are for an ending.
 
 ghost use Rattle.std.specs.Prelude.{◌≡◌};
 ghost use Rattle.std.specs.Process.{exit_status};
@@ -32,7 +33,7 @@ pub fn report<R: Eprint, H: Write>(rt: &R, ending: &Ending<'_>, help: &mut H) ->
 }
 
 /// What the program says of a track that it did not read, after the path. Out of memory has the
-/// number that it has as a fault of a dump.
+/// number `V14`, which it has as a fault of a dump, too.
 fn unread_text<'a>(fault: DumpFileFault) -> &'a str
     ensures { result.now ≡ unread_text fault }
 {

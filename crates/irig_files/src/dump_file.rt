@@ -74,8 +74,8 @@ fn shows_more(described: &Metadata) -> bool
     described.is_file() && described.len() > DUMP_LIMIT as u64
 }
 
-/// What an error of a read means. `Ok(true)`: the read was interrupted, and the next one can give
-/// more. Any other error is the fault.
+/// What an error of a read means. `Ok(true)`, the answer of `take_part`: the read was interrupted,
+/// and the next can give more. Any other error is the fault.
 fn after_error(error: io::Error) -> Result<bool, DumpFileFault>
     ensures more { IfOk result (λ is_more. is_more ≡ true) }
     ensures interrupted { IsOk result ↔ (error_kind error ≡ ErrorKind.Interrupted) }
@@ -87,9 +87,9 @@ fn after_error(error: io::Error) -> Result<bool, DumpFileFault>
     }
 }
 
-/// Takes in the next bytes that a reader gives; `part` is the memory for them. Returns `true` if
-/// the reader may have more, also after an interruption. `false`: it gave no byte, as it is at its
-/// end, or as no more bytes are wanted and it was asked for none.
+/// Takes in the next bytes that a reader gives; `part` is the memory for them. `true` if it may
+/// have more, also after an interruption; `false` if it gave no byte: it is at its end, or no more
+/// bytes are wanted and it was asked for none. `Err` if the read fails or memory runs out.
 fn take_part<R: Read>(
     dump: &mut Intake,
     reader: &mut R,
@@ -116,9 +116,9 @@ fn take_part<R: Read>(
     }
 }
 
-/// Takes in all that a reader has left, part by part, but no more than the intake wants: one byte
-/// more than the longest dump has, which shows that a dump is too long. The loop has a bound so
-/// that it is sure to end.
+/// Takes in all that a reader has left, part by part, up to one byte more than the longest dump
+/// has: if that byte comes, `end` of the intake reports `TooLong`. `Err` if a read fails or memory
+/// runs out. The loop has a bound so that it is sure to end.
 fn take_all<R: Read>(
     dump: &mut Intake,
     reader: &mut R,
@@ -144,8 +144,8 @@ fn take_all<R: Read>(
     Err(DumpFileFault::CannotBeRead)
 }
 
-/// Reads all of a dump, of at most 2^22 pulses. If it is `TooLong`, 2^28 + 1 bytes of it are read.
-/// `shorter` gives what is read the type that holds no more pulses.
+/// Reads all of a dump (`None`: no window). More than 2^22 pulses are a fault of the dump, and more
+/// than 2^28 bytes `TooLong`: 2^28 + 1 are read then. `shorter` makes `Parts` of what is read.
 pub fn read_whole<R: Read + Drop>(
     alloc: Global,
     mut reader: R,

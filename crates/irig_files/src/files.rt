@@ -89,8 +89,10 @@ impl<C: FileSystem> Disk for Files<C> {
 
     // Writes a text to the file that a path leads to: a regular one, or none yet, is replaced
     // whole; what is no regular file, or is what the program's answers go to, is written in place.
-    // A file that must not be written is a fault. `room` is the memory of the write. `Written` says
-    // how the text was written; a `ShelfFault` says only that the write failed.
+    // A file that must not be written is a fault, and nothing changes. After any other fault a
+    // regular file has its old text, or the new one if only the last sync failed; what is written
+    // in place may have a front of the text. `room` is the memory of the write. `Written` says how
+    // the text was written; a `ShelfFault` says only that the write failed.
     fn put<T: Text>(
         &mut self,
         path: &str,

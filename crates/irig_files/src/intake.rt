@@ -2,7 +2,9 @@
 //! `Extent` says how much of it is kept: a window, which is a part of the time of the dump, or all;
 //! at most 2^22 pulses, or 2^26 of a long recording. Reading has two faults: the outer one,
 //! `DumpFileFault`, is that memory runs out or the dump is too long, the inner one, `VcdFault`,
-//! that the dump is wrong.
+//! that the dump is wrong. In contracts, `HasTaken` says which bytes of a dump are taken so far,
+//! `Takes` which more are, and `HasBytes n` that the text of the journal, if there is one, has at
+//! most n bytes.
 
 ghost use Rattle.std.specs.Prelude.{◌≡◌, ◌≢◌, ◌≤◌, ◌<◌, ◌⊎◌, [], ℕ, List, Option, None, Ok, Err};
 ghost use Rattle.std.specs.Prelude.{◌^◌, IfOk, IfErr, IsOk, IsErrOf, OnOk, OnErr, length, min};

@@ -14,7 +14,8 @@ use std::path::PathBuf;
 const TURNS: u32 = 41;
 
 /// Follows the chain of symbolic links from a path, and leaves in `target` the path where it ends:
-/// the path itself, if no link is there. More than 40 links are a fault.
+/// the path itself, if no link is there. `Err` if there are more than 40 links, a call fails, or
+/// memory runs out.
 pub fn follow_links<C: FileSystem>(
     system: &C,
     path: &str,
@@ -39,6 +40,7 @@ pub fn follow_links<C: FileSystem>(
 
 /// Follows one link: if a symbolic link is at the target, the target becomes the path that it leads
 /// to, and the answer is `true`. `false`: there is no link, or nothing, so the target is the end.
+/// `Err` if the system does not say what is there, or memory runs out.
 fn follow_link<C: FileSystem>(system: &C, target: &mut PathBuf) -> Result<bool, ShelfFault>
     ensures end { IsTrue C.is_told → IfOk result (λ is_link. is_link ≡ false
         → (C.link_at system.now (path_buf_bytes target.old) ≡ None)

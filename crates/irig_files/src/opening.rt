@@ -8,9 +8,9 @@ use irig_disk::{SystemDir, SystemFolder};
 use std::alloc::AllocError;
 use std::rt::Files as FileRuntime;
 
-/// The files of the system that a runtime (`rt`) gives. The memory for the paths that a write hands
-/// to the system, of two names and of the folder that it opens, is taken here, so that a write
-/// later asks for none. It fails only if memory runs out.
+/// The files of the system that a runtime (`rt`) gives. A write hands paths to the system: those of
+/// two names, and that of the folder that it opens. The memory for them is taken here, so that a
+/// write later asks for none. It fails only if memory runs out.
 pub fn system_files<R: FileRuntime + Print + AllocGlobal>(
     rt: &R,
 ) -> Result<Files<SystemFolder<'_, R>>, AllocError>

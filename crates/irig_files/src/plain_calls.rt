@@ -31,7 +31,8 @@ pub trait PlainCalls: Folder {
     ghost may_write: { Self → ℕ → Type 0 };
 
     /// Opens what the program's answers (its standard output) go to. `path` leads there; it is only
-    /// for the contract, and does not choose what is opened.
+    /// for the contract, and does not choose what is opened. A program has its standard output from
+    /// its start, so this cannot fail.
     fn open_output(&self, path: &str) -> Self::Output
         requires { IsTrue Self.is_told → (Self.disk self.now).paths path.now ≡ None };
 

@@ -145,7 +145,8 @@ fn whole(outcome: Result<Kept, ShelfFault>) -> Result<Written, ShelfFault>
 /// Puts into `stem` what the names of new files begin with; a number of at most four digits comes
 /// after it. A dot hides them, and `.irig_ed-new-` shows whose they are. The target's `name` is
 /// left out if it has more than 200 bytes, so that room is left for the rest: with 200 bytes the
-/// new name has at most 1 + 200 + 13 + 4. It fails only if memory runs out.
+/// new name has at most 1 (the dot) + 200 + 13 (`.irig_ed-new-`) + 4 (the number), which is 218. It
+/// fails only if memory runs out.
 fn put_stem(name: &str, stem: &mut String) -> Result<(), ShelfFault> {
     // a folder takes no name of more than 255 bytes
     let kept = if name.len() <= 200 { name } else { "" };

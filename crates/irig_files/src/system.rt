@@ -58,7 +58,7 @@ impl<'a, R: Files + Print + AllocGlobal> PlainCalls for SystemFolder<'a, R> {
     }
 
     // Opens what is at the path as if to write to it, which shows whether it may be written.
-    // Nothing is written.
+    // Nothing is written. It is a fault if it must not be written, or nothing is there.
     fn open_seen(&self, path: &str) -> Result<SystemSeen<R::File>, SystemFault> {
         match as_it_is().open(self.runtime(), path) {
             Ok(file) => Ok(SystemSeen(file)),
@@ -168,7 +168,8 @@ fn found(said: io::Result<Metadata>) -> Result<Option<Described>, SystemFault>
 }
 
 /// The answer of `output`, by what the system says of the standard output: the numbers that no
-/// other file has; `None` only if it says that nothing is there. Any other error is handed on.
+/// other file has; `None` only if it says that nothing is there. Any other error is handed on. It
+/// is a function of its own for its contract, as `found` is.
 fn numbers(said: io::Result<Metadata>) -> Result<Option<(u64, u64)>, SystemFault>
     ensures some { OnOk said (IfOk result (λ id. id ≢ None)) }
     ensures none { IfErr said (λ error. IsOk result

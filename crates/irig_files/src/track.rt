@@ -30,8 +30,9 @@ pub enum TrackFault {
 }
 
 /// The track of a wire in the dump at a path, or in a window of it if there is one, as a recording
-/// of up to 2^22 pulses. `wire` is its name; if none is given, the dump has to have one wire of one
-/// bit. An error is `File` if the file was not read, and `Dump` if the dump in it is wrong.
+/// of up to 2^22 pulses. The dump may have 2^28 bytes, or 2^47 if a window of it is read. `wire` is
+/// its name; if none is given, the dump has to have one wire of one bit. An error is `File` if the
+/// file was not read, and `Dump` if the dump in it is wrong.
 pub fn read_track<D: Disk>(
     alloc: Global,
     disk: &D,

@@ -11,10 +11,10 @@ use irig_disk::{Folder, Kept, put_text};
 use irig_text::{ShelfFault, Text};
 
 /// Writes a text to the name `target` in the open folder `dir`, by a new file with this mode
-/// (`None`: the usual one). Until the new file takes the target's name, its own is `stem` and a
-/// number; `name` is the memory for that name, and `block` that for the parts of the text. `Kept`
-/// has the count of the bytes. `Err` if memory runs out, a call fails, no name is free, or the text
-/// has more than 2^64 - 1 bytes.
+/// (`None`: the usual one). `folder` makes the calls of the system. Until the new file takes the
+/// target's name, its own is `stem` and a number; `name` is the memory for that name, and `block`
+/// that for the parts of the text. `Kept` has the count of the bytes. `Err` if memory runs out, a
+/// call fails, no name is free, or the text has more than 2^64 - 1 bytes.
 pub fn write_whole<F: Folder, T: Text>(
     folder: &mut F,
     dir: &F::Dir,

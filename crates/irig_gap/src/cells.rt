@@ -1,6 +1,7 @@
 //! One block of memory as a row of places, each empty or holding an item; they count from 0. Every
 //! pointer of this crate is here; contracts say which places are full, and what is read has to be.
-//! A deed is the right to give a block back.
+//! A deed is the right to give a block back. In contracts, `slots` are the items in the places,
+//! `None` for an empty one, and `IsRun` says that a number of places from one on are full.
 //!
 //! Where `match` hands an error on, `?` would do the same; the proof of it takes longer.
 

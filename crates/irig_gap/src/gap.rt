@@ -6,7 +6,8 @@
 //! *The place* of the list is where items come and go; *places* of the block hold one item each.
 //! `capacity` is how many of these the block has. The deed is the right to give the block back;
 //! there is none if the places take no memory. `Cells` are the places of the block, and `nowhere`
-//! gives places that take no memory.
+//! gives places that take no memory. In contracts, `gap_view` is a buffer with some items, its
+//! place and its capacity.
 
 ghost use Rattle.std.specs.Prelude.{◌≡◌, ◌+◌, ◌-◌, ◌^◌, ◌<◌, ◌≤◌, ◌⊎◌, true, false, length, []};
 ghost use Rattle.std.specs.Prelude.{slice_get, slice_set, insert, remove, Some};

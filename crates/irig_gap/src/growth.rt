@@ -3,7 +3,7 @@
 //! *The place* of a gap buffer is where items come and go; *places* of its block hold one item
 //! each, and the capacity is how many of these there are. Those left of `gap` hold the items left
 //! of the place, those from `after` on the others. An error is that memory ran out; then nothing
-//! has changed.
+//! has changed. In contracts, `gap_view` is a buffer with some items, its place and its capacity.
 //!
 //! Where `let .. else` hands an error on, `?` would do the same; the proof of it takes longer.
 
@@ -20,8 +20,9 @@ use std::mem;
 impl<T: Copy> Gap<T> {
     /// Makes room for `more` further items; nothing is done if there is room already.
     ///
-    /// The capacity grows by half at least, so that many small growths take time in proportion to
-    /// the items. A count that is too large for any memory is the same error.
+    /// Else the capacity grows by half at least (to 2^64 - 1 at most), so that many small growths
+    /// take time in proportion to the items. If there is no memory for that it is an error, even if
+    /// there is some for `more`. A count of items above 2^64 - 1 is the same error.
     pub fn reserve(&mut self, more: usize) -> Result<(), AllocError>
         ensures stays { (self.new.items ≡ self.old.items) × (self.new.place ≡ self.old.place) }
         ensures room { OnOk result (length self.old.items + more ≤ self.new.capacity) }

@@ -2,7 +2,8 @@
 //!
 //! *The place* of the list is where items come and go; *places* of its block hold one item each.
 //! Those left of `gap` hold the items left of the place, those from `after` on the others; between
-//! them is the gap. To move the place, items are copied over the gap.
+//! them is the gap. To move the place, items are copied over the gap. In contracts, `gap_view` is a
+//! buffer with some items, its place and its capacity.
 
 ghost use Rattle.std.specs.Prelude.{◌≡◌, ◌+◌, ◌-◌, ◌<◌, ◌≤◌, length};
 ghost use Rattle.irig_gap.specs.Items.{gap_view};

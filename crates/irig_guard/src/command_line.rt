@@ -144,7 +144,8 @@ fn taking<'a>(alloc: Global) -> Result<Command<'a>, AllocError>
     windowed(alloc, wired)
 }
 
-/// The option `--with` for other recordings of the same code, which can come more than once.
+/// The option `--with` for other recordings of the same code, which can come more than once. In the
+/// contract this option is named `beside`; it is not `global`, so no subcommand would take it over.
 fn with_arg<'a>(alloc: Global) -> Arg<'a>
     ensures rule { rule_of result ≡ beside }
     ensures local { result.global ≡ false }

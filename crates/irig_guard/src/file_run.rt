@@ -1,9 +1,11 @@
-//! A script run under guard on the file of a dump, as the words of a command line ask. Under guard
-//! each repair is tried, and undone if it would make a frame wrong. The room is the memory of
-//! writes, taken before a dump is read. The outer fault of a read is of the file, the inner one,
-//! `VcdFault`, of the dump in it. `Parts` are the recording of a wire and the text of the journal,
-//! if there is one. A `ShelfFault`: it cannot be found out where a path leads. In contracts `files`
-//! is what the disk holds before and after, and `ends` what is printed, written and left to read.
+//! A script run under guard on the file of a dump: each repair is tried, and undone if it would
+//! make a frame wrong. Each write uses the room, memory that is taken before the dump is read. A
+//! read has two faults: the outer one of the file, the inner one of the dump in it. `Parts` are a
+//! recording and the text of its journal, if it has one. In contracts `files` is what the disk
+//! holds, `ends` what is printed, written and left to read. `is_told`: the disk knows where paths
+//! lead. `source` is the dump's bytes, and `read` what they say (`Gives`). `HasBytes`: the journal
+//! is no longer than a dump may be. `IsApart`, `AreOthersApart`: the path to write leads to no dump
+//! that is read. `AreSpared`: a crash at any moment leaves these as they were.
 
 ghost use Rattle.std.specs.Prelude.{◌≡◌, ℕ, [], IfOk, IfSome, IsTrue, List, false, is_some, map};
 ghost use Rattle.std.specs.Prelude.{string_bytes, true};
@@ -31,7 +33,7 @@ use std::alloc::Global;
 use std::io::{Read, Write};
 
 /// Runs a script under guard on the dump that the words of a command line name, the program's name
-/// being the first. `Usage` if they are not valid, or ask for help.
+/// being the first. `Usage` if they are not valid, or ask for help; else as `run_on_track`.
 pub fn obey_words<'a, D: Disk, R: Read, W: Write>(
     alloc: Global,
     words: &'a [String],
@@ -51,8 +53,8 @@ pub fn obey_words<'a, D: Disk, R: Read, W: Write>(
     }
 }
 
-/// Runs a script under guard on the dump of the settings. The memory of its writes is taken before
-/// the dump is read; if there is none, that is reported as a fault of the file, `Unread`.
+/// Runs a script under guard on the dump of the settings. `Unread`, as a fault of the file, if
+/// memory runs out for the room; else as `run_with_room`.
 fn run_on_track<'a, D: Disk, R: Read, W: Write>(
     alloc: Global,
     chosen: &Settings<'a>,
@@ -73,8 +75,8 @@ fn run_on_track<'a, D: Disk, R: Read, W: Write>(
     run_with_room(alloc, chosen, &mut room, disk, script, out)
 }
 
-/// Runs a script under guard on the dump of the settings. Each write uses the room. `Unread` if the
-/// file could not be read; that the dump is no recording comes later, in `Ran`.
+/// Reads the dump of the settings, and runs a script under guard on it. `Unread` if the file cannot
+/// be read. Else as `run_apart`, also if the dump in the file is no recording.
 fn run_with_room<'a, D: Disk, R: Read, W: Write>(
     alloc: Global,
     chosen: &Settings<'a>,
@@ -96,8 +98,9 @@ fn run_with_room<'a, D: Disk, R: Read, W: Write>(
     }
 }
 
-/// Runs a script under guard on what was read of a dump. Each write uses the room. `Over` if the
-/// path to write leads to the dump, `Unknown` if that cannot be found out.
+/// Runs a script under guard on what was read of a dump. `Over` if the path to write leads to the
+/// dump, `Unknown` if that cannot be found out. Else as `run_beside`: usually `Ran`, which also has
+/// the fault if `read` is an `Err`.
 fn run_apart<'a, D: Disk, R: Read, W: Write>(
     alloc: Global,
     chosen: &Settings<'a>,
@@ -125,9 +128,9 @@ fn run_apart<'a, D: Disk, R: Read, W: Write>(
     }
 }
 
-/// Runs a script under guard on what was read of a dump, by what other recordings say. Each write
-/// uses the room. `OverOther` if the path to write leads to one of these, `Unknown` if that cannot
-/// be found out, `Unheard` if one of these cannot be used.
+/// Runs a script under guard on what was read of a dump and by other recordings: `Ran`, with the
+/// fault `Dump` if `read` is an `Err`. Before that `OverOther` if the path to write leads to
+/// another recording, `Unknown` if that cannot be found out, `Unheard` if one cannot be used.
 fn run_beside<'a, D: Disk, R: Read, W: Write>(
     alloc: Global,
     chosen: &Settings<'a>,
@@ -177,9 +180,9 @@ fn is_over<D: Disk>(chosen: &Settings<'_>, disk: &D) -> Result<bool, ShelfFault>
     }
 }
 
-/// Runs a script under guard on what was read of a dump, by the format and the path of the
-/// settings, and by the frames of other recordings. Each write uses the room. `Dump` if the dump is
-/// no recording; any other fault is of the run itself.
+/// Runs a script under guard on what was read of a dump, by the frames of other recordings. In a
+/// window the journal is left out (`heeded`). `Dump` if `read` is an `Err`, or it cannot be opened
+/// as a session; any other fault is of the run itself.
 fn run_on_read<D: Disk, R: Read, W: Write>(
     alloc: Global,
     chosen: &Settings<'_>,
@@ -226,15 +229,14 @@ fn run_on_read<D: Disk, R: Read, W: Write>(
     )
 }
 
-/// The path at which the product is written. If nothing is written it is that of the dump, since
-/// the shelf needs a path.
+/// The path to write; without one that of the dump, since the shelf needs a path.
 fn place_of<'a>(chosen: &Settings<'a>) -> &'a str
     ensures { result.now ≡ place_of chosen.now }
 {
     chosen.out.unwrap_or(chosen.track)
 }
 
-/// What is written in the end: nothing without `--out`; the journal, too, if `--save` is given.
+/// What is written: nothing without `--out`, else the track; with `--save` its journal, too.
 fn product_of(chosen: &Settings<'_>) -> Product
     ensures { result ≡ product_of chosen.now }
 {

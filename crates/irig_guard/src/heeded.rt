@@ -9,8 +9,8 @@ ghost use Rattle.irig_guard.specs.Windows.{heeded};
 use irig_vcd::Window;
 
 /// The text of the journal that a session is opened with: that of the dump, but in a window none,
-/// since the steps of a journal are those of the whole recording. A dump that is read whole has at
-/// most 2^28 bytes, and so has its journal.
+/// since the steps of a journal are those of the whole recording. `most_bytes` is how many bytes
+/// the dump, and so its journal, may have: 2^28 if it is read whole, and more in a window.
 pub fn heeded(window: Option<Window>, journal: Option<Vec<u8>>) -> Option<Vec<u8>>
     requires { IfSome journal (λ text. length text.items ≤ most_bytes window) }
     ensures heeded { bytes_of result ≡ heeded window (bytes_of journal) }

@@ -29,8 +29,9 @@ use std::process::ExitCode;
 use std::rt::Runtime;
 use std::{env, io};
 
-// Gets the files of the system and the words of the command line; then the script on the input is
-// run. The status is 2 if one of these cannot be had: the track was not looked for then.
+// Gets the files of the system and the words of the command line, and runs the script on the input
+// (`start`, which also gives the status). The status is 2 if memory runs out for the files, or the
+// words cannot be had: the track is not looked for then.
 fn main(rt: HostRuntime) -> ExitCode {
     let Ok(mut files) = system_files(&rt) else {
         return program().tell(&rt, 2, &io::Error::from(io::ErrorKind::OutOfMemory));
@@ -70,8 +71,9 @@ fn start<P: Eprint + AllocGlobal, C: FileSystem, R: Read, W: Write, H: Write>(
 ) -> ExitCode
     // The words were obeyed. What was written is kept through a crash at any moment, and so is the
     // track, which is never written, for each system whose single calls do what their contracts
-    // say. The output of help has the help that was asked for, and nothing else: there is no other
-    // way to print.
+    // say. (`files` is what files hold, why they are not read, and where paths lead, before and
+    // after; `ends` what is printed, written and left to read.) The output of help has the help
+    // that was asked for, and nothing else: there is no other way to print.
     ensures { Serves (map string_bytes words.now)
         (files (C.held disk.old.system) (C.unread disk.old.system) C.is_told
         (IsLocked (C.may_write disk.old.system)) (IsLocked (C.may_write disk.new.system))

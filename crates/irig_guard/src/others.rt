@@ -2,8 +2,11 @@
 //! frame next to it agrees with it, so that damage did not make it alone: the two are near enough
 //! for their distance to say how many frame periods it is, and their times are as many apart. A
 //! dump that is read has two faults: the outer one is of its file, the inner one of the dump in it.
-//! In contracts `held` is what a file holds, `unread` why it is not read, and `D.is_told` whether
-//! the contracts know where paths lead: true of folders in memory, false of the system.
+//! In contracts `IsOther` is a path of the settings (`--with`), `Shows` and `Adds` say that `shown`
+//! grew by just the frames of a recording that say something, `HasFewBytes` that its journal has at
+//! most 2^28 bytes, as a dump, `held` is what a file holds, `unread` why it is not read, and
+//! `D.is_told` whether the contracts know where paths lead: true of folders in memory, false of the
+//! system.
 
 ghost use Rattle.std.specs.Prelude.{◌≡◌, ◌<◌, ◌^◌, ℕ, List, None, [], IfErr, IfOk, IfSome, IsTrue, OnOk};
 ghost use Rattle.std.specs.Prelude.{false, is_some, true};
@@ -26,7 +29,7 @@ use irig_vcd::VcdFault;
 use std::alloc::Global;
 
 /// The path of the first other recording to which the path to write leads; `None` if it leads to
-/// none, or there is no path to write. `Err` if that cannot be found out of one of them.
+/// none, or there is no path to write. `Err` if that cannot be found out of one before such a path.
 pub fn over_other<'a, D: Disk>(
     chosen: &Settings<'a>,
     disk: &D,
@@ -99,8 +102,8 @@ fn add_frames_of<D: Disk>(
 }
 
 /// Adds to `shown` the frames of a recording that say something of the track, by what was read of
-/// its dump. `Dump` if the dump has a fault or is not opened. If memory runs out after it was
-/// opened, that is a fault of its file: `add_frames` has no other fault but those of the dump.
+/// its dump. `Dump` if the dump has a fault or is not opened. After it was opened, memory can run
+/// out: that is `File`, with `OutOfMemory`. `add_frames` has no other fault.
 fn add_read(
     alloc: Global,
     read: Result<Parts, VcdFault>,

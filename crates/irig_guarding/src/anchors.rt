@@ -4,7 +4,8 @@
 //! pulse, or a marker, as seen from an element: how many elements away (`steps`), and when it
 //! rises, in microseconds. Markers and elements count from 0. `near` is the frames of the recording
 //! next to a frame, two on each side, and `place` the pulse of the recording that is looked at
-//! first: no answer depends on it. On a line all elements take equally long, nearly.
+//! first: no answer depends on it. `last` and `next` are the elements of the nearest anchors of a
+//! frame before an element and from it on. On a line all elements take equally long, nearly.
 
 ghost use Rattle.std.specs.Prelude.{◌≡◌, ◌↔◌, ◌-◌, ◌≤◌, ◌<◌, ◌^◌, IfSome, IsTrue, Some};
 ghost use Rattle.irig_safety.specs.Anchors.{anchors_among, held_after, held_before, is_anchored};
@@ -46,8 +47,7 @@ fn ends_of(session: &Session, near: &Witnesses, frame: &Seen) -> Ends
     }
 }
 
-/// Whether each pulse of a frame is an anchor, or held on a line (`is_held`). `last` is the element
-/// of the nearest anchor before an element, and `next` that of the nearest from it on.
+/// Whether each pulse of a frame is an anchor, or held on a line (`is_held`).
 pub fn are_placed(session: &Session, opened: &Original, near: &Witnesses, frame: &Seen) -> bool
     ensures { IsTrue result ↔ Stands opened.now session.now.state near.now frame.now }
 {
@@ -129,8 +129,8 @@ fn next_anchor(
     None
 }
 
-/// Whether an element is on the line between what holds it on both sides (`held_before`,
-/// `held_after`), or if one side alone does, as far from there as it should be. False if none does.
+/// Whether the pulse of an element is on the line between the two that hold it (`held_before`,
+/// `held_after`), or if one alone does, as far from it as it should be. False if none does.
 fn is_held(
     session: &Session,
     near: &Witnesses,

@@ -125,8 +125,9 @@ fn is_nothing(command: &Command) -> bool
     matches!(command, Command::Nothing)
 }
 
-/// Whether the lines are exactly one line, which is a comment or blank: such a line is no repair,
-/// and is printed as it is. False for no line, and for two or more, whatever they are.
+/// Whether lines that are tried together are no repair: exactly one line, which is a comment or
+/// blank. It is printed as it is. A script is cut so that two or more lines are always a group,
+/// from its `begin` on: false for these, whatever they are, and for no line.
 pub fn are_remarks(lines: &[Line]) -> bool
     ensures { IsTrue result ↔ IsIdle (texts lines.now) }
 {

@@ -7,7 +7,8 @@
 //! pulse is what its width means, if it means anything. A former frame is passed if the frames that
 //! were looked at have one that begins when it does. The faults: `Lost` if none does, `Unrecorded`
 //! of a frame with a function that is not borne out. `near_in` gives the two frames of a list
-//! before a place, and the two from another place on.
+//! before a place, and the two from another place on. `with_frames` in a clause is what is known of
+//! the recording, with `old` as its frames.
 
 ghost use Rattle.std.specs.Prelude.{◌≡◌, ◌↔◌, ◌⊎◌, ◌+◌, ◌<◌, ◌≤◌, ◌∷◌, List, IsTrue, None, Option};
 ghost use Rattle.std.specs.Prelude.{Some};
@@ -64,7 +65,8 @@ pub fn check_controls(
 /// begins earlier, no frame begins when it does: it is `Lost`. If both begin at the same time, one
 /// more is passed: without a look at the functions if the fields are the same, else the functions
 /// are judged by the former frames on both sides of that one. In the clauses `rest` is any frames
-/// after it, and `found` their fault, if they have one.
+/// after it, and `found` their fault, if they have one, from a place of the former on
+/// (`ControlsAt`).
 fn pass(
     session: &Session,
     opened: &Original,
@@ -203,7 +205,8 @@ fn is_recorded_or_lost(format: Format, opened: &Original, pulse: Pulse) -> bool
 }
 
 /// The pulse of an element of the frame of a marker, both from 0; `None` if the session has no such
-/// pulse. The pulses of a session count from 1, so 1 is added.
+/// pulse. The pulses of a session count from 1, so 1 is added. The test itself adds nothing, as the
+/// sum could be too large.
 pub fn pulse_at(session: &Session, marker: usize, element: usize) -> Option<Pulse>
     ensures { result ≡ slice_get session.now.state.pulses (marker + element) }
 {

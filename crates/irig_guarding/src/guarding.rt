@@ -69,8 +69,8 @@ pub fn guard(
 }
 
 /// Runs lines on a session repair by repair, and prints each to `out`: as it is, or if it was
-/// dropped as comments. `last` is listed again after each repair that is kept. Returns
-/// `AllAccepted`, or `SomeRefused` if a repair was dropped.
+/// dropped the reason and its lines as comments. `last` is listed again after each repair that is
+/// kept. Returns `AllAccepted`, or `SomeRefused` if a repair was dropped.
 fn guard_lines(
     alloc: Global,
     session: &mut Session,
@@ -116,7 +116,8 @@ fn status_with(status: Status, dropped: Option<Reason>) -> Status
 
 /// The place, from 0, after the last line of the repair that begins at the place `at`. It is one
 /// line, or if that is a `begin` a group, up to the line that closes it. A group that no line
-/// closes is all lines that are left.
+/// closes is all lines that are left. `IsCutBefore` says that of the lines of the repair and of
+/// those after it.
 fn repair_end(lines: &[Line], at: usize) -> usize
     requires { at < length lines.now }
     ensures more { at < result }
@@ -166,9 +167,9 @@ fn guard_repair(
 }
 
 /// Tries one repair. Returns why it was dropped, and `None` if it was kept; then `known` and `last`
-/// become those after it. One comment or blank line alone is no repair: it does nothing, and is
-/// kept. If a repair was dropped, nothing has changed but what can be redone, since a dropped edit
-/// is undone. It leaves its list of markers wrong, so it works on a copy of `known`.
+/// become those after it. One comment or blank line alone is no repair (`are_remarks`): it does
+/// nothing, and is kept. If a repair was dropped, it is undone, so nothing has changed but what can
+/// be redone. Its list of markers is wrong then, so it works on a copy of `known` (`tried`).
 fn try_repair(
     alloc: Global,
     session: &mut Session,

@@ -7,7 +7,8 @@
 //! places where they are now; `now` and `seen` are those that read well now, the latter with their
 //! markers. `MayStay` in a contract: the state is safe, and each frame of `before` is still there.
 //! `Sways` is why it may not stay: `NotSafe` with the first fault, or `OutOfMemory`, after which
-//! nothing is known.
+//! nothing is known. `StaysAt` and `HasFaultAt` say so by frames at given places: `with_frames` is
+//! what is known of the recording, with `old` as its frames. `Lists`: these frames read well now.
 
 ghost use Rattle.std.specs.Prelude.{◌≡◌, IfErr, IfOk, OnErr, OnOk, false, true};
 ghost use Rattle.irig_safety.specs.Original.{with_frames};
@@ -171,7 +172,7 @@ fn check_frames(
 
 /// Whether the control functions of the frames are borne out: by the frames nearest to each, by the
 /// recording, or by most other recordings. If not, the first fault. If no frame of the recording
-/// reads well, nothing could bear them out: then they are not judged.
+/// reads well, no frame is nearest: then they are not judged.
 fn check_borne(
     session: &Session,
     opened: &Original,

@@ -138,8 +138,9 @@ fn followed(
 /// whose 100 pulses are all before these keeps its marker. If a frame begins after them, its marker
 /// moves by as many places as there are more pulses now, or fewer. For any other frame the answer
 /// is `None`, since its pulses may have changed. `before` and `after` are how many pulses there
-/// were and are, so `before` + `come` - `after` of them went. `None` also if `come` is more than a
-/// `u64` holds, since the sums could be too large for their type.
+/// were and are, so `before` + `come` - `after` of them went. The test has each number on the side
+/// on which it is added, so that nothing is below 0. `None` also if `come` is more than a `u64`
+/// holds, since the sums could be too large for their type.
 fn followed_by(marker: usize, place: &Place, before: usize, after: usize) -> Option<usize>
     ensures { Follows place.now.at place.now.come before after (Some marker) result }
 {

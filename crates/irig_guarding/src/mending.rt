@@ -6,6 +6,8 @@
 //! `NoRepair` if it is no edit and no group of edits, `Refused` if the editor refuses a line,
 //! `NotSafe` with the first fault of the frames that it leads to, or `OutOfMemory`. In contracts
 //! `floor ≡ None`: no group is open, and `Agrees`: all is the same but for what can be redone.
+//! `IsBeyond`: no group began or ended, and nothing from before was undone. `StopsAt`, `StopsIn`,
+//! `Holds`, `Drops`: why a line, lines, the end of a group, a repair failed.
 
 ghost use Rattle.std.specs.Prelude.{◌≡◌, ◌≢◌, ◌∷◌, ◌++◌, [], ℕ, List, None, IfErr, IfOk, OnErr, OnOk};
 ghost use Rattle.irig_edit.specs.{Session.Calls.Call, Session.Session.work_in};
@@ -58,7 +60,8 @@ fn edit(
     }
 }
 
-/// Obeys an edit in a group, or `Refused`. A comment does nothing. Any other line is `NoRepair`.
+/// Obeys a line in a group: an edit, which can be `Refused`, or a comment, which does nothing. Any
+/// other line is `NoRepair`, also one that is not valid or too long.
 fn mend(session: &mut Session, known: &mut Vec<Option<usize>>, line: &Line) -> Result<(), Reason>
     ensures made { OnOk result (Obeyed session.old line.now.bytes.items session.new) }
     ensures stops { IfErr result (StopsAt session.old line.now.bytes.items) }
@@ -117,7 +120,8 @@ fn mend_all(
 }
 
 /// Ends the open group if what the frames show may stay, and returns the frames that read well. If
-/// not, the group stays open, and the caller gives it up: `Err` is why it may not stay.
+/// not, the group stays open, and the caller gives it up: `Err` is why it may not stay. `Refused`
+/// only if no group is open.
 fn end_safely(
     alloc: Global,
     session: &mut Session,
@@ -141,7 +145,7 @@ fn end_safely(
 
 /// Obeys the lines of a group, those between `begin` and `end`. If it is safe, keeps what they did,
 /// and returns the frames that read well after it. If not, the group is given up: all is as it was
-/// but for what can be redone. `abort` is not refused then, since the group is open.
+/// but for what can be redone. Neither `begin` nor `abort` is refused: no group is open at first.
 fn mend_group(
     alloc: Global,
     session: &mut Session,

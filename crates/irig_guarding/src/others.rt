@@ -1,7 +1,10 @@
 //! The frames of another recording of the same code that read well: nothing is wrong in them. They
 //! say something of this one if a frame next to them agrees with them, so that damage did not make
 //! them alone: the two are near enough for their distance to say how many frame periods it is, and
-//! their times are as many apart. A journal is the history of a session, which a dump can have.
+//! their times are as many apart. A journal is the history of a session, which a dump can have. In
+//! contracts `dump_parts` is what the bytes of a dump say of a wire, `Adds` that the frames of it
+//! that say something were added, and `IsUnadded` that it was not opened for this fault, or memory
+//! ran out.
 
 ghost use Rattle.std.specs.Prelude.{◌≡◌, ◌≤◌, ◌^◌, ◌++◌, ℕ, Err, List, Option, length, Ok, IfErr};
 ghost use Rattle.std.specs.Prelude.{IfSome, OnOk};

@@ -110,8 +110,8 @@ fn place_of_force(session: &Session, address: &Address) -> Place
 }
 
 /// The place of a pulse that is inserted and ends at `to`: one comes, and none goes. `find` counts
-/// the pulses that rise up to a time. Those that rise up to `to` are before the new one, since it
-/// must not touch another pulse.
+/// the pulses that rise up to a time. Those that rise up to `to` are before the new one: if one of
+/// them rose during it, the two would touch, and the command is refused then.
 fn place_of_insert(session: &Session, to: &Time) -> Place
     ensures { (from : SomeTime) (new : Machine)
         → Obeys (Command.Insert from to.now) session.now Silent new

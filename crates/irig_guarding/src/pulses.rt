@@ -8,7 +8,7 @@
 //! as they did; `Misplaced` if a frame that did not read well before has a pulse that is neither an
 //! anchor nor on the line between anchors, or if no frame read well before and one has fewer than
 //! 60 anchors. `near_in` gives the two frames of a list before a place, and the two from another
-//! place on.
+//! place on. `with_frames` in a clause is what is known of the recording, with `old` as its frames.
 
 ghost use Rattle.std.specs.Prelude.{◌≡◌, ◌↔◌, ◌+◌, ◌<◌, ◌≤◌, ◌∷◌, List, IsTrue, None, Option, Some};
 ghost use Rattle.std.specs.Prelude.{IfErr, IfOk, OnErr, OnOk, drop, get_or, length, slice_get};
@@ -80,7 +80,8 @@ fn is_unmoved(old: &[Shown], known: &[Option<usize>], place: usize, frame: &Seen
 /// former ones: `come` judges it, and `passed` stays. If the next one begins earlier, no frame
 /// begins when it does: it is `Lost`. If both begin at the same time, the pulses of the frame have
 /// to rise as those of the former one: then one more is passed, else the frame is `Moved`. In the
-/// clauses `rest` is any frames after it, and `found` their fault, if they have one.
+/// clauses `rest` is any frames after it, and `found` their fault, if they have one, from a place
+/// of the former on (`PulsesAt`).
 fn pass(
     session: &Session,
     opened: &Original,

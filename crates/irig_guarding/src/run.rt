@@ -1,10 +1,12 @@
 //! A run under guard on a dump, from the bytes that come in to those that go out. Under guard,
 //! commands that are not safe by `terms` are left out: these have frames of other recordings of the
 //! same code, and say whether frames of the recording may move. The shelf is where the text of the
-//! track is written, as a file: its `label` never changes, and `since` holds between a state of it
-//! and each later one. A journal is the history of a session, which a dump can have. `Kept` is how
-//! a run ended: whether all of the script was accepted, and how many frames have control functions
-//! that are not in the recording. `floor ≡ None` in a contract: no group is open.
+//! track is written, as a file. In contracts its `label` sets it apart from other shelves, and
+//! never changes; `since` is what its own contract says of a state of it and each later one; `desk`
+//! is what is printed and what the shelf has, and `Puts` which texts were written to the shelf and
+//! how many writes failed. A journal is the history of a session, which a dump can have. `Kept` is
+//! how a run ended: whether all of the script was accepted, and how many frames have control
+//! functions that are not in the recording. `floor ≡ None` in a contract: no group is open.
 
 ghost use Rattle.std.specs.Prelude.{◌≡◌, ◌≤◌, ◌^◌, ℕ, Err, List, None, Option, length, Ok, IfErr, IfOk};
 ghost use Rattle.std.specs.Prelude.{IfSome, OnErr, OnOk, [], ◌∷◌};
@@ -50,7 +52,7 @@ pub fn guard_on_parts<R: Read, W: Write, S: Shelf>(
         → GuardsOnDump wire format terms bytes product (R.remaining script.old)
         (R.remaining script.new) (desk (W.contents out.old) (S.known shelf.old))
         (desk (W.contents out.new) (S.known shelf.new)) result }
-    // out of memory for what the dump says, only if its session may be
+    // Memory runs out for the session only if no fault of the dump comes before that.
     ensures memory { result ≡ Err (Dump OutOfMemory)
         → MayBeShort (Ok (recording, bytes_of journal)) }
     ensures label { (S.known shelf.new).label ≡ (S.known shelf.old).label }

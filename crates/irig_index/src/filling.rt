@@ -5,12 +5,15 @@
 //! 1, and pulse k is the position identifier before it. So the last place with a pulse after it is
 //! the number of pulses less 2. A record has a marker and the verdict on its frame. Records are in
 //! a gap buffer, in rising order: `put` inserts left of the gap. Those right of it count their
-//! markers from the back of `pulses`, which is how many pulses the track had.
+//! markers from the back of `pulses`, which is how many pulses the track had. In contracts,
+//! `EndsUpTo` says that the last of some records is of a marker up to a pulse, and `BeginsAfter`
+//! that the first is of a later one; both hold if there is no record.
 //!
 //! A lens shows the pulses of a track and counts each look at one; `looks` gets the same count. A
 //! place takes at most 2 looks to find a marker after it, and 99 to check the frame. As the checks
 //! of two frames look at no pulse twice, n places take at most 3n + 98: the last frame goes on
-//! after them.
+//! after them. In contracts, `records_in` are the records after some places, and `Looked` says how
+//! many looks there were at most, and that both counts have them.
 //!
 //! What is marked "Read for .." does nothing: it only lets the proof use what a type promises.
 //!
@@ -54,7 +57,8 @@ pub fn count_markers(lens: &mut Lens<'_>, looks: &mut u64, format: Format) -> us
 
 /// Puts the records of the markers after the places `from` to `to`, `to` not included, left of the
 /// gap, in order. If there is room for them the buffer does not grow, and nothing fails; else it
-/// fails only if memory runs out, and keeps the records found so far.
+/// fails only if memory runs out, and keeps the records found so far. After a growth the capacity
+/// is at most one and a half times the number of records (`bounded`).
 pub fn fill(
     records: &mut Gap<Stored>,
     lens: &mut Lens<'_>,
@@ -84,6 +88,7 @@ pub fn fill(
         let verdict = verdict(lens, looks, format, marker, first);
         // Left of the gap a record has its marker's number from the front, as here.
         put(records, Stored::new(marker, verdict))?;
+        // Of the pulses after `marker` that the check has looked at, only the last can be a marker.
         place = next_place(marker, verdict, to);
     }
     Ok(())
@@ -120,8 +125,8 @@ pub fn refill(
 /// before `from`, its frame ends by then and stays; the contract asks that its record is right in
 /// this case. Nothing is checked if no marker is up to `from`.
 ///
-/// Returns whether the record after it, which stays here, is of a marker up to the pulse `last`:
-/// then at least one record goes, to be sought again. `false` if there is none.
+/// Returns whether the next record, which is not changed here, is of a marker up to the pulse
+/// `last`: then the caller removes at least this one, and seeks again. `false` if there is none.
 pub fn retell_up_to(
     records: &mut Gap<Stored>,
     pulses: usize,

@@ -6,9 +6,9 @@
 //! tenth. An interval is in microseconds, from one rise to the next. A lens shows the pulses of a
 //! track and counts each look at one; `looks` is a second count of them, which an index keeps.
 //!
-//! In contracts `class_in` is the class of a width, and `counts` says that a class is One. A
-//! verdict is `Read`, with the fields and the note of a sound frame, or `Broken`, with the least
-//! element that fails, 1 to 99, and why.
+//! In contracts `class_in` is the class of a width, `counts` says that a class is One, and
+//! `Checked` that both counts have the looks of a check. A verdict is `Read`, with the fields and
+//! the note of a sound frame, or `Broken`, with the least element that fails, 1 to 99, and why.
 
 ghost use Rattle.std.specs.Prelude.{◌≡◌, ℕ, ◌+◌, ◌-◌, ◌==◌, ◌<◌, ◌≤◌, [], true, false};
 ghost use Rattle.std.specs.Prelude.{if◌then◌else◌, slice_get, unwrap_or, Some, MatchOption, List};
@@ -33,7 +33,9 @@ pub const ELEMENTS: usize = 100;
 
 /// The verdict on the frame of the marker `first`, which is pulse `at` of the track, from 0. It
 /// looks at no more than the 99 pulses after the marker; `looks` gets their count, too. Of the
-/// pulses that it looks at only the last can be a marker (`alone`).
+/// pulses that it looks at only the last can be a marker (`alone`): a marker comes right after
+/// another position identifier, a frame has no two in a row, and the check ends at the first pulse
+/// that is not as a frame has it.
 pub fn verdict(
     lens: &mut Lens<'_>,
     looks: &mut u64,

@@ -4,7 +4,9 @@
 //!
 //! Records are in rising order of their markers, which are numbers of pulses from 0. Those left of
 //! the gap count from the front of the track; those right of it count from its back, so `pulses`,
-//! how many it has, gives their numbers. `last` is the number of a pulse.
+//! how many it has, gives their numbers. `last` is the number of a pulse. In contracts, `EndsUpTo`
+//! says that the last of some records is of a marker up to a pulse, and `BeginsAfter` that the
+//! first is of a later one; both hold if there is no record.
 
 ghost use Rattle.std.specs.Prelude.{◌≡◌, ℕ, ◌+◌, ◌<◌, ◌≤◌, false, length, take, drop, slice_set};
 ghost use Rattle.irig_index.specs.Sides.{shown, EndsUpTo, BeginsAfter};
@@ -63,7 +65,8 @@ fn most_up_to(records: &Gap<Stored>, pulses: usize, last: usize) -> usize
     }
 }
 
-/// Whether there is a record at place `k`, from 0, and it is of a marker up to pulse `last`.
+/// Whether there is a record at place `k`, from 0, and it is of a marker up to pulse `last`. `k`
+/// may be the number of records: then there is none.
 pub fn is_up_to(records: &Gap<Stored>, pulses: usize, k: usize, last: usize) -> bool
     requires { k ≤ length records.now.items }
     ensures { result ≡ false → BeginsAfter last (drop k (shown pulses records.now)) }

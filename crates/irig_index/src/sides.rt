@@ -6,7 +6,8 @@
 //! the gap count from the front of the track; those right of it count from its back, so that an
 //! edit at the gap leaves them as they are. `pulses`, how many the track has, gives their numbers:
 //! pulse k is counted as `pulses - k` there. `first` and `last` are numbers of pulses, from the
-//! front.
+//! front. In contracts, `EndsUpTo` says that the last of some records is of a marker up to a pulse,
+//! and `BeginsAfter` that the first is of a later one; both hold if there is no record.
 //!
 //! What is marked "Read for .." does nothing: it only lets the proof use what a type promises.
 
@@ -60,7 +61,8 @@ pub fn clear(records: &mut Gap<Stored>)
 /// Removes the records of the markers after `first`, up to `last`, included, and leaves the gap
 /// where they were. `drop_back_to` removes those left of the gap first, so that the gap does not
 /// have to move over them; `part` then moves the gap next to the others, which `drop_up_to`
-/// removes.
+/// removes. In the contract, `Parts` says that the records are three lists: those up to `first`,
+/// those that go, and those after `last`.
 pub fn cut_out(records: &mut Gap<Stored>, pulses: usize, first: usize, last: usize)
     requires { first ≤ last }
     ensures sides { (start middle rest : List Record)
@@ -91,7 +93,8 @@ fn part(records: &mut Gap<Stored>, pulses: usize, last: usize)
 
 /// Moves the gap left over the records of the markers after `last`, and then removes the records
 /// left of it that are of markers after `first`. Records are in rising order, so all others that
-/// are to go are right of the gap then.
+/// are to go are right of the gap then. `Cut` says that all that went are of markers after `first`,
+/// up to `last`.
 fn drop_back_to(records: &mut Gap<Stored>, pulses: usize, first: usize, last: usize)
     ensures cut { Cut first last (shown pulses records.old)
         (left_of records.new) (right_of pulses records.new) }
@@ -106,7 +109,8 @@ fn drop_back_to(records: &mut Gap<Stored>, pulses: usize, first: usize, last: us
     }
 }
 
-/// Removes the records right of the gap that are of markers up to `last`.
+/// Removes the records right of the gap that are of markers up to `last`, and no others
+/// (`Dropped`).
 fn drop_up_to(records: &mut Gap<Stored>, pulses: usize, last: usize)
     ensures left { left_of records.new ≡ left_of records.old }
     ensures right { Dropped last (right_of pulses records.old) (right_of pulses records.new) }
@@ -184,8 +188,9 @@ fn step_right(records: &mut Gap<Stored>, pulses: usize)
 }
 
 /// Inserts a record just left of the gap, its marker counted from the front. If there is room the
-/// buffer does not grow, and nothing fails; else it fails only if memory runs out. After a growth
-/// the capacity is at most one and a half times the number of records.
+/// buffer does not grow, and nothing fails; else it fails only if memory runs out. A full buffer
+/// grows by half of its capacity, or by one place if that is more; so after a growth the capacity
+/// is at most one and a half times the number of records (`bounded`).
 pub fn put(records: &mut Gap<Stored>, found: Stored) -> Result<(), AllocError>
     ensures left { OnOk result (left_of records.new ≡ left_of records.old ++ (found ∷ [])) }
     ensures right { OnOk result (kept_right records.new ≡ kept_right records.old) }

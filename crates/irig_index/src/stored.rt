@@ -40,7 +40,8 @@ impl Model for Stored {
 
 impl Stored {
     /// The record of a marker, by the number of its pulse, and the verdict on its frame. Each
-    /// number of the verdict fits in the bytes for it, as a frame has few bits for it.
+    /// number of the verdict has to fit in the bytes for it (`IsNarrow`); those of a frame do, as
+    /// it has few bits for each.
     pub fn new(marker: usize, verdict: Verdict) -> Stored
         requires { IsNarrow verdict }
         ensures { result ≡ record { marker = marker; verdict = verdict } }

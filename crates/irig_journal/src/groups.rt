@@ -12,8 +12,9 @@
 //!
 //! A journal is ready at a state (`AreReady`) if its steps apply one after another from there, and
 //! each change has room for its turn. `grouped_of` is what journal, state and cursor mean: the
-//! machine that keeps each former state whole, with the floor. `beyond` are the steps after the
-//! first ones of a list, `farthest` these first ones.
+//! machine that keeps each former state whole, with the floor. `farthest n` are the `n` farthest
+//! steps of a side, `beyond n` all others; `joined_beyond n` is the side with these others made one
+//! step, if they are more than one.
 
 ghost use Rattle.std.specs.Prelude.{◌≡◌, ◌↔◌, ◌<◌, ◌≤◌, ◌⊎◌, ◌∷◌, ◌^◌, [], ℕ, IsErr, IsErrOf};
 ghost use Rattle.std.specs.Prelude.{IsNone, IsSome, IfSome, OnErr, OnOk, None, Some, drop, length};
@@ -34,8 +35,8 @@ use crate::side::Side;
 use crate::{JournalFault, Reversible};
 
 impl<R: Reversible> Journal<R> {
-    /// Opens a group at the present; `cursor` is that of the present. It takes no memory, and the
-    /// only error is `GroupOpen`: a group is open already.
+    /// Opens a group at the present; `cursor` is that of the present, which an abort gives back. It
+    /// takes no memory, and the only error is `GroupOpen`: a group is open already.
     pub fn begin(&mut self, cursor: usize) -> Result<(), JournalFault>
         ensures grouped { OnOk result ((s : R.Content) →
             begun (grouped_of R.turned R.delta s cursor self.old)

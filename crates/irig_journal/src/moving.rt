@@ -7,7 +7,9 @@
 //! back. Each side has its places before (`places` makes them), so `unwrap` of a `push` finds no
 //! error. `known` does nothing: it only lets the proof use what holds of the state. Steps or
 //! changes are ready at a state (`AreReady`, `ReadyInTurn`) if they apply one after another from
-//! there, each with room for its turn.
+//! there, each with room for its turn. `steps_in` is a journal with these two sides. `LedByOneTurn`
+//! says that one turn, that of the nearest step, leads from the old state, cursor and steps to the
+//! new ones. `Moved` says that changes left one list, and what their turns left came to the other.
 
 ghost use Rattle.std.specs.Prelude.{◌≡◌, ◌+◌, ◌<◌, ◌≤◌, ◌∷◌, [], reverse, vec_capacity, vec_len};
 ghost use Rattle.irig_journal.specs.History.{step, stepped_back};
@@ -59,7 +61,8 @@ pub(crate) fn turn_new<R: Reversible>(
 /// Turns the nearest step of one side, and moves it to the other: from the past it is an undo, from
 /// the future a redo. The two cursors are swapped: `cursor` becomes that of the state the step
 /// leads to, and the step, which now leads back, gets the former cursor. `from` must have a step,
-/// so `unwrap` of the `pop` finds one.
+/// so `unwrap` of the `pop` finds one. The contract takes `from` as the past, so it says `undone`:
+/// a redo is an undo with past and future swapped.
 pub(crate) fn turn_nearest<R: Reversible>(
     from: &mut Side<R::Change>,
     to: &mut Side<R::Change>,

@@ -5,6 +5,9 @@
 //! Each side has a place for every step of both (`AreSides`), as a step can move to the other side.
 //! `prepare` makes the room in the state. An error is that memory ran out. Steps are ready at a
 //! state (`AreReady`) if they apply one after another from there, each with room for its turn.
+//! `IsSameSide`: a side has the same steps, and no place is lost. `HavePlacesForStep`: the past has
+//! a place for one step more of one change, and the future for all steps that the past has then.
+//! `LacksPlace`: one of these places is not there.
 //!
 //! Where `let .. else` hands an error on, `?` would do the same; the proof of it takes longer.
 
@@ -70,8 +73,9 @@ fn reserve_step<C>(past: &mut Side<C>, future: &mut Side<C>) -> Result<(), Alloc
 
 /// Makes a place in `list` for one item more, and places in `other` for all items that `list` has
 /// with that one: `other` will be empty before it gets them. The items of both stay, also after an
-/// error. `reserve` makes places in addition to the items that are there. A list has at least as
-/// many places as items, so `places` is above the items of `other` and the subtraction is exact.
+/// error. `reserve` makes places in addition to the items that are there. The subtraction is done
+/// only if `places` is above the capacity of `other`, which is never below the number of its items;
+/// so it is exact.
 fn reserve_one<T>(list: &mut Vec<T>, other: &mut Vec<T>) -> Result<(), AllocError>
     ensures list { (list.new.items ≡ list.old.items) × (vec_len list.new ≡ vec_len list.old) }
     ensures other { (other.new.items ≡ other.old.items) × (vec_len other.new ≡ vec_len other.old) }
@@ -93,7 +97,9 @@ fn reserve_one<T>(list: &mut Vec<T>, other: &mut Vec<T>) -> Result<(), AllocErro
 /// Makes a place, in both lists, for the group that `gather` makes of the newest `count` steps of
 /// the past. Each list had places for all steps of both lists; with the group it has them, too. If
 /// `count` is above 0, nothing has to be done: the group gets the place of a step that it replaces.
-/// If it is 0, the group is one step more, which takes memory. The steps stay, also after an error.
+/// If it is 0, the group is one step more, which takes memory: `reserve` makes places in addition
+/// to the items that are there. The steps stay, also after an error, which only comes if `count` is
+/// 0.
 pub(crate) fn reserve_group(
     past: &mut Vec<Entry>,
     future: &mut Vec<Entry>,

@@ -2,7 +2,8 @@
 //!
 //! A side is the steps that can be undone, or those that can be redone; the nearest is undone or
 //! redone next. The lists of a side end with the nearest step. The changes of its steps are in one
-//! list, and in another each step has their number and its cursor (`Entry`).
+//! list, and in another each step has their number and its cursor (`Entry`). In a contract
+//! `with_end first a b` joins two lists: `a` is at the front if `first` is true, else at the end.
 //!
 //! What is marked "Read for .." does nothing: it only lets the proof use what a type promises.
 
@@ -45,7 +46,8 @@ impl<'j, C> StepsLeft<'j, C> {
     }
 
     /// Removes the next step from those that are left, and returns it: the first of the list if
-    /// `from_oldest`, else the last. `None` if none is left.
+    /// `from_oldest`, else the last. `None` if none is left. A step that is no group has one change
+    /// (`alone`).
     pub fn next(&mut self) -> Option<Step<'j, C>>
         ensures next { MatchOption result (self.old ≡ []) (λ s. self.old ≡ held_of s ∷ self.new) }
         ensures alone { IfSome result (λ s. s.is_group ≡ false → length s.changes.now ≡ 1) }

@@ -11,12 +11,13 @@ ghost use Rattle.irig_keeping.specs.Kept.{CountedTimesStay, TimesStay, ToldTimes
 use irig_guarding::safe_states_are_kept_or_borne_out;
 use irig_times::parts_are_exact;
 
-/// Does nothing. Its contract is three theorems on a recording and a safe repair of it that may
-/// move no frame. `told`: a frame that is still there gives each moment in it the same time as
-/// before. `has`: so a moment has the same time as before, if its frame was believed before and is
-/// still believed. `counted`: the same time also follows by counting, if the time does not jump at
-/// that frame and no pulses are lost after it. For a moment in the last element of a frame the next
-/// frame has to be still there, too.
+/// Does nothing. Its contract is three theorems on a recording and a safe repair of it; the guard
+/// was asked to let no frame move. `told`: a frame that is still there gives each moment in it the
+/// same time as before. `has`: so a moment has the same time as before, if its frame was believed
+/// before and is still believed. `counted`: the same time also follows by counting, if the time
+/// does not jump at that frame and no pulses are lost after it. For a moment in the last element of
+/// a frame the next frame has to be still there, too, since the element ends where that frame
+/// begins.
 pub fn kept_frames_keep_their_times()
     ensures told { ToldTimesStay }
     ensures has { TimesStay }

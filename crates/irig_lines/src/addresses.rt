@@ -2,7 +2,8 @@
 //! error of a line. Pulses count from 1, and times are in microseconds. An address is what it
 //! counts from, its base, and an offset, a number of pulses, which may be below 0. The cursor is
 //! the pulse at which a script is. A mark is a time that has a letter as its name. `cut` parts a
-//! text before its first sign or comma.
+//! text before its first sign or comma. In contracts, `Finds P` says that an `Ok` has the property
+//! `P`, and that `BadLine` comes only if nothing has it.
 
 ghost use Rattle.std.specs.Prelude.{◌≡◌, ◌<◌};
 ghost use Rattle.irig_saved.specs.Letters.{letter_word};
@@ -113,8 +114,8 @@ pub fn range(text: &[u8]) -> Result<Range, BadLine>
     }
 }
 
-/// The addresses before a comma and after it; a comma alone is between the first pulse and the
-/// last. If just one of them is missing or one is bad, that is a `BadLine`.
+/// The addresses before a comma and after it; if both texts are empty, a comma alone, those of the
+/// first pulse and the last. `BadLine` if just one text is empty, or one is no address.
 fn pair(first: &[u8], second: &[u8]) -> Result<(Address, Address), BadLine>
     ensures { Finds (λ p. IsPair first.now second.now p.0 p.1) result }
 {

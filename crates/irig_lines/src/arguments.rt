@@ -1,7 +1,8 @@
 //! The arguments of a line: times, moments, control functions and words that are known. A text that
 //! is none is a `BadLine`, the only error of a line. A time is a number of microseconds, or that of
 //! a mark, which is a time with a letter as its name. Control functions are bits that a frame
-//! carries for any use.
+//! carries for any use. In contracts, `Finds P` says that an `Ok` has the property `P`, and that
+//! `BadLine` comes only if nothing has it. `words_of` are the words of a text.
 
 ghost use Rattle.std.specs.Prelude.{◌≡◌, Some};
 ghost use Rattle.irig_moment.specs.Written.{moment_of};

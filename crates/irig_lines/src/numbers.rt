@@ -1,5 +1,6 @@
 //! Numbers of a script. A text that is none is a `BadLine`, the only error of a line. Control
-//! functions are bits that a frame carries for any use.
+//! functions are bits that a frame carries for any use. In contracts, `Finds P` says that an `Ok`
+//! has the property `P`, and that `BadLine` comes only if nothing has it.
 
 ghost use Rattle.std.specs.Prelude.{◌≡◌, ◌<◌, ◌^◌, IfOk};
 ghost use Rattle.irig_lines.specs.Findings.{Finds};

@@ -5,7 +5,9 @@
 //! for the word. A time is a number of microseconds, or that of a mark, which is a time with a
 //! letter as its name. Pulses count from 1. Only the form of a line is tested here, not whether its
 //! pulses are there, its marks are set or its times are in order. `one_word` and `two_words` give
-//! the words of a text if it has just that many.
+//! the words of a text if it has just that many. In contracts, `Finds P` says that an `Ok` has the
+//! property `P`, and that `BadLine` comes only if nothing has it. `Asks` says which command a word
+//! asks for, with the text before it and the words after it (`words_of`).
 //!
 //! Where `let Ok(..) else` returns `BadLine`, `?` would do the same; the proof of it takes longer.
 
@@ -157,8 +159,9 @@ pub fn unmark(front: &[u8], arguments: &[u8]) -> Result<Command, BadLine>
     Ok(Command::Unmark(letter(name)?))
 }
 
-/// What the arguments of `regen` ask for: to generate frames, as `frames` below reads them. A range
-/// is a `BadLine`.
+/// What the arguments of `regen` ask for: to generate frames from a time on, with how many they
+/// are, the moment of the first one, and maybe control functions. `frames` reads them. A range, and
+/// any other arguments, are a `BadLine`.
 pub fn regen(front: &[u8], arguments: &[u8]) -> Result<Command, BadLine>
     ensures { Finds (Asks Keyword.Regen front.now (words_of arguments.now)) result }
 {

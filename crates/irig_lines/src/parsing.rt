@@ -1,7 +1,9 @@
 //! Lines of a script as commands. A line is a range of pulses, a word and the arguments of the
 //! word. For each word that takes any of the others a function of its own says what it asks for, as
 //! `delete`. `cut` parts a text before the first byte that is no white space (`Text`). `BadLine`,
-//! the only error of a line, says that it is not valid.
+//! the only error of a line, says that it is not valid. In contracts, `Finds P` says that an `Ok`
+//! has the property `P`, and that `BadLine` comes only if nothing has it. `Asks` says which command
+//! a word asks for, with the text before it and the words after it (`words_of`).
 //!
 //! Where `let Ok(..) else` returns `BadLine`, `?` would do the same; the proof of it takes longer.
 
@@ -22,7 +24,7 @@ use crate::orders::{
 use crate::words::{no_word, split_word};
 
 /// What a line asks for, its newline left out; `BadLine` if it is not valid. White space in front
-/// does not count.
+/// does not count. What is empty then, or a comment, asks for `Nothing`.
 pub fn parse_line(line: &[u8]) -> Result<Command, BadLine>
     ensures meant { IfOk result (λ command. Means command line.now) }
     ensures bad { OnErr result ((command : Command) → Means command line.now → ⊥) }
@@ -81,9 +83,9 @@ fn ends_range(quoted: bool, byte: u8) -> bool
 }
 
 /// What a range (`front`), a word and the arguments after it ask for; `BadLine` if the word is
-/// `Unknown`, or one of the others is not valid for it. `Missing` is no word: the range is then the
-/// address of a pulse to be shown. The words that are not named here are those that are alone in a
-/// line.
+/// `Unknown`, or the range or the arguments are not valid for it. `Missing` is no word: then there
+/// are no arguments, and the range is the address of a pulse to be shown. The words that are not
+/// named here are those that are alone in a line.
 fn asked(front: &[u8], word: Keyword, arguments: &[u8]) -> Result<Command, BadLine>
     ensures { Finds (Asks word front.now (words_of arguments.now)) result }
 {

@@ -1,6 +1,6 @@
 //! Days and years, by the day numbers of jiff, a library that reckons the Gregorian calendar: a day
 //! number is how many days a day comes after the first one that jiff has. A moment is in the years
-//! 1 to 9998; the frames generated from the last one can reach into 9999.
+//! 1 to 9998 (`IsDay`); the frames generated from the last one can reach into 9999.
 
 ghost use Rattle.std.specs.Prelude.{◌≡◌, ◌+◌, ◌≤◌, ◌<◌, IfSome};
 ghost use Rattle.irig_moment.specs.Calendar.{new_year_of, year_of, place_of, ordinal_day_of};

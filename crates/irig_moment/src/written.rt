@@ -1,7 +1,8 @@
 //! Numbers in a text of fixed form.
 //!
 //! Places in a text count from 0. Numbers are read only from texts that `has_form` found to have a
-//! form, so each byte that is read as a digit is one.
+//! form, so each byte that is read as a digit is one. `IsDay` says that a day is in the years 1 to
+//! 9998.
 
 ghost use Rattle.std.specs.Prelude.{◌≡◌, ◌+◌, ◌≤◌, ◌<◌, length, IsTrue, IfSome};
 ghost use Rattle.irig_moment.specs.Calendar.{IsDay};

@@ -29,8 +29,8 @@ pub fn patches_are_scripts()
 
 /// Does nothing. Its contract: the text of a patch with comments does as a script what it does
 /// without them. `make`, `stop`, `write` and `joined` say what they say at `patches_are_scripts`.
-/// So what `irig_diff --frames` prints is obeyed, too: each comment is a valid line that is short
-/// enough.
+/// So what `irig_diff --frames` prints is obeyed, too: each comment is a valid line that changes
+/// nothing, and no longer than a line of a script may be.
 pub fn commented_patches_are_scripts()
     ensures make { CommentsMake }
     ensures stop { CommentsStop }

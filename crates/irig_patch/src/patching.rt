@@ -30,12 +30,13 @@ pub fn patch(session: &mut Session, before: &Recording, after: &Recording) -> Re
     ensures patches { OnOk result
         (Patches (stretches_between before.now after.now) session.old session.new) }
     ensures refused { IfErr result StopsPatch }
-    // E5 cannot come if there is room for one more pulse for each stretch.
+    // E5 cannot come if there is room for one more pulse for each stretch: an invert adds one at
+    // most.
     ensures few { length session.old.state.pulses
         + length (stretches_between before.now after.now) ≤ 2 ^ 22
         → IfErr result (λ e. e ≡ OutOfMemory) }
 {
-    // Read for their laws alone.
+    // Read for their laws alone: edges rise, and none is later than the end of its recording.
     let _lengths = (before.length(), after.length());
     invert_all(session, &mut Differences::between(before, after))
 }

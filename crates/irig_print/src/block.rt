@@ -1,5 +1,6 @@
 //! Output in blocks: what is printed is held back until a block has no room for the next text, and
-//! then written at once.
+//! then written at once. In contracts, `Prints` says that all bytes are out, or after an error only
+//! a front of them (`AppendsFront`), and `Sends` that some are out and the block holds the others.
 
 ghost use Rattle.std.specs.Prelude.{◌≡◌, ◌≤◌, ◌+◌, ◌++◌, [], OnOk, OnErr, length, take};
 ghost use Rattle.irig_print.specs.Blocks.{Sends};

@@ -167,9 +167,9 @@ fn grow(pulses: &mut Gap<Pulse>) -> Result<(), AllocError>
 }
 
 /// The largest capacity, in pulses, to which a full buffer of this capacity may grow. For one of at
-/// most 2^22, the most pulses of a recording, it is 2^22 + 1024; for a larger one, which is that of
-/// a long recording, 2^26 + 1024. The 1024 more (`FIRST_ROOM`) make it larger than the capacity
-/// also at these limits.
+/// most 2^22, the most pulses of a recording, it is 2^22 + 1024, which is all that it needs. For
+/// a larger one, that of a long recording, it is 2^26 + 1024. The 1024 more (`FIRST_ROOM`) make it
+/// larger than the capacity also at these limits.
 fn next_limit(capacity: usize) -> usize
     requires few { capacity ≤ 2 ^ 26 }
     ensures more { capacity < result }

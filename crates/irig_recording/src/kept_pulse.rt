@@ -6,7 +6,8 @@
 //! digits are those before the last four; they are the same for the rise and the fall.
 //!
 //! The lines of an edge end with four bytes, a newline, the level, the code and a newline; the last
-//! four digits of its time come just before these.
+//! four digits of its time come just before these. In contracts, `HoldsPulse` says that the four
+//! lines are there with the kept digits, and `IsNear` that a time has the kept digits.
 
 ghost use Rattle.std.specs.Prelude.{◌≡◌, ◌↔◌, ◌≤◌, ◌<◌, ◌+◌, ◌-◌, ◌/◌, ◌%◌, ◌^◌, ◌++◌, ◌∷◌, true};
 ghost use Rattle.std.specs.Prelude.{false, OnOk, length, take, drop, vec_capacity, vec_len, IsOk};
@@ -25,7 +26,8 @@ static PAIRS: [u8; 200] = *b"\
     8081828384858687888990919293949596979899";
 
 /// The four lines of a pulse at the front of `bytes`; the two lines of each edge have `long` bytes,
-/// at most 20. `base` is a time in microseconds: the kept digits, and then 0000.
+/// at most 20. The bytes after them have no meaning: they are there so that a fixed number of bytes
+/// can be copied. `base` is a time in microseconds: the kept digits, and then 0000.
 #[derive(Drop)]
 pub struct KeptPulse {
     bytes: [u8; 56],

@@ -60,7 +60,8 @@ impl Recording {
 
     /// The recording of a length and pulses, both in microseconds. The caller knows that they make
     /// one: no limit is tested here. The buffer's place must be after all pulses, and its block of
-    /// memory must have room for at most twice their number and 1024.
+    /// memory must have room for at most 2 * n + 1024 pulses if there are n, as `Edges` makes it:
+    /// so the number of its pulses bounds the memory of a recording.
     pub fn from_parts(micros: u64, pulses: Gap<Pulse>) -> Recording
         requires lawful { IsRecording micros (edges_of pulses.items) }
         requires place { pulses.place ≡ length pulses.items }

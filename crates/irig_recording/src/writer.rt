@@ -6,7 +6,7 @@
 //! `0!` (low). An edge has both lines.
 //!
 //! The clauses `enough` say for how many bytes `text` needs room before, so that memory cannot run
-//! out.
+//! out. `EndsLines` says that the buffer `line` has what `TextWriter` says of its bytes 21 to 24.
 
 ghost use Rattle.std.specs.Prelude.{◌≡◌, ◌≤◌, ◌<◌, ◌^◌, ◌+◌, ◌/◌, true, false, ◌++◌, ◌∷◌, OnOk};
 ghost use Rattle.std.specs.Prelude.{IfOk, length, drop, decimal, vec_capacity, vec_len, IsOk};

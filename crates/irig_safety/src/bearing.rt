@@ -191,8 +191,9 @@ fn slack(format: Format, one: &Shown, other: &Shown) -> u128
 }
 
 /// Whether two frames are so far from each other that their distance does not say how many frame
-/// periods it is: they may stray by half a period or more, which is so from 495 periods on. Both
-/// sides are in units of 1/2000 of a microsecond, as `slack` is.
+/// periods it is: they may stray by half a period, 50 intervals, or more. That is so from 495
+/// periods on: half an interval and a thousandth of 49,500. Both sides are in units of 1/2000 of a
+/// microsecond, as `slack` is.
 pub fn is_far(format: Format, one: &Shown, other: &Shown) -> bool
     ensures { result ≡ is_far format one.now other.now }
 {

@@ -22,8 +22,8 @@ use irig_codes::Format;
 
 /// Whether two frames agree, and so show by how much the clock is off, and that is a fortieth at
 /// most: more can be a step between them, at which the recorder lost something or has it twice. If
-/// one is the next after the other, up to 8 in 100 is allowed, since then all pulses between them
-/// are in step.
+/// one is the next after the other, up to 8 in 100 is allowed: between them are the pulses of one
+/// frame that reads well, which are in step, so a step can only be in the last interval.
 pub fn shows_clock(format: Format, one: &Shown, other: &Shown) -> bool
     ensures { result ≡ shows_clock format one.now other.now }
 {
@@ -137,9 +137,11 @@ fn long_by(format: Format, one: &Shown, other: &Shown, many: u128) -> u128
     }
 }
 
-/// Whether a distance (`micros`) is between what two clocks say that it is (`one`, `other`), or
-/// outside of these by half an interval at most. All are in microseconds. False if the two differ
-/// by more than six intervals, since a step as large as their difference could hide there.
+/// Whether the distance of two frames (`micros`) is as two clocks say. `one` and `other` are what
+/// it is by each of them. It has to be between these two, whichever is greater, or outside of them
+/// by half an `interval` at most. All are in microseconds. False if the two differ by more than six
+/// intervals: a step, at which the recorder lost something or has it twice, is not seen there if it
+/// is no larger than their difference. Six is this project's own choice.
 fn is_amidst(interval: u64, one: u128, other: u128, micros: u128) -> bool
     requires { micros < 2 ^ 64 }
     ensures { result ≡ is_amidst interval one other micros }

@@ -201,8 +201,9 @@ fn is_clocked(format: Format, near: &Witnesses, steps: u128, micros: u128) -> bo
     }
 }
 
-/// Whether `steps` elements take `micros` microseconds, by the nominal interval or by the clock of
-/// the two nearest frames, to a tenth of an interval (`is_nominal`, `is_clocked`).
+/// Whether `steps` elements take `micros` microseconds: by the nominal interval, to a tenth of it
+/// and a thousandth of `micros` (`is_nominal`), or by the clock of the two nearest frames, to a
+/// tenth of an interval (`is_clocked`).
 fn is_along(format: Format, near: &Witnesses, steps: u128, micros: u128) -> bool
     requires { (steps ≤ 2 ^ 17) × (micros < 2 ^ 64) }
     ensures { result ≡ is_along format near.now steps micros }
@@ -211,8 +212,9 @@ fn is_along(format: Format, near: &Witnesses, steps: u128, micros: u128) -> bool
 }
 
 /// Whether a rise, in microseconds, is where the anchors of the pulse (`before`, `after`) have it.
-/// If both are there: on the line or the curve between them. If one is: as far from it as the
-/// nominal interval or the clock of the nearest frames says. False if there is none.
+/// If both are there: on the line or the curve between them (`is_between`). If one is: as far from
+/// it as the nominal interval or the clock of the two nearest frames says (`is_along`). False if
+/// there is none.
 pub fn is_on_line(
     format: Format,
     near: &Witnesses,

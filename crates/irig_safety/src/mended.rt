@@ -16,8 +16,11 @@ use crate::shown::Shown;
 use crate::witnesses::{Witnesses, is_borne};
 use irig_codes::Format;
 
-/// Whether the frame that is there now mends the former one: its time, or its control functions
-/// alone, also by frames of other recordings.
+/// Whether the frame that is there now (`frame`) mends the former one: its time was wrong and is
+/// right now (`is_time_mended`), or only control functions changed, and are right now
+/// (`is_control_mended`). Other recordings (`others`) have to confirm the time of the first or the
+/// last frame, and control functions if the two frames next to it do not both have all of them.
+/// Else they are not asked.
 pub fn mends(
     format: Format,
     others: &[Shown],
@@ -33,7 +36,7 @@ pub fn mends(
 }
 
 /// Whether the time of a frame was wrong and is mended: of one between two others (`is_mended`), or
-/// of the first or the last one (`is_mended_at_end`).
+/// of the first or the last one (`is_mended_at_end`), which another recording has to confirm.
 fn is_time_mended(
     format: Format,
     others: &[Shown],
@@ -65,9 +68,9 @@ fn is_mended(format: Format, near: &Witnesses, former: &Shown, frame: &Shown) ->
 }
 
 /// Whether the time of the first or the last frame was wrong, and is mended: the two next to it
-/// contradict what it was (`former`), and bear out what it is now (`frame`). It looks the same if
-/// the sender's clock was set there. So another recording has to have the new time, and none the
-/// former one. False if both sides have frames.
+/// contradict what it was (`former`), and bear out what it is now (`frame`). If the sender's clock
+/// was set there, the recording alone would look the same. So another recording has to have the new
+/// time, and none the former one. False if both sides have frames, or one of the two is not there.
 fn is_mended_at_end(
     format: Format,
     others: &[Shown],

@@ -20,8 +20,9 @@ use crate::witnesses::{Witnesses, allows_from, allows_to};
 use irig_codes::{Fields, Format};
 
 /// Whether a frame is the former one but for its control functions, and these are mended: both
-/// frames next to it have all of them, or each that changed is mended for itself, by other
-/// recordings.
+/// frames next to it have all of them, which no other recording has to confirm; or each that
+/// changed is mended for itself, which most frames of other recordings with its time have to
+/// confirm (`is_function_mended`).
 pub fn is_control_mended(
     format: Format,
     others: &[Shown],
@@ -116,8 +117,8 @@ fn is_function_mended(
                 || is_by_parity(format, others, near, former, frame))
 }
 
-/// Whether one control function changed alone, by that the frame has the parity that frames of the
-/// other recordings have, and no frame next to it contradicts its time.
+/// Whether exactly one control function changed, this gave the frame the parity that frames of
+/// other recordings have (`is_parity_mended`), and no frame next to it contradicts its time.
 fn is_by_parity(
     format: Format,
     others: &[Shown],

@@ -1,7 +1,8 @@
 //! Where the frames of a recording are after an edit that moves them. The former frames (`old`) are
 //! those that read well, with nothing wrong in them, before the edit, and `new` those that do after
 //! it. Places in a list count from 0. Two frames have one time here if their day and time of day
-//! are the same: years are not compared.
+//! are the same: years are not compared. `from_time` in a contract is the rest of a list from the
+//! first frame on that has a time.
 
 ghost use Rattle.std.specs.Prelude.{◌≡◌, ◌≤◌, IfOk, drop, length};
 ghost use Rattle.irig_safety.specs.Moved.{from_time, moved_in, moved_to, rest_of};

@@ -123,7 +123,7 @@ impl Original {
     }
 
     /// When the pulse of an element, from 0, of the frame with this marker rises, in microseconds;
-    /// 0 if there is no such pulse.
+    /// 0 if there is no such pulse. The test adds nothing, as the sum could be too large.
     pub fn rise(&self, marker: usize, element: usize) -> u64
         ensures { result ≡ rise_in self.now.pulses marker element }
     {
@@ -135,10 +135,11 @@ impl Original {
         }
     }
 
-    /// Whether a pulse is there and rises when one of the recording does, or is a gap of it turned
-    /// over: it rises when one falls and falls when one rises. `place`, from 0, is the pulse of the
-    /// recording that is looked at first, to save a search. It becomes the next one to look at: the
-    /// answer does not depend on it.
+    /// Whether a pulse is there and is an anchor: its place was recorded, so other places are
+    /// measured from it. It rises when a pulse of the recording rises. Or it rises when one falls
+    /// and falls when one rises: so a gap becomes a pulse if a recording is turned over. `place`,
+    /// from 0, is the pulse of the recording that is looked at first, to save a search. It becomes
+    /// the next one to look at: the answer does not depend on it.
     pub fn holds(&self, pulse: Option<Pulse>, place: &mut usize) -> bool
         ensures { result ≡ is_anchor self.now.pulses pulse }
     {

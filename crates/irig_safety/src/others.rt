@@ -65,8 +65,9 @@ pub fn is_among(others: &[Shown], frame: &Shown) -> bool
     false
 }
 
-/// Whether two frames have the same time of day, day and year. No year is the same as no year
-/// alone, so it counts as 100, which no year of two digits is. No hundredths count as 0.
+/// Whether two frames have the same time of day, day and year. Hundredths that are not there count
+/// as 0. A year that is not there counts as 100, which no year of two digits is: so it is only the
+/// same as another one that is not there.
 fn is_of_time(one: &Fields, other: &Fields) -> bool
     ensures { result ≡ is_of_time one.now other.now }
 {

@@ -39,9 +39,9 @@ fn changes(format: Format, one: &Shown, other: &Shown) -> u32
     changed
 }
 
-/// Whether frames have a parity: at least eight have it, and five more for each that has the other
-/// one. Both numbers are this project's own: a few frames can have it by chance. False for fewer
-/// than eight frames.
+/// Whether frames have this parity: at least 8 + 5 * n of them do, if n frames have the other one
+/// (`1 - parity`). So it is false for fewer than eight frames. Both numbers are this project's own:
+/// a few frames can have the same parity by chance.
 fn have_parity(format: Format, frames: &[Shown], parity: u64) -> bool
     requires { parity ≤ 1 }
     ensures { result ≡ have_parity format parity frames.now }
@@ -63,7 +63,8 @@ fn parities(format: Format, frames: &[Shown], parity: u64) -> usize
 }
 
 /// Whether the ones of a frame up to the element of the parity are odd in number (1) or even (0).
-/// The elements of the time and of the year are before it, straight binary seconds after it.
+/// All ones of the time and of the year are before it, so they count. Those of straight binary
+/// seconds are after it, and do not count.
 fn parity_of(format: Format, frame: &Shown) -> u64
     ensures value { result ≡ parity_of format frame.now }
     ensures bit { result ≤ 1 }
@@ -86,7 +87,7 @@ fn ones_of_time(fields: &Fields) -> u64
 }
 
 /// How many ones the last three digits of a number have, each digit in binary. No number of a frame
-/// has more.
+/// has more digits.
 fn ones_of_number(number: u32) -> u64
     ensures value { result ≡ ones_of_number number }
     ensures few { result ≤ 12 }

@@ -23,7 +23,8 @@ pub fn has_rise(pulses: &[Pulse], time: u64, place: &mut usize) -> bool
 
 /// The place of the first of some pulses that does not rise before a time; how many there are, if
 /// all do. `place` is looked at first: it is the one if the pulse there does not rise before the
-/// time and the one before it does. Else a search finds it, since the pulses are in rising order.
+/// time and the one before it, if any, does. Else a search finds it, since the pulses are in rising
+/// order.
 fn first_rise(pulses: &[Pulse], time: u64, place: usize) -> usize
     requires { IsNonDecreasingBy (λ (p : SomePulse). p.rise) pulses.now }
     ensures before { (j : ℕ) (d : SomePulse) → j < result → j < length pulses.now
@@ -52,7 +53,8 @@ pub fn has_fall(pulses: &[Pulse], time: u64, place: usize) -> bool
 
 /// The place of the first of some pulses that does not fall before a time; how many there are, if
 /// all do. `place` is looked at first: it is the one if the pulse there does not fall before the
-/// time and the one before it does. Else a search finds it, since the pulses fall in order.
+/// time and the one before it, if any, does. Else a search finds it, since the pulses fall in
+/// order.
 fn first_fall(pulses: &[Pulse], time: u64, place: usize) -> usize
     requires { IsNonDecreasingBy (λ (p : SomePulse). p.fall) pulses.now }
     ensures before { (j : ℕ) (d : SomePulse) → j < result → j < length pulses.now

@@ -7,8 +7,8 @@
 //! has is not it and does not mend it, `Unsupported` of a new frame, that it is not borne out. A
 //! new frame mends a former one (`mends`) if that was wrong, by the frames next to it or by
 //! `others`, the frames of other recordings, and what it shows now is right by them. In clauses
-//! `behind` is the frame before a place, `rest` any frames after one, and `found` their fault, if
-//! they have one.
+//! `behind` is the frame before a place, `rest` any frames after one, and `found` or `why` their
+//! fault, if they have one, from a place of the former on (`JudgedAt`, `Finds`).
 
 ghost use Rattle.std.specs.Prelude.{◌≡◌, ◌↔◌, ◌-◌, ◌≤◌, ◌+◌, ◌∷◌, List, IsTrue, None, Option, Some};
 ghost use Rattle.std.specs.Prelude.{Err, IfErr, IfOk, Ok, OnErr, OnOk, drop, if◌then◌else◌, length};
@@ -28,7 +28,8 @@ use irig_codes::Format;
 
 /// Whether the frames that read well now are safe, by those that did at first, and by frames of
 /// other recordings. If not, `Err` is the first fault in the order of their rises. If none read
-/// well at first, the only fault is `Alone`: the new ones do not bear each other out.
+/// well at first, the only fault is `Alone`: the new ones do not bear each other out
+/// (`are_of_themselves`).
 pub fn check_safe(
     format: Format,
     others: &[Shown],

@@ -114,7 +114,7 @@ fn is_next_to(format: Format, frame: &Shown, after: &Shown, after2: Option<Shown
 }
 
 /// Whether a frame begins when it should, to half an interval, by the clock of the frames on both
-/// sides (`a` and `b`), or by that of the next two on one side.
+/// sides (`a` and `b`), or by that of the next two on one side (`is_next_from`, `is_next_to`).
 fn is_timed_by(format: Format, near: &Witnesses, a: &Shown, b: &Shown, frame: &Shown) -> bool
     ensures { result
         ≡ is_timed format near.now.before2 (Some a.now) (Some b.now) near.now.after2 frame.now }
@@ -125,7 +125,7 @@ fn is_timed_by(format: Format, near: &Witnesses, a: &Shown, b: &Shown, frame: &S
 }
 
 /// Whether a frame begins when it should, to half an interval, by a clock of the frames next to it:
-/// with frames on both sides as in `is_timed_by`, else that of the two on the one side.
+/// with frames on both sides as in `is_timed_by`, else of the two on one side, if there are two.
 fn is_timed(format: Format, near: &Witnesses, frame: &Shown) -> bool
     ensures { result
         ≡ is_timed format near.now.before2 near.now.before near.now.after near.now.after2 frame.now }
@@ -152,7 +152,7 @@ pub fn is_own(format: Format, near: &Witnesses, frame: &Shown) -> bool
     }
 }
 
-/// Whether a frame has no inserted second 60, or frames are on both sides: only these bear it out.
+/// Whether a frame can be borne out: it has no inserted second 60, or frames are on both sides.
 fn may_stand(near: &Witnesses, frame: &Shown) -> bool
     ensures { result ≡ may_stand near.now.before near.now.after frame.now }
 {
@@ -160,8 +160,8 @@ fn may_stand(near: &Witnesses, frame: &Shown) -> bool
 }
 
 /// Whether the frames next to a frame bear out its time: it is led (`is_led`) or in time by their
-/// clock, and none contradicts it; or it is where the recording's own clock has it. In either case
-/// an inserted second 60 needs frames on both sides.
+/// clock (`is_timed`), and none contradicts it; or the recording's own clock has it there
+/// (`is_own`). In either case an inserted second 60 needs frames on both sides.
 fn bears(format: Format, near: &Witnesses, frame: &Shown) -> bool
     ensures { result ≡ bears format near.now frame.now }
 {
@@ -204,9 +204,9 @@ fn is_disputed(
     }
 }
 
-/// The frames next to a place that are heard. If just one of the two nearest is overruled, it is
-/// left out, and the next on its side is the nearest. None is heard if one side has no frame, and
-/// the two on the other side contradict each other.
+/// The frames next to a place that are heard: all, but if just one of the two nearest is overruled
+/// (`is_overruled`), the next on its side is the nearest instead of it. Else none, if one side has
+/// no frame, and the two on the other side contradict each other (`is_disputed`).
 fn heard(format: Format, near: &Witnesses) -> Witnesses
     ensures { result
         ≡ heard format near.now.before2 near.now.before near.now.after near.now.after2 }

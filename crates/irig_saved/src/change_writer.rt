@@ -66,8 +66,9 @@ fn put_toggle(text: &mut Vec<u8>, a: u64, b: u64) -> Result<(), AllocError>
     put_numbered(text, b"toggle", &[a, b])
 }
 
-/// Writes the line of a shift of the pulses `i` to `j`, both included, by `by` microseconds (below
-/// 0 is earlier), with the marks of the letters that are true in `marks`.
+/// Writes the line of a shift, `shift I J D MARKS`: the pulses `i` to `j`, both included, move by
+/// `by` microseconds (below 0 is earlier), and with them the marks of the letters that are true in
+/// `marks`. MARKS are these letters, or `-` if there are none.
 fn put_shift(text: &mut Vec<u8>, i: u64, j: u64, by: i64, marks: &Letters) -> Result<(), AllocError>
     ensures { OnOk result (text.new.items
         ≡ text.old.items ++ (single_line (Shift i j by marks.now) ++ 10 ∷ [])) }
@@ -110,8 +111,8 @@ fn put_moved(text: &mut Vec<u8>, marks: &Letters) -> Result<(), AllocError>
     put_word(text, &letters[..count])
 }
 
-/// Writes the line that sets a format: its kind of time code, such as `B`, and the number of its
-/// coded expression, 0 to 7.
+/// Writes the line that sets a format, `setformat X N`: its kind of time code, such as `B`, and the
+/// number of its coded expression, 0 to 7.
 fn put_set_format(text: &mut Vec<u8>, kind: Kind, expression: u8) -> Result<(), AllocError>
     ensures { OnOk result (text.new.items
         ≡ text.old.items ++ (single_line (SetFormat kind expression) ++ 10 ∷ [])) }
@@ -119,8 +120,8 @@ fn put_set_format(text: &mut Vec<u8>, kind: Kind, expression: u8) -> Result<(), 
     put_formatted(text, b"setformat", kind, expression)
 }
 
-/// Writes the line that sets a mark to a time, or clears the mark if `time` is `None`. `letter` is
-/// the place of its letter in the alphabet, from 0 (a) to 25.
+/// Writes the line that sets a mark to a time, `setmark x TIME`, or, if `time` is `None`, the line
+/// that clears it, `setmark x -`. `letter` is the place of x in the alphabet, from 0 (a) to 25.
 fn put_set_mark(text: &mut Vec<u8>, letter: u8, time: Option<u64>) -> Result<(), AllocError>
     requires { letter < 26 }
     ensures { OnOk result (text.new.items

@@ -180,7 +180,8 @@ fn set_mark(text: &[u8]) -> Option<(Letter, Option<u64>)>
 }
 
 /// What a line `shift I J D MARKS` says: the first and the last pulse that move, by how many
-/// microseconds (below 0 is earlier), and the marks that move with them. `None` for any other line.
+/// microseconds (below 0 is earlier), and the marks that move with them: MARKS are their letters,
+/// or `-` if no mark moves. `None` for any other line.
 fn shift(text: &[u8]) -> Option<(u64, u64, i64, Letters)>
     ensures { Decodes IsShift (λ t. line (codes "shift") (words_of_shift t)) text.now result }
 {
@@ -197,8 +198,9 @@ fn shift(text: &[u8]) -> Option<(u64, u64, i64, Letters)>
     Some((i, j, by, marks))
 }
 
-/// The last two words of the line of a shift: a distance in microseconds, below 0 to earlier times,
-/// and the marks that move by this distance. `None` if the text is not two such words.
+/// What the last two words of the line of a shift say: a distance in microseconds, below 0 to
+/// earlier times, and the marks that move by this distance; `-` says that no mark moves. `None` if
+/// the text is not two such words.
 fn move_in(text: &[u8]) -> Option<(i64, Letters)>
     ensures { Decodes IsMove
         (λ t. line (signed_decimal t.0) (moved_word t.1 ∷ [])) text.now result }

@@ -10,7 +10,10 @@
 //! `pulse`, `mark`, `counted`, `splice` and `short` (in `lines`) read one line, and answer `None`
 //! if the line has another form. `counted` reads a line of a word and a number. `Parses` in a
 //! contract: the answer is the part with which the text begins, or where the text stops to be such
-//! a part. Memory can run out only if the third argument of `Parses` holds of the text.
+//! a part. Memory can run out only if the third argument of `Parses` holds of the text: `Any` holds
+//! of all texts; `BeginsSplice`, `BeginsStep`, `BeginsSome` and `BeginsSteps` say that the text
+//! begins with the first lines of a part that takes memory. `Leads`: the text begins with the lines
+//! of these marks, the first of which is the mark of the given letter (97 is a).
 //!
 //! Where `match` or `let Ok(..) else` returns an error, `?` would do the same; the proof of it
 //! takes longer.

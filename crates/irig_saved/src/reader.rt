@@ -7,6 +7,9 @@
 //! memory ran out. `line_of` gives the first line and what is after its newline, `None` if there is
 //! no newline. In a contract `IsRefused` says that a fault is the right one, `Stops` that a text is
 //! at fault from this rest on, and `FirstLine` that the value is that of the first line, or `None`.
+//! `Parses` says that the answer is the part with which a text begins, or where the text stops to
+//! be such a part. `ReachesSteps` says that the text begins a journal that has a step, up to and
+//! with the line after `past P`, which counts the steps back.
 //!
 //! Where `match` or `let .. else` hands an error or `None` on, `?` would do the same; the proof of
 //! it takes longer.

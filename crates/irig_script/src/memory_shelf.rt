@@ -1,5 +1,6 @@
 //! A shelf in memory. A shelf is where the lines `write` and `save` of a script write their texts;
-//! one write may be set to fail.
+//! one write may be set to fail. In contracts, `known` is what is known of a shelf, and `Puts` says
+//! which texts were written, and how many writes failed.
 
 ghost use Rattle.std.specs.Prelude.{◌≡◌, ◌++◌, ◌∷◌, [], length, map, Some, IfOk, IsErr, IsFalse};
 ghost use Rattle.std.specs.Prelude.{IsTrue, OnErr, OnOk};

@@ -1,7 +1,10 @@
 //! The command line, read by `clap`. Its matches are what `clap` found in its words. Only memory
 //! can run out for a `Command`, which is what `clap` knows of a command line, or an `Arg`. Each
 //! function that gives a `Command` adds some options to those of the next one below it. An `Arg`
-//! that is `global` would be one of subcommands, too.
+//! that is `global` would be one of subcommands, too. In a contract, `IsTaking`, `IsReading` and
+//! `IsCommand` say that a command has just the arguments that the function of that name gives it,
+//! `IsChoice` that an option takes one of these values, `IsParsed` and `MayRefuse` that `clap` may
+//! give these matches or this error for the words.
 //!
 //! Where `let Ok(..) else` returns an error, `?` would do the same; the proof of it takes longer.
 
@@ -138,8 +141,8 @@ fn taking<'a>(alloc: Global) -> Result<Command<'a>, AllocError>
     windowed(alloc, wired)
 }
 
-/// An option `--name` with one of these values: `clap` refuses any other. Its help calls the value
-/// `value`.
+/// An option `--name` with one of these values: `clap` refuses any other. `help` is its text in the
+/// help, which calls its value `value`.
 fn choice_arg<'a>(
     alloc: Global,
     name: &'a str,

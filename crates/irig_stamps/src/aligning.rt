@@ -31,7 +31,8 @@ use std::io::{Read, Write};
 /// recording has at the line's recorder's time. Returns whether the column of each line has a
 /// number, lines of the header not counted (`numbered`); and of the frames that have a time,
 /// whether one is believed, and how many are not (`standing`). The column is `settings.column`, or
-/// if `settings.named` is there, the one with that name in the last line of the header. What was
+/// if `settings.named` is there, the one with that name in the last line of the header. The error
+/// is any `RunFault`; those of a header and its columns come only if a name is looked for. What was
 /// printed before an error stays printed.
 pub fn align<R: Read, W: Write>(
     alloc: Global,
@@ -55,9 +56,10 @@ pub fn align<R: Read, W: Write>(
     align_named(alloc, &recording, lines, out, format, settings, name)
 }
 
-/// Reads the lines and prints each with its time before it, if the number of the column, from 0, is
-/// known: `settings.column`. The results and errors are those of `align`. No byte of the lines was
-/// read before, so `align_track` gets none.
+/// The case of `align` in which the column is given by its number, from 0 (`settings.column`): it
+/// reads the lines and prints each with its time before it. Results are those of `align`. The error
+/// is any `RunFault` but those of a header and its columns. No byte of the lines was read before,
+/// so `align_track` gets none.
 fn align_numbered<R: Read, W: Write>(
     alloc: Global,
     recording: &LongRecording,
@@ -80,9 +82,8 @@ fn align_numbered<R: Read, W: Write>(
 
 /// Reads the lines and prints each with its time before it, if the column is the one with this name
 /// in the last line of the header. The results are those of `align`. What `find` read of the lines
-/// to find the column (`before`) is handed on, since it cannot be read again. If `find` does not
-/// find it, as no column has the name, two have it, or there is no such line, its error is
-/// returned, and nothing is printed.
+/// to find the column (`before`) is handed on, since it cannot be read again. If `find` fails, as
+/// if no column has the name or two have it, its error is returned, and nothing is printed.
 fn align_named<R: Read, W: Write>(
     alloc: Global,
     recording: &LongRecording,

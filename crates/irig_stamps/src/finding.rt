@@ -176,7 +176,8 @@ fn find_in(settings: &Settings<'_>, name: &[u8], bytes: &[u8]) -> Result<usize, 
 
 /// The column of a line, from 0, that has a name, of the first 65,536; `NoColumn` if none has it,
 /// `TwoColumns` if two do, so all of them are looked at. Each turn of the loop looks at the first
-/// column of what is left, and passes it; columns that the line does not have are empty.
+/// column of what is left, and passes it. Columns that the line does not have are empty: they have
+/// the name if it is empty, too.
 fn place_of(comma: Option<u8>, name: &[u8], line: &[u8]) -> Result<usize, RunFault>
     ensures { IsPlace (has_name comma name.now line.now) 65536 result }
 {

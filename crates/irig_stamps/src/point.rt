@@ -19,8 +19,9 @@ pub fn to_the_right(up: bool, places: usize, power: u128, whole: &[u8], fraction
     ensures { (e : ℕ) → power ≡ min e (2 ^ 120)
         → result ≡ min (rounded up (places + e) 0 whole.now fraction.now) (2 ^ 120) }
 {
-    // Moved this far, a number with a digit that is not 0 is 10^37 or more, which is greater than
-    // 2^120. So the point is moved no further, and a great power takes no more time.
+    // Moved this far, the last digit of the fraction has 37 zeros after it. So a number with a
+    // digit that is not 0 is 10^37 or more, which is greater than 2^120 (1.3 * 10^36). The point is
+    // moved no further, so a great power takes no more time.
     let enough = fraction.len() as u128 + 37;
     point_after(
         up,

@@ -59,9 +59,9 @@ pub fn run<R: Read, W: Write>(
     }
 }
 
-/// Reads the rest of the lines, and prints what comes out for it. Returns whether the column of
-/// each line, also of those before, has a number, but for the header (`state.all`). `TooManyReads`
-/// if the lines have not ended after 2^32 reads.
+/// Reads the rest of the lines and prints what comes out for it. Returns whether the column of each
+/// line, also of those before, has a number, but for the header (`state.all`). `TooManyReads` if
+/// the lines have not ended after 2^32 reads; other errors are those of `run_read`.
 fn run_on<R: Read, W: Write>(
     lines: &mut R,
     out: &mut W,
@@ -152,7 +152,8 @@ fn run_read<R: Read, W: Write>(
 }
 
 /// Takes a part of the lines and prints what comes out for it. Returns `false`: more can follow. If
-/// taking it fails, `stop` says why, and prints what came out before a line that is too long.
+/// taking it fails, the error is that of `stop`, which prints what came out before a line that is
+/// too long. `PrintFailed` if the output fails.
 fn put_part<W: Write>(
     out: &mut W,
     state: &mut Lines,
@@ -185,7 +186,7 @@ fn put_part<W: Write>(
 }
 
 /// Ends the last line, if bytes came after the last newline, and prints what comes out for it.
-/// Returns `true`: all lines were read. Ending a line can only run out of memory.
+/// Returns `true`: all lines were read; or `OutOfMemory`, or `PrintFailed` if the output fails.
 fn end<W: Write>(
     out: &mut W,
     state: &mut Lines,
@@ -219,8 +220,7 @@ fn end<W: Write>(
     }
 }
 
-/// Prints a text and makes it empty. Returns `ended`, as the caller gave it, if the output took the
-/// text.
+/// Prints a text and makes it empty. Returns `ended`; or `PrintFailed`, and then the text stays.
 fn print<W: Write>(out: &mut W, text: &mut Vec<u8>, ended: bool) -> Result<bool, RunFault>
     ensures printed { PrintsAll (W.contents out.old) (W.contents out.new) text.old.items result }
     ensures empty { OnOk result (text.new.items ≡ []) }
@@ -235,8 +235,8 @@ fn print<W: Write>(out: &mut W, text: &mut Vec<u8>, ended: bool) -> Result<bool,
 
 /// Returns why the run is broken off, for a part that could not be taken. `count` is how many lines
 /// have ended, so a line that is too long is the next one, `count` + 1. After such a line the text
-/// is printed first: it is what comes out for the lines that have ended. If memory ran out, nothing
-/// is printed: the text can end in the middle of a line.
+/// is printed first, what comes out for the lines that have ended; `PrintFailed` if that fails. If
+/// memory ran out, nothing is printed: the text can end in the middle of a line.
 fn stop<W: Write>(out: &mut W, text: &[u8], count: u64, fault: TakeFault) -> RunFault
     ensures { Stops (W.contents out.old) (W.contents out.new) text.now count fault result }
 {

@@ -82,7 +82,9 @@ fn time_of(
 }
 
 /// Why a recorder's time has no time of year: `Before` if it is before the track starts, else what
-/// `why_at` says of its moment. Callers ask only if it has none; else the answer means nothing.
+/// `why_at` says of its moment. Each moment that is later than any track is long (`LATE`) has the
+/// reason of `END`, since all after the end have the same one. Callers ask only if it has no time;
+/// else the answer means nothing.
 fn why_of(
     pulses: &mut Lens<'_>,
     whys: &Whys,

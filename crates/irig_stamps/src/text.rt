@@ -70,7 +70,7 @@ fn put_ordinal(text: &mut Vec<u8>, year: Option<u32>, time: &Time) -> Result<(),
     text.extend_from_slice(&clock(time))
 }
 
-/// Adds a year of four digits and a hyphen; nothing if the year is not known. It is at most 9999.
+/// Adds a year of four digits and a hyphen; nothing if it is not known. Callers give at most 9999.
 fn put_year(text: &mut Vec<u8>, year: Option<u32>) -> Result<(), AllocError>
     ensures { OnOk result (text.new.items ≡ text.old.items ++ year_text year) }
 {
@@ -111,7 +111,7 @@ fn put_seconds(text: &mut Vec<u8>, time: &Time) -> Result<(), AllocError>
 }
 
 /// The whole seconds since midnight. `micros` counts from the start of the minute, so second 60 is
-/// counted as second 0 of the next minute.
+/// counted as second 0 of the next minute: at the end of the day as 86,400.
 fn day_seconds(time: &Time) -> u64
     ensures { result ≡ day_seconds time.now }
 {

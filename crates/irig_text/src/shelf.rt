@@ -1,6 +1,7 @@
 //! Where texts are written: a file, or a list in memory.
 //!
-//! A ghost item is for contracts alone: it is nothing in the program.
+//! A ghost item is for contracts alone: it is nothing in the program. `Puts` says which texts were
+//! written between two states, how many writes failed, and that the label is the same.
 
 ghost use Rattle.std.specs.Prelude.{◌≡◌, ◌∷◌, [], length, IfOk, OnOk, OnErr};
 ghost use Rattle.irig_text.specs.Shelved.{Shelved, Puts};
@@ -18,6 +19,7 @@ pub trait Shelf {
     ghost known: { Self → Shelved };
 
     /// What holds between its state and a later one, whatever texts are written to it in between.
+    /// Each kind of shelf says what: that its path stays, for example, or nothing.
     ghost since: { Self → Self → Type 0 };
 
     /// Writes a whole text after the texts that were written before, and returns how many bytes it

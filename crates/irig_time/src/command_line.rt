@@ -3,9 +3,10 @@
 //! there, each by its name and its text in the help; what is after the last colon of that text is
 //! the value without the option. Only memory can run out for a `Command` or an `Arg`. The options
 //! come in this order: `taking`, `reading`, `placing`, `writing`, `marking`, and each adds some to
-//! those before, and `command` adds the track. A `UsageFault` is `Words` if `clap` does not accept
-//! the words, they ask for help, or memory runs out, and `Value` if an option has a value that it
-//! cannot have.
+//! those before, and `command` adds the track. In a contract, `IsTaking` and the like say that a
+//! command has just the arguments that the function of that name gives it; `MayRefuse` says that
+//! `clap` may give this error for the words, `WantsMemory` that memory ran out, `IsSound` that the
+//! values are within their limits.
 
 ghost use Rattle.std.specs.Prelude.{◌≡◌, IfErr, IfOk, map, string_bytes};
 ghost use Rattle.clap.specs.Words.{HasMatchesOf, app_of, found_of};
@@ -23,8 +24,9 @@ use clap::{ArgMatches, Command, Error};
 use irig_words::{UsageFault, flag_arg, matches_of, needed_arg, option_arg, windowed};
 use std::alloc::{AllocError, Global};
 
-/// What the words of a command line ask for, the program's name being the first. An error says why
-/// they ask for nothing.
+/// What the words of a command line ask for, the program's name being the first. The error is
+/// `Words` if `clap` does not accept the words, they ask for help, or memory runs out, and `Value`
+/// if an option has a value that it cannot have.
 pub fn chosen<'a>(alloc: Global, words: &'a [String]) -> Result<Chosen<'a>, UsageFault<OptionFault>>
     ensures reads { Reads (map string_bytes words.entry.now) result }
     ensures sound { IfOk result (λ c. IsSound c.settings) }
@@ -53,7 +55,8 @@ fn asked<'a>(alloc: Global, words: &'a [String]) -> Result<Asked<'a>, Error>
 }
 
 /// The values of the matches, each as it was written; `None` for an option that is not given. An
-/// option without a value has `true` if it is given. `Err` means that memory ran out.
+/// option without a value, as `--why`, has `true` if it is given, and else `false`. `Err` means
+/// that memory ran out.
 fn values_of<'a>(matches: &ArgMatches<'a>) -> Result<Asked<'a>, Error>
     ensures values { IfOk result (AreValues (found_of matches.now)) }
     ensures memory { IfErr result WantsMemory }
@@ -102,7 +105,8 @@ pub fn command<'a>(alloc: Global) -> Result<Command<'a>, AllocError>
     marking.arg(needed_arg(alloc, "TRACK", "the dump; lines come on standard input"))
 }
 
-/// The command with the options up to those that say what the header is, and how a time is written.
+/// The command with the options of `placing`, and those that say what the header is, and how a time
+/// is written.
 fn writing<'a>(alloc: Global) -> Result<Command<'a>, AllocError>
     ensures { IfOk result (λ c. IsWriting (app_of c)) }
 {
@@ -113,7 +117,8 @@ fn writing<'a>(alloc: Global) -> Result<Command<'a>, AllocError>
     placing(alloc)?.arg(header)?.arg(name)?.arg(year)?.arg(form)
 }
 
-/// The command with all options: the last say which frames are taken, and what is printed.
+/// The command with all options: those of `writing`, which frames are taken (`--alone`), and what
+/// is printed (`--why`, `--table`).
 fn marking<'a>(alloc: Global) -> Result<Command<'a>, AllocError>
     ensures { IfOk result (λ c. IsMarking (app_of c)) }
 {
@@ -135,7 +140,8 @@ fn marking<'a>(alloc: Global) -> Result<Command<'a>, AllocError>
     writing(alloc)?.arg(alone)?.arg(why)?.arg(table)
 }
 
-/// The command with the options up to those that say where the recorder's time is in a line.
+/// The command with the options of `reading`, and those that say where the recorder's time is in a
+/// line.
 fn placing<'a>(alloc: Global) -> Result<Command<'a>, AllocError>
     ensures { IfOk result (λ c. IsPlacing (app_of c)) }
 {
@@ -165,7 +171,7 @@ fn placing<'a>(alloc: Global) -> Result<Command<'a>, AllocError>
         .arg(comma)
 }
 
-/// The command with the options up to those that say how the track is read.
+/// The command with the options of `taking`, and those that say how the track is read.
 fn reading<'a>(alloc: Global) -> Result<Command<'a>, AllocError>
     ensures { IfOk result (λ c. IsReading (app_of c)) }
 {

@@ -2,7 +2,10 @@
 //! ask: each is printed with the time of year that the track has at the line's recorder's time. A
 //! frame is believed if another one near it supports its time: moments have their times from such
 //! frames alone. `doubted` is how many others have a time, and `timed` whether some frame is
-//! believed. An `Ending` says how the program ends.
+//! believed. An `Ending` says how the program ends. In a contract, `held` is what each file holds,
+//! if that is known, `unread` for which faults a file is not read, `remaining` what is left of an
+//! input, and `contents` what came to an output; `IsSound` says that the settings are within their
+//! limits.
 
 ghost use Rattle.std.specs.Prelude.{map, string_bytes};
 ghost use Rattle.irig_time.specs.Ending.{AlignsAs, EndsBy, ListsAs, Obeys, RunsAs};
@@ -17,8 +20,9 @@ use irig_stamps::{align, list};
 use std::alloc::Global;
 use std::io::{Read, Write};
 
-/// Aligns lines as the words of a command line ask, the program's name being the first. `Usage` if
-/// they ask for help, or for nothing that can be done.
+/// Aligns the lines of the input `lines` as the words of a command line ask, the program's name
+/// being the first, and prints them on `out`. `Usage` if `chosen` finds a mistake in the words,
+/// they ask for help, or memory runs out for them; else the ending is that of `run_file`.
 pub fn align_words<'a, D: Disk, R: Read, W: Write>(
     alloc: Global,
     words: &'a [String],
@@ -37,7 +41,8 @@ pub fn align_words<'a, D: Disk, R: Read, W: Write>(
 }
 
 /// Aligns lines with the track that is chosen, or prints its table. `Unread` if the track could not
-/// be read, also because memory ran out.
+/// be read, also because memory ran out; no line is read then. Else the ending is that of
+/// `run_track`.
 fn run_file<'a, D: Disk, R: Read, W: Write>(
     alloc: Global,
     chosen: &Chosen<'a>,
@@ -56,7 +61,7 @@ fn run_file<'a, D: Disk, R: Read, W: Write>(
 }
 
 /// Aligns lines with a recording, or prints its table if that is asked for: a row for each frame
-/// that has a time. The table needs no lines.
+/// that has a time. The table needs no lines. The ending is that of `align_track` or `list_track`.
 fn run_track<'a, R: Read, W: Write>(
     alloc: Global,
     chosen: &Chosen<'a>,
@@ -76,9 +81,9 @@ fn run_track<'a, R: Read, W: Write>(
     }
 }
 
-/// Prints the table of a recording. The ending is the first of these that holds: frames have a time
-/// and are not believed (`Doubted`), some frame is believed (`Listed`), or none is (`Timeless`).
-/// `Broken` if the run was broken off.
+/// Prints the table of a recording. `Broken` with the fault if the run was broken off. Else the
+/// ending is the first of these that holds: frames have a time and are not believed (`Doubted`,
+/// with how many), some frame is believed (`Listed`), or none is (`Timeless`).
 fn list_track<'a, W: Write>(
     alloc: Global,
     chosen: &Chosen<'a>,
@@ -96,9 +101,10 @@ fn list_track<'a, W: Write>(
     }
 }
 
-/// Aligns lines with a recording. The ending is the first of these that holds: frames have a time
-/// and are not believed (`Doubted`); some frame is believed (`Aligned`), and then whether the
-/// column of each line has a number; or none is (`Timeless`). `Broken` if the run was broken off.
+/// Aligns lines with a recording. `Broken` with the fault if the run was broken off. Else the
+/// ending is the first of these that holds: frames have a time and are not believed (`Doubted`,
+/// with how many); some frame is believed (`Aligned`, with whether the column of each line but the
+/// header has a number); or none is (`Timeless`).
 fn align_track<'a, R: Read, W: Write>(
     alloc: Global,
     chosen: &Chosen<'a>,

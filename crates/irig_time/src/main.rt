@@ -1,6 +1,13 @@
 //! The time of day of each line that a recorder wrote next to a time track. The status is the
-//! number with which the program ends; 0 is success. `tell` and `tell_no_words` print on the
-//! standard error why it ends, and return the status.
+//! number with which the program ends: 0 if each line had a number or the table was printed, 1 if a
+//! line had none, if frames are not believed or if none has a time, 2 for a mistake in the command
+//! line, 3 for a track that was not read, and 4 if the run was broken off. Help that was asked for
+//! ends with 0, or with 4 if it cannot be printed. `tell` and `tell_no_words` print on the standard
+//! error why the program ends, and return the status.
+//!
+//! In a contract, `held` is what each file holds, if that is known, `unread` for which faults a
+//! file is not read, `remaining` what is left of an input, and `contents` what came to an output;
+//! `Serves` says that the words were obeyed, and what the output of help and the status are then.
 #![tactic(auto)]
 
 mod asked;
@@ -31,8 +38,8 @@ use std::rt::Runtime;
 use std::{env, io};
 
 // Gets the files of the system and the words of the command line; then the lines on the input are
-// aligned with the track that the words name. The status is 2 if one of these cannot be had: the
-// track was not looked for then.
+// aligned with the track that the words name, and the status is that of `start`. It is 2 if one of
+// these cannot be had: the track was not looked for then.
 fn main(rt: HostRuntime) -> ExitCode {
     let Ok(files) = system_files(&rt) else {
         return program().tell(&rt, 2, &io::Error::from(io::ErrorKind::OutOfMemory));
@@ -59,9 +66,9 @@ fn arguments<R: Runtime + AllocGlobal>(rt: &R) -> io::Result<Vec<String>> {
     Ok(words)
 }
 
-/// Aligns lines with the track that the words name, by the files of this system (`disk`), and
-/// reports how that ended: the answer is the exit status. `out` is the output for the lines, and
-/// `help` that for the help.
+/// Aligns the lines of an input, `lines`, with the track that the words name, by the files of this
+/// system (`disk`), and reports how that ended: the answer is the exit status, 0 to 4 as the head
+/// of this file says. `out` is the output for the lines or the table, and `help` that for the help.
 fn start<P: Eprint + AllocGlobal, C: FileSystem, R: Read, W: Write, H: Write>(
     rt: &P,
     words: &[String],
@@ -70,8 +77,8 @@ fn start<P: Eprint + AllocGlobal, C: FileSystem, R: Read, W: Write, H: Write>(
     out: &mut W,
     help: &mut H,
 ) -> ExitCode
-    // The words were obeyed. The output of help has the help that was asked for, and nothing else:
-    // there is no other way to print.
+    // The words were obeyed. The output of help has the help if it was asked for, and else nothing:
+    // `rt` prints on the standard error alone, and lines go to `out`.
     ensures { Serves (map string_bytes words.now) (C.held disk.now.system)
         (C.unread disk.now.system) (R.remaining lines.old) (R.remaining lines.new)
         (W.contents out.old) (W.contents out.new) (H.contents help.old) (H.contents help.new)

@@ -1,7 +1,8 @@
 //! What the values of a command line mean. `asked` has them as they are written, and an
 //! `OptionFault` says which option is wrong. `text_or` gives the value of an option, or the text
-//! after it if the option is not given. An option without a value is `true` if it is given. A frame
-//! is fine if it reads well, and it is believed if another one near it supports its time.
+//! after it if the option is not given. An option without a value is `true` if it is given, and
+//! else `false`. A frame is fine if it reads well, and it is believed if another one near it
+//! supports its time.
 
 ghost use Rattle.std.specs.Prelude.{◌≡◌, IfErr, IfOk};
 ghost use Rattle.irig_time.specs.Chosen.{HasSettings, IsChosen, IsSound, asks_why};
@@ -17,9 +18,10 @@ use irig_codes::Format;
 use irig_stamps::{Form, Settings};
 use irig_words::{format_named, text_or, window_named};
 
-/// What the values of a command line ask for. An error is a fault that they have: a value that its
-/// option cannot have; dates to which nothing gives a year; or `--table` with an option that says
-/// how lines are read or printed, since the table reads no lines.
+/// What the values of a command line ask for. The error is the first fault: `Window` or `Format` if
+/// a time of the window or an option of the format is wrong; one of `settings_of`; `NoYear` if
+/// dates are asked for and nothing gives them a year; or `Table` if the table is asked for with an
+/// option that says how lines are read or printed, since the table reads no lines.
 pub fn chosen_of<'a>(asked: &Asked<'a>) -> Result<Chosen<'a>, OptionFault>
     ensures chosen { IfOk result (IsChosen asked.now) }
     ensures sound { IfOk result (λ c. IsSound c.settings) }
@@ -73,7 +75,8 @@ fn asks_why(asked: &Asked<'_>) -> bool
 }
 
 /// Whether an option is given that says how lines are read or printed, so that the table cannot be
-/// asked for. `--comma` is none: it parts the columns of the table, too.
+/// asked for. `--comma` is none: it parts the columns of the table, too. `--why` is tested by its
+/// value: without it that is `false`, not missing.
 fn tells_of_lines(asked: &Asked<'_>) -> bool
     ensures { result ≡ tells_of_lines asked.now }
 {
@@ -85,9 +88,9 @@ fn tells_of_lines(asked: &Asked<'_>) -> bool
         || asks_why(asked)
 }
 
-/// How lines are read and stamped; or the first fault of an option. `early` says that the offset is
-/// below zero. The first day and the length of the track (`micros`) are found later, so they are 0
-/// here.
+/// How lines are read and stamped; or the first fault of an option, from `columns_of`, `dates_of`,
+/// `header_of` or `name_of`. `early` says that the offset is below zero. The first day and the
+/// length of the track (`micros`) are found later, so they are 0 here.
 fn settings_of<'a>(asked: &Asked<'a>) -> Result<Settings<'a>, OptionFault>
     ensures settings { IfOk result (HasSettings asked.now) }
     ensures sound { IfOk result IsSound }

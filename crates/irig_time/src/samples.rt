@@ -81,8 +81,9 @@ pub fn columns_of<'a>(asked: &Asked<'a>) -> Result<Columns<'a>, OptionFault>
     })
 }
 
-/// The column that is asked for: a number from 1, which becomes one from 0, or a name if it is no
-/// number. `Column` if it is a number that is not from 1 to 65,536, or has no byte.
+/// The column that is asked for, the first if none is: a number from 1, which becomes one from 0,
+/// or a name if the text is no number. `Column` if it is a number that is not from 1 to 65,536, or
+/// the text is empty.
 fn column_of<'a>(asked: &Asked<'a>) -> Result<Column<'a>, OptionFault>
     ensures column { IfOk result (IsColumn asked.now) }
     ensures named { IfOk result (λ c. IfSome c.named (λ n. names_column asked.now ≡ true)) }
@@ -104,8 +105,8 @@ fn column_of<'a>(asked: &Asked<'a>) -> Result<Column<'a>, OptionFault>
     })
 }
 
-/// Whether a text is the name of a column: it has a byte, and is no whole number. The attribute
-/// names what the proof uses.
+/// Whether a text is the name of a column: it has a byte, and is no whole number, which has digits
+/// alone. So `-1` is a name. The attribute names what the proof uses.
 #[tactic(auto, using(crate::proofs::Headed::some_capped))]
 fn is_column_name(text: &[u8]) -> bool
     ensures { result ≡ is_column_name text.now }
@@ -136,8 +137,8 @@ pub fn header_of(asked: &Asked<'_>, named: Option<&[u8]>) -> Result<u64, OptionF
     Ok(header as u64)
 }
 
-/// The byte that parts columns; `None` if it is not given, which is white space. `Comma` if the
-/// text is no byte that can part them.
+/// The byte that parts columns; `None` if it is not given, which is white space. `Comma`, the only
+/// fault here, if the text is no byte that can part them.
 fn comma_of(asked: &Asked<'_>) -> Result<Option<u8>, OptionFault>
     ensures comma { IfOk result (IsComma asked.now) }
     ensures fault { IfErr result (λ fault. HasFault asked.now Comma) }

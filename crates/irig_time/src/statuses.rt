@@ -4,7 +4,8 @@
 //! run was broken off. A frame is believed if another one near it supports its time. `tell` and
 //! `tell_of` print a fault on the standard error, the latter with a path, and return the status
 //! that they get. `explain` prints the help with status 0, or with 2 what is wrong with the words;
-//! the status is 4 if the help cannot be printed.
+//! the status is 4 if the help cannot be printed. In a contract, `contents` is what came to an
+//! output, and `Reports` says what the output of help and the status are for an ending.
 
 ghost use Rattle.std.specs.Prelude.{◌≡◌};
 ghost use Rattle.std.specs.Process.{exit_status};

@@ -74,7 +74,7 @@ pub fn comma_named(text: &[u8]) -> Option<u8>
 }
 
 /// Whether a byte is one of ASCII, which ends with 127, that can part columns: none of a number, a
-/// time, a word or a name, and no end of a line.
+/// time, a word or a name, and no end of a line. A byte above 127 is only a part of a character.
 fn is_parting(byte: u8) -> bool
     ensures { result ≡ is_parting byte }
 {

@@ -58,11 +58,12 @@ pub fn gap(from: &Part, to: &Part) -> usize
     to.number - (from.number + from.count)
 }
 
-/// The pulses that are counted between two parts, on from the first and back from the second;
-/// `None` if a pulse would be of both. `after` pulses follow the first in step, and `before` ones
-/// lead to the second; `in_step` says whether these meet in step. If one frame is missing, its 100
-/// pulses are there, and the two counts overlap, then all are in step: all of them are counted on
-/// from the first part, and the second part of the pair is empty.
+/// The pulses that are counted between two parts, on from the first and back from the second.
+/// `after` pulses follow the first in step, and `before` ones lead to the second. If one frame is
+/// missing, its 100 pulses are there, and the two counts overlap, then all are in step: all are
+/// counted on from the first part, and the second part of the pair is empty. Else `sides_by`
+/// answers for what each side keeps (`kept`): `None` if a pulse would be of both. `in_step` says
+/// whether the two sides meet in step then.
 fn sides(
     from: &Part,
     to: &Part,
@@ -89,8 +90,8 @@ fn sides(
 }
 
 /// The first `head` pulses after a part and the last `tail` before another, as parts of the missing
-/// frames; `None` if a pulse would be of both. If the two sides do not meet in step, and are all
-/// pulses of one or two frames (`is_seam`: the recorder slipped there), one pulse is left out.
+/// frames; `None` if a pulse would be of both. If the recorder slipped where they meet (`is_seam`),
+/// one is left out: the last of the first side, or the first of the second if the first has none.
 fn sides_by(
     from: &Part,
     to: &Part,
@@ -115,10 +116,9 @@ fn sides_by(
     ))
 }
 
-/// Whether two sides that do not meet in step are together all pulses of one or two missing frames:
-/// the recorder slipped where they meet, as it lost or added some time, so the time must not go on
-/// there. With any other number of pulses the elements of the two sides do not follow each other
-/// anyway.
+/// Whether the recorder slipped (lost or added some time) where two sides meet: they do not meet in
+/// step, and are together all pulses of one or two missing frames. The time must not go on there.
+/// With any other number of pulses the elements of both do not follow each other anyway.
 fn is_seam(in_step: bool, gap: usize, head: usize, tail: usize) -> bool
     requires { (head ≤ 100) × (tail ≤ 100) }
     ensures { result ≡ is_seam in_step gap head tail }

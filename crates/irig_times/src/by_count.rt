@@ -2,7 +2,8 @@
 //! part is pulses in a row, as elements of one frame whose time is known. `place_of` gives the
 //! element of a pulse and its frame's time, or `None` if the pulse is of no part. A `Lens` shows
 //! the pulses of a track, and counts how often one is looked at. Bounds in `requires`, as 2 ^ 41,
-//! only keep sums and products in their types.
+//! only keep sums and products in their types. `AreParts` claims that parts are in order and no
+//! pulse is in two; `IsPoint`, that a pulse is this element of a frame of this time.
 
 ghost use Rattle.std.specs.Prelude.{◌≡◌, ◌↔◌, ◌<◌, ◌≤◌, ◌+◌, ◌*◌, ◌^◌, ℕ, IsTrue, length, Some};
 ghost use Rattle.irig_track.specs.Looks.{LookedThrough};

@@ -4,7 +4,8 @@
 //! width: its class is 0, 1 or a position identifier, or none. Pulses and elements count from 0.
 //! `Lens` shows the pulses of a track. `wanted` is the elements that a frame should have. At each
 //! end a hundred pulses in step are counted at most, which is a frame: further on a slip of one
-//! interval would go unseen. Bounds as 2 ^ 30 and 2 ^ 59 only keep sums in their types.
+//! whole interval, which leaves pulses in step, would go unseen. Bounds as 2 ^ 30 and 2 ^ 59 only
+//! keep sums in their types.
 
 ghost use Rattle.std.specs.Prelude.{◌≡◌, ◌≤◌, ◌<◌, ◌+◌, ◌-◌, ◌^◌, IfSome, length, min, slice_get};
 ghost use Rattle.irig_codes.specs.Format.{frame_period_of};
@@ -143,7 +144,7 @@ fn contradictions(
     count
 }
 
-/// The count, and one more if `is_so`.
+/// The count plus 1 if `is_so`, else the count.
 fn more(count: usize, is_so: bool) -> usize
     requires { count < 2 ^ 32 }
     ensures { result ≡ (if is_so then count + 1 else count) }

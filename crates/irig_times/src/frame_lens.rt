@@ -1,5 +1,7 @@
 //! An index that counts the looks at its records. A record is a frame of the track, and its marker
-//! is the number of its first pulse, from 0. Records are in the order of their markers.
+//! is the number of its first pulse, from 0. Records are in the order of their markers
+//! (`MarkersRise`). `counted` adds looks to a count, up to 2^64 - 1; `LookedAtFrames` claims how
+//! many were added at most.
 
 ghost use Rattle.std.specs.Prelude.{◌≡◌, ◌<◌, ◌≤◌, ◌^◌, ℕ, length, slice_get, Some};
 ghost use Rattle.irig_track.specs.Looks.{counted};

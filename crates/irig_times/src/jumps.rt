@@ -71,8 +71,9 @@ fn runs_on(format: Format, century: u32, from: &Part, to: &Part) -> bool
 }
 
 /// Whether the time jumps between two frames that have a time, with no other such frame between
-/// them. False if the times fit the count of pulses (`runs_on`). Else true if all these pulses are
-/// in step, or if the markers are whole periods apart and the times are not as many (`slips`).
+/// them. False if the times fit the count of pulses (`runs_on`). Else true if all pulses up to the
+/// second marker are in step, also for three periods or more over midnight, which `runs_on` does
+/// not count; or if the markers are whole periods apart and the times are not as many (`slips`).
 fn is_jump(pulses: &mut Lens<'_>, format: Format, century: u32, from: &Part, to: &Part) -> bool
     requires century { century ≤ 99 }
     requires times { (from.now.time.micros < 2 ^ 59) × (to.now.time.micros < 2 ^ 59) }
@@ -120,8 +121,8 @@ pub fn are_apart(century: u32, period: u64, count: u64, from: &Time, to: &Time) 
 }
 
 /// Whether the markers of two frames are there and whole periods apart, and their times, `from` and
-/// `to`, are not that many apart. `first` and `last` are the markers' pulses, `None` if they are
-/// not there.
+/// `to`, are not that many apart (`slips_by`). `first` and `last` are the markers' pulses; if one
+/// is `None`, as it is not there, the answer is false.
 fn slips(
     format: Format,
     century: u32,
@@ -144,7 +145,9 @@ fn slips(
 }
 
 /// Whether two markers, `first` and `last`, are whole periods apart, to half an interval, and the
-/// times of their frames, `from` and `to`, are not that many apart.
+/// times of their frames, `from` and `to`, are not that many apart. 0 periods are taken as 1
+/// (`are_apart`), also if `last` does not rise after `first`, since the distance is 0 then. False
+/// for three periods or more over midnight: `are_apart` is true of them without counting.
 fn slips_by(format: Format, century: u32, from: &Time, to: &Time, first: Pulse, last: Pulse) -> bool
     requires century { century ≤ 99 }
     requires times { (from.now.micros < 2 ^ 59) × (to.now.micros < 2 ^ 59) }
@@ -160,8 +163,9 @@ fn slips_by(format: Format, century: u32, from: &Time, to: &Time, first: Pulse, 
     !are_apart(century, period, count, from, to)
 }
 
-/// Whether the last frame (`from`) is believed, a time follows it on its day, and yet nothing is
-/// counted after it (`end_after`): pulses there say another time.
+/// Whether the last frame (`from`) is believed, a time follows it on its day (`next_time`), and yet
+/// nothing is counted after it (`end_after`): pulses there say another time, or no frame can have
+/// that time.
 fn is_denied_after(pulses: &mut Lens<'_>, format: Format, from: &Part) -> bool
     requires small { (from.now.time.micros < 2 ^ 59) × (from.now.number + from.now.count < 2 ^ 30) }
     ensures denied { result ≡ is_denied_after format pulses.old.track.pulses from.now }
@@ -172,8 +176,9 @@ fn is_denied_after(pulses: &mut Lens<'_>, format: Format, from: &Part) -> bool
         && end_after(pulses, format, Some(*from)).is_none()
 }
 
-/// Whether the first frame (`to`) is believed, a time is before it on its day, and yet nothing is
-/// counted before it (`end_before`): pulses there say another time.
+/// Whether the first frame (`to`) is believed, a time is before it on its day (`time_before`), and
+/// yet nothing is counted before it (`end_before`): pulses there say another time, or no frame can
+/// have that time.
 fn is_denied_before(pulses: &mut Lens<'_>, format: Format, to: &Part) -> bool
     requires small { (to.now.time.micros < 2 ^ 59) × (to.now.number < 2 ^ 30) }
     ensures denied { result ≡ is_denied_before format pulses.old.track.pulses to.now }

@@ -48,15 +48,17 @@ fn at_minute(time: &Time, hours: u32, minutes: u32, micros: u64) -> Time
     }
 }
 
-/// The microseconds of the minute with this number in its hour. The last one, 59, can have a leap
-/// second, in one time zone or another, so it has 61 seconds here; any other one has 60.
+/// The microseconds of the minute with this number in its hour, for a frame whose time is counted
+/// and not read. The last one, 59, has 61 seconds here, as it can have a leap second in each time
+/// zone of whole hours; any other one has 60. A frame that is read with a second 60 has it in any
+/// minute.
 fn minute_end(minutes: u32) -> u64
     ensures { result ≡ minute_end minutes }
 {
     if minutes == 59 { LONG_MINUTE } else { MINUTE }
 }
 
-/// Whether a frame of a time ends in its minute, or with it; `period` is how long it lasts.
+/// Whether a frame of a time that lasts `period` ends in its minute (`minute_end`), or with it.
 pub fn is_whole(period: u64, time: &Time) -> bool
     requires { (period < 2 ^ 32) × (time.now.micros < 2 ^ 60) }
     ensures { result ≡ is_whole period time.now }

@@ -1,5 +1,7 @@
 //! Parts of frames whose time is known. A frame is a hundred pulses, its elements, and its marker
-//! is the first of them.
+//! is the first of them. `AreParts` claims that parts are in order and no pulse is in two,
+//! `IsPoint` that a pulse is this element of a frame of this time, by a part that has it, and
+//! `PartsAt` how many parts begin with a pulse or before it.
 
 ghost use Rattle.std.specs.Prelude.{◌≡◌, ◌↔◌, ◌<◌, ◌≤◌, ◌^◌, ℕ, MatchOption, length};
 ghost use Rattle.irig_codes.specs.Format.{FormatView};

@@ -4,12 +4,12 @@
 //! back from `to`; pulse 0 of a side is the nearest to the frame. A pair is the part counted on
 //! from `from` and the part counted back from `to`. Pulses are in step if each rises one interval
 //! after the one before. A side counts a hundred pulses in step at most, a frame: further on a slip
-//! of one interval would go unseen. If intervals are lost between the frames, a side keeps only
-//! what is borne out: of its pulses before the first that says another element (`denies`) those
-//! that are nearer than the farthest position identifier at its place (`confirms`). `missing` is
-//! the frames that have to be between the two by their times, and `wanted` the elements that the
-//! frame of a side should have. `Lens` shows the pulses of a track. Bounds in `requires`, as 2 ^ 32
-//! and 2 ^ 59, only keep sums in their types.
+//! of one whole interval, which leaves pulses in step, would go unseen. If intervals are lost
+//! between the frames, a side keeps only what is borne out: of its pulses before the first that
+//! says another element (`denies`) those that are nearer than the farthest position identifier at
+//! its place (`confirms`). `missing` is the frames that have to be between the two by their times,
+//! and `wanted` the elements that the frame of a side should have. `Lens` shows the pulses of a
+//! track. Bounds in `requires`, as 2 ^ 32 and 2 ^ 59, only keep sums in their types.
 
 ghost use Rattle.std.specs.Prelude.{◌≡◌, ◌≤◌, ◌<◌, ◌+◌, ◌^◌};
 ghost use Rattle.irig_times.specs.Sides.{between, borne, borne_at, confirmed, placed, side_after};
@@ -77,10 +77,10 @@ fn confirmed(
     0
 }
 
-/// How many of the first `most` pulses of a side are kept. Only the pulses before the first that
-/// says another element are looked at. Of them those are kept that are nearer than the farthest
-/// position identifier at its place; it is not, since what is lost can be anywhere after its rise.
-/// 0 if none of them is such an identifier.
+/// How many of the first `most` pulses of a side are kept: of those before the first that says
+/// another element (`undenied`) the ones that are nearer than the farthest position identifier at
+/// its place. It is not kept itself, since what is lost can be within it. On a side that goes back
+/// the farthest pulse of all is not taken for one (`placed`). 0 if there is no such identifier.
 fn borne(
     pulses: &mut Lens<'_>,
     format: Format,
@@ -98,8 +98,8 @@ fn borne(
 }
 
 /// How many of the first `most` pulses of a side can show a position identifier at its place: all,
-/// but on a side that goes back not the farthest. That one can be a marker, which is as wide: only
-/// the pulse before it could show that it is none, and that pulse is not among the `most`.
+/// but on a side that goes back not the farthest. That one can be a marker, the second of two
+/// identifiers in a row: the pulse before it would show that, and is not among the `most`.
 fn placed(side: &Side, most: usize) -> usize
     ensures count { result ≡ placed side.now most }
     ensures few { result ≤ most }
@@ -111,8 +111,8 @@ fn placed(side: &Side, most: usize) -> usize
     }
 }
 
-/// How many of the first `most` pulses of a side are kept (`borne`), if the side is of a frame of
-/// this time; 0 if no frame has it, as it is past its minute or does not fit the format.
+/// How many of the first `most` pulses of a side are kept (`borne`), if its frame has this time; 0
+/// if no frame can have it: it is past 61 seconds of its minute, or does not fit the format.
 pub fn borne_at(
     pulses: &mut Lens<'_>,
     format: Format,
@@ -197,8 +197,8 @@ fn torn_sides(
 }
 
 /// The pair between two frames, if `after` pulses after the first and `before` ones before the
-/// second are in step: all these, or fewer if intervals are lost there. `None` if a pulse would be
-/// of both sides, or tens of intervals are lost.
+/// second are in step: what `sides_at` makes of these, or of fewer if intervals are lost there
+/// (`torn_sides`). `None` if a pulse would be of both sides, or tens of intervals are lost.
 fn sides_in(
     pulses: &mut Lens<'_>,
     format: Format,
@@ -222,10 +222,10 @@ fn sides_in(
     }
 }
 
-/// The pulses between two frames that have a time: up to a hundred in step with the first
-/// (`ahead`), and up to a hundred in step with the second (`behind`). `None` if no frame is missing
-/// between the two, or their times do not fit their distance (`missing_by`), or nothing can be
-/// counted (`sides_in`). `century` is 20 for 2000 to 2099.
+/// The pulses between two frames that have a time: up to a hundred in step with the first (`ahead`)
+/// and with the second (`behind`). `None` if `missing_by` gives no missing frames, as if none is
+/// missing, the times do not fit the distance, or two or more are missing over midnight. `None`,
+/// too, for the reasons of `sides_in`. `century` is 20 for 2000 to 2099.
 pub fn between(
     pulses: &mut Lens<'_>,
     format: Format,

@@ -22,7 +22,8 @@ use irig_codes::Format;
 use irig_recording::Pulse;
 use irig_track::Lens;
 
-/// Whether `micros` microseconds without a rise are silence: more than two intervals.
+/// Whether `micros` microseconds without a rise are silence: more than two intervals, which is this
+/// project's own choice.
 fn is_silence(format: Format, micros: u64) -> bool
     ensures { result ≡ is_silence format micros }
 {

@@ -3,6 +3,8 @@
 //! two position identifiers in a row. A frame has a time (`timed`) if it is fine, neither broken
 //! nor read with a note, and ends with its minute of 61 seconds at the latest. `Lens` shows the
 //! pulses of a track, and `FrameLens` its records. Neither is changed, but for its count of looks.
+//! `PartedAt` claims how many records have a marker up to a pulse: this is also the place of the
+//! first record after it.
 
 ghost use Rattle.std.specs.Prelude.{◌≡◌, ◌↔◌, ◌<◌, ◌≤◌, ◌+◌, IsTrue, length, slice_get, Some};
 ghost use Rattle.irig_codes.specs.Format.{FormatView};

@@ -27,8 +27,9 @@ pub fn pulse_at(pulses: &mut Lens<'_>, number: usize) -> Option<Pulse>
 }
 
 /// Whether pulse `number` rises one interval after the one before it, to a tenth, and that step is
-/// as long as those next to it. The first test alone would let a late rise pass on a fast clock.
-/// False for pulse 0, or if one of the two pulses is not there.
+/// as long as those next to it. With the first test alone a rise could be late by two tenths if the
+/// clock is a tenth fast, so that its other steps are nine tenths of an interval. False for pulse
+/// 0, or if one of the two pulses is not there.
 fn is_in_step_at(pulses: &mut Lens<'_>, format: Format, number: usize) -> bool
     requires { number < 2 ^ 33 }
     ensures step { result ≡ is_in_step_at format pulses.old.track.pulses number }
@@ -97,7 +98,8 @@ fn is_as_long(format: Format, step: u64, other: u64) -> bool
 }
 
 /// Whether the step to pulse `number` is as long as the step before it and the one after it, to a
-/// tenth. One of these that is not in step itself is not compared.
+/// tenth. One of these that is not in step itself is not compared, and so none that is not there:
+/// it counts as 0 (`step_at`).
 fn is_even_at(pulses: &mut Lens<'_>, format: Format, number: usize) -> bool
     requires { number < 2 ^ 33 }
     ensures even { result ≡ is_even_at format pulses.old.track.pulses number }

@@ -15,9 +15,11 @@ use crate::torn::{are_tens, is_torn, tenths_found};
 use irig_codes::Format;
 use irig_track::Lens;
 
-/// Whether intervals are lost between two frames (`is_torn`), and their number is a multiple of
-/// ten: the second marker is a whole number of tens of intervals after the first (`are_tens`). At
-/// most a hundred pulses, a frame, are counted in step after the first and before the second.
+/// Whether intervals are lost between two frames, and their number is a multiple of ten.
+/// `is_torn` says whether some are lost: it needs how many pulses after the first frame, and how
+/// many before the second, are in step. These counts end at 100, a frame, which is as much as it
+/// looks at. The lost ones are tens if the second marker is a multiple of ten intervals after the
+/// first, to a fifth of one (`are_tens`; `tenths_found` is that distance in tenths of an interval).
 fn loses_tens(pulses: &mut Lens<'_>, format: Format, from: &Part, to: &Part) -> bool
     requires order { from.now.number + from.now.count ≤ to.now.number }
     requires small { to.now.number < 2 ^ 32 }
@@ -34,12 +36,13 @@ fn loses_tens(pulses: &mut Lens<'_>, format: Format, from: &Part, to: &Part) -> 
 }
 
 /// How many elements of a frame are surely its own, if the next frame's marker is `found` tenths of
-/// an interval after its own, and tens of intervals are lost between the two. All markers after the
-/// loss are whole frames before the next frame's. So if the loss were early in the frame, one would
-/// be at its element 10, 20 .. or 90: `found` to the nearest ten intervals, without whole frames.
-/// The frame reads well, so no marker is there, and the loss is later. So its own are the elements
-/// before the position identifier just before that place: 9, 19 .. or 89 of them. All 100 if only
-/// whole frames are lost, as then no marker would be at another place.
+/// an interval after its own, and tens of intervals are lost between the two. A marker after the
+/// loss is whole frames before the next frame's. So if the loss were early in the frame, a marker
+/// would be at its element 10, 20 .. or 90: `found` to the nearest ten intervals, without whole
+/// frames. The frame reads well, so no marker is there, and the loss is later. So its own are the
+/// elements before the position identifier just before that place: 9, 19 .. or 89 of them. The
+/// identifier does not count, as a pulse with the loss within it can look like one. All 100 if
+/// whole frames are lost: then markers stay at element 0.
 fn sure_elements(found: u64) -> usize
     requires { found ≤ 2 ^ 54 }
     ensures { result ≡ sure_elements found }

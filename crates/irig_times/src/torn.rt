@@ -50,8 +50,8 @@ fn from_to(pulses: &mut Lens<'_>, one: usize, other: usize) -> u64
     }
 }
 
-/// How many microseconds two frames last together, each from its marker to its last element: 198
-/// intervals. A frame of which a pulse is missing counts 0.
+/// How many microseconds two frames last together, each from its marker to its last element: 99
+/// intervals each. A frame whose marker or last element is not there counts 0.
 fn both_last(pulses: &mut Lens<'_>, from: &Part, to: &Part) -> u64
     requires { (from.now.number < 2 ^ 32) × (to.now.number < 2 ^ 32) }
     ensures time { result ≡ both_last pulses.old.track.pulses from.now to.now }
@@ -79,8 +79,8 @@ fn tenths_by(both: u64, time: u64) -> u64
 }
 
 /// How many tenths of an interval the second frame is after the first, as it was recorded: 990 for
-/// the first frame, from its marker to its last element, and the time from there to the second
-/// marker by the mean interval of both frames.
+/// the first frame, the 99 intervals from its marker to its last element, and the time from there
+/// to the second marker by the mean interval of both frames.
 pub fn tenths_found(pulses: &mut Lens<'_>, from: &Part, to: &Part) -> u64
     requires { (from.now.number < 2 ^ 32) × (to.now.number < 2 ^ 32) }
     ensures count { result ≡ tenths_found pulses.old.track.pulses from.now to.now }
@@ -92,8 +92,8 @@ pub fn tenths_found(pulses: &mut Lens<'_>, from: &Part, to: &Part) -> u64
     tenths_by(both, time) + 990
 }
 
-/// How many tenths of an interval the second frame should be after the first: 1000 for each frame
-/// period, which is 100 intervals. The periods are the distance of the markers, to the nearest.
+/// How many tenths of an interval the second marker should be after the first, if none was lost:
+/// 1000 for each frame period between them, to the nearest (`rounded`, from 0 to the distance).
 fn tenths_told(pulses: &mut Lens<'_>, format: Format, from: &Part, to: &Part) -> u64
     ensures count { result ≡ tenths_told format pulses.old.track.pulses from.now to.now }
     ensures few { result ≤ 2 ^ 54 }
@@ -113,8 +113,8 @@ fn are_near(one: u64, other: u64) -> bool
 }
 
 /// Whether these tenths of an interval are tens of intervals, to a fifth of one: a whole number of
-/// hundreds, to 2. If two frames are so far apart and intervals are lost, tens of them are. If the
-/// distance is further off, pulses there are not in step, so that counting ends by itself.
+/// hundreds, to 2. If two frames between which intervals are lost are so far apart, tens are. A
+/// loss that is further off, as of 10.3 intervals, is not in step, so counting ends there.
 pub fn are_tens(count: u64) -> bool
     requires { count ≤ 2 ^ 54 }
     ensures { result ≡ are_tens count }
@@ -122,9 +122,10 @@ pub fn are_tens(count: u64) -> bool
     (count + 2) % 100 <= 4
 }
 
-/// Whether intervals are lost between two frames, or are there twice: not all pulses between them
-/// are in step, and the distance is more than half an interval off from the whole periods that it
-/// is nearest to. `after` pulses after the first and `before` ones before the second are in step.
+/// Whether intervals are lost between two frames, or are there twice: the markers' distance
+/// (`tenths_found`) is more than half an interval off from the whole periods that it is nearest to.
+/// `after` pulses after the first and `before` ones before the second are in step, a hundred each
+/// at most. False if these counts overlap: then all pulses there are in step.
 pub fn is_torn(
     pulses: &mut Lens<'_>,
     format: Format,
@@ -139,7 +140,6 @@ pub fn is_torn(
     ensures torn { result ≡ is_torn format pulses.old.track.pulses from.now to.now after before }
     ensures pulses { pulses.new.track ≡ pulses.old.track }
 {
-    // If the two counts overlap, all pulses there are in step.
     if gap(from, to) < after + before {
         return false;
     }

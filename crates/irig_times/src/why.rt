@@ -1,6 +1,6 @@
-//! Why moments have no time. A frame is a part: its pulses, or none if it is not believed, as no
-//! frame near it supports its time. Pulses count from 0. `century` is 20 for 2000 to 2099. The time
-//! jumps if a clock was set or intervals were lost, or if pulses at an end show another time.
+//! Why moments have no time. A frame is a part: its pulses, or none if not believed, as no near one
+//! supports its time. The time jumps if a clock was set, intervals were lost, or pulses at an end
+//! show another time. `Lens` shows pulses, counted from 0. `century`: 20 for 2000 to 2099.
 
 ghost use Rattle.std.specs.Prelude.{◌≡◌, ◌≤◌, ◌<◌, ◌+◌, ◌/◌, ◌^◌, ℕ, IfOk, IfSome, List, Bool, Some};
 ghost use Rattle.std.specs.Prelude.{MatchOption, length, slice_get};
@@ -71,7 +71,7 @@ pub fn find_whys(
     Ok(Whys { frames, gaps })
 }
 
-/// Why pulses have no time before each frame of `whole`, all that have one, and after the last.
+/// Why pulses have no time before each of `whole`, the frames that have one, and after the last.
 fn gaps(
     alloc: Global,
     pulses: &mut Lens<'_>,
@@ -120,7 +120,7 @@ fn why_next_to(
     why_steady(pulses, format, century, from, to)
 }
 
-/// Why pulses have no time without a jump: `Before` if `from` is `None`, `After` if only `to` is.
+/// Why, without a jump: `Before` if `from` is `None`, `After` if only `to` is, else `why_between`.
 fn why_steady(
     pulses: &mut Lens<'_>,
     format: Format,
@@ -163,8 +163,8 @@ fn why_between(pulses: &mut Lens<'_>, format: Format, century: u32, from: &Part,
     }
 }
 
-/// Whether the times of two frames are as many frame periods apart as their markers, to the nearest
-/// period. Also true if a marker's pulse is not there, and for 3 periods or more over midnight.
+/// Whether the times of two frames are as many periods apart as their markers: the nearest number,
+/// at least 1 (`are_apart`). Also true if a marker is not there, or for 3 or more over midnight.
 fn are_apart_by(pulses: &mut Lens<'_>, format: Format, century: u32, from: &Part, to: &Part) -> bool
     requires century { century ≤ 99 }
     requires times { (from.now.time.micros < 2 ^ 59) × (to.now.time.micros < 2 ^ 59) }

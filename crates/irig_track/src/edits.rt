@@ -8,7 +8,9 @@
 //! before it), they lie within the length, and there are at most 2^22. The place of a gap buffer is
 //! where items come and go. A `Span` says that from pulse `at` on, from 0, `old` pulses became
 //! `new`. `room` is how many more pulses the limit permits, and `spare`, in contracts, how many
-//! more fit in the memory that is taken.
+//! more fit in the memory that is taken. There, too, `piece at count` are that many items from `at`
+//! on, and `spliced at count put` is the list with this piece replaced by `put`. A clause `edges`
+//! says of each time whether an edge is there afterwards.
 //!
 //! What is marked "Read for .." does nothing: it only lets the proof use what a type promises.
 
@@ -135,7 +137,8 @@ impl Track {
     /// Whether toggling the edges at the times `a` and `b`, in microseconds, leaves a track within
     /// the limits. It is false, too, unless `a` is before `b` and `b` within the length. There is
     /// one pulse more afterwards only if there is an edge at neither of them, so only then room for
-    /// one is needed.
+    /// one is needed. Nothing tests that pulses do not touch: they would if two edges were at one
+    /// time, but a toggle adds an edge only at a time that has none.
     pub fn can_toggle(&self, a: u64, b: u64) -> bool
         ensures { IsTrue result ↔ CanToggle self.now.micros a b self.now.pulses }
     {

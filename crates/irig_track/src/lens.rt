@@ -88,7 +88,8 @@ impl<'a> Lens<'a> {
         self.micros
     }
 
-    /// The pulse at `index`, from 0. It is counted as a look.
+    /// The pulse at `index`, from 0. It is counted as a look: `left` goes down by 1, and stays at 0
+    /// once it is there.
     pub fn pulse(&mut self, index: usize) -> Pulse
         requires { index < length self.old.track.pulses }
         ensures value { slice_get self.old.track.pulses index ≡ Some result }

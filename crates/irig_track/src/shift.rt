@@ -1,6 +1,9 @@
 //! Moves pulses in time. `Gap` is a gap buffer: a list that items are put into at a place.
 //!
-//! A distance is in microseconds, and below 0 if it goes back to earlier times.
+//! A distance is in microseconds, and below 0 if it goes back to earlier times. In contracts,
+//! `piece at count` are that many items from `at` on, and `spliced at count put` is the list with
+//! this piece replaced by `put`. `gap_view` is a buffer with some items, its place and its
+//! capacity.
 //!
 //! What is marked "Read for .." does nothing: it only lets the proof use what a type promises.
 

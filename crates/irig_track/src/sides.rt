@@ -1,5 +1,6 @@
 //! The pulses on both sides of a gap. A gap buffer has a place, the gap, with items left and right
-//! of it; items come and go there.
+//! of it; items come and go there. In contracts, `Took` says that a pulse went from the right side,
+//! and `Wrote` that one came to the left side.
 //!
 //! What is marked "Read for .." does nothing: it only lets the proof use what a type promises.
 
@@ -11,7 +12,8 @@ ghost use Rattle.irig_recording.specs.declared.pulse.Pulse.{Pulse};
 use irig_gap::Gap;
 use irig_recording::Pulse;
 
-/// The first pulse right of the gap; `None` if there is none. It stays there.
+/// The first pulse right of the gap; `None` if there is none. It stays there. `within` says again
+/// what a buffer promises, for the proofs of callers.
 pub(crate) fn next(pulses: &Gap<Pulse>) -> Option<Pulse>
     ensures next { result ≡ slice_get (right_of pulses.now) 0 }
     ensures inside { IsSome result → pulses.now.place < length pulses.now.items }

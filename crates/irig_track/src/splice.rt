@@ -1,6 +1,9 @@
 //! Replaces pulses of a gap buffer by those of another.
 //!
-//! A gap buffer has a place, the gap, where items come and go. Pulses count from 0.
+//! A gap buffer has a place, the gap, where items come and go. Pulses count from 0. In contracts,
+//! `piece at count` are that many items from `at` on, and `spliced at count put` is the list with
+//! this piece replaced by `put`. `gap_view` is a buffer with some items, its place and its
+//! capacity.
 //!
 //! What is marked "Read for .." does nothing: it only lets the proof use what a type promises.
 
@@ -35,6 +38,7 @@ pub(crate) fn replace(
     let come = put.len();
     // So all pulses of `put` are right of its gap, from which they are taken in order.
     put.move_to(0);
+    // It is empty, so nothing moves: the proof has from this call that its place is 0.
     taken.move_to(0);
     if count == come {
         exchange(pulses, at, count, put, taken);

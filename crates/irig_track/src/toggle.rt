@@ -6,6 +6,8 @@
 //! right of it, and `put_last` adds one just left of it.
 //!
 //! To toggle a time: an edge there goes, or if there was none one comes. Times are in microseconds.
+//! In contracts, `waiting` are all edges with the rise that waits, `Under a` says that edges are
+//! before `a`, and `Stays b` that no pulse which rises after `b` goes or comes.
 
 ghost use Rattle.std.specs.Prelude.{◌≡◌, ◌+◌, ◌-◌, ◌<◌, ◌≤◌, ◌++◌, ◌∷◌, [], length};
 ghost use Rattle.irig_recording.specs.Recording.{RisesFrom};

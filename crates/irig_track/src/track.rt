@@ -48,9 +48,13 @@ impl Track {
     /// memory. It fails only if memory runs out, and then the recording is dropped.
     ///
     /// It gets some spare room, so that the first pulse that comes does not move all pulses to
-    /// another block. It takes memory only if the block has no such room. `bounded`: a recording's
-    /// block has room for at most as many pulses again and 1024, and a growth adds half at most,
-    /// which makes 1536 of 1024.
+    /// another block. It takes memory only if the block has no such room.
+    ///
+    /// `bounded`, for n pulses: a recording's block has room for at most n + 1024 more. It grows
+    /// only if it has room for fewer than 1024 more, so its capacity is below n + 1024 then. A
+    /// growth adds half of the capacity at most, n / 2 + 512, or makes room for 1024. So at most
+    /// 1024 + n / 2 + 512 are spare, which is n / 2 + 1536. With or without a growth, n + 1536 is
+    /// enough.
     pub fn new(recording: Recording) -> Result<Track, AllocError>
         ensures length { IfOk result (λ t. t.micros ≡ recording.micros) }
         ensures edges { IfOk result (λ t. edges_of t.pulses ≡ recording.edges) }
@@ -63,9 +67,9 @@ impl Track {
         Ok(Track { micros, pulses })
     }
 
-    /// The recording with the track's length and edges: a copy. A track keeps the limits of a
-    /// recording, so `unwrap` finds one. It fails only if memory runs out; an empty track takes no
-    /// memory.
+    /// The recording with the track's length and edges: a copy. `Recording::new` gives `None` only
+    /// beyond the limits of a recording; a track keeps these, so `unwrap` finds one. It fails only
+    /// if memory runs out; an empty track takes no memory.
     pub fn recording(&self, alloc: Global) -> Result<Recording, AllocError>
         ensures exact { IfOk result (λ r.
             r ≡ recording_view self.now.micros (edges_of self.now.pulses)) }
@@ -95,7 +99,8 @@ impl Track {
     /// writes it: a dump. `whole` collects its parts. At first it asks for as much as the longest
     /// text takes: two edges of 18 bytes a pulse, and 140 for the header and the length. An edge is
     /// two lines: `#` with a time of at most 13 digits (2^40), and a level with the wire's
-    /// identifier of one byte. It fails only if memory runs out.
+    /// identifier of one byte. With the ends of lines these are 15 and 3 bytes. The header has 125
+    /// and the line of the length 15. It fails only if memory runs out.
     pub fn text(&self, alloc: Global) -> Result<Vec<u8>, AllocError>
         ensures { IfOk result (λ text. text.items
             ≡ file_text (recording_view self.now.micros (edges_of self.now.pulses))) }

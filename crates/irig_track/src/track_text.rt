@@ -1,9 +1,11 @@
 //! The text of a track, in parts.
 //!
-//! The text is a dump: header lines, two lines for each edge, and a line of the length if the last
-//! edge is not there. The writer (`TextWriter` of irig_recording) writes them, and has the last
-//! time that it wrote. What fails, fails only if memory runs out. A text has `enough` bytes if it
-//! has at least as many: the part that is added last may go past them.
+//! The text is a dump: header lines, two lines for each edge above 0, and a line of the length if
+//! the last edge is not there. An edge at 0 is part of the header. The writer (`TextWriter` of
+//! irig_recording) writes them, and has the last time that it wrote. What fails, fails only if
+//! memory runs out. A text has `enough` bytes if it has at least as many: the part that is added
+//! last may go past them. In contracts, `still_to_come` and `lines_after` are the bytes of the text
+//! that are not written yet.
 
 ghost use Rattle.std.specs.Prelude.{◌≡◌, ◌≤◌, ◌<◌, ◌++◌, drop, length, vec_len, IfOk, IsSome};
 ghost use Rattle.irig_recording.specs.{FileText.file_text, Recording.recording_view};

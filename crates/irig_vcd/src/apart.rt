@@ -4,7 +4,8 @@
 //! is read; a value on another code, one "apart", says nothing of it. `source` is text of the dump;
 //! places are those of bytes in it, from 0. `false` or `None` says only that nothing is taken here:
 //! the way for any token, which is slower, then reads what is there. In contracts, `words_from` are
-//! the words of bytes that begin at a place, and `Takes..` says which word was taken of them.
+//! the words of bytes that begin at a place: `false` says that the byte before is not of a word,
+//! `true` that its word goes on there. `Takes..` says which word was taken of them.
 
 ghost use Rattle.std.specs.Prelude.{◌≡◌, ◌≤◌, ◌<◌, ◌+◌, ◌∷◌, ◌↔◌, [], true, false, length, drop};
 ghost use Rattle.std.specs.Prelude.{◌⊎◌, ℕ, map, slice_index, IfSome};
@@ -44,8 +45,8 @@ fn is_apart(source: &[u8], start: usize, code: &[u8]) -> bool
     source[start + 2] == b'\n'
 }
 
-/// Bit k is set if byte k of the 16 is at most 32, a space. All white space is. So are a few bytes
-/// that are no white space, which are rare: a value that has one is left to the slower way.
+/// Bit k is set if byte k of the 16 is at most 32, a space. All white space is at most 32, and so
+/// are a few other bytes, which are rare: a value with one of those is left to the slower way.
 #[inline(always)]
 fn spaces(bytes: u8x16) -> u64
     ensures { result ≡ mask_l (map is_low bytes) }

@@ -7,6 +7,12 @@
 //! token: a value without its code, or a comment. An error is the first fault of the changes, or
 //! that memory ran out; then all that was read so far is given up.
 //!
+//! In contracts, a scan `s` is what the words so far say, and `IsAt` says that clock, trace and the
+//! others hold that. `end` is where all words lead: what they say, and their first fault or none.
+//! `Leads` says that the tokens that are left lead there; `Scans` that they still do after a call,
+//! or that its error is that fault, or memory ran out. `IsOn` says that no change in the trace
+//! is after the clock.
+//!
 //! Where `match` hands an error on, `?` would do the same; the proof of it takes longer.
 
 ghost use Rattle.std.specs.Prelude.{◌≡◌, ◌≤◌, ◌^◌, ◌∷◌, [], Option, None, Err, length, IfOk, OnOk};
@@ -150,9 +156,9 @@ pub fn follow(
 
 /// Follows the tokens that are left, from the clock `from` on, and returns the clock after them.
 /// First come those that are taken in one step (`follow_short`), then one of any kind (`take`), and
-/// again, until no token is left. `is_plain` says that the code is short enough for values to be
-/// taken in one step. `is_quick` says that whole pulses may be: the code is also of one byte, and
-/// the unit is a microsecond or less.
+/// again, until no token is left. `is_plain` says that values may be taken in one step: the code is
+/// 1 to 18 printable bytes. `is_quick` says that whole pulses may be: the code is also of one byte,
+/// and the unit is a microsecond or less.
 #[inline(always)]
 fn follow_on(
     tokens: &mut Tokens,

@@ -1,10 +1,10 @@
 //! A dump that comes in parts.
 //!
-//! An extent says how much of the dump is kept: a window of it, a part between two microseconds, or
-//! all; and how many pulses. Bytes are held until they are read: until at least `wanted` of them
-//! are there, so that the same bytes are not read again for each small part. `gone` counts those
-//! that were read and let go. The unit is that of the dump's times. An error is a fault of the
-//! dump, `OutOfMemory` among them.
+//! An extent says how much of the dump is kept: a window, from one microsecond to another, or all;
+//! and how many pulses. Bytes are held until `wanted` of them are there, and then read, so that the
+//! same bytes are not read again for each small part. `gone` counts those that were let go. The
+//! unit is that of time. An error is a fault of the dump, or `OutOfMemory`. In contracts, `HasRead`
+//! says which bytes came so far, and `extent_parts` is what the dump says: a result, or a fault.
 //!
 //! Where `match` hands an error on, `?` would do the same; the proof of it takes longer.
 
@@ -181,10 +181,10 @@ fn put_part(progress: &mut Progress, part: &[u8]) -> Result<(), VcdFault>
     read_held(progress)
 }
 
-/// Reads the bytes that are held up to the last white space (`whole_len`), since no word goes on
-/// after it. Of these it keeps what belongs to the first journal (`gather`), and lets them go. It
-/// reads nothing while `read_to` has an inner error: that is a fault of the declarations, which
-/// more bytes may mend. Then `let_go(0)` only sets how many bytes it waits for.
+/// Reads the bytes that are held up to the last white space (`whole_len`), which cuts no word. Of
+/// these it keeps what belongs to the first journal (`gather`), and lets them go. It reads nothing
+/// while `read_to` has an inner error: that is a fault of the declarations, which more bytes may
+/// mend. Then `let_go(0)` only sets how many bytes it waits for: twice those that are held.
 fn read_held(progress: &mut Progress) -> Result<(), VcdFault>
     requires reader { IsReader progress.old }
     ensures reader { OnOk result (IsReader progress.new) }
@@ -249,8 +249,8 @@ fn read_rest(progress: &mut Progress) -> Result<Unit, VcdFault>
     }
 }
 
-/// What was read, if nothing comes after it: the recording, and the journal that was gathered, or
-/// `None`. The faults of the whole come last: too many edges (`kept`), a second journal (`one`).
+/// What was read, if nothing comes after it: the recording, and the gathered journal, or `None`.
+/// Faults, in this order: as `Reading::finish`, too many edges (`kept`), a second journal (`one`).
 fn finish(
     reading: Reading,
     journal: Vec<u8>,

@@ -10,12 +10,14 @@ use irig_recording::{LONG_PULSES_LIMIT, PULSES_LIMIT};
 #[derive(Clone, Copy)]
 pub struct Extent {
     pub window: Option<Window>,
-    /// At most 2^26 pulses are kept, which are only read; if it is false, at most 2^22.
+    /// If true, at most 2^26 pulses are kept, of a recording that is only read; if false, at most
+    /// 2^22, of one that can be edited.
     pub is_long: bool,
 }
 
 impl Extent {
-    /// A window of a dump, or all of it, with at most 2^22 pulses, as a track has that is edited.
+    /// A window of a dump, or all of it (`None`), with at most 2^22 pulses, as a track has that is
+    /// edited.
     pub fn short(window: Option<Window>) -> Extent
         ensures { result ≡ short window }
     {
@@ -25,7 +27,7 @@ impl Extent {
         }
     }
 
-    /// A window of a dump, or all of it, with at most 2^26 pulses.
+    /// A window of a dump, or all of it (`None`), with at most 2^26 pulses.
     pub fn long(window: Option<Window>) -> Extent
         ensures { result ≡ long window }
     {

@@ -2,7 +2,9 @@
 //!
 //! A journal is a comment whose first word is `irig-journal-1`. `Pending` says what is open after
 //! the last token: `Comment` is a comment without its first word, `Rest` one with it, and where it
-//! begins if it is a journal. A comment ends with the word `$end`.
+//! begins if it is a journal. A comment ends with the word `$end`. In contracts, `Holds all` says
+//! that the places are those of the journals in the list `all`. A scan `s` is what the words so far
+//! say; journals and pending are those of a scan before a call (`Keeps`) and after it (`Reaches`).
 
 ghost use Rattle.std.specs.Prelude.{◌≡◌, ◌≤◌, ◌++◌, ◌∷◌, [], ℕ, List, None, Some, IfErr, IfOk};
 ghost use Rattle.std.specs.Prelude.{IfSome, codes, length, map, vec_len};

@@ -1,4 +1,5 @@
-//! Where a part of a dump may end. A word is a run of bytes without white space.
+//! Where a part of a dump may end. A word is a run of bytes without white space. In contracts,
+//! `ends_inside false` says whether the last of these bytes is of a word.
 
 ghost use Rattle.std.specs.Prelude.{◌≡◌, ◌≤◌, true, false, not, length, drop, take};
 ghost use Rattle.std.specs.List.{list_all};

@@ -5,6 +5,11 @@
 //! fault whatever comes, or that memory ran out; the caller gives up all of it then. The
 //! declarations are whole if the section that ends them is there.
 //!
+//! In contracts, `HasReadWords` says that the declarations and the words after them are read, and
+//! `Stage` the same, or that nothing is read as there is no unit yet. `StopsAt` and `StopsIn` say
+//! that an error is the first fault after the declarations, or that memory ran out. `IsReady` and
+//! `IsOn` say that the clock fits the unit, or any unit as long as there is none.
+//!
 //! Where `match` hands an error on, `?` would do the same; the proof of it takes longer.
 
 ghost use Rattle.std.specs.Prelude.{◌≡◌, ◌≤◌, ◌<◌, ◌+◌, ◌*◌, ◌++◌, ◌^◌, [], ℕ, List, Option, Some};

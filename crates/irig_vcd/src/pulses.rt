@@ -1,11 +1,15 @@
 //! Pulses that are read in one step: a rise and a fall, each a time line and a level line, as
 //! `#120` and `1!`.
 //!
-//! `code` is that of the wire that is read, of one byte. `unit` is that of the dump's times: a
+//! `code` is that of the wire that is read, a printable byte. `unit` is that of the dump's times: a
 //! microsecond or less. A clock is a time of the dump, cut in two: `whole` is in microseconds, and
 //! `rest` is what is left, in units. A stretch goes up to its `limit` in microseconds: its edges
 //! are kept, or none is in the window that is read. `tokens.at` is the place of the next byte;
 //! places are those of bytes in `source`, from 0.
+//!
+//! In contracts, a scan `s` is what the words so far say. `IsTraced` says that clock and trace have
+//! its time and its changes, `Passes` that the tokens that are left lead on from there to the same
+//! end as all did before, and `LiesOn` that the level is low and the stretch fits the trace.
 //!
 //! Where `let .. else` hands `None` on, `?` would do the same; the proof of it takes longer.
 
@@ -56,6 +60,7 @@ fn is_line(source: &[u8], at: usize, value: u8, code: u8) -> bool
 ///
 /// The unit says how many of the last digits are below a microsecond: they are the clock's `rest`,
 /// the others its `whole`. The place is 16 or more, since `lanes_end` also reads bytes before it.
+/// An edge has at most 20 bytes, so the 32 from the place on (`room`) are enough.
 #[inline(always)]
 fn edge_at(source: &[u8], at: usize, high: bool, code: u8, unit: Unit) -> Option<Edge>
     requires back { 16 ≤ at }

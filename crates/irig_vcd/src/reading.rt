@@ -5,6 +5,9 @@
 //! much of the dump is kept: a window, from one microsecond to another, or all. `moved` gives the
 //! microsecond of the window that a microsecond of the dump falls on.
 //!
+//! In contracts, a scan `s` is what the words so far say; `StandsAt` says that a reading holds
+//! that, and `IsOn` that a trace has followed some changes, none of them after the clock.
+//!
 //! Where `match` hands an error on, `?` would do the same; the proof of it takes longer.
 
 ghost use Rattle.std.specs.Prelude.{◌≡◌, ◌≤◌, ◌^◌, ℕ, List, None, Err, IfOk, OnOk};
@@ -76,8 +79,9 @@ impl Reading {
 
     /// What was read, if nothing comes after it: the length in microseconds, the edges and the
     /// places of the journals. The length is that of the dump. With a window it is that of the
-    /// window, or less if the dump ends before the window does. `BadToken` if a value without its
-    /// code is open, `Unclosed` if a comment is (`closed`); else only memory can run out.
+    /// window, or less if the dump ends before the window does. There can be one edge too many,
+    /// which the caller tests (`kept`). `BadToken` if a value without its code is open, `Unclosed`
+    /// if a comment is (`closed`); else only memory can run out.
     pub fn finish(self, unit: Unit) -> Result<Body, VcdFault>
         requires time { IsOn unit self.trace self.clock }
         ensures exact { (s : Scan) → StandsAt unit s self

@@ -7,6 +7,10 @@
 //! the way for any token, which is slower. `tokens` holds the tokens that are left: what is taken
 //! is removed from it.
 //!
+//! In contracts, `end` is where all words of the changes lead: what they say, and their first fault
+//! or none. `Leads` says that the tokens that are left lead there; `Scans` and `Puts` that they
+//! still do after the function, or that its error is that fault, or memory ran out.
+//!
 //! Where `match` hands an error on, `?` would do the same; the proof of it takes longer.
 
 ghost use Rattle.std.specs.Prelude.{◌≡◌, ◌↔◌, ◌≤◌, ◌<◌, List, Option, true, length, slice_index};
@@ -51,7 +55,7 @@ pub fn is_quick(is_plain: bool, unit: Unit, code: &[u8]) -> bool
 /// Takes the tokens here that are taken in one step, up to the first that is not, and returns the
 /// time after them. `from` is the time before them. A time sets the clock; a value on the code goes
 /// into the trace, with the pulses after it; a value on another code (`Apart`) is only passed. An
-/// error is a time that is before the last or too late, or that memory ran out.
+/// error is `Backward` or `TimeTooLarge` for a time before the last or too late, or `OutOfMemory`.
 #[inline(always)]
 pub fn follow_short(
     is_plain: bool,

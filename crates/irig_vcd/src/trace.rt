@@ -4,7 +4,8 @@
 //! one it is all. `moved` gives the microsecond of the window that a time falls on. Several changes
 //! can be in one microsecond: the last one counts. So an edge is kept only when the trace goes on
 //! to a later microsecond, and only if the level differs from that of the microsecond before.
-//! `LENGTH_LIMIT` is the latest time that a dump may have.
+//! `LENGTH_LIMIT` is the latest time that a dump may have. In contracts, `Follows` says which
+//! changes a trace has followed, and `EdgeBefore` that the level is high at a time before another.
 
 ghost use Rattle.std.specs.Prelude.{◌≡◌, ◌≤◌, ◌<◌, ◌+◌, ◌*◌, ◌^◌, true, false, ◌∷◌, [], ◌++◌, ℕ, List};
 ghost use Rattle.std.specs.Prelude.{◌↔◌, OnOk, OnErr, IfOk, IfSome, length, take};
@@ -115,11 +116,11 @@ impl Trace {
         !self.now
     }
 
-    /// The stretch from here on in which pulses are taken in one step. The level has to be low. At
-    /// a time before the window or from its end on no edge is kept (`apart`). Within the window
-    /// edges are kept if a rise waits for its fall, which is at the last time: each step then keeps
-    /// this fall and the next rise. Else it is `None`: the next change is to be taken in the usual
-    /// way.
+    /// The stretch from here on in which pulses are taken in one step. The level has to be low.
+    /// Before the window no edge is kept up to its begin, and from its end on none at all: `apart`.
+    /// Within the window edges are kept up to its end, if a rise waits for its fall, which is at
+    /// the last time: each step then keeps this fall and the next rise. Else it is `None`: the next
+    /// change is to be taken in the usual way. No limit is above `LENGTH_LIMIT`.
     #[inline(always)]
     pub fn stretch(&self) -> Option<Stretch>
         requires { self.now.now ≡ false }
@@ -148,7 +149,8 @@ impl Trace {
         None
     }
 
-    /// Whether two edges more can be kept on a stretch: false if `stretch.most` pulses are whole.
+    /// Whether two edges more can be kept on a stretch: with them there are at most 2 * `most` + 1
+    /// (`edges_kept`), one more than `most` pulses have. False if `most` pulses are whole.
     #[inline(always)]
     pub fn has_room(&self, stretch: Stretch) -> bool
         ensures { result ≡ true ↔ (length self.entry.now.edges + 2 ≤ edges_kept stretch.most) }

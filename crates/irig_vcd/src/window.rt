@@ -14,8 +14,8 @@ pub struct Window {
 }
 
 /// The microsecond of a window, from 0 at its begin, that a time of the dump, in microseconds,
-/// falls on: 0 for a time before the window, the length of the window for one after it. Without a
-/// window (`None`) it is the time itself.
+/// falls on: 0 for a time before the window, the length of the window for one from its end on.
+/// Without a window (`None`) it is the time itself.
 #[inline(always)]
 pub fn moved(window: Option<Window>, time: u64) -> u64
     ensures { result ≡ moved window time }

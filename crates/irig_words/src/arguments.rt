@@ -1,6 +1,7 @@
 //! The arguments of a command line, as `clap` takes them: each has a name by which its value is
 //! asked for later, and `help` says what it is for. In a contract, the rule of an argument is what
-//! `clap` accepts for it, and `global` would make it one of subcommands, too.
+//! `clap` accepts for it (`None` in it: any text is a value), and `global` would make it one of
+//! subcommands, too.
 
 ghost use Rattle.std.specs.Prelude.{◌≡◌, None, false};
 ghost use Rattle.clap.specs.Words.{rule_of};

@@ -1,5 +1,7 @@
 //! What a command takes, and what it refuses. A `Command` is what `clap` knows of a command line;
-//! one that is an error could not be made, as memory ran out.
+//! one that is an error could not be made, as memory ran out. In a contract, `HasMatchesOf` and
+//! `MayRefuse` say that `clap` may give these matches or this error for the words, `IsMistake` that
+//! an error is no call for help.
 //!
 //! Where `match` hands an error on, `?` would do the same; the proof of it takes longer.
 
@@ -13,7 +15,8 @@ use std::alloc::AllocError;
 
 /// The matches of the words of a command line, the program's name being the first: what `clap`
 /// found in them. An error says which mistake they have, has the help that was asked for, or says
-/// that memory ran out. The command must have no argument with a rule on another one.
+/// that memory ran out. The command must have no argument with a rule on another one
+/// (`is_simple_and_free`).
 pub fn matches_of<'a>(command: Command<'a>, words: &'a [String]) -> Result<ArgMatches<'a>, Error>
     requires { is_simple_and_free (app_of command) ≡ true }
     ensures parsed { IfOk result

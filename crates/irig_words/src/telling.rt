@@ -1,6 +1,9 @@
 //! What a program says of itself, and the statuses with which it ends. `rt` prints on standard
 //! error; if that fails, nothing else can be said, so it is passed over. Status 2 is a mistake in
-//! the command line.
+//! the command line. In a contract, `contents` is what came to an output; `EndsWith` says that this
+//! is the status and no help was printed, `Helps` that the help was printed, or a front of it if
+//! the output fails, `IsHelp` that an error of `clap` asks for help, and `IsMistake` that it does
+//! not.
 
 ghost use Rattle.std.specs.Prelude.{◌≡◌};
 ghost use Rattle.std.specs.Process.{exit_status};
@@ -122,7 +125,8 @@ impl<'a> Program<'a> {
     }
 }
 
-/// Says which mistake the words have, in the words of `clap`, and returns status 2.
+/// Says which mistake the words have, or that memory ran out, and returns status 2. The text is
+/// that of `clap`: it begins with `error:` and ends its line, so nothing is added to it.
 fn tell_mistake<R: Eprint>(rt: &R, error: &Error) -> ExitCode
     ensures { exit_status result ≡ 2 }
 {

@@ -63,8 +63,9 @@ fn to_arg<'a>(alloc: Global) -> Arg<'a>
 }
 
 /// The window between two times in microseconds, if one of them is given; `Ok(None)` if none is.
-/// Without `from` it begins at 0, and without `to` it ends at the greatest time. An error says
-/// which text is no time, `from` first, or that the window ends before it begins.
+/// Without `from` it begins at 0, and without `to` it ends at the greatest time. The error is
+/// `From` or `To` if that text is no time, `from` being tested first, and `Early` if the window
+/// ends before it begins. A window with two equal times is empty, and no fault.
 pub fn window_named(from: Option<&str>, to: Option<&str>) -> Result<Option<Window>, WindowFault>
     ensures window { IfOk result (IsWindow (given from.entry) (given to.entry)) }
     ensures fault { IfErr result (HasWindowFault (given from.entry) (given to.entry)) }
@@ -128,7 +129,7 @@ fn time_named(text: &[u8]) -> Option<u64>
     }
 }
 
-/// The number that digits spell, or 2^64 if it is above, so that no step overflows; `None` if a
+/// The number that digits spell; 2^64 for each greater one, so that no step overflows. `None` if a
 /// byte is no digit. No digits are 0; the caller has tested that some are there. In the contract, 0
 /// is the number before the first digit.
 fn spelt(digits: &[u8]) -> Option<u128>

@@ -24,9 +24,11 @@ use irig_saved::{Letters, Marks};
 use irig_track::{Span, Track};
 
 /// Turns a toggle: inverts the level from time `a` to time `b`. Returns which pulses it touched:
-/// those that rise at or before `b` and fall at or after `a`. The same toggle leads back, so no
-/// other change has to be left. The caller has tested that the toggle can be made, and made room
-/// for one pulse more.
+/// those that rise at or before `b` and fall at or after `a` (`standing_in` counts such pulses).
+/// The same toggle leads back, so no other change has to be left. The caller has tested that the
+/// toggle can be made, and made room for one pulse more. `few` bounds how many pulses there are at
+/// this place afterwards: at most one more than the track had, and at most two more than had their
+/// rise after `a` up to `b`.
 pub(crate) fn turn_toggle(track: &mut Track, a: u64, b: u64) -> Span
     requires can { CanToggle track.old.micros a b track.old.pulses }
     requires spare { 0 < track.old.spare }

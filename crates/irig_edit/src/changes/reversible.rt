@@ -1,8 +1,9 @@
 //! Changes of the present state, turned in place. A `Turn` is a change with places for the pulses
 //! that go. A state is lawful if track and marks keep their limits and the index has the frames.
 //!
-//! A journal asks these calls of a state (`Reversible`). To turn a change is to make it and to
-//! leave the change that leads back in it. A splice is the change that replaces pulses by others.
+//! These are the calls that a journal needs of a state; the trait `Reversible` has their contracts.
+//! To turn a change is to make it and to leave the change that leads back in it. A splice is the
+//! change that replaces pulses by others.
 //!
 //! What is marked "Read for .." does nothing: it only lets the proof use what a type promises.
 

@@ -6,6 +6,10 @@
 //! The index keeps a record of each frame, and reads the pulses by a lens on the track (`lens`). To
 //! turn a change is to make it and to leave the change that leads back in it.
 //!
+//! In a contract `HasRoomFor` says that there is the room that a turn and its turn back need.
+//! `IsAmpleFor` says that there is all the room that `room_for` asks for, and `PutsIn` is the part
+//! of this that `reserve_put` makes. `IsWithin`: no place is lost.
+//!
 //! What is marked "Read for .." does nothing: it only lets the proof use what a type promises.
 
 ghost use Rattle.std.specs.Prelude.{◌≡◌, ◌≤◌, ◌↔◌, IsTrue, OnErr, OnOk, length};
@@ -95,9 +99,11 @@ impl Present {
 /// Room for turns.
 impl Present {
     /// Makes room for a turn of a single change and for its turn back: in the index for records of
-    /// frames, in the track for pulses that come, and in `turn` for pulses that go. The change must
-    /// be one that can be made; it is not made here. It fails only if memory runs out; what was
-    /// reserved until then stays.
+    /// frames, in the track for pulses that come, and in `turn` for pulses that go. The way back
+    /// needs no more: it brings back frames and pulses that were there before, whose places stay,
+    /// and the pulses that it removes go to the buffer in which they came. The change must be one
+    /// that can be made; it is not made here. It fails only if memory runs out, never if all this
+    /// room is there already. What was reserved before an error stays.
     pub(crate) fn room_for(&mut self, turn: &mut Turn) -> Result<(), AllocError>
         requires fits { FitsSingle self.old.state (single_of turn.old) }
         ensures known { IsState self.old.state }
@@ -132,10 +138,11 @@ impl Present {
         match single {
             Single::Splice { put, .. } => markers_among(put.as_gap(), self.format) + 2,
             Single::Toggle { a, b } => {
-                // A toggle touches at most one pulse more than those that rise after `a` up to `b`,
-                // and leaves one more than it touches: with the 2, that is 4. The track gets one
-                // pulse more at most: with the 2, that is 3 more than it has. `a` is before `b`, so
-                // the difference does not saturate.
+                // A toggle touches the pulses that rise after `a` up to `b`, which are `between`,
+                // and at most one before them. It leaves at most one more than it touches. So
+                // `between + 2` new pulses can each begin a frame; with the two frames of above
+                // that is `between + 4`. The whole track has at most `pulses + 1` afterwards: with
+                // the two frames, `pulses + 3`. `a` is before `b`, so nothing saturates.
                 let between = self.find(*b).saturating_sub(self.find(*a));
                 (between + 4).min(pulses + 3)
             }
@@ -153,7 +160,7 @@ impl Present {
     /// Makes places in the track for the pulses that a single change inserts, beyond the places of
     /// those that it removes; none if it removes more. A toggle leaves at most one pulse more than
     /// before, and needs one more place while it is made: 2. Other changes need none. It fails only
-    /// if memory runs out. The state stays.
+    /// if memory runs out, never if the places are there already (`PutsIn`). The state stays.
     fn reserve_put(&mut self, single: &Single) -> Result<(), AllocError>
         ensures state { self.new.state ≡ self.old.state }
         ensures index { self.new.index ≡ self.old.index }

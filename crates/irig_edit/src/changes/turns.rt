@@ -6,7 +6,9 @@
 //! moves pulses. The index holds the frames of the track; a span says which pulses a turn touched,
 //! and `repair` reads the frames again that these may have changed. A look is one read of a pulse
 //! for this; the clauses `looks` bound their number by the pulses that a turn touched. The places
-//! of a state (`places_in`) are how many pulses and frames it has room for. Times are in
+//! of a state (`places_in`) are how many pulses and frames it has room for: `HoldsState` says that
+//! pulses and frames of a state fit in, `KeepsPlaces` that there are as many places as before.
+//! `turned_single` is the state after a change, with the change that leads back. Times are in
 //! microseconds. A change counts pulses from 1, a track from 0.
 //!
 //! What is marked "Read for .." does nothing: it only lets the proof use what a type promises.
@@ -55,8 +57,10 @@ impl Present {
 
     /// Turns a single change by its kind, and leaves the change that leads back in `single`.
     /// `taken` is empty, with places for the pulses that a splice removes; afterwards it is empty
-    /// again. A change that was found possible names no pulse 0, so `at - 1` does not wrap. A mark
-    /// has nothing to do with frames, so `turn_mark` alone is enough for it.
+    /// again, with places for those that the way back removes. `passing` is how many free places
+    /// the track needs while the change is made: 1 for a toggle, else 0. A change that was found
+    /// possible names no pulse 0, so `at - 1` does not wrap. A mark has nothing to do with frames,
+    /// so `turn_mark` alone is enough for it.
     fn turn_single(&mut self, single: &mut Single, taken: &mut Gap<Pulse>)
         requires fits { FitsSingle self.old.state single.old }
         requires empty { taken.old.items ≡ [] }
@@ -88,7 +92,7 @@ impl Present {
     /// Turns a splice: replaces `count` pulses from `at` on, from 0, by those of `put`. Afterwards
     /// `put` holds the pulses that went and `count` says how many came: the splice of these leads
     /// back. `taken` is empty, with places for the pulses that go; afterwards it is empty again,
-    /// with places for those that came.
+    /// with places for those that came: `exchange` swaps it with the buffer of `put`.
     fn splice(&mut self, at: usize, count: &mut u64, put: &mut Pulses, taken: &mut Gap<Pulse>)
         requires can { CanSplice self.old.state.micros at count.old put.old
             self.old.state.pulses }

@@ -23,6 +23,8 @@ use irig_track::Pulse;
 
 /// The one pulse that the pulses `i` to `j`, both included, are joined into: from the rise of the
 /// first to the fall of the last. `NoPulse` unless all of them are there and `i` is below `j`.
+/// Nothing else is tested: no other pulse is between these, so the new one touches none, and the
+/// track has fewer pulses than before.
 fn plan(present: &Present, i: usize, j: usize) -> Result<Pulse, Refusal>
     ensures plan { MatchResult result
         (λ p. Plans (Join i j) present.now.state i (j + 1 - i) (p ∷ []) i)

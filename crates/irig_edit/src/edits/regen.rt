@@ -136,9 +136,10 @@ fn plan(
 
 impl Session {
     /// Fills the time from `start` on, in microseconds, with frames in the session's format, of
-    /// pulses of nominal width. The pulses that rise in that time go. The first frame carries the
-    /// moment, each later one a frame period more, and all have the control functions `control`,
-    /// whose lowest bit is the first control element. The cursor goes to the last new pulse.
+    /// pulses of nominal width. The pulses that rise in that time go, also one that falls after it.
+    /// The first frame carries the moment, each later one a frame period more, and all have the
+    /// control functions `control`, whose lowest bit is the first control element. The cursor goes
+    /// to the last new pulse.
     ///
     /// E1 unless there are 1 to 10,000 frames, which end within the length; E3 if a pulse rises
     /// before the start and falls at it or after it; E5 if there would be more than 2^22 pulses; E7

@@ -69,9 +69,10 @@ fn judge(present: &Present, i: usize, j: usize, by: i64) -> Result<(), Refusal>
 }
 
 /// The change that moves the pulses `i` to `j` by `by` microseconds, and with them each mark from
-/// the rise of the first to the fall of the last, both included. The refusals are those of `judge`:
-/// `NoPulse`, `OutOfRange`, `Touching`. In the contract `Becomes` says that this change leads to
-/// what the edit asks for, and `change_by` is the change that the edit makes.
+/// the rise of the first to the fall of the last, both included. As the moved pulses stay on the
+/// track, so do these marks, which needs no test. The refusals are those of `judge`: `NoPulse`,
+/// `OutOfRange`, `Touching`. In the contract `Becomes` says that this change leads to what the edit
+/// asks for, and `change_by` is the change that the edit makes.
 fn plan(present: &Present, i: usize, j: usize, by: i64) -> Result<Single, Refusal>
     ensures refused { IfErr result (λ e. judgement_of (Shift i j by) present.now.state ≡ Some e) }
     ensures allowed { OnOk result (judgement_of (Shift i j by) present.now.state ≡ None) }

@@ -5,6 +5,7 @@
 //! on each mark that is set has a line. Then comes the line that counts the steps back. Marks are
 //! times in microseconds. In a contract `head_fault` and `mark_beyond` are the first line at fault
 //! before the steps, if there is one; `IsBad` is `BadJournal` with such a line, or `OutOfMemory`.
+//! `mark_lines 97` are the lines of all marks that are set: 97 is the letter a.
 //!
 //! Where `match` hands an error on, `?` would do the same; the proof of it takes longer.
 

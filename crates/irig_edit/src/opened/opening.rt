@@ -6,10 +6,12 @@
 //! of the dump's wire to read; if none is given, the dump has to have one wire of one bit. A dump
 //! and the text of a journal have at most 2^28 bytes here, and so at most that many lines.
 //!
-//! In a contract `IsBad` is V13 at such a line, or `OutOfMemory`. Its clauses `memory` say when
-//! memory can run out: `ReachesSteps` if the text begins a journal that has a step; `HasHead` if
-//! format, cursor and marks of the journal are right, or there is no journal; `MayBeShort` if the
-//! dump has no fault and one of these two holds.
+//! In a contract `IsOpened` says that the session is the right one, and `IsUnopened` that the error
+//! is that of the dump, or else of its journal. `heading`: a fault of the dump's declarations is
+//! answered before all others. `IsBad P` is V13 at a line that `P` holds of, or `OutOfMemory`. The
+//! clauses `memory` say when memory can run out: `ReachesSteps` if the text begins a journal that
+//! has a step; `HasHead` if format, cursor and marks of the journal are right, or there is no
+//! journal; `MayBeShort` if the dump has no fault and one of these two holds.
 //!
 //! Where `match` hands an error on, `?` would do the same; the proof of it takes longer.
 
@@ -72,7 +74,8 @@ impl Session {
     ///
     /// V13 with the number of the line at fault of the journal, from 1. `OutOfMemory` can come if
     /// there is no journal. With one it comes only while the lines of its steps are read, or after
-    /// the form of all lines, the format, the cursor and the marks are found right.
+    /// the form of all lines, the format, the cursor and the marks are found right. The contract is
+    /// about every dump, `bytes` with a `wire`, that has this recording and this journal.
     pub fn open_parts(
         alloc: Global,
         recording: Recording,
@@ -97,8 +100,9 @@ impl Session {
 }
 
 /// Reads a dump: the recording of its wire, and the journal that it carries, `None` if it has none.
-/// The dump is judged, and the form of the journal's lines (V13), but none of its steps is tried.
-/// The text of the journal is a part of `bytes`, which are dropped at the end.
+/// The dump is judged, and the form of the journal's lines, but none of its steps is tried. The
+/// error is a fault of the dump, V13, or `OutOfMemory`. The text of the journal is a part of
+/// `bytes`, which are dropped at the end.
 fn parts_of(
     alloc: Global,
     bytes: Vec<u8>,

@@ -6,9 +6,9 @@
 //! undone again, so that they lie ahead, to be redone. V13 is `VcdFault::BadJournal`. A `Walk` is a
 //! state with its cursor and steps. After an error nothing is said of what is left in it.
 //!
-//! What is marked "Read for .." does nothing: it only lets the proof use what a type promises.
-//! Where `match` hands an error on, `?` would do the same; the proof of it takes longer.
-//! `CanTakeAll`: all these steps can be taken. `IsBad`: V13 at such a line, or `OutOfMemory`.
+//! `CanTakeAll`: all these steps can be taken. `CanBegin`: there is a step, and its first change is
+//! possible. `IsBad P`: V13 at a line that `P` holds of, or `OutOfMemory`. Where `match` hands an
+//! error on, `?` would do the same; the proof of it takes longer.
 
 ghost use Rattle.std.specs.Prelude.{◌≡◌, ◌+◌, ◌≤◌, ◌<◌, ◌^◌, ◌++◌, List, [], Err, IfErr, IfOk};
 ghost use Rattle.std.specs.Prelude.{MatchBool, MatchResult, None, OnOk, length, reverse};
@@ -34,8 +34,7 @@ use irig_saved::{Change, Saved, SavedStep, Single, Steps};
 use irig_vcd::VcdFault;
 use std::alloc::{AllocError, Global};
 
-/// Why steps were not all taken. Their lines in the journal are counted in the order in which steps
-/// are taken.
+/// Why steps were not all taken. Lines are counted in the order in which the steps are taken.
 #[derive(Drop)]
 pub(crate) enum NotTaken {
     /// A step cannot be taken: the steps taken before this one have `before` lines, and with the
@@ -57,7 +56,7 @@ impl Walk {
             × (self.new ≡ ahead_of self.old (steps_of (reverse steps))))
             (λ why. IsNotTaken self.old.state (reverse steps) why) }
     {
-        // Read for the law of its type alone.
+        // Read for the proof alone, which can then use what the type of `self` promises.
         let _len = self.len();
         let count = steps.len();
         self.take_all(alloc, steps)?;
@@ -95,10 +94,10 @@ impl Walk {
 
     /// Takes the steps back of a journal, undoes them, and swaps past and future, so they are the
     /// past. Then it takes the steps forward and undoes them, too: they are ahead, to be redone.
-    ///
-    /// `line` is the number, from 1, of the line that counts the steps forward. V13 has the first
-    /// line of the step that cannot be taken; else `OutOfMemory`. A step back begins `behind` lines
-    /// above `line` (they are there, so nothing saturates), one forward `before` after `line + 1`.
+    /// `line` is the number, from 1, of the line that counts the steps forward. An error is V13
+    /// with the first line of the step that cannot be taken, or `OutOfMemory`. The newest step back
+    /// is just above `line`: so a step back begins `behind` lines above it (they are there, so
+    /// nothing saturates), and a step forward begins `before` lines after `line + 1`.
     fn follow_both(
         &mut self,
         alloc: Global,
@@ -133,8 +132,8 @@ impl Walk {
     }
 
     /// Takes steps, the last of the list first; they are in the past then. If one cannot be taken,
-    /// `NotTaken::At` counts the lines of the steps that were taken before it (`before`), and the
-    /// same with its own lines (`behind`). `NotTaken::Memory` says that memory ran out.
+    /// `NotTaken::At` counts the lines of the steps that were taken before it (`before`), and these
+    /// with its own lines added (`behind`). `NotTaken::Memory` says that memory ran out.
     fn take_all(&mut self, alloc: Global, mut steps: Steps) -> Result<(), NotTaken>
         requires ahead { self.old.future ≡ [] }
         requires lines { length (steps_lines (reverse steps)) < 2 ^ 63 }
@@ -155,7 +154,8 @@ impl Walk {
         Ok(())
     }
 
-    /// Undoes the newest `count` steps; they are ahead then. The caller has taken that many.
+    /// Undoes the newest `count` steps; they are ahead then. The caller has taken that many: in the
+    /// contract `h` is the walk before that, and `ds` are the steps.
     fn go_back(&mut self, count: usize)
         ensures { (h : History State Change) → (ds : List (Step Change))
             → IsState h.state → CanTakeAll h.state ds → self.old ≡ gone_along h ds
@@ -221,9 +221,9 @@ impl Walk {
         Ok(true)
     }
 
-    /// Makes single changes in their order, and one step of them, a group. Returns whether all can
-    /// be made; if `false`, some of them may be made. It fails only if memory runs out. The list is
-    /// reversed first, since `pop` takes from its end.
+    /// Makes single changes in their order, and one step of them, a group; an empty list makes a
+    /// group without changes. Returns whether all can be made; if `false`, some may be made. It
+    /// fails only if memory runs out. The list is reversed first, since `pop` takes from its end.
     fn make_all(&mut self, alloc: Global, mut singles: Vec<Single>) -> Result<bool, AllocError>
         requires ahead { self.old.future ≡ [] }
         ensures { MatchResult result

@@ -98,8 +98,9 @@ fn begin_next<'s>(
 }
 
 /// Writes the first line of a step `kept` by the journal, with the step's cursor, and if it is a
-/// group, a second line that counts its changes. Returns the lines of the changes, which are still
-/// to be written. It fails only if memory runs out.
+/// group, a second line that counts its changes. A step that is no group has one change, so it
+/// needs no count. Returns the lines of the changes, which are still to be written. It fails only
+/// if memory runs out.
 fn begin_step<'s>(text: &mut Vec<u8>, kept: Step<'s, Turn>) -> Result<ChangeLines<'s>, AllocError>
     requires alone { kept.is_group ≡ false → length kept.changes.now ≡ 1 }
     ensures { IfOk result (λ left. text.new.items ++ left ≡ text.old.items ++ text_of (step_lines

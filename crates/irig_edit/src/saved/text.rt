@@ -111,7 +111,8 @@ impl Text for SavedText<'_> {
 /// Adds what a stage has, the dump or steps, to a block until it has `enough` bytes. Returns `true`
 /// if none of the stage is left and the block has fewer bytes than `enough`; `false` if the block
 /// has `enough`, whether any of the stage is left or not. After the last stage nothing is added and
-/// the answer is `true`. It fails only if memory runs out.
+/// the answer is `true`. It fails only if memory runs out. The texts between the stages, `opening`
+/// and `middle` in the contract, are not written here: `bytes` holds whatever they are.
 fn fill_stage(
     stage: Stage,
     dump: &mut TrackText<'_>,

@@ -8,7 +8,9 @@
 //! In a contract `Steps` says what a call does to the states and steps of the session, or why it is
 //! refused, and `LooksAfter` bounds its looks. `edit` is a call that edits; `judgement_of` is the
 //! first refusal of an edit, if it has one; `Plans`, `Becomes` and `change_by` say to what pulses,
-//! state and change an edit leads.
+//! state and change an edit leads. `work_in` is the state of a session with its cursor and steps,
+//! `grouped_in` the same with each former state whole; `made` and `recorded_over` are what a change
+//! makes of them.
 
 ghost use Rattle.std.specs.Prelude.{◌≡◌, ◌≤◌, ◌<◌, ◌-◌, length, IfOk, OnOk, OnErr, IsErrOf, None};
 ghost use Rattle.std.specs.Prelude.{Ok};
@@ -83,7 +85,7 @@ impl Session {
     }
 
     /// Sets the format in which frames are read, as a step; the cursor stays. The only refusal is
-    /// E11: memory runs out.
+    /// E11: memory runs out. E6 is not needed: a `Format` has an expression that is permitted.
     pub fn format(&mut self, format: Format) -> Result<(), Refusal>
         ensures step { Steps (Make (SetFormat format)) self.old result self.new }
         ensures looks { LooksAfter (Make (SetFormat format)) self.old result self.new }
@@ -151,7 +153,7 @@ impl Session {
 
     /// Moves the cursor to a pulse, from 1. This takes no memory, and is no step.
     ///
-    /// E2, `NoPulse`, unless the pulse is there.
+    /// E2, `NoPulse`, unless the pulse is there; so it is the answer to 0, too.
     pub fn go(&mut self, pulse: usize) -> Result<(), Refusal>
         ensures step { Steps (Go pulse) self.old result self.new }
         ensures looks { LooksAfter (Go pulse) self.old result self.new }

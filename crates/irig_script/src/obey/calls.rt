@@ -3,7 +3,9 @@
 //! the session is before the call. Pulses count from 1 here; the number 0 is that of one that is
 //! not there, and the session refuses it. Times are in microseconds; that of a mark which is not
 //! set is above each length, and is refused, too. A refused edit changes nothing; the reply then
-//! has why, a `Refusal`. An edit can also be refused because memory runs out (`OutOfMemory`).
+//! has why, a `Refusal`. An edit can also be refused because memory runs out (`OutOfMemory`). An
+//! edit of pulses also moves the cursor, as the call of the session says. In contracts, `Obeys`
+//! says that the session may give this reply to a command, and what it has then.
 
 ghost use Rattle.std.specs.Prelude.{◌≡◌};
 ghost use Rattle.irig_lines.specs.declared.command.Command.{Command};
@@ -185,16 +187,16 @@ pub fn begin(session: &mut Session) -> Reply
     reply_to(session.begin())
 }
 
-/// Makes one step of what was done since the group was opened. Refused if no group is open
-/// (`NoGroup`).
+/// Makes one step of what was done since the group was opened, none if nothing was done. Refused if
+/// no group is open (`NoGroup`).
 pub fn end(session: &mut Session) -> Reply
     ensures { Obeys Command.End session.old result session.new }
 {
     reply_to(session.end())
 }
 
-/// Undoes what was done since the group was opened, for good: it cannot be redone. Refused if no
-/// group is open (`NoGroup`).
+/// Undoes what was done since the group was opened, for good: track, format, marks and cursor are
+/// as they were then, and nothing is left to redo. Refused if no group is open (`NoGroup`).
 pub fn abort(session: &mut Session) -> Reply
     ensures { Obeys Command.Abort session.old result session.new }
 {

@@ -4,7 +4,10 @@
 //! line was obeyed, before its answer is printed. An error is a fault of the dump (then no line was
 //! read), or a fault of the run. `Status` says whether a line was refused. In a contract, a desk is
 //! what is known of the screen and the shelf, and `IsOpened` says that a session is the one that a
-//! dump gives.
+//! dump gives. The label of a shelf sets it apart from others, so `label` says that it is still the
+//! same shelf; `since` is what the shelf promises of each later state, whatever is written to it in
+//! between. `ReadsTo` says that at most 2^44 bytes of the script were read (2^32 reads of 4,096),
+//! and that only the last 4,096 of these can have the line that ends it.
 
 ghost use Rattle.std.specs.Prelude.{◌≡◌, ◌≢◌, ◌⊎◌, ◌≤◌, ◌^◌, ℕ, List, Option, length, Ok, Err};
 ghost use Rattle.std.specs.Prelude.{IfSome, MatchResult};
@@ -40,8 +43,10 @@ pub enum DumpRunFault {
 /// Opens a dump and obeys a script on its session, from the bytes that come in to those that go
 /// out. The wire is chosen by its name; without a name the dump has to have one wire of one bit.
 /// Frames are read in the format, unless the dump has a journal with another. The bytes of the dump
-/// (`source`) are dropped before the script is read. That memory ran out for the dump is reported
-/// only if the wire has an edge, or the dump itself can be read: then its session needs memory.
+/// (`source`) are dropped before the script is read. A fault of the dump, also that memory ran out
+/// for it, comes before all lines: nothing is read of the script, printed or written then. That
+/// memory ran out is reported only if the wire has an edge, or the dump itself can be read
+/// (`MayBeShort`): then its session needs memory.
 pub fn run_on_dump<R: Read, W: Write, N: Witness, S: Shelf>(
     alloc: Global,
     source: Vec<u8>,
@@ -71,7 +76,12 @@ pub fn run_on_dump<R: Read, W: Write, N: Witness, S: Shelf>(
 
 /// Obeys a script on the session of a recording and the text of the journal, if there is one, as
 /// `irig_vcd` reads both from a dump: it does what `run_on_dump` does with the bytes of that dump.
-/// A journal that is wrong is a fault of the dump. The text is dropped before the script is read.
+/// Frames are read in `format`, unless there is a journal with another. A journal that is wrong is
+/// a fault of the dump, `Dump`. So is `OutOfMemory` (`memory`): without a journal memory can run
+/// out for the session; with one only while the lines of its steps are read, or after the form of
+/// all its lines, the format, the cursor and the marks are found right. Nothing is read of the
+/// script, printed or written then, so `label` and `since` hold of a shelf that has not changed.
+/// The text is dropped before the script is read.
 pub fn run_on_parts<R: Read, W: Write, N: Witness, S: Shelf>(
     alloc: Global,
     recording: Recording,

@@ -4,7 +4,11 @@
 //! after each line was obeyed, before its answer is printed. `PrintFault` says that a write of the
 //! output failed. In a contract, `Holds text` says that the bytes `text` of a line have come; a
 //! desk is what is known of the screen and the shelf; `Obeyed` says what the bytes of a script did,
-//! and `BrokeIn` that they were obeyed up to an answer that was not printed whole.
+//! and `BrokeIn` that they were obeyed up to an answer that was not printed whole. The label of a
+//! shelf sets it apart from others, so `label` says that it is still the same shelf; `since` is
+//! what the shelf promises of each later state, whatever is written to it in between. `ReadsTo`
+//! says that at most 2^44 bytes of the script were read (2^32 reads of 4,096), and that only the
+//! last 4,096 of these can have the line that ends it.
 //!
 //! Where `match` or `let Ok(..) else` returns an error, `?` would do the same; the proof of it
 //! takes longer.
@@ -40,8 +44,9 @@ const READ_LIMIT: usize = 4096;
 const READS_LIMIT: u64 = 4_294_967_296;
 
 /// Obeys a script to its end, or to its line `quit`, and returns whether a line was refused. Each
-/// line is answered before the next is read. An error is that a read failed, that a write of the
-/// output failed, or that there were 2^32 reads.
+/// line is answered before the next is read. An error is that a read failed (`ReadFailed`), that a
+/// write of the output failed (`PrintFailed`), or that 2^32 reads did not end the script
+/// (`TooManyReads`).
 pub fn run<R: Read, W: Write, N: Witness, S: Shelf>(
     session: &mut Session,
     script: &mut R,
@@ -143,7 +148,8 @@ fn with_end<'a>(buffer: &'a [u8; READ_LIMIT], count: usize, line: &Line) -> &'a 
 
 /// Obeys the bytes that come after a line's front, which `line` has, and returns whether a line in
 /// them is `quit`, which ends the script. Bytes after it are passed over. If there is none, the
-/// front of a line that has not ended waits in `line`.
+/// front of a line that has not ended waits in `line`. `Err` if an answer is not printed whole;
+/// bytes after its line are not obeyed.
 fn obey_part<W: Write, N: Witness, S: Shelf>(
     line: &mut Line,
     bytes: &[u8],
@@ -174,7 +180,8 @@ fn obey_part<W: Write, N: Witness, S: Shelf>(
 
 /// Obeys a byte that comes after the front of a line: a newline ends the line, which is obeyed and
 /// answered; any other byte is added to it. Returns whether the script ends with this line: only
-/// `quit` ends it, and `obey_line` has no reply (`None`) to that.
+/// `quit` ends it, and `obey_line` has no reply (`None`) to that. After an answer `line` is empty.
+/// `Err` if the answer is not printed whole.
 fn obey_byte<W: Write, N: Witness, S: Shelf>(
     line: &mut Line,
     byte: u8,

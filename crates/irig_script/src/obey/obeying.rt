@@ -1,7 +1,8 @@
 //! What is replied to a line of a script, and done for it. Each function below `obey` is called
 //! only with the commands of its purpose, so its last case never comes. The shelf is where `write`
 //! and `save` write their texts. In a contract, `Obeys` says that the session may give this reply
-//! to a command, and what it has then.
+//! to a command, and what it has then. `Puts` says which texts were written to the shelf, and how
+//! many writes failed. `since` is what the shelf promises of each later state.
 
 ghost use Rattle.std.specs.Prelude.{◌≡◌, ◌≢◌, length};
 ghost use Rattle.irig_script.specs.Obey.Obeying.{Obeys};
@@ -41,8 +42,9 @@ pub fn obey_line<S: Shelf>(line: &Line, session: &mut Session, shelf: &mut S) ->
     }
 }
 
-/// Obeys a command that does not end the script. `write` and `save` write their text to the shelf;
-/// all others do not need it.
+/// Obeys a command that does not end the script. `write` and `save` write their text to the shelf,
+/// and the reply is `Written` or `WriteFailed`; all others do not need it, and have the reply of
+/// `obey`.
 fn write_or_obey<S: Shelf>(command: Command, session: &mut Session, shelf: &mut S) -> Reply
     requires { command ≢ Command.Quit }
     ensures answer { Obeys command session.old result session.new }

@@ -1,7 +1,8 @@
 //! The numbers of the pulses that addresses and ranges mean in a session, and its times. Pulses
 //! count from 1, and 0 is the number of one that is not there. An address is what it counts from,
 //! its base, and an offset, a number of pulses, below 0 for pulses before. A range is one address,
-//! or two: the first and the last of its pulses. A mark is a time that is kept under a letter.
+//! or two: the first and the last of its pulses. A mark is a time that is kept under a letter. In
+//! contracts, `present_in` is what the session has at present: its track, format, marks and cursor.
 
 ghost use Rattle.std.specs.Prelude.{◌≡◌, ◌+◌, ◌-◌};
 ghost use Rattle.irig_track.specs.Shifts.{ahead, back};
@@ -53,7 +54,8 @@ fn counted(number: u64, by: u64, offset: i64) -> u128
 }
 
 /// The pulse that is `by` pulses after the one of an address, from 1; 0 if the address names a mark
-/// that is not set, or the track has no pulse of that number.
+/// that is not set, or the track has no pulse of that number. The one of the address does not have
+/// to be there: pulse 1 is 1 after number 0.
 fn pulse_at(session: &Session, by: u64, address: &Address) -> usize
     ensures { result ≡ pulse_at by address.now (present_in session.now) }
 {

@@ -1,5 +1,7 @@
-//! The lines `write` and `save`. A shelf is where texts are written. A reply to them is `Written`,
-//! with how many bytes the text has, or `WriteFailed`.
+//! The lines `write` and `save`. A shelf is where texts are written. A reply to the lines is
+//! `Written`, with how many bytes the text has, or `WriteFailed`. In contracts, `Puts` says which
+//! texts were written to the shelf, and how many writes failed; `since` is what the shelf promises
+//! of each later state.
 
 ghost use Rattle.std.specs.Prelude.{◌∷◌, []};
 ghost use Rattle.irig_edit.specs.{Saved.SavedSession.saved_text, Session.Session.work_in};

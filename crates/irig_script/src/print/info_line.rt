@@ -30,7 +30,7 @@ pub fn print_info<W: Write>(session: &Session, out: &mut W) -> Result<(), PrintF
 
 /// Writes the length of the track in microseconds, how many pulses and frames it has, and their
 /// format: its kind, and the number of its coded expression. The row is empty before. These are at
-/// most 120 bytes, so the rest of the line has room.
+/// most 120 bytes, so the rest of the line, at most 83, has room.
 fn put_track(row: &mut Row, session: &Session)
     requires { row.old ≡ [] }
     ensures text { row.new ≡ codes "length " ++ decimal session.now.state.micros

@@ -21,7 +21,8 @@ pub enum Reply {
     Silent,
     /// A text of this many bytes was written.
     Written(u64),
-    /// This many pulses are listed, after this many others.
+    /// Pulses are listed: the first number is how many come before them, the second how many they
+    /// are.
     Listed(usize, usize),
     /// The frames of the track are listed.
     Frames,
@@ -40,7 +41,8 @@ pub enum Reply {
 }
 
 impl Reply {
-    /// Whether the line was refused.
+    /// Whether the line was refused: by the session, as not valid, as too long, or since its text
+    /// could not be written.
     pub fn is_refusal(&self) -> bool
         ensures { result ≡ is_refusal self.now }
     {

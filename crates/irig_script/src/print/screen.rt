@@ -1,6 +1,8 @@
 //! An output with the witness that watches it. A witness is shown the output and the shelf after
 //! each line was obeyed, before its answer is printed. `PrintFault` says that a write of the output
-//! failed; the front of the answer may be printed then.
+//! failed; the front of the answer may be printed then. In contracts, a sight is output and shelf
+//! at one moment, and `GrowsBy` says that what the witness saw, if it shows it, has this one sight
+//! more at its end.
 
 ghost use Rattle.std.specs.Prelude.{◌≡◌, ◌∷◌, []};
 ghost use Rattle.irig_script.specs.Print.Printed.{reply_text};

@@ -1,5 +1,7 @@
 //! Who sees what is printed and what is written. The output is what a script prints; the shelf is
-//! where its lines `write` and `save` write texts.
+//! where its lines `write` and `save` write texts. In contracts, a sight is output and shelf at one
+//! moment, and `GrowsBy` says that what the witness saw, if it shows it, has this one sight more at
+//! its end.
 
 ghost use Rattle.std.specs.Prelude.{◌∷◌, [], List, None, Option};
 ghost use Rattle.irig_script.specs.Print.Screen.{Sight, sight};
