@@ -71,9 +71,9 @@ impl<'a> CommentedPatch<'a> {
 impl Text for CommentedPatch<'_> {
     ghost rest = { λ p. p };
 
-    // Writes the note with the two lengths first, unless it was written, and then lines until the
-    // block has `enough` bytes. True only if no line is left; false if the block is full, whether
-    // or not a line is left.
+    // Writes the note with the two lengths first, unless it was written before; `put_note` writes
+    // nothing if they are the same. Then it writes lines until the block has `enough` bytes. True
+    // only if no line is left; false if the block is full, whether or not a line is left.
     fn fill(&mut self, block: &mut Vec<u8>, enough: usize) -> Result<bool, AllocError> {
         if !self.is_told {
             put_note(block, self.before, self.after)?;

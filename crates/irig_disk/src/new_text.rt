@@ -143,7 +143,8 @@ impl<'n, F: Folder> NewText<'n, F> {
         }
     }
 
-    /// Removes the new file, after a fault. The target stays as it was. `Err`: it is still there.
+    /// Removes the new file, after a fault. The target stays as it was. `Err`: the new file is
+    /// still there. The removal is not synced, so a crash can undo it.
     pub fn give_up(self, folder: &mut F) -> Result<F::NameRemoved, F::Fault>
         ensures ok { IsTrue F.is_told → (mode : ℕ) → WhileWriting F.disk folder.old
             (F.place self.entry.dir.now self.entry.beside.now) (F.place self.entry.dir.now self.entry.target.now) (F.number self.entry.file) mode

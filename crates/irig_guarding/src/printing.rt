@@ -28,8 +28,8 @@ fn put_line(out: &mut Vec<u8>, line: &[u8]) -> Result<(), AllocError>
     Ok(())
 }
 
-/// Prints that there is nothing to go by, if no frame of the recording reads well (`opened` is
-/// these frames); else nothing.
+/// Adds the line that there is nothing to go by, if no frame of the recording reads well: `opened`
+/// is the frames of the recording that do, as it was opened. If there are some, it adds nothing.
 pub fn put_head(out: &mut Vec<u8>, opened: &[Shown]) -> Result<(), AllocError>
     ensures { OnOk result (out.new.items ≡ out.old.items ++ unlines (head_lines opened.now)) }
 {

@@ -95,8 +95,9 @@ pub(crate) fn turn_nearest<R: Reversible>(
 }
 
 /// Turns the nearest `count` changes of `from`, the nearest first, and moves each to the end of
-/// `to`. `from` has at least that many, and `to` has places for them. Both lists end with the
-/// nearest; so in `to` the changes are in the opposite order, in which they are turned back.
+/// `to`. `from` has at least that many, and `to` has places for them. Both lists end with their
+/// nearest change. So in `to` the changes are in the opposite order, as they have to be to be
+/// turned back. The tally is what a state counts of its turns; `counted` says how much one adds.
 fn turn_changes<R: Reversible>(
     from: &mut Vec<R::Change>,
     to: &mut Vec<R::Change>,

@@ -135,8 +135,10 @@ pub fn is_straight(format: Format, before: &Anchor, micros: u128, after: &Anchor
     apart(found, wanted) <= whole * tenth(format)
 }
 
-/// Whether a rise, in microseconds, is on the line between two anchors, or on the curve on which
-/// the clock changes there, to a tenth of an interval.
+/// Whether a rise, in microseconds, is on the line between two anchors, to a tenth of an interval.
+/// Or on the curve that pulses are on if the clock of the frames before becomes evenly that of the
+/// frames after (`near`), as on a tape (`is_on_curve`). A rise before the first anchor counts as at
+/// it.
 fn is_between(format: Format, near: &Witnesses, before: &Anchor, rise: u64, after: &Anchor) -> bool
     requires { (before.now.steps ≤ 2 ^ 17) × (after.now.steps ≤ 2 ^ 17) }
     ensures { result ≡ is_between format near.now before.now rise after.now }

@@ -204,9 +204,9 @@ fn is_disputed(
     }
 }
 
-/// The frames next to a place that are heard: all, but if just one of the two nearest is overruled
-/// (`is_overruled`), the next on its side is the nearest instead of it. Else none, if one side has
-/// no frame, and the two on the other side contradict each other (`is_disputed`).
+/// The frames next to a place that are heard. If just one of the two nearest is overruled
+/// (`is_overruled`), the next one on its side replaces it, and none is after that. Else, if one
+/// side has none and the two of the other contradict each other (`is_disputed`), none. Else all.
 fn heard(format: Format, near: &Witnesses) -> Witnesses
     ensures { result
         ≡ heard format near.now.before2 near.now.before near.now.after near.now.after2 }

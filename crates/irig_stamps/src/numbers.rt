@@ -84,7 +84,8 @@ fn below(size: Option<u128>) -> Option<Picos>
 }
 
 /// The whole number that a text is, if it has only digits and at least one; 2^120 if it is greater.
-/// White space is not passed here: a text with it is no whole number.
+/// White space is not passed here: a text with it is no whole number. `digits` has the value of
+/// digits that come after a value, here 0, and ends at 2^120 itself.
 pub fn whole(text: &[u8]) -> Option<u128>
     ensures { result ≡ option_map (λ v. min v (2 ^ 120)) (whole_in text.now) }
 {

@@ -145,8 +145,8 @@ fn answer(command: Command, session: &mut Session) -> Reply
     }
 }
 
-/// Undoes or redoes a step, or opens or closes a group of steps. The reply is `Silent`, or says why
-/// the session refuses it.
+/// Undoes or redoes a step, opens a group of steps (`begin`), closes it (`end`), or undoes what is
+/// in it and drops it (`abort`). The reply is `Silent`, or says why the session refuses it.
 fn change_steps(command: Command, session: &mut Session) -> Reply
     requires { purpose_of command ≡ Purpose.Steps }
     ensures answer { Obeys command session.old result session.new }
