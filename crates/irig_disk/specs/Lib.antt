@@ -8,4 +8,5 @@ pub mod Put
 pub mod Stays
 pub mod System
 pub mod Trail
+pub mod Underway
 pub mod Writing

@@ -1,5 +1,5 @@
 -- What single calls make of a text that is being written. This project's own.
-use Rattle.std.specs.Prelude.{◌≢◌, ℕ, List, ◌++◌, None, Result, OnOk, IfErr, IsErrOf}
+use Rattle.std.specs.Prelude.{◌≢◌, ℕ, List, ◌++◌, take, None, Result, OnOk, IfErr, IsErrOf}
 use Rattle.irig_disk.specs.Writing.{IsUnchanged, IsWriting, IsPlaced, IsStuck, WhileWriting}
 use Rattle.irig_disk.specs.{Disk.Disk, Disk.LeavesOnly, Held.Held, Name.IsName, Put.OldOrNewIfThere}
 use Rattle.irig_disk.specs.{Put.IsKept, Put.AfterFault, declared.fault.PutFault.PutFault}
@@ -16,6 +16,14 @@ pub record Adds {F : Type 0} (disk : F → Disk) (old new : F) (beside : List �
     (bytes : List ℕ) : Type 0 where
   pub still : (target : List ℕ) (mode : ℕ) → WhileWriting disk old beside target file mode
       (λ start text. IsWriting start (disk new) beside target file (text ++ bytes) mode)
+
+-- Whatever text was being written to the file, it still is, with the first n of these bytes more,
+-- for some n.
+pub record AddsSome {F : Type 0} (disk : F → Disk) (old new : F) (beside : List ℕ) (file : ℕ)
+    (bytes : List ℕ) : Type 0 where
+  pub still : (target : List ℕ) (mode : ℕ) → WhileWriting disk old beside target file mode
+      (λ start text. (n : ℕ) × IsWriting start (disk new) beside target file
+      (text ++ take n bytes) mode)
 
 -- Whatever text was being written to the file, some text still is: a call has failed.
 pub record Spoils {F : Type 0} (disk : F → Disk) (old new : F) (beside : List ℕ) (file : ℕ)

@@ -41,7 +41,8 @@ pub(crate) fn make_beside<F: Folder>(
         (F.disk folder.new) (F.place dir.now (string_bytes name.new))
         (F.place dir.now target.now) (F.number file) []
         (mode_made F.usual_mode hidden)) }
-    ensures err { IsTrue F.is_told → IfErr result (NotBegun (F.disk folder.old) (F.disk folder.new)) }
+    ensures err { IsTrue F.is_told → IfErr result
+        (NotBegun (F.disk folder.old) (F.disk folder.new)) }
     ensures taken { IsTrue F.is_told → IsErrOf result NamesTaken
         → AllTaken (F.disk folder.old) (F.place dir.now) stem.now target.now NAMES }
     ensures named { OnOk result (IsNameAfter stem.now NAMES (string_bytes name.new)) }

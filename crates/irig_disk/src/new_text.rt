@@ -6,19 +6,26 @@
 //! target, under a name of its own in the same folder, until it takes the target's name. To sync is
 //! to ask the system to keep something over a crash. `folder` makes the calls, `F::Fault` is the
 //! error of one, and `F.is_told` says whether its contracts report what the folders have; a
-//! `PutFault` says what a write that failed leaves. In clauses `start` is the state of the folders
-//! before the new file was made, and `F.place dir name` a name in a folder.
+//! `PutFault` says what a write that failed leaves.
+//!
+//! In clauses `start` is the state of the folders before the new file was made, and `F.place dir
+//! name` a name in a folder. `at` says where the text is being written and with which modes: what
+//! `underway_of` makes of a `NewText`. `text` is what is written so far, with the mode of the end.
+//! `Adds` says that the new file has these bytes more since an earlier state, `AddsSome` that it
+//! has the first n of them more, for some n.
 //!
 //! Where `match` hands an error on, `?` would do the same; the proof of it takes longer.
 
-ghost use Rattle.std.specs.Prelude.{◌≡◌, ◌++◌, ◌+◌, ◌-◌, ◌^◌, ℕ, List, [], length, min, take, IfOk};
+ghost use Rattle.std.specs.Prelude.{◌≡◌, ◌+◌, ◌-◌, ◌^◌, ℕ, List, [], length, min, IfOk};
 ghost use Rattle.std.specs.Prelude.{IfErr, OnOk, OnErr, IsErrOf, IsTrue};
 ghost use Rattle.irig_disk.specs.Put.{OldIfThere, OldOrNewIfThere, SeenSame, SeenSameIfThere};
-ghost use Rattle.irig_disk.specs.Put.{IsKept, AllTaken, IsNameAfter, held, first_mode, last_mode};
+ghost use Rattle.irig_disk.specs.Put.{IsKept, AllTaken, IsNameAfter, first_mode, last_mode};
 ghost use Rattle.irig_disk.specs.Writing.{NotFinished, IsBeside, IsWriting, IsPlaced, IsStuck};
 ghost use Rattle.irig_disk.specs.Writing.{NotBegun, WhileWriting};
 ghost use Rattle.irig_disk.specs.{Disk.LeavesOnly, declared.fault.PutFault.TheVariants.NamesTaken};
-ghost use Rattle.irig_disk.specs.{Name.IsName, Parts.WhilePlaced, Parts.WhileStuck};
+ghost use Rattle.irig_disk.specs.Parts.{Adds, AddsSome, WhilePlaced, WhileStuck};
+ghost use Rattle.irig_disk.specs.Underway.{underway_of, WhileUnderway, WhileInAnyMode};
+ghost use Rattle.irig_disk.specs.{Name.IsName};
 
 use crate::beside::make_beside;
 use crate::fault::{PutFault, fault_after};
@@ -64,10 +71,9 @@ impl<'n, F: Folder> NewText<'n, F> {
         ensures target { IfOk result (λ new. new.target.now ≡ target.now) }
         ensures mode { IfOk result (λ new. new.mode ≡ mode) }
         ensures count { IfOk result (λ new. new.count ≡ 0) }
-        ensures ok { IsTrue F.is_told → IfOk result (λ new. IsWriting (F.disk folder.old)
-            (F.disk folder.new) (F.place dir.now new.beside.now) (F.place dir.now target.now)
-            (F.number new.file) []
-            (first_mode F.usual_mode mode)) }
+        ensures ok { IsTrue F.is_told → IfOk result (λ new. let place = F.place dir.now in
+            IsWriting (F.disk folder.old) (F.disk folder.new) (place new.beside.now)
+            (place target.now) (F.number new.file) [] (first_mode F.usual_mode mode)) }
         ensures err { IsTrue F.is_told → IfErr result
             (NotBegun (F.disk folder.old) (F.disk folder.new)) }
         ensures taken { IsTrue F.is_told → IsErrOf result NamesTaken
@@ -98,16 +104,10 @@ impl<'n, F: Folder> NewText<'n, F> {
         ensures file { F.number self.new.file ≡ F.number self.old.file }
         ensures count { OnOk result
             (self.new.count ≡ min (self.old.count + length part.now) (2 ^ 64 - 1)) }
-        ensures ok { IsTrue F.is_told → (target : List ℕ) (mode : ℕ) → WhileWriting F.disk folder.old
-            (F.place self.old.dir.now self.old.beside.now) target (F.number self.old.file) mode (λ start text.
-            OnOk result (IsWriting start (F.disk folder.new)
-            (F.place self.old.dir.now self.old.beside.now) target
-            (F.number self.old.file) (text ++ part.now) mode)) }
-        ensures err { IsTrue F.is_told → (target : List ℕ) (mode : ℕ) → WhileWriting F.disk folder.old
-            (F.place self.old.dir.now self.old.beside.now) target (F.number self.old.file) mode (λ start text.
-            OnErr result ((n : ℕ) × IsWriting start (F.disk folder.new)
-            (F.place self.old.dir.now self.old.beside.now) target (F.number self.old.file)
-            (text ++ take n part.now) mode)) }
+        ensures ok { IsTrue F.is_told → OnOk result (Adds F.disk folder.old folder.new
+            (F.place self.old.dir.now self.old.beside.now) (F.number self.old.file) part.now) }
+        ensures err { IsTrue F.is_told → OnErr result (AddsSome F.disk folder.old folder.new
+            (F.place self.old.dir.now self.old.beside.now) (F.number self.old.file) part.now) }
     {
         let appended = folder.append(&mut self.file, part)?;
         self.count = self.count.saturating_add(part.len() as u64);
@@ -120,21 +120,15 @@ impl<'n, F: Folder> NewText<'n, F> {
     /// back.
     pub fn finish(self, folder: &mut F) -> Result<Kept, PutFault<F::Fault>>
         requires { IsName self.target.now }
-        ensures ok { IsTrue F.is_told → WhileWriting F.disk folder.old (F.place self.entry.dir.now self.entry.beside.now)
-            (F.place self.entry.dir.now self.entry.target.now) (F.number self.entry.file)
-            (first_mode F.usual_mode self.entry.mode)
-            (λ start text. OnOk result (IsKept start (F.disk folder.new)
-            (F.place self.entry.dir.now self.entry.target.now) (held F.usual_mode self.entry.mode text))) }
-        ensures err { IsTrue F.is_told → WhileWriting F.disk folder.old (F.place self.entry.dir.now self.entry.beside.now)
-            (F.place self.entry.dir.now self.entry.target.now) (F.number self.entry.file)
-            (first_mode F.usual_mode self.entry.mode)
-            (λ start text. IfErr result (NotFinished start (F.disk folder.new)
-            (F.place self.entry.dir.now self.entry.target.now) (held F.usual_mode self.entry.mode text))) }
-        ensures any_moment { IsTrue F.is_told → WhileWriting F.disk folder.old (F.place self.entry.dir.now self.entry.beside.now)
-            (F.place self.entry.dir.now self.entry.target.now) (F.number self.entry.file)
-            (first_mode F.usual_mode self.entry.mode)
-            (λ start text. LeavesOnly start (F.disk folder.new) (OldOrNewIfThere start
-            (F.place self.entry.dir.now self.entry.target.now) (held F.usual_mode self.entry.mode text))) }
+        ensures ok { IsTrue F.is_told → WhileUnderway F.disk folder.old
+            (underway_of F.place F.number F.usual_mode self.entry) (λ start at text.
+            OnOk result (IsKept start (F.disk folder.new) at.target text)) }
+        ensures err { IsTrue F.is_told → WhileUnderway F.disk folder.old
+            (underway_of F.place F.number F.usual_mode self.entry) (λ start at text.
+            IfErr result (NotFinished start (F.disk folder.new) at.target text)) }
+        ensures any_moment { IsTrue F.is_told → WhileUnderway F.disk folder.old
+            (underway_of F.place F.number F.usual_mode self.entry) (λ start at text.
+            LeavesOnly start (F.disk folder.new) (OldOrNewIfThere start at.target text)) }
         ensures count { IfOk result (λ kept. kept.count ≡ self.entry.count) }
     {
         match place_or_clear(folder, &self) {
@@ -146,23 +140,18 @@ impl<'n, F: Folder> NewText<'n, F> {
     /// Removes the new file, after a fault. The target stays as it was. `Err`: the new file is
     /// still there. The removal is not synced, so a crash can undo it.
     pub fn give_up(self, folder: &mut F) -> Result<F::NameRemoved, F::Fault>
-        ensures ok { IsTrue F.is_told → (mode : ℕ) → WhileWriting F.disk folder.old
-            (F.place self.entry.dir.now self.entry.beside.now) (F.place self.entry.dir.now self.entry.target.now) (F.number self.entry.file) mode
-            (λ start text. OnOk result (SeenSame start (F.disk folder.new))) }
-        ensures err { IsTrue F.is_told → (mode : ℕ) → WhileWriting F.disk folder.old
-            (F.place self.entry.dir.now self.entry.beside.now) (F.place self.entry.dir.now self.entry.target.now) (F.number self.entry.file) mode
-            (λ start text. OnErr result
-            (SeenSameIfThere start (F.disk folder.new)
-            (F.place self.entry.dir.now self.entry.target.now))) }
-        ensures rest { IsTrue F.is_told → (mode : ℕ) → WhileWriting F.disk folder.old
-            (F.place self.entry.dir.now self.entry.beside.now)
-            (F.place self.entry.dir.now self.entry.target.now) (F.number self.entry.file) mode
-            (λ start text. ((F.disk folder.new).log ≡ start.log)
-            × ((F.disk folder.new).paths ≡ start.paths)) }
-        ensures any_moment { IsTrue F.is_told → (mode : ℕ) → WhileWriting F.disk folder.old
-            (F.place self.entry.dir.now self.entry.beside.now) (F.place self.entry.dir.now self.entry.target.now) (F.number self.entry.file) mode
-            (λ start text. LeavesOnly start (F.disk folder.new)
-            (OldIfThere start (F.place self.entry.dir.now self.entry.target.now))) }
+        ensures ok { IsTrue F.is_told → WhileInAnyMode F.disk folder.old
+            (underway_of F.place F.number F.usual_mode self.entry) (λ start _.
+            OnOk result (SeenSame start (F.disk folder.new))) }
+        ensures err { IsTrue F.is_told → WhileInAnyMode F.disk folder.old
+            (underway_of F.place F.number F.usual_mode self.entry) (λ start at.
+            OnErr result (SeenSameIfThere start (F.disk folder.new) at.target)) }
+        ensures rest { IsTrue F.is_told → WhileInAnyMode F.disk folder.old
+            (underway_of F.place F.number F.usual_mode self.entry) (λ start _.
+            ((F.disk folder.new).log ≡ start.log) × ((F.disk folder.new).paths ≡ start.paths)) }
+        ensures any_moment { IsTrue F.is_told → WhileInAnyMode F.disk folder.old
+            (underway_of F.place F.number F.usual_mode self.entry) (λ start at.
+            LeavesOnly start (F.disk folder.new) (OldIfThere start at.target)) }
     {
         folder.remove(self.dir, self.beside)
     }
@@ -171,18 +160,15 @@ impl<'n, F: Folder> NewText<'n, F> {
 /// Gives a text its mode and its name, or removes its new file if that fails: `Failed`, or
 /// `LeftBehind` if it could not be removed.
 fn place_or_clear<F: Folder>(folder: &mut F, new: &NewText<'_, F>) -> Result<(), PutFault<F::Fault>>
-    ensures ok { IsTrue F.is_told → WhileWriting F.disk folder.old (F.place new.now.dir.now new.now.beside.now) (F.place new.now.dir.now new.now.target.now)
-        (F.number new.now.file) (first_mode F.usual_mode new.now.mode) (λ start text.
-        OnOk result (IsPlaced start (F.disk folder.new) (F.place new.now.dir.now new.now.beside.now) (F.place new.now.dir.now new.now.target.now)
-        (held F.usual_mode new.now.mode text))) }
-    ensures err { IsTrue F.is_told → WhileWriting F.disk folder.old (F.place new.now.dir.now new.now.beside.now) (F.place new.now.dir.now new.now.target.now)
-        (F.number new.now.file) (first_mode F.usual_mode new.now.mode) (λ start text.
-        IfErr result (NotFinished start (F.disk folder.new) (F.place new.now.dir.now new.now.target.now)
-        (held F.usual_mode new.now.mode text))) }
-    ensures any_moment { IsTrue F.is_told → WhileWriting F.disk folder.old (F.place new.now.dir.now new.now.beside.now)
-        (F.place new.now.dir.now new.now.target.now) (F.number new.now.file) (first_mode F.usual_mode new.now.mode)
-        (λ start text. OnErr result (LeavesOnly start (F.disk folder.new) (OldOrNewIfThere start
-        (F.place new.now.dir.now new.now.target.now) (held F.usual_mode new.now.mode text)))) }
+    ensures ok { IsTrue F.is_told → WhileUnderway F.disk folder.old
+        (underway_of F.place F.number F.usual_mode new.now) (λ start at text.
+        OnOk result (IsPlaced start (F.disk folder.new) at.beside at.target text)) }
+    ensures err { IsTrue F.is_told → WhileUnderway F.disk folder.old
+        (underway_of F.place F.number F.usual_mode new.now) (λ start at text.
+        IfErr result (NotFinished start (F.disk folder.new) at.target text)) }
+    ensures any_moment { IsTrue F.is_told → WhileUnderway F.disk folder.old
+        (underway_of F.place F.number F.usual_mode new.now) (λ start at text. OnErr result
+        (LeavesOnly start (F.disk folder.new) (OldOrNewIfThere start at.target text))) }
 {
     match place(folder, new) {
         Ok(_) => Ok(()),
@@ -193,14 +179,12 @@ fn place_or_clear<F: Folder>(folder: &mut F, new: &NewText<'_, F>) -> Result<(),
 /// Gives a new file the mode, syncs what it holds, and gives it the target's name. In this order:
 /// under the target's name a file never has another mode or a part of the text.
 fn place<F: Folder>(folder: &mut F, new: &NewText<'_, F>) -> Result<F::Renamed, F::Fault>
-    ensures ok { IsTrue F.is_told → WhileWriting F.disk folder.old (F.place new.now.dir.now new.now.beside.now) (F.place new.now.dir.now new.now.target.now)
-        (F.number new.now.file) (first_mode F.usual_mode new.now.mode) (λ start text.
-        OnOk result (IsPlaced start (F.disk folder.new) (F.place new.now.dir.now new.now.beside.now) (F.place new.now.dir.now new.now.target.now)
-        (held F.usual_mode new.now.mode text))) }
-    ensures err { IsTrue F.is_told → WhileWriting F.disk folder.old (F.place new.now.dir.now new.now.beside.now) (F.place new.now.dir.now new.now.target.now)
-        (F.number new.now.file) (first_mode F.usual_mode new.now.mode) (λ start text.
-        OnErr result (IsStuck start (F.disk folder.new) (F.place new.now.dir.now new.now.beside.now) (F.place new.now.dir.now new.now.target.now)
-        (held F.usual_mode new.now.mode text))) }
+    ensures ok { IsTrue F.is_told → WhileUnderway F.disk folder.old
+        (underway_of F.place F.number F.usual_mode new.now) (λ start at text.
+        OnOk result (IsPlaced start (F.disk folder.new) at.beside at.target text)) }
+    ensures err { IsTrue F.is_told → WhileUnderway F.disk folder.old
+        (underway_of F.place F.number F.usual_mode new.now) (λ start at text.
+        OnErr result (IsStuck start (F.disk folder.new) at.beside at.target text)) }
 {
     match give_mode(folder, &new.file, new.mode) {
         Ok(()) => rename_synced(folder, &new.file, new.dir, new.beside, new.target),
@@ -217,12 +201,14 @@ fn rename_synced<F: Folder>(
     beside: &str,
     target: &str,
 ) -> Result<F::Renamed, F::Fault>
-    ensures ok { IsTrue F.is_told → (mode : ℕ) → WhileWriting F.disk folder.old (F.place dir.now beside.now) (F.place dir.now target.now)
+    ensures ok { IsTrue F.is_told → (mode : ℕ) → let place = F.place dir.now in
+        WhileWriting F.disk folder.old (place beside.now) (place target.now)
         (F.number file.now) mode (λ start text. OnOk result (IsPlaced start (F.disk folder.new)
-        (F.place dir.now beside.now) (F.place dir.now target.now) (record { bytes = text; mode = mode }))) }
-    ensures err { IsTrue F.is_told → (mode : ℕ) → WhileWriting F.disk folder.old (F.place dir.now beside.now) (F.place dir.now target.now)
+        (place beside.now) (place target.now) (record { bytes = text; mode = mode }))) }
+    ensures err { IsTrue F.is_told → (mode : ℕ) → let place = F.place dir.now in
+        WhileWriting F.disk folder.old (place beside.now) (place target.now)
         (F.number file.now) mode (λ start text. OnErr result (IsStuck start (F.disk folder.new)
-        (F.place dir.now beside.now) (F.place dir.now target.now) (record { bytes = text; mode = mode }))) }
+        (place beside.now) (place target.now) (record { bytes = text; mode = mode }))) }
 {
     match folder.sync_file(file) {
         Ok(_) => folder.rename(dir, beside, target),
@@ -232,11 +218,11 @@ fn rename_synced<F: Folder>(
 
 /// Gives a new file the mode, if there is one to give; without one it keeps the usual mode.
 fn give_mode<F: Folder>(folder: &mut F, file: &F::File, mode: Option<u32>) -> Result<(), F::Fault>
-    ensures ok { IsTrue F.is_told → (beside : List ℕ) (target : List ℕ) → WhileWriting F.disk folder.old
+    ensures ok { IsTrue F.is_told → (beside target : List ℕ) → WhileWriting F.disk folder.old
         beside target (F.number file.now) (first_mode F.usual_mode mode) (λ start text.
         OnOk result (IsWriting start (F.disk folder.new) beside target (F.number file.now) text
         (last_mode F.usual_mode mode))) }
-    ensures err { IsTrue F.is_told → (beside : List ℕ) (target : List ℕ) → WhileWriting F.disk folder.old
+    ensures err { IsTrue F.is_told → (beside target : List ℕ) → WhileWriting F.disk folder.old
         beside target (F.number file.now) (first_mode F.usual_mode mode) (λ start text.
         OnErr result (IsBeside start (F.disk folder.new) beside target (F.number file.now))) }
 {
@@ -253,11 +239,12 @@ fn give_mode<F: Folder>(folder: &mut F, file: &F::File, mode: Option<u32>) -> Re
 /// target's name. `count` is how many bytes the text has. `NotKept`: the text is there, but a crash
 /// can bring the old one back.
 fn keep<F: Folder>(folder: &mut F, dir: &F::Dir, count: u64) -> Result<Kept, PutFault<F::Fault>>
-    ensures ok { IsTrue F.is_told → WhilePlaced F.disk folder.old (F.place dir.now) (λ start target text. OnOk result
-        (IsKept start (F.disk folder.new) target text)) }
-    ensures err { IsTrue F.is_told → WhilePlaced F.disk folder.old (F.place dir.now) (λ start target text. IfErr result
-        (NotFinished start (F.disk folder.new) target text)) }
-    ensures any_moment { IsTrue F.is_told → WhilePlaced F.disk folder.old (F.place dir.now) (λ start target text.
+    ensures ok { IsTrue F.is_told → WhilePlaced F.disk folder.old (F.place dir.now)
+        (λ start target text. OnOk result (IsKept start (F.disk folder.new) target text)) }
+    ensures err { IsTrue F.is_told → WhilePlaced F.disk folder.old (F.place dir.now)
+        (λ start target text. IfErr result (NotFinished start (F.disk folder.new) target text)) }
+    ensures any_moment { IsTrue F.is_told → WhilePlaced F.disk folder.old (F.place dir.now)
+        (λ start target text.
         LeavesOnly start (F.disk folder.new) (OldOrNewIfThere start target text)) }
     ensures count { IfOk result (λ kept. kept.count ≡ count) }
 {
@@ -275,11 +262,11 @@ fn clear<F: Folder>(
     beside: &str,
     fault: F::Fault,
 ) -> PutFault<F::Fault>
-    ensures left { IsTrue F.is_told → WhileStuck F.disk folder.old (F.place dir.now beside.now) (λ start target text.
-        NotFinished start (F.disk folder.new) target text result) }
-    ensures any_moment { IsTrue F.is_told → WhileStuck F.disk folder.old (F.place dir.now beside.now)
-        (λ start target text. LeavesOnly start (F.disk folder.new)
-        (OldOrNewIfThere start target text)) }
+    ensures left { IsTrue F.is_told → WhileStuck F.disk folder.old (F.place dir.now beside.now)
+        (λ start target text. NotFinished start (F.disk folder.new) target text result) }
+    ensures any_moment { IsTrue F.is_told → WhileStuck F.disk folder.old
+        (F.place dir.now beside.now) (λ start target text.
+        LeavesOnly start (F.disk folder.new) (OldOrNewIfThere start target text)) }
 {
     fault_after(Some(fault), folder.remove(dir, beside))
 }

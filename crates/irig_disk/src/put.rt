@@ -7,8 +7,9 @@
 //! written and each crash from then on leaves it. `folder` makes the calls of the system. `is_told`
 //! says whether the contracts know what the folders hold: true of folders in memory, false of those
 //! of the system. `T::rest` is the bytes of a text that are still to come. In the clauses, `start`
-//! is the state before the new file was made. `Adds` says that the new file has these bytes more
-//! since an earlier state, `Spoils` that a call failed and it may have any bytes.
+//! is the state before the new file was made, `at` says where the text is being written, and `text`
+//! or `so_far` what is written, with the mode of the end. `Adds` says that the new file has these
+//! bytes more since an earlier state, `Spoils` that a call failed and it may have any bytes.
 //!
 //! Where `match` hands an error on, `?` would do the same; the proof of it takes longer.
 
@@ -18,9 +19,10 @@ ghost use Rattle.std.specs.Prelude.{Err, IsErrOf, IsTrue, Result};
 ghost use Rattle.irig_text.specs.declared.block.TheConstants.{ENOUGH};
 ghost use Rattle.irig_disk.specs.{declared.fault.PutFault.TheVariants.NamesTaken};
 ghost use Rattle.irig_disk.specs.{declared.new_text.TheConstants.NAMES, Put.OldOrNewIfThere};
-ghost use Rattle.irig_disk.specs.{Put.AfterFault, Put.IsKept, Put.AllTaken, Put.first_mode};
+ghost use Rattle.irig_disk.specs.{Put.AfterFault, Put.IsKept, Put.AllTaken};
 ghost use Rattle.irig_disk.specs.{Put.held, Put.left_by, Parts.Adds, Parts.Spoils, Parts.ComesTo};
-ghost use Rattle.irig_disk.specs.{Disk.LeavesOnly, Held.Held, Name.IsName, Writing.WhileWriting};
+ghost use Rattle.irig_disk.specs.Underway.{underway_of, WhileUnderway, WhileInAnyMode};
+ghost use Rattle.irig_disk.specs.{Disk.LeavesOnly, Held.Held, Name.IsName};
 
 use crate::fault::{PutFault, fault_after};
 use crate::folder::Folder;
@@ -52,10 +54,10 @@ pub fn put_text<F: Folder, T: Text>(
         (held F.usual_mode mode (T.rest text.old))) }
     // After `Ok` each crash leaves the new text.
     ensures ok { IsTrue F.is_told → OnOk result (IsKept (F.disk folder.old) (F.disk folder.new)
-        (F.place dir.now target.now)
-        (held F.usual_mode mode (T.rest text.old))) }
-    ensures err { IsTrue F.is_told → IfErr result (AfterFault (F.disk folder.old) (F.disk folder.new)
         (F.place dir.now target.now) (held F.usual_mode mode (T.rest text.old))) }
+    ensures err { IsTrue F.is_told → IfErr result (AfterFault (F.disk folder.old)
+        (F.disk folder.new) (F.place dir.now target.now)
+        (held F.usual_mode mode (T.rest text.old))) }
     ensures taken { IsTrue F.is_told → IsErrOf result NamesTaken
         → AllTaken (F.disk folder.old) (F.place dir.now) stem.now target.now NAMES }
     ensures count { IfOk result (λ kept. kept.count ≡ length (T.rest text.old)) }
@@ -74,11 +76,10 @@ fn put_begun<F: Folder, T: Text>(
     block: &mut Vec<u8>,
 ) -> Result<Kept, PutFault<F::Fault>>
     requires { IfOk begun (λ new. IsName new.target.now) }
-    ensures put { IfOk begun.entry (λ new. IsTrue F.is_told → WhileWriting F.disk folder.old
-        (F.place new.dir.now new.beside.now) (F.place new.dir.now new.target.now)
-        (F.number new.file) (first_mode F.usual_mode new.mode)
-        (λ start so_far. ComesTo start (F.disk folder.new) (F.place new.dir.now new.target.now)
-        (held F.usual_mode new.mode (so_far ++ T.rest text.old)) result)) }
+    ensures put { IfOk begun.entry (λ new. IsTrue F.is_told → WhileUnderway F.disk folder.old
+        (underway_of F.place F.number F.usual_mode new) (λ start at so_far.
+        ComesTo start (F.disk folder.new) at.target
+        (record so_far { bytes = so_far.bytes ++ T.rest text.old }) result)) }
     ensures count { IfOk begun.entry (λ new. IfOk result
         (λ kept. kept.count ≡ new.count + length (T.rest text.old))) }
     ensures err { IfErr begun.entry (λ fault. result ≡ Err fault) }
@@ -103,13 +104,12 @@ fn finish_or_give_up<F: Folder>(
     written: Result<(), Option<F::Fault>>,
 ) -> Result<Kept, PutFault<F::Fault>>
     requires { IsName new.target.now }
-    ensures ok { OnOk written (IsTrue F.is_told → WhileWriting F.disk folder.old (F.place new.entry.dir.now new.entry.beside.now)
-        (F.place new.entry.dir.now new.entry.target.now) (F.number new.entry.file) (first_mode F.usual_mode new.entry.mode)
-        (λ start text. ComesTo start (F.disk folder.new) (F.place new.entry.dir.now new.entry.target.now)
-        (held F.usual_mode new.entry.mode text) result)) }
-    ensures err { OnErr written (IsTrue F.is_told → (mode : ℕ) (text : Held) → WhileWriting F.disk
-        folder.old (F.place new.entry.dir.now new.entry.beside.now) (F.place new.entry.dir.now new.entry.target.now) (F.number new.entry.file) mode
-        (λ start so_far. ComesTo start (F.disk folder.new) (F.place new.entry.dir.now new.entry.target.now) text result)) }
+    ensures ok { OnOk written (IsTrue F.is_told → WhileUnderway F.disk folder.old
+        (underway_of F.place F.number F.usual_mode new.entry) (λ start at text.
+        ComesTo start (F.disk folder.new) at.target text result)) }
+    ensures err { OnErr written (IsTrue F.is_told → (text : Held) → WhileInAnyMode F.disk folder.old
+        (underway_of F.place F.number F.usual_mode new.entry) (λ start at.
+        ComesTo start (F.disk folder.new) at.target text result)) }
     ensures written { IfOk result (λ _. IsOk written) }
     ensures fault { IfErr written (λ fault. (removal : Result F.NameRemoved F.Fault)
         × (result ≡ Err (left_by fault removal))) }

@@ -1,9 +1,6 @@
 use Rattle.irig_disk.proofs.put.append_block.Goals as goal
 
-pub returns-in-Ok-clause-ok : goal.returns-in-Ok-clause-ok
-returns-in-Ok-clause-ok g c told = record { still = c.in-Ok.ensures.ok told }
-
 pub returns-clause-err : goal.returns-clause-err
 returns-clause-err g c told = record {
-  still = λ target mode start text w. let some = c.in-Err.ensures.err told target mode start text w in (_, some.1);
+  still = λ target mode start text w. let some = (c.in-Err.ensures.err told).still target mode start text w in (_, some.1);
 }

@@ -9,7 +9,7 @@ returns-in-Ok-clause-ok g c = rw c.in-Ok.is (λ told start text w.
     (c.finish.ensures.err told start text w))
 
 pub returns-in-Err-clause-err : goal.returns-in-Err-clause-err
-returns-in-Err-clause-err g c = rw c.in-Err.is (λ told mode text start so_far w.
+returns-in-Err-clause-err g c = rw c.in-Err.is (λ told text mode start so_far w.
     comes_to_nothing {K = Kept} _ _ _ text c.give_up.result c.in-Err.fault c.fault_after.result
     (c.give_up.ensures.any_moment told mode start so_far w)
     (c.give_up.ensures.ok told mode start so_far w) (c.give_up.ensures.err told mode start so_far w) (c.give_up.ensures.rest told mode start so_far w)

@@ -13,4 +13,4 @@ returns-in-Ok-clause-put g c = rw c.in-Ok.is (λ told start so_far w.
     (λ all ends. rw (same.dir, same.target, same.mode) at
     (ends told start _ (called _ _ _ _ _ _ _ _ _ _ _ (λ j. g.F.Folder.place (same.dir j) (same.beside j)) (λ j. g.F.Folder.place (same.dir j) (same.target j)) same.file to_mode (all.still _ _ start so_far w))))
     (λ some ends. let spoilt = some.still _ _ start so_far w in
-    rw (same.dir, same.target) at (ends told _ text start _ (called _ _ _ _ _ _ _ _ _ _ _ (λ j. g.F.Folder.place (same.dir j) (same.beside j)) (λ j. g.F.Folder.place (same.dir j) (same.target j)) same.file refl spoilt.1))))
+    rw (same.dir, same.target) at (ends told text _ start _ (called _ _ _ _ _ _ _ _ _ _ _ (λ j. g.F.Folder.place (same.dir j) (same.beside j)) (λ j. g.F.Folder.place (same.dir j) (same.target j)) same.file refl spoilt.1))))
