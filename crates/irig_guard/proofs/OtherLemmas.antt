@@ -12,7 +12,7 @@ use Rattle.irig_codes.specs.Format.{FormatView}
 use Rattle.irig_guard.specs.Others.{IsUnheard, IsUnheardOf, Shows, ShowsAll}
 use Rattle.irig_guard.specs.Settings.{paths}
 use Rattle.irig_guard.specs.declared.unheard.{Unheard.Unheard, Unheard.TheVariants.Dump, Unheard.TheVariants.File}
-use Rattle.irig_safety.specs.declared.shown.Shown.{Shown}
+use Rattle.irig_safety.specs.Terms.{TermsView}
 
 -- what the bytes of a file cannot be used for, the file cannot
 pub unheard_of : (held : Option (List ℕ)) (unread : DumpFileFault → Type 0) (source : List ℕ) (why : Unheard) → IfSome held (λ all. source ≡ all)
@@ -31,22 +31,22 @@ from_place given i p e = rw add-one
     (drop-cons given i p (slice_get_within given i p e) ∙ ap (λ y. y ∷ drop (suc i) given) (get_or_from_slice_get given i p p e))
 
 -- with those from a place on, all are shown
-abbrev pub ShowsRest : (List ℕ → Option (List ℕ)) → FormatView → List (Bor (List ℕ)) → List Shown → ℕ → Type 0
-ShowsRest held f given shown i =
-    (new : List Shown) → ShowsAll held f (paths (drop i given)) shown new → ShowsAll held f (paths given) [] new
+abbrev pub ShowsRest : (List ℕ → Option (List ℕ)) → FormatView → List (Bor (List ℕ)) → TermsView → TermsView → ℕ → Type 0
+ShowsRest held f given old shown i =
+    (new : TermsView) → ShowsAll held f (paths (drop i given)) shown new → ShowsAll held f (paths given) old new
 
-pub shows_none : (held : List ℕ → Option (List ℕ)) (f : FormatView) (given : List (Bor (List ℕ))) (shown : List Shown) → shown ≡ []
-    → ShowsRest held f given shown 0
-shows_none held f given shown e = λ new h. subst (λ (l : List Shown). ShowsAll held f (paths given) l new) e h
+pub shows_none : (held : List ℕ → Option (List ℕ)) (f : FormatView) (given : List (Bor (List ℕ))) (old shown : TermsView) → shown ≡ old
+    → ShowsRest held f given old shown 0
+shows_none held f given old shown e = λ new h. subst (λ (l : TermsView). ShowsAll held f (paths given) l new) e h
 
-pub shows_more : (held : List ℕ → Option (List ℕ)) (f : FormatView) (given : List (Bor (List ℕ))) (shown more : List Shown) (i : ℕ) (p : Bor (List ℕ))
-    → slice_get given i ≡ Some p → Shows (held p.now) f shown more → ShowsRest held f given shown i → ShowsRest held f given more (i + 1)
-shows_more held f given shown more i p here one h = λ new rest.
+pub shows_more : (held : List ℕ → Option (List ℕ)) (f : FormatView) (given : List (Bor (List ℕ))) (old shown more : TermsView) (i : ℕ) (p : Bor (List ℕ))
+    → slice_get given i ≡ Some p → Shows (held p.now) f shown more → ShowsRest held f given old shown i → ShowsRest held f given old more (i + 1)
+shows_more held f given old shown more i p here one h = λ new rest.
     h new (subst (λ (l : List (Bor (List ℕ))). ShowsAll held f (paths l) shown new) (sym (from_place given i p here)) (more, one, rest))
 
-pub shows_all : (held : List ℕ → Option (List ℕ)) (f : FormatView) (given : List (Bor (List ℕ))) (shown : List Shown) (i : ℕ) → length given ≤ i
-    → ShowsRest held f given shown i → ShowsAll held f (paths given) [] shown
-shows_all held f given shown i past h =
+pub shows_all : (held : List ℕ → Option (List ℕ)) (f : FormatView) (given : List (Bor (List ℕ))) (old shown : TermsView) (i : ℕ) → length given ≤ i
+    → ShowsRest held f given old shown i → ShowsAll held f (paths given) old shown
+shows_all held f given old shown i past h =
     h shown (subst (λ (l : List (Bor (List ℕ))). ShowsAll held f (paths l) shown shown) (sym (drop_all i given past)) refl)
 
 -- up to a place, the path to write leads to none of them

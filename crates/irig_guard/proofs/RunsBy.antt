@@ -9,7 +9,7 @@ use Rattle.irig_guarding.specs.{declared.product.GuardFault.GuardFault, declared
 use Rattle.irig_text.specs.Shelved.{shelved}
 use Rattle.irig_guard.specs.Given.{AreOthersApart, Ends, Files, IsApart, IsApartFrom, IsRead, ends, place_of, product_of}
 use Rattle.irig_guard.specs.{Others.ShowsAll, Settings.paths}
-use Rattle.irig_safety.specs.{Terms.TermsView, declared.shown.Shown.Shown}
+use Rattle.irig_safety.specs.Terms.{TermsView, without_others}
 use Rattle.irig_guard.specs.{RunsBy.RunsBy, Windows.GuardsIn, Windows.MayRunShort, declared.chosen.Settings.Settings}
 use Rattle.irig_guard.proofs.Windows.{fails_in}
 use Rattle.irig_guarding.specs.declared.product.Product.TheVariants as product
@@ -17,29 +17,25 @@ use Rattle.irig_disk.specs.{Disk.Disk, Disk.MayLeave, Held.Held}
 use Rattle.irig_files.specs.{Apart.StaysAt, Puts.texts_at, Tracks.name_in, Writes.Goes, Writes.Write}
 use Rattle.irig_files.proofs.{Apart.stays_apart, Apart.stays_here, Sound.never_in}
 
--- by what repairs are judged besides
-abbrev terms_in : Settings → List Shown → TermsView
-terms_in chosen others = record { moved = chosen.moved; others = others }
-
 -- the shelf was at the path of the settings, from the start to the end
 pub runs_by : (given : Files) (chosen : Settings) (source : List ℕ) (out out_new script left : Option (List ℕ)) (texts texts_new : Option (List (List ℕ)))
     (label label_new : List ℕ) (writes new : Option (List Write)) (failures failures_new : ℕ) (result : Result Kept GuardFault)
     → label_new ≡ label → texts ≡ texts_at (given.paths (place_of chosen)) writes → texts_new ≡ texts_at (given.paths (place_of chosen)) new → failures ≡ 0
     → given.kept (place_of chosen) → (result ≡ Err (Dump OutOfMemory) → MayRunShort chosen.window (name_in chosen.wire) source)
-    → (others : List Shown) → ShowsAll given.held chosen.format (paths chosen.others.items) [] others
-    → GuardsIn chosen.window (name_in chosen.wire) chosen.format (terms_in chosen others) source (product_of chosen) script left
+    → (terms : TermsView) → ShowsAll given.held chosen.format (paths chosen.others.items) (without_others chosen.moved) terms
+    → GuardsIn chosen.window (name_in chosen.wire) chosen.format terms source (product_of chosen) script left
     (desk out (shelved texts failures label)) (desk out_new (shelved texts_new failures_new label_new)) result
     → RunsBy given chosen source (ends out writes script) (ends out_new new left) result
 runs_by given chosen source out out_new script left texts texts_new label label_new writes new failures failures_new result e p q z kept short
-    others shown h = record {
-      others = others;
+    terms shown h = record {
+      terms = terms;
       shown = shown;
       label = label;
       failures = failures_new;
-      ran = subst (λ (d : Desk). GuardsIn chosen.window (name_in chosen.wire) chosen.format (terms_in chosen others) source (product_of chosen) script left d
+      ran = subst (λ (d : Desk). GuardsIn chosen.window (name_in chosen.wire) chosen.format terms source (product_of chosen) script left d
           (desk out_new (shelved (texts_at (given.paths (place_of chosen)) new) failures_new label)) result)
           (λ j. desk out (shelved (p j) (z j) label))
-          (subst (λ (d : Desk). GuardsIn chosen.window (name_in chosen.wire) chosen.format (terms_in chosen others) source (product_of chosen) script left
+          (subst (λ (d : Desk). GuardsIn chosen.window (name_in chosen.wire) chosen.format terms source (product_of chosen) script left
           (desk out (shelved texts failures label)) d result)
           (λ j. desk out_new (shelved (q j) failures_new (e j))) h);
       short = short;
@@ -48,14 +44,14 @@ runs_by given chosen source out out_new script left texts texts_new label label_
 
 -- of a dump with a fault nothing was run
 pub fails_by : (given : Files) (chosen : Settings) (source : List ℕ) (at : Ends) (fault : VcdFault) → given.kept (place_of chosen)
-    → (others : List Shown) → ShowsAll given.held chosen.format (paths chosen.others.items) [] others
+    → (terms : TermsView) → ShowsAll given.held chosen.format (paths chosen.others.items) (without_others chosen.moved) terms
     → parts_in chosen.window (name_in chosen.wire) source ≡ Err fault → RunsBy given chosen source at at (Err (Dump fault))
-fails_by given chosen source at fault kept others shown is = record {
-  others = others;
+fails_by given chosen source at fault kept terms shown is = record {
+  terms = terms;
   shown = shown;
   label = [];
   failures = 0;
-  ran = fails_in chosen.window (name_in chosen.wire) chosen.format (terms_in chosen others) source (product_of chosen) at.script _ fault is;
+  ran = fails_in chosen.window (name_in chosen.wire) chosen.format terms source (product_of chosen) at.script _ fault is;
   short = λ memory. absurd (never_in (short chosen.window) (name_in chosen.wire) source fault is (cc memory));
   kept = kept;
 }

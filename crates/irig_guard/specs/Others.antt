@@ -10,7 +10,7 @@ use Rattle.irig_guard.specs.declared.unheard.Unheard.{Unheard}
 use Rattle.irig_guard.specs.declared.unheard.Unheard.TheVariants.{Dump, File}
 use Rattle.irig_guard.specs.Settings.{paths}
 use Rattle.irig_guarding.specs.Others.{Adds}
-use Rattle.irig_safety.specs.declared.shown.Shown.{Shown}
+use Rattle.irig_safety.specs.Terms.{TermsView}
 use Rattle.irig_vcd.specs.{Parts.dump_parts, declared.fault.VcdFault.VcdFault}
 use Rattle.irig_vcd.specs.declared.fault.VcdFault.TheVariants.{OutOfMemory}
 
@@ -19,16 +19,16 @@ abbrev pub IsOther : Settings → List ℕ → Type 0
 IsOther chosen path = (place : ℕ) × (slice_get (paths chosen.others.items) place ≡ Some path)
 
 -- after some frames those of a file come that say something of another recording
-abbrev pub Shows : Option (List ℕ) → FormatView → List Shown → List Shown → Type 0
+abbrev pub Shows : Option (List ℕ) → FormatView → TermsView → TermsView → Type 0
 Shows held f old new = (source : List ℕ) × IfSome held (λ all. source ≡ all)
     × Adds None source f old new
 
 -- so of the files at some paths, one after the other
-abbrev pub ShowsAll : (List ℕ → Option (List ℕ)) → FormatView → List (List ℕ) → List Shown
-    → List Shown → Type 0
+abbrev pub ShowsAll : (List ℕ → Option (List ℕ)) → FormatView → List (List ℕ) → TermsView
+    → TermsView → Type 0
 ShowsAll held f [] old new = new ≡ old
 ShowsAll held f (path ∷ rest) old new =
-    (mid : List Shown) × Shows (held path) f old mid × ShowsAll held f rest mid new
+    (mid : TermsView) × Shows (held path) f old mid × ShowsAll held f rest mid new
 
 -- a dump is not opened for this fault, and is out of memory only if its session may be
 abbrev pub FailsToOpen : List ℕ → VcdFault → Type 0

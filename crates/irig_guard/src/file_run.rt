@@ -7,7 +7,7 @@
 //! is no longer than a dump may be. `IsApart`, `AreOthersApart`: the path to write leads to no dump
 //! that is read. `AreSpared`: a crash at any moment leaves these as they were.
 
-ghost use Rattle.std.specs.Prelude.{◌≡◌, ℕ, [], IfOk, IfSome, IsTrue, List, false, is_some, map};
+ghost use Rattle.std.specs.Prelude.{◌≡◌, ℕ, IfOk, IfSome, IsTrue, List, false, is_some, map};
 ghost use Rattle.std.specs.Prelude.{string_bytes, true};
 ghost use Rattle.irig_vcd.specs.{Answer.Gives, Window.parts_in};
 ghost use Rattle.irig_guard.specs.Ending.{EndsBy, Obeys};
@@ -15,6 +15,7 @@ ghost use Rattle.irig_guard.specs.RunsBy.{RunsBy};
 ghost use Rattle.irig_guard.specs.Given.{AreOthersApart, AreSpared, IsApart, ends, files};
 ghost use Rattle.irig_guard.specs.Given.{place_of, product_of};
 ghost use Rattle.irig_guard.specs.{Others.ShowsAll, Settings.paths};
+ghost use Rattle.irig_safety.specs.Terms.{without_others};
 ghost use Rattle.irig_files.specs.Apart.{LeadToOneFile};
 ghost use Rattle.irig_files.specs.Reads.{HasBytes, most_bytes, parts_of};
 ghost use Rattle.irig_files.specs.{Puts.writes_on, Tracks.name_in};
@@ -23,10 +24,10 @@ use crate::chosen::Settings;
 use crate::command_line::settings;
 use crate::ending::Ending;
 use crate::heeded::heeded;
-use crate::others::{frames_of_others, over_other};
+use crate::others::{over_other, terms_of};
 use irig_files::{Disk, DumpFileFault, FileShelf, Parts, Room, read_in_window};
 use irig_guarding::{GuardFault, Kept, Product, guard_on_parts};
-use irig_safety::{Shown, Terms};
+use irig_safety::Terms;
 use irig_text::ShelfFault;
 use irig_vcd::{VcdFault, read_back_parts};
 use std::alloc::Global;
@@ -157,9 +158,9 @@ fn run_beside<'a, D: Disk, R: Read, W: Write>(
         Ok(Some(path)) => return Ending::OverOther(path),
         Err(_) => return Ending::Unknown,
     }
-    match frames_of_others(alloc, chosen, disk) {
-        Ok(others) => {
-            let result = run_on_read(alloc, chosen, read, others, room, disk, script, out);
+    match terms_of(alloc, chosen, disk) {
+        Ok(terms) => {
+            let result = run_on_read(alloc, chosen, read, terms, room, disk, script, out);
             Ending::Ran(chosen.track, result)
         }
         Err((path, why)) => Ending::Unheard(path, why),
@@ -180,14 +181,14 @@ fn is_over<D: Disk>(chosen: &Settings<'_>, disk: &D) -> Result<bool, ShelfFault>
     }
 }
 
-/// Runs a script under guard on what was read of a dump, by the frames of other recordings. In a
-/// window the journal is left out (`heeded`). `Dump` if `read` is an `Err`, or it cannot be opened
-/// as a session; any other fault is of the run itself.
+/// Runs a script under guard on what was read of a dump, by `terms`, which have the frames of other
+/// recordings. In a window the journal is left out (`heeded`). `Dump` if `read` is an `Err`, or it
+/// cannot be opened as a session; any other fault is of the run itself.
 fn run_on_read<D: Disk, R: Read, W: Write>(
     alloc: Global,
     chosen: &Settings<'_>,
     read: Result<Parts, VcdFault>,
-    others: Vec<Shown>,
+    terms: Terms,
     room: &mut Room,
     disk: &mut D,
     script: &mut R,
@@ -197,7 +198,7 @@ fn run_on_read<D: Disk, R: Read, W: Write>(
     requires apart { IsTrue D.is_told → IsApart chosen.now (D.disk disk.old) }
     requires others { IsTrue D.is_told → AreOthersApart chosen.now (D.disk disk.old) }
     requires shown { ShowsAll (D.held disk.old) chosen.now.format (paths chosen.now.others.items)
-        [] others.items }
+        (without_others chosen.now.moved) terms }
     ensures ran { (source : List ℕ)
         → Gives parts_of read (parts_in chosen.now.window (name_in chosen.now.wire) source)
         → RunsBy (files (D.held disk.old) (D.unread disk.old) D.is_told
@@ -215,13 +216,12 @@ fn run_on_read<D: Disk, R: Read, W: Write>(
     read_back_parts(&recording);
     let journal = heeded(chosen.window, journal);
     let mut shelf = FileShelf::new(disk, place_of(chosen), room);
-    let moved = chosen.moved;
     guard_on_parts(
         alloc,
         recording,
         journal,
         chosen.format,
-        Terms { moved, others },
+        terms,
         product_of(chosen),
         script,
         out,

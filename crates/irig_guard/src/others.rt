@@ -8,7 +8,7 @@
 //! `D.is_told` whether the contracts know where paths lead: true of folders in memory, false of the
 //! system.
 
-ghost use Rattle.std.specs.Prelude.{◌≡◌, ◌<◌, ◌^◌, ℕ, List, None, [], IfErr, IfOk, IfSome, IsTrue, OnOk};
+ghost use Rattle.std.specs.Prelude.{◌≡◌, ◌<◌, ◌^◌, ℕ, List, None, IfErr, IfOk, IfSome, IsTrue, OnOk};
 ghost use Rattle.std.specs.Prelude.{false, is_some, true};
 ghost use Rattle.irig_files.specs.Apart.{LeadToOneFile};
 ghost use Rattle.irig_files.specs.Reads.{HasFewBytes, parts_of};
@@ -16,6 +16,7 @@ ghost use Rattle.irig_guard.specs.Given.{AreOthersApart, place_of};
 ghost use Rattle.irig_guard.specs.Others.{IsOther, IsUnheard, IsUnheardOf, Shows, ShowsAll};
 ghost use Rattle.irig_guard.specs.Settings.{paths};
 ghost use Rattle.irig_guarding.specs.Others.{Adds};
+ghost use Rattle.irig_safety.specs.Terms.{without_others};
 ghost use Rattle.irig_vcd.specs.{Answer.Gives, Parts.dump_parts};
 
 use crate::chosen::Settings;
@@ -23,7 +24,7 @@ use crate::unheard::Unheard;
 use irig_codes::Format;
 use irig_files::{Disk, DumpFileFault, Parts};
 use irig_guarding::{GuardFault, add_frames};
-use irig_safety::Shown;
+use irig_safety::Terms;
 use irig_text::ShelfFault;
 use irig_vcd::VcdFault;
 use std::alloc::Global;
@@ -56,31 +57,32 @@ pub fn over_other<'a, D: Disk>(
     Ok(None)
 }
 
-/// The frames of all other recordings of the settings that say something of the track, in the order
-/// of the recordings. `Err` has the path of the first one that cannot be used, and why.
-pub fn frames_of_others<'a, D: Disk>(
+/// By what repairs are judged: whether frames may move, and the frames of all other recordings of
+/// the settings that say something of the track, in the order of the recordings. `Err` has the path
+/// of the first one that cannot be used, and why.
+pub fn terms_of<'a, D: Disk>(
     alloc: Global,
     chosen: &Settings<'a>,
     disk: &D,
-) -> Result<Vec<Shown>, (&'a str, Unheard)>
-    ensures shown { IfOk result (λ shown. ShowsAll (D.held disk.now) chosen.now.format
-        (paths chosen.now.others.items) [] shown.items) }
+) -> Result<Terms, (&'a str, Unheard)>
+    ensures shown { IfOk result (λ terms. ShowsAll (D.held disk.now) chosen.now.format
+        (paths chosen.now.others.items) (without_others chosen.now.moved) terms) }
     ensures unheard { IfErr result (λ e. IsOther chosen.now e.0.now
         × IsUnheard (D.held disk.now e.0.now) (D.unread disk.now e.0.now) e.1) }
 {
-    let mut shown = Vec::new(alloc);
+    let mut terms = Terms::new(alloc, chosen.moved);
     let others = chosen.others.as_slice();
     for place in 0..others.len() {
         let path = others[place];
-        match add_frames_of(alloc, path, chosen.format, disk, &mut shown) {
+        match add_frames_of(alloc, path, chosen.format, disk, &mut terms) {
             Ok(()) => {}
             Err(why) => return Err((path, why)),
         }
     }
-    Ok(shown)
+    Ok(terms)
 }
 
-/// Adds to `shown` the frames of the recording at a path that say something of the track. No wire
+/// Adds to `terms` the frames of the recording at a path that say something of the track. No wire
 /// is named, so the dump has to have one wire of one bit. `Err` says why it cannot be used: its
 /// file (`File`), or the dump in it (`Dump`).
 fn add_frames_of<D: Disk>(
@@ -88,32 +90,31 @@ fn add_frames_of<D: Disk>(
     path: &str,
     format: Format,
     disk: &D,
-    shown: &mut Vec<Shown>,
+    terms: &mut Terms,
 ) -> Result<(), Unheard>
-    ensures added { OnOk result (Shows (D.held disk.now path.now) format shown.old.items
-        shown.new.items) }
+    ensures added { OnOk result (Shows (D.held disk.now path.now) format terms.old terms.new) }
     ensures unheard { IfErr result (IsUnheard (D.held disk.now path.now)
         (D.unread disk.now path.now)) }
 {
     match disk.read(alloc, path, None) {
-        Ok(read) => add_read(alloc, read, format, shown),
+        Ok(read) => add_read(alloc, read, format, terms),
         Err(fault) => Err(Unheard::File(fault)),
     }
 }
 
-/// Adds to `shown` the frames of a recording that say something of the track, by what was read of
+/// Adds to `terms` the frames of a recording that say something of the track, by what was read of
 /// its dump. `Dump` if the dump has a fault or is not opened. After it was opened, memory can run
 /// out: that is `File`, with `OutOfMemory`. `add_frames` has no other fault.
 fn add_read(
     alloc: Global,
     read: Result<Parts, VcdFault>,
     format: Format,
-    shown: &mut Vec<Shown>,
+    terms: &mut Terms,
 ) -> Result<(), Unheard>
     requires { HasFewBytes read }
     ensures added { OnOk result ((source : List ℕ)
         → Gives parts_of read (dump_parts None source)
-        → Adds None source format shown.old.items shown.new.items) }
+        → Adds None source format terms.old terms.new) }
     ensures unheard { IfErr result (λ why. (source : List ℕ)
         → Gives parts_of read (dump_parts None source) → IsUnheardOf source why) }
 {
@@ -121,7 +122,7 @@ fn add_read(
         Ok(parts) => parts,
         Err(fault) => return Err(Unheard::Dump(fault)),
     };
-    match add_frames(alloc, recording, journal, format, shown) {
+    match add_frames(alloc, recording, journal, format, terms) {
         Ok(()) => Ok(()),
         Err(GuardFault::Dump(fault)) => Err(Unheard::Dump(fault)),
         Err(_) => Err(Unheard::File(DumpFileFault::OutOfMemory)),

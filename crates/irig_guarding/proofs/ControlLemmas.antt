@@ -14,7 +14,7 @@ use Rattle.irig_track.specs.Edges.{pulse}
 use Rattle.irig_index.specs.declared.record.Verdict.TheVariants.{Broken, Read}
 use Rattle.irig_index.specs.{declared.record.Record.Record, declared.record.Verdict.Verdict}
 use Rattle.irig_edit.specs.State.State.{State, frames_of}
-use Rattle.irig_safety.specs.{Moved.located, Moved.moved_in, Original.with_frames}
+use Rattle.irig_safety.specs.{Moved.located, Moved.moved_in, Original.others_of, Original.with_frames}
 use Rattle.irig_safety.specs.{Original.OriginalView, Original.near_by, Original.near_in, Safety.behind, declared.fault.Fault.Fault, declared.shown.Shown.Shown}
 use Rattle.irig_safety.specs.{Faults.IsFault, Faults.IsSpoiledBy, Safety.IsSafe, Safety.NoneIsSpoiled}
 use Rattle.irig_safety.specs.declared.witnesses.Witnesses.{Witnesses}
@@ -287,9 +287,9 @@ copied_all ps xs i last end past h = h.all ∙ take_all i ps past
 
 -- what is found of all that may stay
 pub stays_all : (o : OriginalView) (last : List Shown) (s : State) (now : List Shown) (r : Result Unit Fault) → now ≡ fine_frames s
-    → IsSafe s.format o.terms.others o.frames now → AreBorneBy o.frames o s → StandBy o.frames o s → OnOk r (NoneIsSpoiled last now) → OnOk r (StaysAt o last s)
+    → IsSafe s.format (others_of o) o.frames now → AreBorneBy o.frames o s → StandBy o.frames o s → OnOk r (NoneIsSpoiled last now) → OnOk r (StaysAt o last s)
 stays_all o last s now (Ok u) e safe borne stand h = (
-  (subst (λ (l : List Shown). IsSafe s.format o.terms.others o.frames l) e safe, borne, stand),
+  (subst (λ (l : List Shown). IsSafe s.format (others_of o) o.frames l) e safe, borne, stand),
   subst (λ (l : List Shown). NoneIsSpoiled last l) e h,
 )
 stays_all o last s now (Err why) e safe borne stand h = tt
@@ -300,29 +300,29 @@ spoiled_all o last s now (Ok u) e h = tt
 spoiled_all o last s now (Err why) e h = λ k. h (subst (λ (l : List Shown). NoneIsSpoiled last l) (sym e) k.1)
 
 pub spoiled_fault : (o : OriginalView) (last : List Shown) (s : State) (now : List Shown) (r : Result Unit Fault) → now ≡ fine_frames s
-    → IsSafe s.format o.terms.others o.frames now → AreBorneBy o.frames o s → StandBy o.frames o s → IfErr r (IsSpoiledBy last now)
+    → IsSafe s.format (others_of o) o.frames now → AreBorneBy o.frames o s → StandBy o.frames o s → IfErr r (IsSpoiledBy last now)
     → IfErr r (HasFaultAt o last s)
 spoiled_fault o last s now (Ok u) e safe borne stand h = tt
 spoiled_fault o last s now (Err why) e safe borne stand h = inr (
-  subst (λ (l : List Shown). IsSafe s.format o.terms.others o.frames l) e safe,
+  subst (λ (l : List Shown). IsSafe s.format (others_of o) o.frames l) e safe,
   inr (borne, inr (stand, subst (λ (l : List Shown). IsSpoiledBy last l why) e h)),
 )
 
 pub unsafe_fault : (o : OriginalView) (last : List Shown) (s : State) (now : List Shown) (why : Fault) → now ≡ fine_frames s
-    → IsFault s.format o.terms.others o.frames now why → HasFaultAt o last s why
-unsafe_fault o last s now why e h = inl (subst (λ (l : List Shown). IsFault s.format o.terms.others o.frames l why) e h)
+    → IsFault s.format (others_of o) o.frames now why → HasFaultAt o last s why
+unsafe_fault o last s now why e h = inl (subst (λ (l : List Shown). IsFault s.format (others_of o) o.frames l why) e h)
 
-pub unsafe_so : (o : OriginalView) (last : List Shown) (s : State) (now : List Shown) → now ≡ fine_frames s → (IsSafe s.format o.terms.others o.frames now → ⊥)
+pub unsafe_so : (o : OriginalView) (last : List Shown) (s : State) (now : List Shown) → now ≡ fine_frames s → (IsSafe s.format (others_of o) o.frames now → ⊥)
     → StaysAt o last s → ⊥
-unsafe_so o last s now e h k = h (subst (λ (l : List Shown). IsSafe s.format o.terms.others o.frames l) (sym e) k.0.0)
+unsafe_so o last s now e h k = h (subst (λ (l : List Shown). IsSafe s.format (others_of o) o.frames l) (sym e) k.0.0)
 
 pub unborne_fault_of : (o : OriginalView) (last : List Shown) (s : State) (now : List Shown) (why : Fault) → now ≡ fine_frames s
-    → IsSafe s.format o.terms.others o.frames now → IsUnborneBy o.frames o s why → HasFaultAt o last s why
-unborne_fault_of o last s now why e safe h = inr (subst (λ (l : List Shown). IsSafe s.format o.terms.others o.frames l) e safe, inl h)
+    → IsSafe s.format (others_of o) o.frames now → IsUnborneBy o.frames o s why → HasFaultAt o last s why
+unborne_fault_of o last s now why e safe h = inr (subst (λ (l : List Shown). IsSafe s.format (others_of o) o.frames l) e safe, inl h)
 
 pub stray_fault_of : (o : OriginalView) (last : List Shown) (s : State) (now : List Shown) (why : Fault) → now ≡ fine_frames s
-    → IsSafe s.format o.terms.others o.frames now → AreBorneBy o.frames o s → StrayBy o.frames o s why → HasFaultAt o last s why
-stray_fault_of o last s now why e safe borne h = inr (subst (λ (l : List Shown). IsSafe s.format o.terms.others o.frames l) e safe, inr (borne, inl h))
+    → IsSafe s.format (others_of o) o.frames now → AreBorneBy o.frames o s → StrayBy o.frames o s why → HasFaultAt o last s why
+stray_fault_of o last s now why e safe borne h = inr (subst (λ (l : List Shown). IsSafe s.format (others_of o) o.frames l) e safe, inr (borne, inl h))
 
 -- where the frames are, if they may move and if not
 rest_located : (o : OriginalView) (xs now : List Shown) → o.terms.moved ≡ false → xs ≡ located o.terms.moved xs now

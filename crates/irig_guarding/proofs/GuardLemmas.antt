@@ -16,10 +16,10 @@ use Rattle.irig_guarding.specs.{Reading.original_of, Repair.Agrees}
 use Rattle.irig_guarding.specs.{Repair.Asks, Repair.IsGroup, Repair.IsPrinted, Repair.ObeyedAll, Repair.texts, Trials.AreRemarksOf, Trials.IsIdle}
 use Rattle.irig_guarding.specs.{Trials.IsRemarkOf, Trials.Prints, Trials.Shows, Trials.Tries, declared.reason.Reason.Reason, declared.line.Line.Line}
 use Rattle.irig_guarding.specs.Reasons.{head_lines, reason_line}
-use Rattle.irig_safety.specs.{Moved.located, Original.with_frames}
+use Rattle.irig_safety.specs.{Moved.located, Original.others_of, Original.with_frames}
 use Rattle.irig_safety.proofs.MovedLemmas.{located_self}
 use Rattle.irig_safety.specs.{Original.OriginalView, Safety.IsSafe, Safety.IsSafeFrom, Safety.NoneIsSpoiled, declared.shown.Shown.Shown}
-use Rattle.irig_safety.specs.Terms.{TermsView}
+use Rattle.irig_safety.specs.Terms.{OthersView, TermsView}
 use Rattle.irig_guarding.proofs.{AgainLemmas.obeyed_again, ControlLemmas.borne_self, PulseLemmas.stand_self, ReasonLemmas.head_remarks, ReasonLemmas.reason_remark, RepairLemmas.obeyed_then}
 
 pub on_ok : {V E : Type 0} {P Q : Type 0} (r : Result V E) → OnOk r P → (P → Q) → OnOk r Q
@@ -114,18 +114,18 @@ stands_remarks first a b old new remarks same s =
     }
 
 -- what reads well is safe by itself
-safe_self : (f : FormatView) (others : List Shown) (a2 a : Option Shown) (xs : List Shown) → IsSafeFrom f others a2 a xs xs
+safe_self : (f : FormatView) (others : OthersView) (a2 a : Option Shown) (xs : List Shown) → IsSafeFrom f others a2 a xs xs
 safe_self f others a2 a [] = tt
 safe_self f others a2 a (x ∷ xs) = inl (refl, inl refl, safe_self f others a (Some x) xs)
 
-safe_whole : (f : FormatView) (others xs : List Shown) → IsSafe f others xs xs
+safe_whole : (f : FormatView) (others : OthersView) (xs : List Shown) → IsSafe f others xs xs
 safe_whole f others [] = inl refl
 safe_whole f others (x ∷ xs) = safe_self f others None None (x ∷ xs)
 
 safe_by_self : (terms : TermsView) (s : State) → IsSafeBy (original_of terms s) s
 safe_by_self terms s =
     subst (λ (l : List Shown). IsSafeAt (with_frames l (original_of terms s)) s) (sym (located_self terms.moved (fine_frames s)))
-    (safe_whole s.format terms.others (fine_frames s), borne_self terms s, stand_self terms s)
+    (safe_whole s.format (others_of (original_of terms s)) (fine_frames s), borne_self terms s, stand_self terms s)
 
 -- the run of the script that is printed
 not_quit : (c : Command) → IsPrinted c → c ≢ command.Quit

@@ -5,6 +5,7 @@ pub mod DropLemmas
 pub mod FillingLemmas
 pub mod GuardLemmas
 pub mod KnownLemmas
+pub mod OddLemmas
 pub mod PlaceLemmas
 pub mod PrintedLemmas
 pub mod PulseLemmas

@@ -13,8 +13,8 @@ use Rattle.irig_index.proofs.MarkerLaws.{markers_rise}
 use Rattle.irig_edit.specs.State.State.{State, frames_of}
 use Rattle.irig_script.proofs.PrintLemmas.FrameLines.{marker_within}
 use Rattle.irig_safety.specs.{Safety.IsSafe, Safety.IsSafeFrom, Meaning.AreRising, declared.shown.Shown.Shown}
-use Rattle.irig_safety.specs.Moved.{located}
-use Rattle.irig_guarding.specs.{Meaning.IsKeptAt, Meaning.SafeStatesMean, Reading.fine_frames, Reading.shown_at, Reading.shown_by}
+use Rattle.irig_safety.specs.{Moved.located, Original.others_of, Terms.OthersView}
+use Rattle.irig_guarding.specs.{Meaning.IsKeptAt, Meaning.SafeStatesMean, Reading.fine_frames, Reading.original_of, Reading.shown_at, Reading.shown_by}
 use Rattle.irig_safety.proofs.{MeaningLemmas.safe_means, MovedLemmas.located_fields, MovedLemmas.located_some}
 
 -- pulses rise one after the other
@@ -80,16 +80,17 @@ rising_frames s track =
     shown_rising s.pulses 0 track.rises (frames_of s) (markers_rise s.format s.pulses) within
 
 -- of frames that are safe by some
-from_first : (f : FormatView) (others old new : List Shown) → old ≢ [] → IsSafe f others old new → IsSafeFrom f others None None old new
+from_first : (f : FormatView) (others : OthersView) (old new : List Shown) → old ≢ [] → IsSafe f others old new → IsSafeFrom f others None None old new
 from_first f others [] new some h = absurd (some refl)
 from_first f others (o ∷ old) new some h = h
 
 pub safe_states : SafeStatesMean
 safe_states terms old new track some safe =
     let at = located terms.moved (fine_frames old) (fine_frames new) in
-    let first = from_first new.format terms.others at (fine_frames new) (λ e. some (located_some terms.moved (fine_frames old) (fine_frames new) e)) safe.safe.0 in
-    let means = safe_means new.format terms.others at (fine_frames new) (rising_frames new track) first in
-    subst (λ (f : FormatView). IsKeptAt f terms.others (fine_frames old) at (fine_frames new)) safe.format (record {
+    let others = others_of (original_of terms old) in
+    let first = from_first new.format others at (fine_frames new) (λ e. some (located_some terms.moved (fine_frames old) (fine_frames new) e)) safe.safe.0 in
+    let means = safe_means new.format others at (fine_frames new) (rising_frames new track) first in
+    subst (λ (f : FormatView). IsKeptAt f others (fine_frames old) at (fine_frames new)) safe.format (record {
       fields = located_fields terms.moved (fine_frames old) (fine_frames new);
       kept = means.0;
       told = means.1;

@@ -4,7 +4,7 @@ use Rattle.std.specs.Prelude.{◌≡◌, ◌<◌, ◌⊎◌, ◌-◌, ℕ, List,
 use Rattle.std.specs.Prelude.{drop}
 use Rattle.irig_edit.specs.State.State.{State}
 use Rattle.irig_safety.specs.{Controls.AreFunctionsBorne, Faults.NextOrLater}
-use Rattle.irig_safety.specs.Original.{OriginalView, near_by, with_frames}
+use Rattle.irig_safety.specs.Original.{OriginalView, near_by, others_of, with_frames}
 use Rattle.irig_safety.specs.{Moved.located, Safety.IsSafe, Safety.behind, declared.fault.Fault.Fault}
 use Rattle.irig_safety.specs.declared.fault.Fault.TheVariants.{Lost, Unrecorded}
 use Rattle.irig_safety.specs.declared.shown.Shown.{Shown}
@@ -79,7 +79,7 @@ IsUnborneBy (x ∷ frames) o s why = IsUnborneFrom o s None None (x ∷ frames) 
 -- the frames of a state are safe by those of the recording at some places: their times, their
 -- control functions, and their pulses
 abbrev pub IsSafeAt : OriginalView → State → Type 0
-IsSafeAt o s = IsSafe s.format o.terms.others o.frames (fine_frames s)
+IsSafeAt o s = IsSafe s.format (others_of o) o.frames (fine_frames s)
     × AreBorneBy o.frames o s × StandBy o.frames o s
 
 -- the recording, its frames where they are in a state if they may move

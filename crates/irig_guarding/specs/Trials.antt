@@ -21,7 +21,7 @@ use Rattle.irig_guarding.specs.Reading.{fine_frames, original_of}
 use Rattle.irig_guarding.specs.Reasons.{head_lines, reason_line}
 use Rattle.irig_guarding.specs.declared.reason.Reason.{Reason}
 use Rattle.irig_safety.specs.{Faults.IsFault, Faults.IsSpoiledBy, declared.fault.Fault.Fault}
-use Rattle.irig_safety.specs.{Moved.located, Original.OriginalView, Safety.IsSafe}
+use Rattle.irig_safety.specs.{Moved.located, Original.OriginalView, Original.others_of, Safety.IsSafe}
 use Rattle.irig_safety.specs.{Safety.NoneIsSpoiled, Terms.TermsView}
 use Rattle.irig_safety.specs.declared.shown.Shown.{Shown}
 
@@ -86,8 +86,8 @@ MayStay opened last s =
 -- that read well before the repair some are spoiled
 abbrev pub HasFaultAt : OriginalView → List Shown → State → Fault → Type 0
 HasFaultAt opened last s why =
-    IsFault s.format opened.terms.others opened.frames (fine_frames s) why
-    ⊎ (IsSafe s.format opened.terms.others opened.frames (fine_frames s)
+    IsFault s.format (others_of opened) opened.frames (fine_frames s) why
+    ⊎ (IsSafe s.format (others_of opened) opened.frames (fine_frames s)
     × (IsUnborneBy opened.frames opened s why
     ⊎ (AreBorneBy opened.frames opened s × (StrayBy opened.frames opened s why
     ⊎ (StandBy opened.frames opened s × IsSpoiledBy last (fine_frames s) why)))))

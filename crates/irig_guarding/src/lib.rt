@@ -13,6 +13,7 @@ mod law;
 mod line;
 mod lines;
 mod mending;
+mod odd;
 mod opening;
 mod others;
 mod place;

@@ -7,6 +7,7 @@ ghost use Rattle.std.specs.List.Sorted.{IsNonDecreasingBy};
 ghost use Rattle.irig_recording.specs.declared.pulse.Pulse.{Pulse as SomePulse};
 ghost use Rattle.irig_guarding.specs.Reading.{original_of};
 
+use crate::odd::odd_among;
 use crate::reading::fine_frames;
 use crate::seen::{Seen, seen_frames};
 use irig_edit::{Pulse, Session};
@@ -22,7 +23,9 @@ pub fn original_of(alloc: Global, session: &Session, terms: Terms) -> Result<Ori
     let seen = seen_frames(alloc, session)?;
     let markers = markers_of(alloc, seen.as_slice())?;
     let pulses = pulses_of(alloc, session)?;
-    Ok(Original::new(frames, markers, pulses, terms))
+    let format = session.current_format();
+    let odd = odd_among(alloc, format, pulses.as_slice(), seen.as_slice())?;
+    Ok(Original::new(frames, markers, pulses, odd, terms))
 }
 
 /// The markers of frames, in the order of the frames: the place of the first pulse of each among
@@ -41,7 +44,7 @@ fn markers_of(alloc: Global, frames: &[Seen]) -> Result<Vec<usize>, AllocError>
 /// nor their falls go back from one pulse to the next. That is so in each session, but no clause
 /// says so: it is checked with the rise (`last`) and the fall (`end`) of the pulse before. `Err`
 /// means that memory ran out.
-fn pulses_of(alloc: Global, session: &Session) -> Result<Vec<Pulse>, AllocError>
+pub fn pulses_of(alloc: Global, session: &Session) -> Result<Vec<Pulse>, AllocError>
     ensures all { IfOk result (λ pulses. pulses.items ≡ session.now.state.pulses) }
     ensures rising { IfOk result (λ pulses.
         IsNonDecreasingBy (λ (p : SomePulse). p.rise) pulses.items) }

@@ -1,44 +1,47 @@
 //! The frames of another recording of the same code that read well: nothing is wrong in them. They
 //! say something of this one if a frame next to them agrees with them, so that damage did not make
 //! them alone: the two are near enough for their distance to say how many frame periods it is, and
-//! their times are as many apart. A journal is the history of a session, which a dump can have. In
-//! contracts `dump_parts` is what the bytes of a dump say of a wire, `Adds` that the frames of it
-//! that say something were added, and `IsUnadded` that it was not opened for this fault, or memory
-//! ran out.
+//! their times are as many apart. A journal is the history of a session, which a dump can have. A
+//! pulse is odd if it is not as wide as the others of its class in its frame, and a frame is even
+//! if no pulse of a control function in it is odd. In contracts `dump_parts` is what the bytes of a
+//! dump say of a wire, `Adds` that the frames of it that say something were added, and `IsUnadded`
+//! that it was not opened for this fault, or memory ran out.
 
 ghost use Rattle.std.specs.Prelude.{◌≡◌, ◌≤◌, ◌^◌, ◌++◌, ℕ, Err, List, Option, length, Ok, IfErr};
 ghost use Rattle.std.specs.Prelude.{IfSome, OnOk};
 ghost use Rattle.irig_edit.specs.Opened.Openings.{MayBeShort};
-ghost use Rattle.irig_guarding.specs.{Others.Adds, Others.IsUnadded, Reading.fine_frames};
+ghost use Rattle.irig_guarding.specs.{Others.Adds, Others.IsUnadded};
+ghost use Rattle.irig_guarding.specs.Reading.{even_frames, fine_frames};
 ghost use Rattle.irig_guarding.specs.declared.product.GuardFault.TheVariants.{Dump};
-ghost use Rattle.irig_safety.specs.Others.{backed};
+ghost use Rattle.irig_safety.specs.{Others.backed, Terms.with_more};
 ghost use Rattle.irig_vcd.specs.{Answer.bytes_of, Parts.dump_parts};
 ghost use Rattle.irig_vcd.specs.declared.fault.VcdFault.TheVariants.{OutOfMemory};
 
+use crate::odd::even_frames;
 use crate::product::GuardFault;
 use crate::reading::fine_frames;
 use irig_codes::Format;
 use irig_edit::Session;
 use irig_recording::Recording;
-use irig_safety::{Shown, backed};
+use irig_safety::{Terms, backed};
 use std::alloc::{AllocError, Global};
 
-/// Adds to `others` the frames of another recording that say something of this one. `recording` and
+/// Adds to `terms` the frames of another recording that say something of this one. `recording` and
 /// `journal`, the text of its journal if it has one, are what was read of its dump; a dump has at
 /// most 2^28 bytes. `Dump` if it cannot be opened as a session, `OutOfMemory` if memory runs out
-/// after that. No other fault comes. After an error `others` is not used. `memory`: memory runs out
+/// after that. No other fault comes. After an error `terms` is not used. `memory`: memory runs out
 /// for the session only if no fault of the dump comes before that.
 pub fn add_frames(
     alloc: Global,
     recording: Recording,
     journal: Option<Vec<u8>>,
     format: Format,
-    others: &mut Vec<Shown>,
+    terms: &mut Terms,
 ) -> Result<(), GuardFault>
     requires { IfSome journal (λ text. length text.items ≤ 2 ^ 28) }
     ensures added { OnOk result ((wire : Option (List ℕ)) (bytes : List ℕ)
         → dump_parts wire bytes ≡ Ok (recording, bytes_of journal)
-        → Adds wire bytes format others.old.items others.new.items) }
+        → Adds wire bytes format terms.old terms.new) }
     ensures fault { IfErr result (λ e. (wire : Option (List ℕ)) (bytes : List ℕ)
         → dump_parts wire bytes ≡ Ok (recording, bytes_of journal)
         → IsUnadded wire bytes e) }
@@ -49,25 +52,26 @@ pub fn add_frames(
         Ok(session) => session,
         Err(fault) => return Err(GuardFault::Dump(fault)),
     };
-    match add_shown(alloc, &session, format, others) {
+    match add_shown(alloc, &session, format, terms) {
         Ok(()) => Ok(()),
         Err(_) => Err(GuardFault::OutOfMemory),
     }
 }
 
-/// Adds to `others` the frames of a session that say something of another recording. `Err` means
-/// that memory ran out.
+/// Adds to `terms` the frames of a session that say something of another recording, and next to
+/// them its even frames that do. `Err` means that memory ran out.
 fn add_shown(
     alloc: Global,
     session: &Session,
     format: Format,
-    others: &mut Vec<Shown>,
+    terms: &mut Terms,
 ) -> Result<(), AllocError>
-    ensures { OnOk result (others.new.items
-        ≡ others.old.items ++ backed format (fine_frames session.now.state)) }
+    ensures { OnOk result (terms.new ≡ with_more (backed format (fine_frames session.now.state))
+        (backed format (even_frames session.now.state)) terms.old) }
 {
     let fine = fine_frames(alloc, session)?;
     let shown = backed(alloc, format, fine.as_slice())?;
-    others.extend_from_slice(shown.as_slice())?;
-    Ok(())
+    let even = even_frames(alloc, session)?;
+    let level = backed(alloc, format, even.as_slice())?;
+    terms.add(shown.as_slice(), level.as_slice())
 }

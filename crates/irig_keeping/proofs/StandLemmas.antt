@@ -98,7 +98,7 @@ pub keep_rises : (old new : State) → IsTrack old.micros old.pulses → IsTrack
     → (k l : ℕ) (x y : Seen) → slice_get (seen_frames old) k ≡ Some x → slice_get (seen_frames new) l ≡ Some y → x.shown.rise ≡ y.shown.rise
     → KeepsRises old.pulses x.marker new.pulses y.marker
 keep_rises old new is_old is_new safe k l x y here there same =
-    let o = original_of (record { moved = false; others = safe.0 }) old in
+    let o = original_of (record { moved = false; others = safe.0.0; even = safe.0.1 }) old in
     let are : shown_all (seen_frames old) ≡ fine_frames old = shown_seen old.pulses (frames_of old) in
     let come : shown_all (seen_frames new) ≡ fine_frames new = shown_seen new.pulses (frames_of new) in
     let stand = some_stand o new (fine_frames old) (seen_frames old) are safe.1.safe.2 k x here in

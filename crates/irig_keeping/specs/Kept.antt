@@ -6,8 +6,7 @@ use Rattle.irig_recording.specs.declared.pulse.Pulse.{Pulse}
 use Rattle.irig_track.specs.Track.{IsTrack}
 use Rattle.irig_index.specs.Frames.{frames}
 use Rattle.irig_times.specs.{Elements.IsElement, Elements.IsFollowed, Elements.TellsTime, Held.HasTime}
-use Rattle.irig_times.specs.{Counted.IsTimed, PartLaws.HeldGoesOn, PartLaws.IsSteady}
-use Rattle.irig_times.specs.Support.{believed}
+use Rattle.irig_times.specs.{Counted.IsTimed, PartLaws.HeldGoesOn, PartLaws.IsSteady, Support.believed}
 use Rattle.irig_times.specs.declared.time.Time.{Time}
 use Rattle.irig_edit.specs.State.State.{State}
 use Rattle.irig_safety.specs.{Rises.rise_in, declared.shown.Shown.Shown}
@@ -31,7 +30,8 @@ pub record IsFollowedStill (f : FormatView) (century : ℕ) (old new : List Puls
 -- a state is safe by another, and no frame may move
 abbrev pub IsSafeUnmoved : State → State → Type 0
 IsSafeUnmoved old new =
-    (others : List Shown) × IsSafeAfter (record { moved = false; others = others }) old new
+    (told : List Shown × List Shown)
+    × IsSafeAfter (record { moved = false; others = told.0; even = told.1 }) old new
 
 -- a moment of a recording has a time by the frame around it. The recording is repaired, the result is
 -- safe, no frame may move, and the frame is still there. Then it has the same time after the repair;

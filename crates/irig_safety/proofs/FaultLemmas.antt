@@ -4,9 +4,9 @@ use Rattle.std.specs.Prelude.{IfErr, OnErr, Result, Ok, Err}
 use Rattle.irig_codes.specs.Format.{FormatView}
 use Rattle.irig_safety.specs.Faults.{FaultFrom, IsSpoiledBy}
 use Rattle.irig_safety.specs.Safety.{IsSafe, IsSafeFrom, NoneIsSpoiled}
-use Rattle.irig_safety.specs.{declared.fault.Fault.Fault, declared.shown.Shown.Shown}
+use Rattle.irig_safety.specs.{Terms.OthersView, declared.fault.Fault.Fault, declared.shown.Shown.Shown}
 
-fault_unsafe : (f : FormatView) (ws : List Shown) (a2 a : Option Shown) (old new : List Shown) (why : Fault) → FaultFrom f ws a2 a old new why
+fault_unsafe : (f : FormatView) (ws : OthersView) (a2 a : Option Shown) (old new : List Shown) (why : Fault) → FaultFrom f ws a2 a old new why
     → IsSafeFrom f ws a2 a old new → ⊥
 fault_unsafe f ws a2 a [] [] why h s = h
 fault_unsafe f ws a2 a (o ∷ old) [] why h s = s
@@ -35,7 +35,7 @@ spoiled_so (x ∷ last) (n ∷ new) why (inr (inr h)) (inr s) = absurd (omega (a
 no_list : (b : Bool) → b ≡ true → b ≡ false → ⊥
 no_list b t f = let bad : true ≡ false = sym t ∙ f in cc
 
-pub unsafe_result : (f : FormatView) (ws old new : List Shown) (r : Bool) (found : Result Unit Fault) → r ≡ (length old == 0) → r ≡ false
+pub unsafe_result : (f : FormatView) (ws : OthersView) (old new : List Shown) (r : Bool) (found : Result Unit Fault) → r ≡ (length old == 0) → r ≡ false
     → IfErr found (FaultFrom f ws None None old new) → OnErr found (IsSafe f ws old new → ⊥)
 unsafe_result f ws old new r (Ok u) is e h = tt
 unsafe_result f ws [] new r (Err why) is e h = λ s. no_list r is e

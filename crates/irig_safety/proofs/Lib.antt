@@ -3,8 +3,11 @@ pub mod FaultLemmas
 pub mod SafetyLemmas
 pub mod MeaningLemmas
 pub mod MovedLemmas
+pub mod OddLemmas
 pub mod OtherLemmas
 pub mod RecordedLemmas
 pub mod RiseLemmas
+pub mod WidthLemmas
 pub mod WorkedParity
 pub mod WorkedValues
+pub mod WorkedWidths

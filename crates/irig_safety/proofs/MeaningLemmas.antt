@@ -4,7 +4,7 @@ use Rattle.std.proofs.Common.{length-append, subst, arith}
 use Rattle.std.specs.List.{AllByRecursion}
 use Rattle.irig_codes.specs.Format.{FormatView}
 use Rattle.irig_safety.specs.Meaning.{AreRising, IsKept, IsOneOf, IsTold, SafeMeans}
-use Rattle.irig_safety.specs.{Safety.IsSafeFrom, Safety.behind, declared.shown.Shown.Shown}
+use Rattle.irig_safety.specs.{Safety.IsSafeFrom, Safety.behind, Terms.OthersView, declared.shown.Shown.Shown}
 
 all_map : {X : Type 0} (P Q : X → Type 0) → ((x : X) → P x → Q x) → (xs : List X) → AllByRecursion P xs → AllByRecursion Q xs
 all_map P Q f [] h = tt
@@ -25,7 +25,7 @@ above n o xs less h = all_map (λ x. o.rise < x.rise) (λ x. n < x.rise) (λ x k
 one_later : (n x : Shown) (xs : List Shown) → IsOneOf x xs → IsOneOf x (n ∷ xs)
 one_later n x xs h = record { before = n ∷ h.before; after = h.after; whole = ap (λ l. n ∷ l) h.whole }
 
-kept_later : (f : FormatView) (ws whole : List Shown) (n x : Shown) (new : List Shown) → IsKept f ws whole new x → IsKept f ws whole (n ∷ new) x
+kept_later : (f : FormatView) (ws : OthersView) (whole : List Shown) (n x : Shown) (new : List Shown) → IsKept f ws whole new x → IsKept f ws whole (n ∷ new) x
 kept_later f ws whole n x new (inl one) = inl (one_later n x new one)
 kept_later f ws whole n x new (inr k) = inr (k.0, one_later n k.0 new k.1, k.2)
 
@@ -53,17 +53,17 @@ before_last xs o =
     same (x ∷ xs) = at x xs
 
 -- the two frames before what is left
-abbrev From : FormatView → List Shown → List Shown → List Shown → List Shown → Type 0
+abbrev From : FormatView → OthersView → List Shown → List Shown → List Shown → Type 0
 From f ws passed old new = IsSafeFrom f ws (behind (length passed - 1) passed) (behind (length passed) passed) old new
 
-on_from : (f : FormatView) (ws passed : List Shown) (o : Shown) (old new : List Shown)
+on_from : (f : FormatView) (ws : OthersView) (passed : List Shown) (o : Shown) (old new : List Shown)
     → IsSafeFrom f ws (behind (length passed) passed) (Some o) old new → From f ws (passed ++ o ∷ []) old new
 on_from f ws passed o old new h =
     subst (λ (a2 : Option Shown). IsSafeFrom f ws a2 (behind (length (passed ++ o ∷ [])) (passed ++ o ∷ [])) old new) (sym (before_last passed o))
     (subst (λ (a : Option Shown). IsSafeFrom f ws (behind (length passed) passed) a old new) (sym (last_of_more passed o)) h)
 
 -- each former frame is kept or mended, when these are passed
-kept : (f : FormatView) (ws passed old new : List Shown) → From f ws passed old new → AllByRecursion (IsKept f ws (passed ++ old) new) old
+kept : (f : FormatView) (ws : OthersView) (passed old new : List Shown) → From f ws passed old new → AllByRecursion (IsKept f ws (passed ++ old) new) old
 kept f ws passed [] new h = tt
 kept f ws passed (o ∷ old) [] h = absurd h
 kept f ws passed (o ∷ old) (n ∷ new) (inl k) =
@@ -84,7 +84,7 @@ kept f ws passed (o ∷ old) (n ∷ new) (inr k) =
     (kept f ws passed (o ∷ old) new k.2)
 
 -- the frames of a rest, when these of the former are passed
-others : (f : FormatView) (ws passed old new : List Shown) → From f ws passed old new → AreRising old → AreRising new
+others : (f : FormatView) (ws : OthersView) (passed old new : List Shown) → From f ws passed old new → AreRising old → AreRising new
     → AllByRecursion (λ n. AllByRecursion (λ p. p.rise < n.rise) passed) new → AllByRecursion (IsTold f ws (passed ++ old)) new
 others f ws passed [] [] h former rising below = tt
 others f ws passed (o ∷ old) [] h former rising below = absurd h
@@ -121,7 +121,7 @@ none_below [] = tt
 none_below (n ∷ new) = (tt, none_below new)
 
 -- the former frames rise as the others do
-all_above : (f : FormatView) (ws : List Shown) (a2 a : Option Shown) (old new : List Shown) (n : ℕ)
+all_above : (f : FormatView) (ws : OthersView) (a2 a : Option Shown) (old new : List Shown) (n : ℕ)
     → IsSafeFrom f ws a2 a old new → AllByRecursion (λ x. n < x.rise) new
     → AllByRecursion (λ x. n < x.rise) old
 all_above f ws a2 a [] new n h all = tt
@@ -129,7 +129,7 @@ all_above f ws a2 a (o ∷ old) [] n h all = absurd h
 all_above f ws a2 a (o ∷ old) (m ∷ new) n (inl k) all = (omega (arith, k.0, all.0), all_above f ws a (Some o) old new n k.2 all.1)
 all_above f ws a2 a (o ∷ old) (m ∷ new) n (inr k) all = all_above f ws a2 a (o ∷ old) new n k.2 all.1
 
-former_rise : (f : FormatView) (ws : List Shown) (a2 a : Option Shown) (old new : List Shown) → IsSafeFrom f ws a2 a old new → AreRising new → AreRising old
+former_rise : (f : FormatView) (ws : OthersView) (a2 a : Option Shown) (old new : List Shown) → IsSafeFrom f ws a2 a old new → AreRising new → AreRising old
 former_rise f ws a2 a [] new h rising = tt
 former_rise f ws a2 a (o ∷ old) [] h rising = absurd h
 former_rise f ws a2 a (o ∷ old) (n ∷ new) (inl k) rising =

@@ -8,7 +8,7 @@ use Rattle.irig_codes.specs.Format.{FormatView}
 use Rattle.irig_safety.specs.Faults.{FaultFrom, Finds, IsSpoiledBy, JudgedAt, JudgedFrom}
 use Rattle.irig_safety.specs.Safety.{Comes, IsSafeFrom, LeadOn, NoneIsSpoiled, Stays, behind}
 use Rattle.irig_safety.specs.declared.fault.Fault.TheVariants.{Changed, Lost, Unsupported}
-use Rattle.irig_safety.specs.{Bearing.leads, Mended.Mends, Witnesses.is_borne, declared.fault.Fault.Fault, declared.shown.Shown.Shown}
+use Rattle.irig_safety.specs.{Bearing.leads, Mended.Mends, Terms.OthersView, Witnesses.is_borne, declared.fault.Fault.Fault, declared.shown.Shown.Shown}
 
 -- from a place on: what is there, and what follows
 pub drop-item : (xs : List Shown) (i : ℕ) (x : Shown) → slice_get xs i ≡ Some x → drop i xs ≡ x ∷ drop (i + 1) xs
@@ -33,19 +33,19 @@ pub first_from : (k : ℕ) (xs : List Shown) → slice_get (drop k xs) 0 ≡ sli
 first_from k xs = let e : k + 0 ≡ k = omega arith in get-drop k 0 xs ∙ ap (slice_get xs) e
 
 -- what is before the next place
-next_two : (f : FormatView) (ws old rest : List Shown) (k : ℕ) (o : Shown) (found : Option Fault) → slice_get old k ≡ Some o
+next_two : (f : FormatView) (ws : OthersView) (old rest : List Shown) (k : ℕ) (o : Shown) (found : Option Fault) → slice_get old k ≡ Some o
     → JudgedAt f ws old (k + 1) rest found ≡ JudgedFrom f ws (behind k old) (Some o) (drop (k + 1) old) rest found
 next_two f ws old rest k o found e =
     let one : k + 1 - 1 ≡ k = omega arith in
     λ i. JudgedFrom f ws (behind (one i) old) ((next_behind k old ∙ e) i) (drop (k + 1) old) rest found
 
 -- a frame that was there
-stay_on : (f : FormatView) (ws : List Shown) (a2 a : Option Shown) (o n : Shown) (old new : List Shown) (found : Option Fault) → o.rise ≡ n.rise
+stay_on : (f : FormatView) (ws : OthersView) (a2 a : Option Shown) (o n : Shown) (old new : List Shown) (found : Option Fault) → o.rise ≡ n.rise
     → Stays f ws a2 a o old n → JudgedFrom f ws a (Some o) old new found → JudgedFrom f ws a2 a (o ∷ old) (n ∷ new) found
 stay_on f ws a2 a o n old new None same stays h = inl (same, stays, h)
 stay_on f ws a2 a o n old new (Some why) same stays h = inl (same, inr (stays, h))
 
-pub at_stay : (f : FormatView) (ws old : List Shown) (k : ℕ) (o n : Shown) (rest : List Shown) (found : Option Fault) → slice_get old k ≡ Some o
+pub at_stay : (f : FormatView) (ws : OthersView) (old : List Shown) (k : ℕ) (o n : Shown) (rest : List Shown) (found : Option Fault) → slice_get old k ≡ Some o
     → o.rise ≡ n.rise → Stays f ws (behind (k - 1) old) (behind k old) o (drop (k + 1) old) n → JudgedAt f ws old (k + 1) rest found
     → JudgedAt f ws old k (n ∷ rest) found
 at_stay f ws old k o n rest found e same stays h =
@@ -54,13 +54,13 @@ at_stay f ws old k o n rest found e same stays h =
     (subst (λ (T : Type 0). T) (next_two f ws old rest k o found e) h))
 
 -- one that is another now, and one that is passed
-pub not_stay : (f : FormatView) (ws old : List Shown) (k : ℕ) (o n : Shown) (rest : List Shown) → slice_get old k ≡ Some o → o.rise ≡ n.rise
+pub not_stay : (f : FormatView) (ws : OthersView) (old : List Shown) (k : ℕ) (o n : Shown) (rest : List Shown) → slice_get old k ≡ Some o → o.rise ≡ n.rise
     → (Stays f ws (behind (k - 1) old) (behind k old) o (drop (k + 1) old) n → ⊥) → JudgedAt f ws old k (n ∷ rest) (Some (Changed o))
 not_stay f ws old k o n rest e same other =
     subst (λ (l : List Shown). FaultFrom f ws (behind (k - 1) old) (behind k old) l (n ∷ rest) (Changed o)) (sym (drop-item old k o e))
     (inl (same, inl (other, refl)))
 
-pub at_lost : (f : FormatView) (ws old : List Shown) (k : ℕ) (o n : Shown) (rest : List Shown) → slice_get old k ≡ Some o → o.rise < n.rise
+pub at_lost : (f : FormatView) (ws : OthersView) (old : List Shown) (k : ℕ) (o n : Shown) (rest : List Shown) → slice_get old k ≡ Some o → o.rise < n.rise
     → JudgedAt f ws old k (n ∷ rest) (Some (Lost o))
 at_lost f ws old k o n rest e less =
     subst (λ (l : List Shown). FaultFrom f ws (behind (k - 1) old) (behind k old) l (n ∷ rest) (Lost o)) (sym (drop-item old k o e))
@@ -76,14 +76,14 @@ none_later zero (x ∷ xs) e = absurd (cc)
 none_later (suc k) (x ∷ xs) e = let same : suc k + 1 ≡ suc (k + 1) = omega arith in ap (slice_get (x ∷ xs)) same ∙ none_later k xs e
 
 -- one that was not there, before the former that are left
-come_on : (f : FormatView) (ws : List Shown) (a2 a : Option Shown) (old new : List Shown) (n : Shown) (found : Option Fault) → IsBefore old 0 n
+come_on : (f : FormatView) (ws : OthersView) (a2 a : Option Shown) (old new : List Shown) (n : Shown) (found : Option Fault) → IsBefore old 0 n
     → Comes f a2 a old n → JudgedFrom f ws a2 a old new found → JudgedFrom f ws a2 a old (n ∷ new) found
 come_on f ws a2 a [] new n None before comes h = (comes, h)
 come_on f ws a2 a [] new n (Some why) before comes h = inr (comes, h)
 come_on f ws a2 a (o ∷ old) new n None before comes h = inr (before o refl, comes, h)
 come_on f ws a2 a (o ∷ old) new n (Some why) before comes h = inr (inl (before o refl, inr (comes, h)))
 
-not_come : (f : FormatView) (ws : List Shown) (a2 a : Option Shown) (old new : List Shown) (n : Shown) → IsBefore old 0 n → (Comes f a2 a old n → ⊥)
+not_come : (f : FormatView) (ws : OthersView) (a2 a : Option Shown) (old new : List Shown) (n : Shown) → IsBefore old 0 n → (Comes f a2 a old n → ⊥)
     → FaultFrom f ws a2 a old (n ∷ new) (Unsupported n)
 not_come f ws a2 a [] new n before other = inl (other, refl)
 not_come f ws a2 a (o ∷ old) new n before other = inr (inl (before o refl, inl (other, refl)))
@@ -98,11 +98,11 @@ comes_at : (f : FormatView) (old : List Shown) (k : ℕ) (n : Shown)
 comes_at f old k n = λ i. is_borne f (behind (k - 1) old) (behind k old) (first_from k old i) (get-drop k 1 old i) n
 
 -- what becomes of a place
-abbrev pub Passes : FormatView → List Shown → List Shown → ℕ → Shown → Result ℕ Fault → List Shown → Type 0
+abbrev pub Passes : FormatView → OthersView → List Shown → ℕ → Shown → Result ℕ Fault → List Shown → Type 0
 Passes f ws old k n (Ok p) rest = (found : Option Fault) → JudgedAt f ws old p rest found → JudgedAt f ws old k (n ∷ rest) found
 Passes f ws old k n (Err why) rest = JudgedAt f ws old k (n ∷ rest) (Some why)
 
-pub comes_on : (f : FormatView) (ws old : List Shown) (k : ℕ) (n : Shown) (r : Result ℕ Fault) (rest : List Shown) → IsBefore old k n
+pub comes_on : (f : FormatView) (ws : OthersView) (old : List Shown) (k : ℕ) (n : Shown) (r : Result ℕ Fault) (rest : List Shown) → IsBefore old k n
     → (borne : Bool) → is_borne f (behind (k - 1) old) (behind k old) (slice_get old k) (slice_get old (k + 1)) n ≡ borne
     → r ≡ (if borne then Ok k else Err (Unsupported n)) → Passes f ws old k n r rest
 comes_on f ws old k n r rest before true so e =
@@ -113,12 +113,12 @@ comes_on f ws old k n r rest before false not_so e =
     (not_come f ws (behind (k - 1) old) (behind k old) (drop k old) rest n (first_before old k n before)
     (λ s. let bad : true ≡ false = sym s ∙ (comes_at f old k n ∙ not_so) in absurd (cc)))
 
-pub passes_ok : (f : FormatView) (ws old : List Shown) (k : ℕ) (n : Shown) (r : Result ℕ Fault) (rest : List Shown) (found : Option Fault)
+pub passes_ok : (f : FormatView) (ws : OthersView) (old : List Shown) (k : ℕ) (n : Shown) (r : Result ℕ Fault) (rest : List Shown) (found : Option Fault)
     → Passes f ws old k n r rest → IfOk r (λ p. JudgedAt f ws old p rest found → JudgedAt f ws old k (n ∷ rest) found)
 passes_ok f ws old k n (Ok p) rest found h = h found
 passes_ok f ws old k n (Err why) rest found h = tt
 
-pub passes_err : (f : FormatView) (ws old : List Shown) (k : ℕ) (n : Shown) (r : Result ℕ Fault) (rest : List Shown)
+pub passes_err : (f : FormatView) (ws : OthersView) (old : List Shown) (k : ℕ) (n : Shown) (r : Result ℕ Fault) (rest : List Shown)
     → Passes f ws old k n r rest → IfErr r (λ why. JudgedAt f ws old k (n ∷ rest) (Some why))
 passes_err f ws old k n (Ok p) rest h = tt
 passes_err f ws old k n (Err why) rest h = h
@@ -138,11 +138,11 @@ come_within old k true n r most e = subst (λ (r : Result ℕ Fault). IfOk r (λ
 come_within old k false n r most e = subst (λ (r : Result ℕ Fault). IfOk r (λ p. p ≤ length old)) (sym e) tt
 
 -- what is left, as all was
-abbrev pub Judges : FormatView → List Shown → List Shown → List Shown → ℕ → ℕ → Type 0
+abbrev pub Judges : FormatView → OthersView → List Shown → List Shown → ℕ → ℕ → Type 0
 Judges f ws old new k i =
     (k ≤ length old) × ((found : Option Fault) → JudgedAt f ws old k (drop i new) found → JudgedFrom f ws None None old new found)
 
-pub judge_on : (f : FormatView) (ws old new : List Shown) (k i p : ℕ) (n : Shown) → slice_get new i ≡ Some n → p ≤ length old
+pub judge_on : (f : FormatView) (ws : OthersView) (old new : List Shown) (k i p : ℕ) (n : Shown) → slice_get new i ≡ Some n → p ≤ length old
     → ((rest : List Shown) (found : Option Fault) → JudgedAt f ws old p rest found → JudgedAt f ws old k (n ∷ rest) found) → Judges f ws old new k i
     → Judges f ws old new p (i + 1)
 judge_on f ws old new k i p n h most on s = (
@@ -150,26 +150,26 @@ judge_on f ws old new k i p n h most on s = (
   λ found l. s.1 found (subst (λ (r : List Shown). JudgedAt f ws old k r found) (sym (drop-item new i n h)) (on (drop (i + 1) new) found l)),
 )
 
-pub judge_none : (f : FormatView) (ws old new : List Shown) (k i : ℕ) (n : Shown) (why : Fault) → slice_get new i ≡ Some n
+pub judge_none : (f : FormatView) (ws : OthersView) (old new : List Shown) (k i : ℕ) (n : Shown) (why : Fault) → slice_get new i ≡ Some n
     → ((rest : List Shown) → JudgedAt f ws old k (n ∷ rest) (Some why)) → Judges f ws old new k i → FaultFrom f ws None None old new why
 judge_none f ws old new k i n why h fault s =
     s.1 (Some why) (subst (λ (l : List Shown). JudgedAt f ws old k l (Some why)) (sym (drop-item new i n h)) (fault (drop (i + 1) new)))
 
 -- at the end of the new frames
-left_none : (f : FormatView) (ws : List Shown) (a2 a : Option Shown) (old : List Shown) → old ≡ [] → IsSafeFrom f ws a2 a old []
+left_none : (f : FormatView) (ws : OthersView) (a2 a : Option Shown) (old : List Shown) → old ≡ [] → IsSafeFrom f ws a2 a old []
 left_none f ws a2 a old e = subst (λ (l : List Shown). IsSafeFrom f ws a2 a l []) (sym e) tt
 
-left_some : (f : FormatView) (ws : List Shown) (a2 a : Option Shown) (o : Shown) (old rest : List Shown) → old ≡ o ∷ rest → FaultFrom f ws a2 a old [] (Lost o)
+left_some : (f : FormatView) (ws : OthersView) (a2 a : Option Shown) (o : Shown) (old rest : List Shown) → old ≡ o ∷ rest → FaultFrom f ws a2 a old [] (Lost o)
 left_some f ws a2 a o old rest e = subst (λ (l : List Shown). FaultFrom f ws a2 a l [] (Lost o)) (sym e) refl
 
-pub judge_end : (f : FormatView) (ws old new : List Shown) (k i : ℕ) → length new ≤ i → slice_get old k ≡ None → Judges f ws old new k i
+pub judge_end : (f : FormatView) (ws : OthersView) (old new : List Shown) (k i : ℕ) → length new ≤ i → slice_get old k ≡ None → Judges f ws old new k i
     → IsSafeFrom f ws None None old new
 judge_end f ws old new k i past none s =
     s.1 None (subst (λ (l : List Shown). JudgedAt f ws old k l None) (sym (drop_all i new past))
     (left_none f ws (behind (k - 1) old) (behind k old) (drop k old) (drop_past k old none)))
 
-pub judge_left : (f : FormatView) (ws old new : List Shown) (k i : ℕ) (o : Shown) → length new ≤ i → slice_get old k ≡ Some o → Judges f ws old new k i
-    → FaultFrom f ws None None old new (Lost o)
+pub judge_left : (f : FormatView) (ws : OthersView) (old new : List Shown) (k i : ℕ) (o : Shown) → length new ≤ i → slice_get old k ≡ Some o
+    → Judges f ws old new k i → FaultFrom f ws None None old new (Lost o)
 judge_left f ws old new k i o past some s =
     s.1 (Some (Lost o)) (subst (λ (l : List Shown). JudgedAt f ws old k l (Some (Lost o))) (sym (drop_all i new past))
     (left_some f ws (behind (k - 1) old) (behind k old) o (drop k old) (drop (k + 1) old) (drop-item old k o some)))
@@ -253,7 +253,7 @@ lead_last f (x ∷ y ∷ xs) zero few = absurd (omega arith)
 lead_last f (x ∷ xs) (suc k) few = lead_last f xs k (omega arith)
 
 -- whether a frame stays
-pub stays_if : (f : FormatView) (ws : List Shown) (a2 a : Option Shown) (o n : Shown) (old : List Shown) (k : ℕ) (r : Bool) → (o ≡ n → ⊥)
+pub stays_if : (f : FormatView) (ws : OthersView) (a2 a : Option Shown) (o n : Shown) (old : List Shown) (k : ℕ) (r : Bool) → (o ≡ n → ⊥)
     → IsTrue r ↔ Mends f ws a2 a o (slice_get old (k + 1)) (slice_get old (k + 2)) n → IsTrue r ↔ Stays f ws a2 a o (drop (k + 1) old) n
 stays_if f ws a2 a o n old k r other e =
     let first : slice_get (drop (k + 1) old) 0 ≡ slice_get old (k + 1) = first_from (k + 1) old in

@@ -3,7 +3,7 @@
 use Rattle.std.specs.Prelude.{◌≡◌, ◌<◌, ◌⊎◌, ◌-◌, ℕ, List, [], ◌∷◌, Option, Some, None, drop}
 use Rattle.irig_codes.specs.Format.{FormatView}
 use Rattle.irig_safety.specs.Safety.{AreOfThemselves, Comes, IsSafeFrom, NoneIsSpoiled, Stays}
-use Rattle.irig_safety.specs.Safety.{behind}
+use Rattle.irig_safety.specs.{Safety.behind, Terms.OthersView}
 use Rattle.irig_safety.specs.declared.fault.Fault.{Fault}
 use Rattle.irig_safety.specs.declared.fault.Fault.TheVariants.{Alone, Changed, Lost, Unsupported}
 use Rattle.irig_safety.specs.declared.shown.Shown.{Shown}
@@ -13,7 +13,7 @@ abbrev pub NextOrLater : Type 0 → Fault → Fault → Type 0 → Type 0
 NextOrLater Sound next why Later = ((Sound → ⊥) × (why ≡ next)) ⊎ (Sound × Later)
 
 -- the first fault. The two frames that were before the first of the former are known
-abbrev pub FaultFrom : FormatView → List Shown → Option Shown → Option Shown → List Shown
+abbrev pub FaultFrom : FormatView → OthersView → Option Shown → Option Shown → List Shown
     → List Shown → Fault → Type 0
 FaultFrom f others a2 a [] [] why = ⊥
 FaultFrom f others a2 a (o ∷ old) [] why = why ≡ Lost o
@@ -27,18 +27,18 @@ FaultFrom f others a2 a (o ∷ old) (n ∷ new) why =
     ⊎ ((o.rise < n.rise) × (why ≡ Lost o)))
 
 -- frames are safe, or have this fault
-abbrev pub JudgedFrom : FormatView → List Shown → Option Shown → Option Shown → List Shown
+abbrev pub JudgedFrom : FormatView → OthersView → Option Shown → Option Shown → List Shown
     → List Shown → Option Fault → Type 0
 JudgedFrom f others a2 a old new None = IsSafeFrom f others a2 a old new
 JudgedFrom f others a2 a old new (Some why) = FaultFrom f others a2 a old new why
 
 -- so from a place of the former on
-abbrev pub JudgedAt : FormatView → List Shown → List Shown → ℕ → List Shown → Option Fault → Type 0
+abbrev pub JudgedAt : FormatView → OthersView → List Shown → ℕ → List Shown → Option Fault → Type 0
 JudgedAt f others old k new found =
     JudgedFrom f others (behind (k - 1) old) (behind k old) (drop k old) new found
 
 -- why frames are not safe by those of the recording, and frames of other recordings
-abbrev pub IsFault : FormatView → List Shown → List Shown → List Shown → Fault → Type 0
+abbrev pub IsFault : FormatView → OthersView → List Shown → List Shown → Fault → Type 0
 IsFault f others [] new why = (AreOfThemselves f new → ⊥) × (why ≡ Alone)
 IsFault f others (o ∷ old) new why = FaultFrom f others None None (o ∷ old) new why
 

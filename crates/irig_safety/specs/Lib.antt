@@ -11,6 +11,7 @@ pub mod Meaning
 pub mod Mended
 pub mod MendedFunctions
 pub mod Moved
+pub mod OddFunctions
 pub mod Original
 pub mod Others
 pub mod OwnClock
@@ -19,4 +20,5 @@ pub mod Rises
 pub mod Safety
 pub mod Straight
 pub mod Terms
+pub mod Widths
 pub mod Witnesses

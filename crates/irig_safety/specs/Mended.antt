@@ -1,7 +1,7 @@
 -- When a frame that read well is another one after an edit, and that mends it. This project's own.
-use Rattle.std.specs.Prelude.{◌≡◌, ◌⊎◌, ◌&&◌, ◌||◌, Bool, true, false, not, List, Option, Some, None}
+use Rattle.std.specs.Prelude.{◌≡◌, ◌⊎◌, ◌&&◌, ◌||◌, Bool, true, false, not, Option, Some, None}
 use Rattle.irig_codes.specs.Format.{FormatView}
-use Rattle.irig_safety.specs.{Bearing.allows, Others.is_among, Witnesses.is_borne}
+use Rattle.irig_safety.specs.{Bearing.allows, Others.is_among, Terms.OthersView, Witnesses.is_borne}
 use Rattle.irig_safety.specs.MendedFunctions.{HasControlOfBoth, HasControlOfMost}
 use Rattle.irig_safety.specs.declared.shown.Shown.{Shown}
 
@@ -33,20 +33,20 @@ is_refuted f a2 (Some a) o (Some b) b2 = false
 -- The time of the first frame was wrong, or of the last: the two next to it contradict it, and they
 -- bear out what it is now; and another recording has a frame of that time, and none has one of the
 -- time that it was.
-abbrev pub is_mended_at_end : FormatView → List Shown → Option Shown → Option Shown → Shown
+abbrev pub is_mended_at_end : FormatView → OthersView → Option Shown → Option Shown → Shown
     → Option Shown → Option Shown → Shown → Bool
 is_mended_at_end f others a2 a o b b2 n =
-    is_refuted f a2 a o b b2 && is_borne f a2 a b b2 n && is_among others n
-    && not (is_among others o)
+    is_refuted f a2 a o b b2 && is_borne f a2 a b b2 n && is_among others.frames n
+    && not (is_among others.frames o)
 
 -- its time is mended
-abbrev pub is_time_mended : FormatView → List Shown → Option Shown → Option Shown → Shown
+abbrev pub is_time_mended : FormatView → OthersView → Option Shown → Option Shown → Shown
     → Option Shown → Option Shown → Shown → Bool
 is_time_mended f others a2 a o b b2 n =
     is_mended f a2 a o b b2 n || is_mended_at_end f others a2 a o b b2 n
 
 -- its time is mended, or its control functions alone are
-abbrev pub Mends : FormatView → List Shown → Option Shown → Option Shown → Shown → Option Shown
+abbrev pub Mends : FormatView → OthersView → Option Shown → Option Shown → Shown → Option Shown
     → Option Shown → Shown → Type 0
 Mends f others a2 a o b b2 n =
     (is_time_mended f others a2 a o b b2 n ≡ true)

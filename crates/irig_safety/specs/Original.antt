@@ -4,21 +4,26 @@ use Rattle.std.specs.Prelude.{slice_get}
 use Rattle.irig_codes.specs.Format.{FormatView, interval_of}
 use Rattle.irig_codes.specs.Width.{class_of}
 use Rattle.irig_recording.specs.declared.pulse.Pulse.{Pulse}
-use Rattle.irig_safety.specs.{Bearing.apart, Safety.behind, Terms.TermsView}
-use Rattle.irig_safety.specs.declared.shown.Shown.{Shown}
+use Rattle.irig_safety.specs.{Bearing.apart, Safety.behind, Terms.OthersView, Terms.TermsView}
+use Rattle.irig_safety.specs.declared.{odd.Odd.Odd, shown.Shown.Shown}
 use Rattle.irig_safety.specs.declared.witnesses.Witnesses.{Witnesses}
 
--- the frames that read well, the places of their markers among the pulses, all pulses, and by what
--- repairs are judged besides
+-- the frames that read well, the places of their markers among the pulses, all pulses, the control
+-- functions whose pulses are odd, and by what repairs are judged besides
 pub record OriginalView : Type 0 where
   pub frames : List Shown
   pub markers : List ℕ
   pub pulses : List Pulse
+  pub odd : List Odd
   pub terms : TermsView
 
 -- the same with its frames at other places
 abbrev pub with_frames : List Shown → OriginalView → OriginalView
 with_frames frames o = record o { frames = frames }
+
+-- what is known of control functions besides
+abbrev pub others_of : OriginalView → OthersView
+others_of o = record { frames = o.terms.others; even = o.terms.even; odd = o.odd }
 
 -- the frames next to those before and those after it
 abbrev pub near_by : Option Shown → Option Shown → List Shown → Witnesses

@@ -3,7 +3,7 @@
 use Rattle.std.specs.Prelude.{◌≡◌, ◌≤◌, ◌<◌, ◌⊎◌, ℕ, zero, suc, true, List, [], ◌∷◌, Option, Some}
 use Rattle.std.specs.Prelude.{None, length, slice_get}
 use Rattle.irig_codes.specs.Format.{FormatView}
-use Rattle.irig_safety.specs.{Bearing.leads, Mended.Mends, Witnesses.is_borne}
+use Rattle.irig_safety.specs.{Bearing.leads, Mended.Mends, Terms.OthersView, Witnesses.is_borne}
 use Rattle.irig_safety.specs.declared.shown.Shown.{Shown}
 
 -- the frame before a place, if there is one
@@ -12,7 +12,7 @@ behind zero frames = None
 behind (suc n) frames = slice_get frames n
 
 -- a frame that was there is as it was, or was wrong and is mended
-abbrev pub Stays : FormatView → List Shown → Option Shown → Option Shown → Shown → List Shown
+abbrev pub Stays : FormatView → OthersView → Option Shown → Option Shown → Shown → List Shown
     → Shown → Type 0
 Stays f others a2 a o old n =
     (o ≡ n) ⊎ Mends f others a2 a o (slice_get old 0) (slice_get old 1) n
@@ -23,7 +23,7 @@ Comes f a2 a old n = is_borne f a2 a (slice_get old 0) (slice_get old 1) n ≡ t
 
 -- The frames that read well are those that did before, each where it was, and others between them.
 -- The two frames that were before the first of the former are known.
-abbrev pub IsSafeFrom : FormatView → List Shown → Option Shown → Option Shown → List Shown
+abbrev pub IsSafeFrom : FormatView → OthersView → Option Shown → Option Shown → List Shown
     → List Shown → Type 0
 IsSafeFrom f others a2 a [] [] = Unit {0}
 IsSafeFrom f others a2 a (o ∷ old) [] = ⊥
@@ -44,7 +44,7 @@ abbrev pub AreOfThemselves : FormatView → List Shown → Type 0
 AreOfThemselves f new = (length new ≡ 0) ⊎ ((3 ≤ length new) × LeadOn f new)
 
 -- frames are safe by those of the recording, and frames of other recordings
-abbrev pub IsSafe : FormatView → List Shown → List Shown → List Shown → Type 0
+abbrev pub IsSafe : FormatView → OthersView → List Shown → List Shown → Type 0
 IsSafe f others [] new = AreOfThemselves f new
 IsSafe f others (o ∷ old) new = IsSafeFrom f others None None (o ∷ old) new
 

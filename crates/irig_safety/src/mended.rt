@@ -13,6 +13,7 @@ use crate::bearing::allows;
 use crate::mended_functions::is_control_mended;
 use crate::others::is_among;
 use crate::shown::Shown;
+use crate::terms::Others;
 use crate::witnesses::{Witnesses, is_borne};
 use irig_codes::Format;
 
@@ -23,7 +24,7 @@ use irig_codes::Format;
 /// Else they are not asked.
 pub fn mends(
     format: Format,
-    others: &[Shown],
+    others: &Others,
     near: &Witnesses,
     former: &Shown,
     frame: &Shown,
@@ -39,7 +40,7 @@ pub fn mends(
 /// of the first or the last one (`is_mended_at_end`), which another recording has to confirm.
 fn is_time_mended(
     format: Format,
-    others: &[Shown],
+    others: &Others,
     near: &Witnesses,
     former: &Shown,
     frame: &Shown,
@@ -73,7 +74,7 @@ fn is_mended(format: Format, near: &Witnesses, former: &Shown, frame: &Shown) ->
 /// time, and none the former one. False if both sides have frames, or one of the two is not there.
 fn is_mended_at_end(
     format: Format,
-    others: &[Shown],
+    others: &Others,
     near: &Witnesses,
     former: &Shown,
     frame: &Shown,
@@ -83,8 +84,8 @@ fn is_mended_at_end(
 {
     is_refuted(format, near, former)
         && is_borne(format, near, frame)
-        && is_among(others, frame)
-        && !is_among(others, former)
+        && is_among(others.frames.as_slice(), frame)
+        && !is_among(others.frames.as_slice(), former)
 }
 
 /// Whether a frame is the first or the last, so that one side of it has no frame, and the two

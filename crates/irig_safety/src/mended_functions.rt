@@ -11,11 +11,14 @@ ghost use Rattle.std.specs.Prelude.{◌≡◌, ◌↔◌, ◌<◌, ◌⊎◌, Is
 ghost use Rattle.irig_safety.specs.MendedFunctions.{AreFunctionsMended, HasControlOfBoth};
 ghost use Rattle.irig_safety.specs.MendedFunctions.{HasControlOfMost, is_by_parity};
 ghost use Rattle.irig_safety.specs.MendedFunctions.{is_function_mended, with_control};
+ghost use Rattle.irig_safety.specs.OddFunctions.{is_by_width};
 
 use crate::controls::{function_of, functions, shares};
+use crate::odd::has_odd;
 use crate::others::is_told;
 use crate::parity::is_parity_mended;
 use crate::shown::{Shown, is_same};
+use crate::terms::Others;
 use crate::witnesses::{Witnesses, allows_from, allows_to};
 use irig_codes::{Fields, Format};
 
@@ -25,7 +28,7 @@ use irig_codes::{Fields, Format};
 /// confirm (`is_function_mended`).
 pub fn is_control_mended(
     format: Format,
-    others: &[Shown],
+    others: &Others,
     near: &Witnesses,
     former: &Shown,
     frame: &Shown,
@@ -65,7 +68,7 @@ fn both_have(one: &Shown, other: &Shown, control: Option<u64>) -> bool
 /// most other recordings (`is_function_mended`).
 fn has_control_of_most(
     format: Format,
-    others: &[Shown],
+    others: &Others,
     near: &Witnesses,
     former: &Shown,
     frame: &Shown,
@@ -80,7 +83,7 @@ fn has_control_of_most(
 /// Whether each control function of a frame is as it was, or mended (`is_function_mended`).
 fn are_functions_mended(
     format: Format,
-    others: &[Shown],
+    others: &Others,
     near: &Witnesses,
     former: &Shown,
     frame: &Shown,
@@ -97,11 +100,12 @@ fn are_functions_mended(
 }
 
 /// Whether a control function is as it was, or mended. It is mended if most frames of other
-/// recordings with the time of `frame` have it as it is now (`is_told`), and also either both
-/// frames next to it have it so, or the parity says so (`is_by_parity`).
+/// recordings with the time of `frame` have it as it is now (`is_told`), and something here says so
+/// too: both frames next to it have it so, or the parity says so (`is_by_parity`), or its pulse was
+/// not as wide as others (`is_by_width`).
 fn is_function_mended(
     format: Format,
-    others: &[Shown],
+    others: &Others,
     near: &Witnesses,
     former: &Shown,
     frame: &Shown,
@@ -112,26 +116,38 @@ fn is_function_mended(
         near.now.after frame.now function }
 {
     function_of(former, function) == function_of(frame, function)
-        || is_told(others, frame, function)
+        || is_told(others.frames.as_slice(), frame, function)
             && (shares(near.before, frame, function) && shares(near.after, frame, function)
-                || is_by_parity(format, others, near, former, frame))
+                || is_by_parity(format, others, near, former, frame)
+                || is_by_width(others, former, frame, function))
 }
 
 /// Whether exactly one control function changed, this gave the frame the parity that frames of
 /// other recordings have (`is_parity_mended`), and no frame next to it contradicts its time.
 fn is_by_parity(
     format: Format,
-    others: &[Shown],
+    others: &Others,
     near: &Witnesses,
     former: &Shown,
     frame: &Shown,
 ) -> bool
-    ensures { result ≡ is_by_parity format others.now near.now.before former.now near.now.after
-        frame.now }
+    ensures { result ≡ is_by_parity format others.now.frames near.now.before former.now
+        near.now.after frame.now }
 {
     allows_from(format, near.before, frame)
         && allows_to(format, frame, near.after)
-        && is_parity_mended(format, others, former, frame)
+        && is_parity_mended(format, others.frames.as_slice(), former, frame)
+}
+
+/// Whether the pulse of a control function of the former frame is odd: not as wide as the others of
+/// its class in its frame. And of the frames of its time in other recordings in which no such pulse
+/// is odd, more have to have the function as the frame has it now than otherwise.
+fn is_by_width(others: &Others, former: &Shown, frame: &Shown, function: u32) -> bool
+    requires { function < 64 }
+    ensures { result ≡ is_by_width others.now former.now frame.now function }
+{
+    has_odd(others.odd.as_slice(), former, function)
+        && is_told(others.even.as_slice(), frame, function)
 }
 
 /// A frame with these control functions instead of its own.

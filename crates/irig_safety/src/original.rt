@@ -9,14 +9,16 @@ ghost use Rattle.std.specs.List.Sorted.{IsNonDecreasingBy};
 ghost use Rattle.irig_codes.specs.Width.{class_of};
 ghost use Rattle.irig_recording.specs.declared.pulse.Pulse.{Pulse as SomePulse};
 ghost use Rattle.irig_safety.specs.Anchors.{is_anchor, is_rise};
-ghost use Rattle.irig_safety.specs.Original.{IsAlike, IsNear, IsRecorded, near_in, reach_of};
+ghost use Rattle.irig_safety.specs.Original.{IsAlike, IsNear, IsRecorded, near_in, others_of};
+ghost use Rattle.irig_safety.specs.Original.{reach_of};
 ghost use Rattle.irig_safety.specs.{Others.is_told, Rises.rise_in, Rises.rise_or};
 
+use crate::odd::Odd;
 use crate::others::is_told;
 use crate::rises::{has_fall, has_rise};
 use crate::safety::{frame_at, frame_behind};
 use crate::shown::Shown;
-use crate::terms::Terms;
+use crate::terms::{Others, Terms};
 use crate::witnesses::Witnesses;
 use irig_codes::{Element, Format, class};
 use irig_recording::Pulse;
@@ -24,13 +26,15 @@ use std::marker::Model;
 
 /// What is known of a recording as it was opened: the frames that read well, with nothing wrong in
 /// them, the places of their markers, from 0, and all pulses, which rise; and by what else repairs
-/// are judged (`terms`).
+/// are judged: whether frames may move, and frames of other recordings (`terms`), and the control
+/// functions whose pulses are not as wide as the others of their class in their frame (`odd`).
 #[derive(Drop)]
 pub struct Original {
     frames: Vec<Shown>,
     markers: Vec<usize>,
     pulses: Vec<Pulse>,
-    terms: Terms,
+    moved: bool,
+    others: Others,
 }
 
 impl Model for Original {
@@ -43,7 +47,8 @@ impl Model for Original {
       frames = o.frames.items;
       markers = o.markers.items;
       pulses = o.pulses.items;
-      terms = o.terms;
+      odd = o.others.odd;
+      terms = record { moved = o.moved; others = o.others.frames; even = o.others.even };
     } };
 
     ghost invariant = { λ o. IsNonDecreasingBy (λ p. p.rise) o.pulses.items
@@ -51,12 +56,13 @@ impl Model for Original {
 }
 
 impl Original {
-    /// A recording with these frames, pulses and terms. `markers` has the marker of each of
-    /// `frames`, at the same place.
+    /// A recording with these frames, pulses, odd ones of these, and terms. `markers` has the
+    /// marker of each of `frames`, at the same place.
     pub fn new(
         frames: Vec<Shown>,
         markers: Vec<usize>,
         pulses: Vec<Pulse>,
+        odd: Vec<Odd>,
         terms: Terms,
     ) -> Original
         requires rising { IsNonDecreasingBy (λ (p : SomePulse). p.rise) pulses.items }
@@ -64,13 +70,19 @@ impl Original {
         ensures frames { result.frames ≡ frames.items }
         ensures markers { result.markers ≡ markers.items }
         ensures pulses { result.pulses ≡ pulses.items }
+        ensures odd { result.odd ≡ odd.items }
         ensures terms { result.terms ≡ terms }
     {
         Original {
             frames,
             markers,
             pulses,
-            terms,
+            moved: terms.moved,
+            others: Others {
+                frames: terms.others,
+                even: terms.even,
+                odd,
+            },
         }
     }
 
@@ -78,7 +90,7 @@ impl Original {
     pub fn is_moved(&self) -> bool
         ensures { result ≡ self.now.terms.moved }
     {
-        self.terms.moved
+        self.moved
     }
 
     /// Whether other recordings confirm a control function (`function`, its bit in a `u64`) of
@@ -88,14 +100,15 @@ impl Original {
         requires { function < 64 }
         ensures { result ≡ is_told function self.now.terms.others frame.now }
     {
-        is_told(self.terms.others.as_slice(), frame, function)
+        is_told(self.others.frames.as_slice(), frame, function)
     }
 
-    /// The frames of other recordings of the same code.
-    pub fn others(&self) -> &[Shown]
-        ensures { result.now ≡ self.now.terms.others }
+    /// What is known of control functions besides: by frames of other recordings of the same code,
+    /// and by the pulses of this one that are odd.
+    pub fn others(&self) -> &Others
+        ensures { result.now ≡ others_of self.now }
     {
-        self.terms.others.as_slice()
+        &self.others
     }
 
     /// The frames that read well, in rising order.

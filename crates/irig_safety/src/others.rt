@@ -68,7 +68,7 @@ pub fn is_among(others: &[Shown], frame: &Shown) -> bool
 /// Whether two frames have the same time of day, day and year. Hundredths that are not there count
 /// as 0. A year that is not there counts as 100, which no year of two digits is: so it is only the
 /// same as another one that is not there.
-fn is_of_time(one: &Fields, other: &Fields) -> bool
+pub fn is_of_time(one: &Fields, other: &Fields) -> bool
     ensures { result ≡ is_of_time one.now other.now }
 {
     one.days == other.days

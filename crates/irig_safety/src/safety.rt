@@ -23,6 +23,7 @@ use crate::bearing::leads;
 use crate::fault::Fault;
 use crate::mended::mends;
 use crate::shown::{Shown, is_same};
+use crate::terms::Others;
 use crate::witnesses::{Witnesses, is_borne};
 use irig_codes::Format;
 
@@ -32,7 +33,7 @@ use irig_codes::Format;
 /// (`are_of_themselves`).
 pub fn check_safe(
     format: Format,
-    others: &[Shown],
+    others: &Others,
     old: &[Shown],
     new: &[Shown],
 ) -> Result<(), Fault>
@@ -70,10 +71,9 @@ fn lead_on(format: Format, frames: &[Shown]) -> bool
     true
 }
 
-/// Whether each new frame is one of the former, or mends one that was wrong, or is borne out by
-/// them, and no former one is gone. If not, the first fault. `kept` is how many former frames are
-/// passed.
-fn check_from(format: Format, others: &[Shown], old: &[Shown], new: &[Shown]) -> Result<(), Fault>
+/// Whether each new frame is a former one, or mends one that was wrong, or is borne out by them,
+/// and no former one is gone. If not, the first fault. `kept`: how many former ones are passed.
+fn check_from(format: Format, others: &Others, old: &[Shown], new: &[Shown]) -> Result<(), Fault>
     ensures safe { OnOk result (IsSafeFrom format others.now None None old.now new.now) }
     ensures fault { IfErr result (FaultFrom format others.now None None old.now new.now) }
 {
@@ -97,7 +97,7 @@ fn check_from(format: Format, others: &[Shown], old: &[Shown], new: &[Shown]) ->
 /// if the former one stays (`stays`), and else it is `Changed`.
 fn passed(
     format: Format,
-    others: &[Shown],
+    others: &Others,
     old: &[Shown],
     kept: usize,
     frame: &Shown,
@@ -145,7 +145,7 @@ fn come(format: Format, old: &[Shown], kept: usize, frame: &Shown) -> Result<usi
 /// does, has the same fields as that one (`former`), or mends it.
 fn stays(
     format: Format,
-    others: &[Shown],
+    others: &Others,
     old: &[Shown],
     place: usize,
     former: &Shown,

@@ -22,10 +22,10 @@ run_on_read-result-requires-clause-others g c = λ told. c.in-Ok-None.ensures.ap
 pub returns-in-Ok-clause-obeyed : goal.returns-in-Ok-clause-obeyed
 returns-in-Ok-clause-obeyed g c = λ source is whole. (refl, (source, whole, c.run_on_read-result.ensures.ran source is))
 
-pub returns-in-Err-frames_of_others-clause-obeyed : goal.returns-in-Err-frames_of_others-clause-obeyed
-returns-in-Err-frames_of_others-clause-obeyed g c = λ source is whole.
+pub returns-in-Err-terms_of-clause-obeyed : goal.returns-in-Err-terms_of-clause-obeyed
+returns-in-Err-terms_of-clause-obeyed g c = λ source is whole.
     ((refl, (λ to. leaves_nowhere _ _ _ _ (g.met.D.Disk.only_now _))), search rules, search rules)
 
-pub returns-in-Err-frames_of_others-clause-spared : goal.returns-in-Err-frames_of_others-clause-spared
-returns-in-Err-frames_of_others-clause-spared g c = λ path read told.
+pub returns-in-Err-terms_of-clause-spared : goal.returns-in-Err-terms_of-clause-spared
+returns-in-Err-terms_of-clause-spared g c = λ path read told.
     stays_here (g.D.Disk.disk c.args.disk.now) path (g.met.D.Disk.only_now c.args.disk.now)

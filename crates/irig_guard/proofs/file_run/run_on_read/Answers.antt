@@ -12,7 +12,7 @@ use Rattle.irig_guard.proofs.file_run.run_on_read.Goals as goal
 
 pub returns-in-Err-clause-ran : goal.returns-in-Err-clause-ran
 returns-in-Err-clause-ran g c = λ source is. fails_by _ c.args.chosen.now source _ c.in-Err.fault (leaves_nowhere _ _ _ _ (g.met.D.Disk.only_now _))
-    c.args.others.items c.requires.shown (rw c.in-Err.is at is)
+    c.args.terms c.requires.shown (rw c.in-Err.is at is)
 
 pub returns-in-Err-clause-spared : goal.returns-in-Err-clause-spared
 returns-in-Err-clause-spared g c = λ path read told. stays_here (g.D.Disk.disk c.args.disk.now) path (g.met.D.Disk.only_now c.args.disk.now)
@@ -47,7 +47,7 @@ returns-clause-ran g c = λ source is.
     (texts_where told (disk c.args.disk.now) (disk new.disk.now) (place_of chosen) new.path.now same_path (λ is_told. (kept is_told).paths))
     c.new-shelf.ensures.none_failed (kept, barred)
     (λ memory. runs_short chosen.window (name_in chosen.wire) source _ _ read (rw c.heeded-journal.ensures.heeded at c.guard_on_parts.ensures.memory memory))
-    c.args.others.items c.requires.shown
+    c.args.terms c.requires.shown
     (guards_in (name_in chosen.wire) chosen.format _ source (product_of chosen) _ _ _ _ chosen.window recording journal
     c.guard_on_parts.result read c.read_back_parts.ensures.plain
     (rw (c.heeded-journal.ensures.heeded, c.product_of.ensures) at c.guard_on_parts.ensures.ends)) in

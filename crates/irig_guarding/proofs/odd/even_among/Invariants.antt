@@ -1,0 +1,7 @@
+use Rattle.std.proofs.Common.{◌≡◌, take}
+use Rattle.std.specs.List.{flat_map}
+use Rattle.irig_guarding.specs.Reading.{even_by}
+use Rattle.irig_guarding.proofs.odd.even_among.Given as goal
+
+abbrev pub invariant-loop-frame : goal.invariant-loop-frame
+invariant-loop-frame l = l.even.items ≡ flat_map (even_by l.format l.pulses) (take l.frame-index l.seen)

@@ -1,0 +1,68 @@
+//! The control functions of frames whose pulses are odd: not as wide as the others of their class
+//! in their frame. `pulses` is all pulses of a recording, and `seen` its frames that read well,
+//! with nothing wrong in them.
+
+ghost use Rattle.std.specs.Prelude.{◌≡◌, ◌++◌, IfOk, OnOk};
+ghost use Rattle.std.specs.List.{flat_map};
+ghost use Rattle.irig_guarding.specs.Reading.{even_by, even_frames, even_if, odd_by};
+
+use crate::opening::pulses_of;
+use crate::seen::{Seen, seen_frames};
+use irig_codes::Format;
+use irig_edit::{Pulse, Session};
+use irig_safety::{Odd, Shown, odd_of};
+use std::alloc::{AllocError, Global};
+
+/// The control functions of all frames whose pulses are odd.
+pub fn odd_among(
+    alloc: Global,
+    format: Format,
+    pulses: &[Pulse],
+    seen: &[Seen],
+) -> Result<Vec<Odd>, AllocError>
+    ensures { IfOk result (λ odd. odd.items ≡ flat_map (odd_by format pulses.now) seen.now) }
+{
+    let mut all = Vec::new(alloc);
+    for frame in seen {
+        let odd = odd_of(alloc, format, pulses, frame.marker, &frame.shown)?;
+        all.extend_from_slice(odd.as_slice())?;
+    }
+    Ok(all)
+}
+
+/// The frames of a session that read well and have no control function whose pulse is odd.
+pub fn even_frames(alloc: Global, session: &Session) -> Result<Vec<Shown>, AllocError>
+    ensures { IfOk result (λ even. even.items ≡ even_frames session.now.state) }
+{
+    let seen = seen_frames(alloc, session)?;
+    let pulses = pulses_of(alloc, session)?;
+    let format = session.current_format();
+    even_among(alloc, format, pulses.as_slice(), seen.as_slice())
+}
+
+/// The frames that have no control function whose pulse is odd.
+fn even_among(
+    alloc: Global,
+    format: Format,
+    pulses: &[Pulse],
+    seen: &[Seen],
+) -> Result<Vec<Shown>, AllocError>
+    ensures { IfOk result (λ even. even.items ≡ flat_map (even_by format pulses.now) seen.now) }
+{
+    let mut even = Vec::new(alloc);
+    for frame in seen {
+        let odd = odd_of(alloc, format, pulses, frame.marker, &frame.shown)?;
+        put_if(&mut even, odd.as_slice().is_empty(), frame.shown)?;
+    }
+    Ok(even)
+}
+
+/// Adds a frame to `even`, if it has no odd pulse (`so`).
+fn put_if(even: &mut Vec<Shown>, so: bool, frame: Shown) -> Result<(), AllocError>
+    ensures { OnOk result (even.new.items ≡ even.old.items ++ even_if so frame) }
+{
+    if so {
+        even.push(frame)?;
+    }
+    Ok(())
+}

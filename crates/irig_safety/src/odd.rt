@@ -1,0 +1,75 @@
+//! The control functions of frames whose pulses are odd: not as wide as the others of their class
+//! in their frame. Control functions count from 0. A frame's marker is its first pulse, by its
+//! place among the pulses, from 0.
+
+ghost use Rattle.std.specs.Prelude.{◌≡◌, ◌++◌, ◌<◌, IfOk, OnOk};
+ghost use Rattle.irig_safety.specs.OddFunctions.{has_odd, is_odd_of, odd_if, odd_of};
+
+use crate::controls::{function_element, functions};
+use crate::others::is_of_time;
+use crate::shown::Shown;
+use crate::widths::is_odd;
+use irig_codes::Format;
+use irig_recording::Pulse;
+use std::alloc::{AllocError, Global};
+
+/// A frame, and a control function of it whose pulse is odd.
+#[derive(Clone, Copy)]
+pub struct Odd {
+    pub frame: Shown,
+    pub function: u32,
+}
+
+/// The control functions of a frame with this marker whose pulses are odd.
+pub fn odd_of(
+    alloc: Global,
+    format: Format,
+    pulses: &[Pulse],
+    marker: usize,
+    frame: &Shown,
+) -> Result<Vec<Odd>, AllocError>
+    ensures { IfOk result (λ odd. odd.items ≡ odd_of format pulses.now marker frame.now) }
+{
+    let mut odd = Vec::new(alloc);
+    for function in 0..functions(format) {
+        let element = function_element(format, function);
+        let so = is_odd(format, pulses, marker, element);
+        put_if(&mut odd, so, frame, function)?;
+    }
+    Ok(odd)
+}
+
+/// Adds a control function of a frame to `odd`, if its pulse is odd (`so`).
+fn put_if(odd: &mut Vec<Odd>, so: bool, frame: &Shown, function: u32) -> Result<(), AllocError>
+    ensures { OnOk result (odd.new.items ≡ odd.old.items ++ odd_if so frame.now function) }
+{
+    if so {
+        odd.push(Odd {
+            frame: *frame,
+            function,
+        })?;
+    }
+    Ok(())
+}
+
+/// Whether a control function of a frame, which rises then and has this time, is one of `odd`.
+pub fn has_odd(odd: &[Odd], frame: &Shown, function: u32) -> bool
+    ensures { result ≡ has_odd odd.now frame.now function }
+{
+    for one in odd {
+        if is_odd_of(one, frame, function) {
+            return true;
+        }
+    }
+    false
+}
+
+/// Whether this is that control function of a frame, which rises then and has this time. If frames
+/// may move, another frame can be at the rise of one.
+fn is_odd_of(odd: &Odd, frame: &Shown, function: u32) -> bool
+    ensures { result ≡ is_odd_of odd.now frame.now function }
+{
+    odd.frame.rise == frame.rise
+        && is_of_time(&odd.frame.fields, &frame.fields)
+        && odd.function == function
+}
