@@ -117,13 +117,14 @@ def frame_lost(rng, pulses, recording):
 
 
 def function_changed(rng, pulses, recording):
-    """A control function of a frame is the other one."""
+    """A control function of a frame is the other one, often not as wide as the others."""
     elements = [element for element, _ in timecode.layout(recording.kind, recording.expression).get("control", [[]])[0]]
     if not elements:
         return
     pulse = pulses[min(100 * rng.randrange(recording.many) + rng.choice(elements), len(pulses) - 1)]
     is_one = timecode.class_of(recording.interval, pulse[1] - pulse[0]) == "one"
-    pulse[1] = pulse[0] + timecode.nominal(recording.interval, "zero" if is_one else "one")
+    off = rng.choice((0, 0, 1, -1)) * (recording.interval // 50)
+    pulse[1] = pulse[0] + timecode.nominal(recording.interval, "zero" if is_one else "one") + off
 
 
 def damaged(rng, recording, pulses):

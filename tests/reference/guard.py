@@ -9,6 +9,7 @@ LONGEST_LINE, LONGEST_COMMENT = 1000, 900
 LEAST_ANCHORS = 60  # of a frame, if nothing was fine
 PARITY = 75  # the element
 LEAST_WITH_PARITY, FOR_EACH_WITHOUT = 8, 5
+LEAST_ALIKE = 5  # other pulses of its class in its frame, with whose widths one is compared
 NOTHING_FINE, NOT_KEPT = b"# nothing to go by: no frame of the recording is fine", b"# not kept: "
 NO_REPAIR, REFUSED = "not a repair", "refused: "
 LOST, CHANGED, UNSUPPORTED = "would be lost", "would change", "would have a time that is not supported"
@@ -50,7 +51,7 @@ class Safety:
         self.fines = fine(opened)
         self.old = [frame.shown for frame in self.fines]
         self.moved = moved
-        self.controls = Controls(opened, [frame for other in others for frame in backed(self.bearing, other)])
+        self.controls = Controls(opened, self.fines, self.bearing, [fine(other) for other in others])
         self.anchors = Anchors(opened, self.bearing)
 
     def fault(self, last: Sequence[Shown], new: Sequence[Fine]) -> Optional[str]:
@@ -108,7 +109,8 @@ class Safety:
 
     def _has_control_of_most(self, beside: Near, was: Shown, frame: Shown) -> bool:
         """Whether a frame has other control functions than it had, nothing else is another, and each of those that are others is so
-        in most other recordings, and in both next to it; or it is the only one, and the parity of those says so."""
+        in most other recordings, and in both next to it; or its pulse was not as wide as others; or it is the only one, and the
+        parity of those says so."""
         if not changes_control(was, frame):
             return False
         now, sides = frame.values["control"], (beside.before, beside.after)
@@ -116,7 +118,8 @@ class Safety:
         shared = [None not in sides and not any((one.values["control"] ^ now) >> bit & 1 for one in sides if one) for bit in changed]
         is_allowed = not (sides[0] and not self.bearing.allows(sides[0], frame) or sides[1] and not self.bearing.allows(frame, sides[1]))
         is_right = len(changed) == 1 and is_allowed and self.controls.is_by_parity(was, frame)
-        return all(self.controls.is_told(frame, bit) and (each or is_right) for bit, each in zip(changed, shared))
+        return all(self.controls.is_told(frame, bit) and (each or is_right or self.controls.is_by_width(was, frame, bit))
+                   for bit, each in zip(changed, shared))
 
     def _controls(self, old: Sequence[Shown], new: Sequence[Fine]) -> Optional[str]:
         """The first frame that is not as it was, and whose control functions are not supported."""
@@ -187,23 +190,37 @@ def located(old: Sequence[Shown], now: Sequence[Shown]) -> List[Shown]:
     return found
 
 
-def backed(bearing: Bearing, other: machine.State) -> List[Shown]:
-    """The frames of another recording with which a frame next to them agrees."""
-    frames = [frame.shown for frame in fine(other)]
-    pairs = [bearing.agrees(one, two) for one, two in zip(frames, frames[1:])]
-    return [frame for frame, before, after in zip(frames, [False, *pairs], [*pairs, False]) if before or after]
+def backed(bearing: Bearing, frames: Sequence[Fine]) -> List[Shown]:
+    """Those of some frames with which one next to them agrees."""
+    pairs = [bearing.agrees(one.shown, two.shown) for one, two in zip(frames, frames[1:])]
+    return [frame.shown for frame, before, after in zip(frames, [False, *pairs], [*pairs, False]) if before or after]
+
+
+def of_time(frames: Sequence[Shown], frame: Shown) -> List[Shown]:
+    """Those that have the time of a frame."""
+    own = {**frame.values, "control": 0}
+    return [one for one in frames if {**one.values, "control": 0} == own]
+
+
+def is_in_most(frames: Sequence[Shown], frame: Shown, bit: int) -> bool:
+    """Whether most of those that have the time of a frame have a control function as it has it."""
+    votes = [(one.values["control"] ^ frame.values["control"]) >> bit & 1 for one in of_time(frames, frame)]
+    return 2 * sum(votes) < len(votes)
 
 
 class Controls:
     """Which control functions a recording supports, or others of the same code."""
 
-    def __init__(self, opened: machine.State, others: Sequence[Shown]) -> None:
-        self.others = others
+    def __init__(self, opened: machine.State, fines: Sequence[Fine], bearing: Bearing, others: Sequence[List[Fine]]) -> None:
+        self.others = [shown for frames in others for shown in backed(bearing, frames)]
         self.interval, self.pulses = opened.interval(), opened.pulses()
         self.rises = [rise for rise, _ in self.pulses]
         self.code = opened.kind, opened.expression
         fields = timecode.layout(*self.code)
         self.elements = [element for element, _ in fields["control"][0]] if "control" in fields else []
+        self.odd = [(frame.shown, bit) for frame in fines for bit in self._odd(frame)]
+        even = [[frame for frame in frames if not self._odd(frame)] for frames in others]
+        self.even = [shown for frames in even for shown in backed(bearing, frames)]
 
     def are_supported(self, near: Near, frame: Fine) -> bool:
         """Whether each is recorded, or as in the nearest frames on both sides, or what was recorded of it was lost, or as most others
@@ -235,8 +252,28 @@ class Controls:
 
     def is_told(self, frame: Shown, bit: int) -> bool:
         """Whether most frames of other recordings with its time have a control function as it has it."""
-        votes = [(one.values["control"] ^ frame.values["control"]) >> bit & 1 for one in self._of_time(frame)]
-        return 2 * sum(votes) < len(votes)
+        return is_in_most(self.others, frame, bit)
+
+    def is_by_width(self, was: Shown, frame: Shown, bit: int) -> bool:
+        """Whether the pulse of a control function is not as wide as others, and most frames of its time in other recordings of which
+        all are have it as it is now."""
+        is_odd = any(bit == each and was.rise == one.rise and of_time([one], was) for one, each in self.odd)
+        return is_odd and is_in_most(self.even, frame, bit)
+
+    def _odd(self, frame: Fine) -> List[int]:
+        """The control functions whose pulse is not as wide as the others of its class in the frame."""
+        return [bit for bit, element in enumerate(self.elements) if self._is_odd(frame, element)]
+
+    def _is_odd(self, frame: Fine, element: int) -> bool:
+        """Whether a pulse is narrower than the others of its class, or wider, by a hundredth of an interval and twice what they differ
+        by."""
+        rise, fall = frame.pulses[element]
+        widths = [pulse[1] - pulse[0] for place, pulse in enumerate(frame.pulses)
+                  if place != element and self._class(pulse) == self._class((rise, fall))]
+        if len(widths) < LEAST_ALIKE:
+            return False
+        margin = self.interval // 100 + 2 * (max(widths) - min(widths))
+        return not min(widths) - margin <= fall - rise <= max(widths) + margin
 
     def is_by_parity(self, was: Shown, frame: Shown) -> bool:
         """Whether a frame has the parity of the others, and had not: at least eight have it, and five more for each that has not."""
@@ -249,11 +286,7 @@ class Controls:
 
     def have_time(self, frame: Shown) -> bool:
         """Whether another recording has a frame of its time."""
-        return bool(self._of_time(frame))
-
-    def _of_time(self, frame: Shown) -> List[Shown]:
-        own = {**frame.values, "control": 0}
-        return [one for one in self.others if {**one.values, "control": 0} == own]
+        return bool(of_time(self.others, frame))
 
     def _is_shared(self, near: Near, frame: Shown, bit: int) -> bool:
         """Whether the two nearest frames have a control function as it has it."""

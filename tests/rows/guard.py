@@ -83,6 +83,11 @@ def changed(pulses: Pulses, number: int, name: str) -> Pulses:
     return found
 
 
+def wide(pulses: Pulses, number: int, width: int) -> Pulses:
+    """A pulse that is this wide."""
+    return [[rise, rise + width] if place == number else [rise, fall] for place, (rise, fall) in enumerate(pulses, 1)]
+
+
 def class_of(pulses: Pulses, number: int) -> str:
     rise, fall = pulses[number - 1]
     return "zero" if fall - rise < 3500 else "one"
@@ -134,6 +139,8 @@ CHANGING_AS_ZERO = changed(CHANGING, 363, "zero")  # element 62 of frame 3
 FIRST_IS_50, LAST_IS_57 = changed(steady("B5"), 102, "zero"), changed(steady("B5"), 602, "one")  # and not 51, and not 56
 ODD = with_parity(9)  # eight fine frames; in the others element 60 of frame 3 or of the last is of another class, or two of frame 3 are
 ODD_BUT_3, ODD_BUT_LAST, ODD_BUT_TWO = other_class(ODD, 361), other_class(ODD, 861), other_class(other_class(ODD, 361), 362)
+# element 62 is a one in all frames; by their time the one of 00:00:02 has four other ones, and that of 00:00:03 five
+FEW_ONES = steady("B5", begin=datetime.datetime(2024, 1, 1), control=4)
 AS_ZERO = without(SOUND, 343)  # and the control function of frame 3 was recorded as a zero
 SET_FUNCTION_OF_3 = ["begin", "insert 3420000 3422000", "363 force one", "end"]
 MEND_BY_PARITY, SPOIL_BY_PARITY = ["361 force " + class_of(ODD, 361)], ["362 force " + class_of(ODD_BUT_TWO, 362)]
@@ -449,6 +456,45 @@ ROWS = (
         unsafe("138 12:34:53", 3000000, CHANGED, *MEND_BY_PARITY), others=[ODD]),
     Row("a frame with a right parity, and another recording has one otherwise, whose parity is wrong", "B4", ODD, SPOIL_BY_PARITY,
         unsafe("138 12:34:53", 3000000, CHANGED, *SPOIL_BY_PARITY), others=[[*other_class(ODD, 362), *with_parity(13)[900:]]]),
+    # a width
+    Row("a control function whose pulse is wider than the other zeros of its frame, and another recording has a one", "B4",
+        wide(ONE_FUNCTION, 363, 2101), ["363 force one"], ["363 force one"], filled=1, others=[OF_OTHER]),
+    Row("the same, narrower", "B4", wide(ONE_FUNCTION, 363, 1899), ["363 force one"], ["363 force one"], filled=1, others=[OF_OTHER]),
+    Row("the same, by a hundredth of an interval", "B4", wide(ONE_FUNCTION, 363, 2100), ["363 force one"],
+        unsafe("138 12:34:53", 3000000, CHANGED, "363 force one"), others=[OF_OTHER]),
+    Row("the same, narrower by a hundredth of an interval", "B4", wide(ONE_FUNCTION, 363, 1900), ["363 force one"],
+        unsafe("138 12:34:53", 3000000, CHANGED, "363 force one"), others=[OF_OTHER]),
+    Row("the same, and no other recording", "B4", wide(ONE_FUNCTION, 363, 2101), ["363 force one"],
+        unsafe("138 12:34:53", 3000000, CHANGED, "363 force one")),
+    Row("the same, and two other recordings differ", "B4", wide(ONE_FUNCTION, 363, 2101), ["363 force one"],
+        unsafe("138 12:34:53", 3000000, CHANGED, "363 force one"), others=[OF_OTHER, OF_SOUND]),
+    Row("the same, and the pulse of the other recording is not as wide as its ones", "B4", wide(ONE_FUNCTION, 363, 2101),
+        ["363 force one"], unsafe("138 12:34:53", 3000000, CHANGED, "363 force one"), others=[wide(OF_OTHER, 363, 5200)]),
+    Row("the same, and a pulse of the other recording is not as wide as others in another frame", "B4", wide(ONE_FUNCTION, 363, 2101),
+        ["363 force one"], ["363 force one"], filled=1, others=[wide(OF_OTHER, 463, 2200)]),
+    Row("the same, and another zero of the frame is narrower by half a hundredth", "B4", wide(wide(ONE_FUNCTION, 363, 2200), 371, 1950),
+        ["363 force one"], unsafe("138 12:34:53", 3000000, CHANGED, "363 force one"), others=[OF_OTHER]),
+    Row("the same, wider than all by a hundredth and twice of what they differ", "B4", wide(wide(ONE_FUNCTION, 363, 2201), 371, 1950),
+        ["363 force one"], ["363 force one"], filled=1, others=[OF_OTHER]),
+    Row("a control function as wide as others, and the pulse of another one is not", "B4", wide(SOUND, 371, 2101), ["363 force one"],
+        unsafe("138 12:34:53", 3000000, CHANGED, "363 force one"), others=[OF_OTHER]),
+    Row("the same of the first frame", "B4", wide(steady(control=4), 163, 5101), ["163 force zero"], ["163 force zero"], filled=1,
+        others=[joined(SOUND, steady(control=4), 2)]),
+    Row("a frame with five other ones", "B5", wide(FEW_ONES, 363, 5101), ["363 force zero"], ["363 force zero"], filled=1,
+        others=[changed(FEW_ONES, 363, "zero")]),
+    Row("a frame with four other ones", "B5", wide(FEW_ONES, 263, 5101), ["263 force zero"],
+        unsafe("001 00:00:02", 2000000, CHANGED, "263 force zero"), others=[changed(FEW_ONES, 263, "zero")]),
+    Row("a zero and a one that are wide", "B4", wide(wide(ONE_FUNCTION, 363, 2300), 371, 5300),
+        ["begin", "363 force one", "371 force zero", "end"], ["begin", "363 force one", "371 force zero", "end"], filled=1,
+        others=[OF_OTHER]),
+    Row("two wide zeros: each is as wide as the other one", "B4", wide(wide(ONE_FUNCTION, 363, 2300), 371, 2300),
+        ["begin", "363 force one", "371 force one", "end"],
+        unsafe("138 12:34:53", 3000000, CHANGED, "begin", "363 force one", "371 force one", "end"),
+        others=[changed(OF_OTHER, 371, "one")]),
+    Row("a wide zero, and one that is not", "B4", wide(ONE_FUNCTION, 363, 2300),
+        ["begin", "363 force one", "371 force one", "end"],
+        unsafe("138 12:34:53", 3000000, CHANGED, "begin", "363 force one", "371 force one", "end"),
+        others=[changed(OF_OTHER, 371, "one")]),
     # a first or last frame that another recording knows
     Row("the first frame has another time, and another recording has the one before the next", "B5", FIRST_IS_50, ["102 force one"],
         ["102 force one"], others=[steady("B5")]),

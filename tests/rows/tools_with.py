@@ -374,7 +374,9 @@ def of_width():
     told, exact, words = class_at(code(), at), flipped(code(), at), {}
     for name, pulses, other, wanted in (
         ("and the frames next to it have the same", odd(at), code(), {at: told}),
-        ("they have not", odd(alone), code(), {}),
+        ("they have not", odd(alone), code(), {alone: class_at(code(), alone)}),
+        ("they have not, and another one of this class in the frame is off by half of that", beside(odd(alone), alone), code(), {}),
+        ("they have not, and another control function there is not as wide as others", odd(alone), widened(code(), 1070), {}),
         ("nor have they, and the frame is damaged", without(odd(alone), 1045), code(), {1045: "0", alone: class_at(code(), alone)}),
         ("as wide as others", exact, code(), {}),
         ("as wide as others, which are all wider", [[rise, fall + 300] for rise, fall in exact], code(), {}),
@@ -430,6 +432,13 @@ def odd(at, by=700):
     pulses = flipped(code(), at)
     pulses[at][1] += by if class_at(code(), at) == "1" else -by
     return pulses
+
+
+def beside(pulses, at):
+    """The first other pulse of this class in the frame is narrower by 350 microseconds."""
+    found, classes = [list(each) for each in pulses], listed(pulses).classes
+    found[next(place for place in range(1000, 1100) if place != at and classes[place] == classes[at])][1] -= 350
+    return found
 
 
 def widened(pulses, *places):

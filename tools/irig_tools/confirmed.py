@@ -65,7 +65,7 @@ def _why_damage(faults: Faults, number: FrameNumber, element: int) -> Optional[s
     if times.are_beside(number, element, OTHER[here]):
         return " and in the frames next to it"
     width = _not_as_wide(faults, number, element)
-    if width and (number not in times.sound or times.is_beside(number, element, OTHER[here])):  # else irig_guard drops it
+    if width and (number not in times.sound or times.is_beside(number, element, OTHER[here]) or _is_apart(faults, number, element)):
         return width
     if number in times.sound:
         return None
@@ -77,6 +77,13 @@ def _not_as_wide(faults: Faults, number: FrameNumber, element: int) -> str:
     here = faults.times.texts[number][element]
     is_shown = faults.is_odd(place_in(number, element)) and faults.elsewhere.is_usual(number, element, OTHER[here])
     return NOT_AS_WIDE % NAMES[here] if is_shown else ""
+
+
+def _is_apart(faults: Faults, number: FrameNumber, element: int) -> bool:
+    """Whether irig_guard, which knows the widths of a frame alone, keeps that of a fine frame, too."""
+    marker = faults.track.pulses_at(place_in(number))[0]
+    there = OTHER[faults.times.texts[number][element]]
+    return faults.widths.is_apart(marker, element) and faults.elsewhere.is_even(number, element, there)
 
 
 def _next_to_damage(faults: Faults, number: FrameNumber, element: int) -> Optional[str]:

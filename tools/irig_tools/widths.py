@@ -5,7 +5,7 @@ from statistics import median_low
 from typing import Dict, NamedTuple, Optional, Sequence
 
 from . import limits
-from .units import Microseconds, PulseIndex
+from .units import ELEMENTS, Microseconds, PulseIndex
 
 
 class UsualWidth(NamedTuple):
@@ -29,6 +29,18 @@ class Widths:
     def is_odd(self, pulse: PulseIndex) -> bool:
         """Whether nearly all others of its class are as wide as each other, and this one is not."""
         return self._is_as_wide(pulse) is False
+
+    def is_apart(self, marker: PulseIndex, element: int) -> bool:
+        """Whether a pulse of a fine frame is wider than all others of its class there, or narrower, as irig_guard sees it: by more than a
+        hundredth of an interval and twice what these differ by."""
+        pulse, pulses = marker + element, range(marker, marker + ELEMENTS)
+        others = [self._falls[each] - self._rises[each] for each in pulses
+                  if each != pulse and self._classes[each] == self._classes[pulse]]
+        if len(others) < limits.LEAST_ALIKE:
+            return False
+        low, high = min(others), max(others)
+        margin = int(limits.APART * self._interval) + limits.FOR_DIFFERENCE * (high - low)
+        return not low - margin <= self._falls[pulse] - self._rises[pulse] <= high + margin
 
     def _is_as_wide(self, pulse: PulseIndex) -> Optional[bool]:
         """Whether a pulse is as wide as is usual; None if nothing is."""

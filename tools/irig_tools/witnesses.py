@@ -32,6 +32,10 @@ class Witness(NamedTuple):
         """Whether the pulse of an element is as wide as others of its class there."""
         return self.widths.is_usual(plus(self.first, element))
 
+    def is_even(self, elements: Iterable[int]) -> bool:
+        """Whether the pulses of these elements are as wide there as others of the frame, as irig_guard sees it."""
+        return not any(self.widths.is_apart(self.first, element) for element in elements)
+
 
 class Witnesses:
     """These frames by their times. Each is equal to itself alone, so that what is found with it can be kept by it."""
@@ -130,6 +134,10 @@ class Elsewhere:
     def is_usual(self, number: FrameNumber, element: int, told: str) -> bool:
         """Whether one that has this class there has it in a pulse that is as wide as others of its class."""
         return any(each.text[element] == told and each.is_usual(element) for each in self._near.get(number, ()))
+
+    def is_even(self, number: FrameNumber, element: int, told: str) -> bool:
+        """Whether one that has this class there is a frame in which all control functions are as wide as others."""
+        return any(each.text[element] == told and each.is_even(self.elements) for each in self._near.get(number, ()))
 
     def is_by_rule(self, number: FrameNumber, element: int) -> bool:
         """Whether the rule says that an element is damaged here: the frame does not fit it, and would with what others have."""
