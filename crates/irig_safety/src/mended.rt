@@ -1,9 +1,10 @@
 //! Whether a frame that read well, with nothing wrong in it, and is another one now, is mended by
 //! that. `former` is the frame as it was, `frame` as it is now, `near` the former frames next to
-//! it, two on each side (`before` and `after` are the nearer ones), and `others` frames of other
-//! recordings of the same code. Two frames contradict each other if they are near enough for their
-//! distance to say how many frame periods it is, and their times say another number (`allows` is
-//! false). Frames bear out another one if they have its time there (`is_borne`).
+//! it, two on each side (`before` and `after` are the nearer ones), and `others` what is known
+//! besides: `frames` of other recordings of the same code, and which pulses are not as wide as
+//! others. Two frames contradict each other if they are near enough for their distance to say how
+//! many frame periods it is, and their times say another number (`allows` is false). Frames bear
+//! out another one if they have its time there (`is_borne`).
 
 ghost use Rattle.std.specs.Prelude.{◌≡◌, ◌↔◌, IsTrue};
 ghost use Rattle.irig_safety.specs.Mended.{Mends, contradicts_from, contradicts_to, is_mended};

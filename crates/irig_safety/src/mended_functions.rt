@@ -1,11 +1,13 @@
 //! Whether the control functions of a frame that read well, which are others now, are mended by
 //! that. A frame reads well if nothing is wrong in it. `former` is the frame as it was, `frame` as
 //! it is now, `near` the former frames next to it (`before` and `after` are the nearer ones), and
-//! `others` frames of other recordings of the same code. Control functions count from 0, and are
-//! the bits of a `u64`, so a number is below 64. The parity of a frame is whether its ones up to
-//! element 75 are odd in number or even: some codes keep it the same in each frame. Two frames
-//! contradict each other if their distance says how many frame periods it is, and their times say
-//! another number.
+//! `others` what is known besides: `frames` of other recordings of the same code, those of them in
+//! which no pulse is odd (`even`), and the control functions here whose pulse is (`odd`). A pulse
+//! is odd if it is not as wide as the others of its class in its frame, so damage made it. Control
+//! functions count from 0, and are the bits of a `u64`, so a number is below 64. The parity of a
+//! frame is whether its ones up to element 75 are odd in number or even: some codes keep it the
+//! same in each frame. Two frames contradict each other if their distance says how many frame
+//! periods it is, and their times say another number.
 
 ghost use Rattle.std.specs.Prelude.{◌≡◌, ◌↔◌, ◌<◌, ◌⊎◌, IsTrue};
 ghost use Rattle.irig_safety.specs.MendedFunctions.{AreFunctionsMended, HasControlOfBoth};
