@@ -1,5 +1,6 @@
 //! The comment on the frames at one place. A place is when a frame's marker rises, in microseconds.
-//! Its two sides are the frame before there and the frame after, as far as they are there.
+//! Its two sides are the frame before there and the frame after, as far as they are there. What
+//! fails, fails only if memory runs out.
 
 ghost use Rattle.std.specs.Prelude.{◌≡◌, ◌++◌, OnOk};
 ghost use Rattle.irig_comments.specs.Comments.{after_text, before_text, comment_text, whole_text};

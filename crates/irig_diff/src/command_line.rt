@@ -1,9 +1,11 @@
 //! The command line, read by `clap`. Its matches are what `clap` found in its words. Only memory
-//! can run out for a `Command` or an `Arg`. In a text of the help, what is after the last colon is
-//! the value without the option. An `Arg` that is `global` would be one of subcommands, too. In a
-//! contract, `IsWired`, `IsTaking`, `IsShowing` and `IsCommand` say that a command has just the
-//! arguments that the function of that name gives it; `MayRefuse` says that `clap` may give this
-//! error for the words, `WantsMemory` that memory ran out.
+//! can run out for a `Command` or an `Arg`. `option_arg` makes an option with a value, `flag_arg`
+//! one without, and `needed_arg` a word that has to be there, each by its name and its text in the
+//! help. What is after the last colon of that text is the value without the option. An `Arg` that
+//! is `global` would be one of subcommands, too. In a contract, `IsWired`, `IsTaking`, `IsShowing`
+//! and `IsCommand` say that a command has just the arguments that the function of that name gives
+//! it; `MayRefuse` says that `clap` may give this error for the words, `WantsMemory` that memory
+//! ran out.
 
 ghost use Rattle.std.specs.Prelude.{◌≡◌, IfErr, IfOk, None, false, map, string_bytes};
 ghost use Rattle.clap.specs.Words.{HasMatchesOf, app_of, found_of, rule_of};

@@ -85,10 +85,11 @@ fn compare_with_block<'a, D: Disk, W: Write>(
     compare_recordings(alloc, chosen, before, after, out, block)
 }
 
-/// Prints the patch between two recordings, with comments if frames are asked for. `Compared` says
-/// whether the two are the same. `Unprinted` if the output fails or memory runs out for the block:
-/// a front of the patch may be printed then. `Unread` if memory runs out for the frames: nothing is
-/// printed then. Of the settings it uses the format, and the paths for `Unread`.
+/// Prints the patch between two recordings: with comments if frames are asked for
+/// (`compare_frames`), else without (`print_patch`). `Compared` says whether the two are the same.
+/// `Unprinted` if the output fails or memory runs out for the block: a front of the patch may be
+/// printed then. `Unread` if memory runs out for the frames: nothing is printed then. Of the
+/// settings it uses the format, and the paths for `Unread`.
 fn compare_recordings<'a, W: Write>(
     alloc: Global,
     chosen: &Settings<'a>,

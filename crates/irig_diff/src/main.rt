@@ -32,8 +32,8 @@ use std::rt::Runtime;
 use std::{env, io};
 
 // Gets the files of the system and the words of the command line; then the tracks are compared, and
-// the status is that of `start`. It is 2 if one of these cannot be had: the tracks were not looked
-// for then.
+// the status is that of `start`. If one of these cannot be had, `tell` or `tell_no_words` prints
+// why on the standard error, and the status is 2. The tracks were not looked for then.
 fn main(rt: HostRuntime) -> ExitCode {
     let Ok(files) = system_files(&rt) else {
         return program().tell(&rt, 2, &io::Error::from(io::ErrorKind::OutOfMemory));

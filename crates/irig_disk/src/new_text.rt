@@ -177,7 +177,8 @@ fn place_or_clear<F: Folder>(folder: &mut F, new: &NewText<'_, F>) -> Result<(),
 }
 
 /// Gives a new file the mode, syncs what it holds, and gives it the target's name. In this order:
-/// under the target's name a file never has another mode or a part of the text.
+/// under the target's name a file never has another mode or a part of the text. `Err` is the fault
+/// of the first call that fails; the target is then seen as it was.
 fn place<F: Folder>(folder: &mut F, new: &NewText<'_, F>) -> Result<F::Renamed, F::Fault>
     ensures ok { IsTrue F.is_told → WhileUnderway F.disk folder.old
         (underway_of F.place F.number F.usual_mode new.now) (λ start at text.
@@ -193,7 +194,8 @@ fn place<F: Folder>(folder: &mut F, new: &NewText<'_, F>) -> Result<F::Renamed, 
 }
 
 /// Syncs what a new file holds, so that no crash leaves the target a part of it, and gives it the
-/// target's name.
+/// target's name. `Err` is the fault of the call that failed; after that of the sync no name
+/// changes.
 fn rename_synced<F: Folder>(
     folder: &mut F,
     file: &F::File,
@@ -216,7 +218,8 @@ fn rename_synced<F: Folder>(
     }
 }
 
-/// Gives a new file the mode, if there is one to give; without one it keeps the usual mode.
+/// Gives a new file the mode, if there is one to give; without one (`None`) it keeps the usual
+/// mode. `Err` is the fault of the call that gives it.
 fn give_mode<F: Folder>(folder: &mut F, file: &F::File, mode: Option<u32>) -> Result<(), F::Fault>
     ensures ok { IsTrue F.is_told → (beside target : List ℕ) → WhileWriting F.disk folder.old
         beside target (F.number file.now) (first_mode F.usual_mode mode) (λ start text.

@@ -94,10 +94,11 @@ fn put_begun<F: Folder, T: Text>(
     }
 }
 
-/// Ends a write: gives the new file the target's name if the text was written to it, else removes
-/// the file. `written` says how the write of the text went: its error is the fault of a call, or
-/// `None` if memory ran out or the text is too long. After such an error the answer is `Failed` or
-/// `Memory`; or, if the file could not be removed, `LeftBehind` or `Remains` (`fault_after`).
+/// Ends a write. `written` says how the write of the text to the new file went. If all is written,
+/// the new file gets the target's name, and the answer is that of `NewText::finish`. Else the file
+/// is removed: the error in `written` is the fault of a call, or `None` if memory ran out or the
+/// text is too long. The answer is then `Failed` or `Memory`; or, if the file could not be removed,
+/// `LeftBehind` or `Remains` (`fault_after`).
 fn finish_or_give_up<F: Folder>(
     folder: &mut F,
     new: NewText<'_, F>,
@@ -151,8 +152,8 @@ fn append_all<F: Folder, T: Text>(
 }
 
 /// Writes the next block of a text to the new file, and returns whether it was the last one. A
-/// block that is not the last has at least `ENOUGH` bytes, 64 KiB. An error is the fault of a call,
-/// or `None`: memory ran out, or the text is too long.
+/// block that is not the last has at least `ENOUGH` bytes, 64 KiB. An error is the fault of a call
+/// (`append_block`); or `None` if memory ran out, or the text is too long (`fill_next`).
 fn append_next<F: Folder, T: Text>(
     folder: &mut F,
     new: &mut NewText<'_, F>,

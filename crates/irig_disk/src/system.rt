@@ -144,8 +144,8 @@ impl<R: Files> Folder for SystemFolder<'_, R> {
 
     ghost only_now = { λ _ _ _ left. absurd left };
 
-    // Makes a new file under a name in a folder if that is free, a hidden one for its owner alone;
-    // `None`: the name is taken.
+    // Makes a new file under a name in a folder if that is free, a hidden one for its owner alone.
+    // `None`: the name is taken. Any other error of the system is the fault.
     fn make(
         &mut self,
         dir: &SystemDir<R::File>,

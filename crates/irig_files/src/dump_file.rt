@@ -3,8 +3,8 @@
 //! the text of the journal that the dump carries, if it has one. `wire` is the name of the wire; if
 //! none is named, the dump has to have one wire of one bit. An `Extent` says how much of the dump
 //! is kept: a part of its time or all, of at most 2^22 pulses or, if it is long, 2^26. An `Intake`
-//! (`intake`) takes in the parts and counts their bytes. `rt` is what the program has of the
-//! system. `DUMP_LIMIT` is 2^28 bytes.
+//! (`intake`) takes in the parts and counts their bytes (`IsCounted`). `rt` is what the program has
+//! of the system. `DUMP_LIMIT` is 2^28 bytes.
 
 ghost use Rattle.std.specs.Prelude.{◌≡◌, ◌≢◌, ◌<◌, ◌^◌, ◌↔◌, ℕ, List, Some, None, IfOk, OnOk};
 ghost use Rattle.std.specs.Prelude.{IfErr, IfSome, IsErrOf, IsOk, IsTrue, MatchResult, true, false};
@@ -74,8 +74,8 @@ fn shows_more(described: &Metadata) -> bool
     described.is_file() && described.len() > DUMP_LIMIT as u64
 }
 
-/// What an error of a read means. `Ok(true)`, the answer of `take_part`: the read was interrupted,
-/// and the next can give more. Any other error is the fault.
+/// What `take_part` answers after an error of a read: `Ok(true)` if it was interrupted, since the
+/// next can give more; else the fault that the error is (`from`).
 fn after_error(error: io::Error) -> Result<bool, DumpFileFault>
     ensures more { IfOk result (λ is_more. is_more ≡ true) }
     ensures interrupted { IsOk result ↔ (error_kind error ≡ ErrorKind.Interrupted) }
@@ -117,8 +117,8 @@ fn take_part<R: Read>(
 }
 
 /// Takes in all that a reader has left, part by part, up to one byte more than the longest dump
-/// has: if that byte comes, `end` of the intake reports `TooLong`. `Err` if a read fails or memory
-/// runs out. The loop has a bound so that it is sure to end.
+/// has: then `Intake::end` reports `TooLong`. `Err` if a read fails or memory runs out. A part has
+/// a byte (`room`), so a read of none is the end. The loop has a bound so that it is sure to end.
 fn take_all<R: Read>(
     dump: &mut Intake,
     reader: &mut R,

@@ -48,8 +48,8 @@ impl<'a, R: Files + Print + AllocGlobal> PlainCalls for SystemFolder<'a, R> {
         io::writer(self.runtime())
     }
 
-    // Opens what is at the path, to write to it. It keeps its bytes, and no file is made: it is a
-    // fault if nothing is there.
+    // Opens what is at the path, to write to it (`as_it_is`): its bytes stay, and no file is made.
+    // It is a fault if nothing is there.
     fn open_other(&self, path: &str) -> Result<R::File, SystemFault> {
         match as_it_is().open(self.runtime(), path) {
             Ok(file) => Ok(file),

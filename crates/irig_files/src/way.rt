@@ -76,9 +76,10 @@ fn way_over<C: FileSystem>(
     }
 }
 
-/// The way `Replaced` of a path that leads to a regular file (`is_there`), or to none yet. The
-/// target gets the path at the end of its links. `Err` if there are too many links, the system does
-/// not say what is there, or the file must not be written.
+/// The way `Replaced` of a path that leads to a regular file (`is_there` is true) or to none yet;
+/// the caller knows which. The target gets the path at the end of its links. `Err` as
+/// `follow_links` and `mode_to_take` have it: there are too many links, memory runs out, the system
+/// does not say what is there, or the file must not be written.
 fn replaced<C: FileSystem>(
     system: &C,
     path: &str,

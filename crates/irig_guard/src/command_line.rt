@@ -20,8 +20,8 @@ use irig_words::{UsageFault, flag_arg, matches_of, needed_arg, option_arg, windo
 use std::alloc::{AllocError, Global};
 
 /// What the words of a command line ask for, the program's name being the first. `Words` if they
-/// ask for help, `clap` does not accept them or memory runs out; `Value` if an option has a value
-/// that it cannot have.
+/// ask for help, `clap` does not accept them or memory runs out (`asked`); `Value` if an option has
+/// a value that it cannot have (`settings_of`).
 pub fn settings<'a>(
     alloc: Global,
     words: &'a [String],
@@ -51,7 +51,8 @@ fn asked<'a>(alloc: Global, words: &'a [String]) -> Result<Asked<'a>, Error>
     }
 }
 
-/// The values of the matches, each as it was written. `Err` means that memory ran out.
+/// The values of the matches, each as it was written; `None` for an option that is not given, and
+/// false for a flag. `Err` means that memory ran out.
 fn values_of<'a>(alloc: Global, matches: &ArgMatches<'a>) -> Result<Asked<'a>, Error>
     ensures values { IfOk result (AreValues (found_of matches.now)) }
     ensures memory { IfErr result WantsMemory }

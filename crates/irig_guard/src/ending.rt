@@ -9,7 +9,7 @@ use irig_words::UsageFault;
 /// How the program ends, before it is reported.
 #[derive(Drop)]
 pub enum Ending<'a> {
-    /// The words of the command line ask for help, or are not valid.
+    /// The words of the command line ask for help, or are not valid, or memory ran out for them.
     Usage(UsageFault<OptionFault>),
     /// The file at this path is no dump that can be read.
     Unread(&'a str, DumpFileFault),

@@ -33,8 +33,8 @@ use irig_vcd::{VcdFault, read_back_parts};
 use std::alloc::Global;
 use std::io::{Read, Write};
 
-/// Runs a script under guard on the dump that the words of a command line name, the program's name
-/// being the first. `Usage` if they are not valid, or ask for help; else as `run_on_track`.
+/// Runs a script under guard on the dump that the words of a command line name. `Usage` if they are
+/// not valid, ask for help, or memory runs out for them; else as `run_on_track`.
 pub fn obey_words<'a, D: Disk, R: Read, W: Write>(
     alloc: Global,
     words: &'a [String],
@@ -182,8 +182,8 @@ fn is_over<D: Disk>(chosen: &Settings<'_>, disk: &D) -> Result<bool, ShelfFault>
 }
 
 /// Runs a script under guard on what was read of a dump, by `terms`, which have the frames of other
-/// recordings. In a window the journal is left out (`heeded`). `Dump` if `read` is an `Err`, or it
-/// cannot be opened as a session; any other fault is of the run itself.
+/// recordings. In a window the journal is left out (`heeded`). `Dump` if `read` is an `Err`, or
+/// what it has cannot be opened as a session; any other fault is of the run (`guard_on_parts`).
 fn run_on_read<D: Disk, R: Read, W: Write>(
     alloc: Global,
     chosen: &Settings<'_>,
@@ -229,7 +229,7 @@ fn run_on_read<D: Disk, R: Read, W: Write>(
     )
 }
 
-/// The path to write; without one that of the dump, since the shelf needs a path.
+/// The path to write. Without one that of the dump: the shelf needs one, but nothing is written.
 fn place_of<'a>(chosen: &Settings<'a>) -> &'a str
     ensures { result.now ≡ place_of chosen.now }
 {

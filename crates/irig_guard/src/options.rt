@@ -7,9 +7,10 @@ use crate::asked::Asked;
 use crate::chosen::{OptionFault, Settings};
 use irig_words::{format_named, window_named};
 
-/// What the values of a command line ask for. `Err` is the first of these faults: a time of the
-/// window (`Window`) or the format (`Format`) has a value that it cannot have, `--out` is written
-/// as the track is (`Out`), or `--save` is given without `--out` (`Save`).
+/// What the values of a command line ask for. `Err` is the first of these faults: the window has a
+/// time that it cannot have, or ends before it begins (`Window`), `--format` or `--expression` has
+/// a value that it cannot have (`Format`), `--out` is written as the track is (`Out`), or `--save`
+/// is given without `--out` (`Save`).
 pub fn settings_of<'a>(asked: Asked<'a>) -> Result<Settings<'a>, OptionFault>
     ensures chosen { IfOk result (IsChosen asked.entry) }
     ensures fault { IfErr result (HasFault asked.entry) }

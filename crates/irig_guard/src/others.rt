@@ -29,8 +29,10 @@ use irig_text::ShelfFault;
 use irig_vcd::VcdFault;
 use std::alloc::Global;
 
-/// The path of the first other recording to which the path to write leads; `None` if it leads to
-/// none, or there is no path to write. `Err` if that cannot be found out of one before such a path.
+/// The path of the first other recording to whose file the path to write leads, too
+/// (`Disk::is_same`); `None` if there is no such recording, or no path to write. The recordings are
+/// looked at in their order. `Err` if it cannot be found out of one of them, before such a one is
+/// found.
 pub fn over_other<'a, D: Disk>(
     chosen: &Settings<'a>,
     disk: &D,
@@ -58,8 +60,8 @@ pub fn over_other<'a, D: Disk>(
 }
 
 /// By what repairs are judged: whether frames may move, and the frames of all other recordings of
-/// the settings that say something of the track, in the order of the recordings. `Err` has the path
-/// of the first one that cannot be used, and why.
+/// the settings that say something of the track, in the order of the recordings (`add_frames_of`).
+/// `Err` has the path of the first recording that cannot be used, and why.
 pub fn terms_of<'a, D: Disk>(
     alloc: Global,
     chosen: &Settings<'a>,
@@ -82,9 +84,10 @@ pub fn terms_of<'a, D: Disk>(
     Ok(terms)
 }
 
-/// Adds to `terms` the frames of the recording at a path that say something of the track. No wire
-/// is named, so the dump has to have one wire of one bit. `Err` says why it cannot be used: its
-/// file (`File`), or the dump in it (`Dump`).
+/// Adds to `terms` the frames of the recording at a path that say something of the track, read in
+/// `format`. No wire is named, so the dump has to have one wire of one bit. `Err` says why the
+/// recording cannot be used: its file is not read or memory runs out (`File`), or the dump in it
+/// has a fault or is not opened (`Dump`).
 fn add_frames_of<D: Disk>(
     alloc: Global,
     path: &str,

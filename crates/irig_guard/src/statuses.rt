@@ -19,8 +19,9 @@ use std::io::Write;
 use std::process::ExitCode;
 
 /// The status of the process for how the program ended. A fault is reported on the standard error.
-/// Help that was asked for is printed on its output (`help`). A path to write that leads to the
-/// track is 2, and 4 if that cannot be found out; the other statuses are at the functions below.
+/// Help that was asked for is printed on its output (`help`), with status 0, or 4 if that fails. A
+/// path to write that leads to the track is 2, and 4 if that cannot be found out. The other
+/// statuses are at the functions below.
 pub fn report<R: Eprint, H: Write>(rt: &R, ending: &Ending<'_>, help: &mut H) -> ExitCode
     ensures { Reports ending.now (H.contents help.old) (H.contents help.new) (exit_status result) }
 {
@@ -90,7 +91,7 @@ fn tell_ended<R: Eprint>(rt: &R, name: &str, outcome: Result<Kept, GuardFault>) 
 
 /// The exit status for a run that came to its end: 0 if all repairs were kept, else 1. How many
 /// frames have control functions that are not in the recording is printed on the standard error, if
-/// some have.
+/// some have (`tell_filled`).
 fn tell_kept<R: Eprint>(rt: &R, name: &str, kept: Kept) -> ExitCode
     ensures { exit_status result ≡ kept_number kept.status }
 {
@@ -101,9 +102,9 @@ fn tell_kept<R: Eprint>(rt: &R, name: &str, kept: Kept) -> ExitCode
     }
 }
 
-/// Says how many frames have control functions that are not in the recording, on the standard
-/// error; nothing if none has. No status depends on it, since nothing says that they are wrong. It
-/// does not matter if it cannot be printed.
+/// Says how many frames (`filled`) of the track at the path `name` have control functions that are
+/// not in the recording, on the standard error; nothing if none has. No status depends on it, since
+/// nothing says that they are wrong. So it does not matter if it cannot be printed.
 fn tell_filled<R: Eprint>(rt: &R, name: &str, filled: usize) {
     let frames = if filled == 1 { "frame" } else { "frames" };
     if filled > 0 {

@@ -1,11 +1,11 @@
 //! Whether the pulses of a frame, one for each of its 100 elements, are where the recording
-//! (`opened`) has them. A pulse is an anchor if it rises where the recording has one, or is a gap
-//! of it turned over: it rises when one falls and falls when one rises. An `Anchor` is such a
-//! pulse, or a marker, as seen from an element: how many elements away (`steps`), and when it
-//! rises, in microseconds. Markers and elements count from 0. `near` is the frames of the recording
-//! next to a frame, two on each side, and `place` the pulse of the recording that is looked at
-//! first: no answer depends on it. `last` and `next` are the elements of the nearest anchors of a
-//! frame before an element and from it on. On a line all elements take equally long, nearly.
+//! (`opened`) has them. A pulse is an anchor if it rises when one of the recording does, or is a
+//! gap of it turned over: it rises when one falls and falls when one rises. An `Anchor` is such a
+//! pulse, or a frame's first one (its marker), as seen from an element: how many elements away
+//! (`steps`), and when it rises, in microseconds. Elements and markers count from 0. `near` is the
+//! frames of the recording next to a frame, two on each side. `place` is the recording's pulse to
+//! look at first: no answer depends on it. `last` and `next` are the elements of a frame's nearest
+//! anchors before an element and from it on. Bounds as 2^17 only keep sums in their types.
 
 ghost use Rattle.std.specs.Prelude.{◌≡◌, ◌↔◌, ◌-◌, ◌≤◌, ◌<◌, ◌^◌, IfSome, IsTrue, Some};
 ghost use Rattle.irig_safety.specs.Anchors.{anchors_among, held_after, held_before, is_anchored};
@@ -22,16 +22,16 @@ use crate::seen::Seen;
 use irig_edit::Session;
 use irig_safety::{Anchor, Original, Witnesses, is_on_line, marker_after, marker_before};
 
-/// The markers of the frames next to a frame, as seen from its own marker: `None` if there is no
-/// such frame, or its distance does not say how many elements it is.
+/// The markers of the frames next to a frame, as seen from its own. `None` if there is no such
+/// frame, or its distance is over 500 frames or does not say how many elements it is.
 #[derive(Clone, Copy)]
 struct Ends {
     before: Option<Anchor>,
     after: Option<Anchor>,
 }
 
-/// The markers of the two frames next to a frame (`Ends`), as seen from its own, which is element
-/// 0. They are at most 500 frames away, so fewer than 2^16 elements.
+/// The markers of the two frames next to a frame (`Ends`), as its element 0 sees them.
+/// `marker_before` and `marker_after` look up to 500 frames away: 50,000 elements, below 2^16.
 fn ends_of(session: &Session, near: &Witnesses, frame: &Seen) -> Ends
     ensures before { result.before
         ≡ marker_before session.now.state.format near.now frame.now.shown 0 }
@@ -47,7 +47,7 @@ fn ends_of(session: &Session, near: &Witnesses, frame: &Seen) -> Ends
     }
 }
 
-/// Whether each pulse of a frame is an anchor, or held on a line (`is_held`).
+/// Whether each of the 100 pulses of a frame is an anchor, or where anchors have it (`is_held`).
 pub fn are_placed(session: &Session, opened: &Original, near: &Witnesses, frame: &Seen) -> bool
     ensures { IsTrue result ↔ Stands opened.now session.now.state near.now frame.now }
 {
@@ -66,7 +66,7 @@ pub fn are_placed(session: &Session, opened: &Original, near: &Witnesses, frame:
     true
 }
 
-/// Whether most pulses of a frame are anchors: 60 of its 100 or more.
+/// Whether most pulses of a frame are anchors: 60 of its 100 or more (`is_most`).
 pub fn is_rooted(session: &Session, opened: &Original, frame: &Seen) -> bool
     ensures { IsTrue result ↔ IsRooted opened.now session.now.state frame.now }
 {
@@ -87,8 +87,8 @@ fn is_most(many: usize) -> bool
     many >= 60
 }
 
-/// Whether the pulse of an element of the frame of a marker is there and an anchor. `place` becomes
-/// the next one to look at.
+/// Whether the frame with this marker has a pulse for an element, and that is an anchor. `place`
+/// becomes the next one to look at.
 fn is_anchored(
     session: &Session,
     opened: &Original,
@@ -101,14 +101,14 @@ fn is_anchored(
     opened.holds(pulse_at(session, marker, element), place)
 }
 
-/// Whether `anchor`, the element of an anchor if there is one, is this element.
+/// Whether `anchor`, the element of an anchor if there is one, is this element. False for `None`.
 fn is_at(anchor: Option<usize>, element: usize) -> bool
     ensures { IsTrue result ↔ (anchor ≡ Some element) }
 {
     anchor == Some(element)
 }
 
-/// The element of the first anchor of a frame from the element `from` on; `None` if none is there.
+/// The element of a frame's first anchor from the element `from` on; `None` if none is left.
 fn next_anchor(
     session: &Session,
     opened: &Original,
@@ -129,8 +129,10 @@ fn next_anchor(
     None
 }
 
-/// Whether the pulse of an element is on the line between the two that hold it (`held_before`,
-/// `held_after`), or if one alone does, as far from it as it should be. False if none does.
+/// Whether the pulse of an element rises where the anchors that hold it have it (`held_before`,
+/// `held_after`), as `is_on_line` says. If two do: on the line or curve between them. If one does:
+/// as far from it as its steps take, nominally or by the clock of the frames `near`. False if none
+/// does. The caller found `last` and `next`; if one is `None`, its marker of `ends` holds.
 fn is_held(
     session: &Session,
     near: &Witnesses,
@@ -160,9 +162,8 @@ fn is_held(
     )
 }
 
-/// What holds an element from before, seen from it: the last anchor of its frame (element `last`),
-/// or else the marker of the frame before. `before` is that marker seen from the frame's own, so
-/// the element's number is added. `None` if there is neither; `near` is for the contract.
+/// What holds an element from before, seen from it: anchor `last` of its frame, or without one the
+/// marker of the frame before (`later`). `None` if `before` is too. `near` is for clauses.
 fn held_before(
     session: &Session,
     near: &Witnesses,
@@ -188,9 +189,8 @@ fn held_before(
     }
 }
 
-/// What holds an element from after, seen from it: the next anchor of its frame (element `next`),
-/// or else the marker of the frame after. `after` is that marker seen from the frame's own, so the
-/// element's number is taken off. `None` if there is neither; `near` is for the contract.
+/// What holds an element from after, seen from it: anchor `next` of its frame, or without one the
+/// marker of the frame after (`sooner`). `None` if `after` is too. `near` is for clauses.
 fn held_after(
     session: &Session,
     near: &Witnesses,
@@ -215,8 +215,8 @@ fn held_after(
     }
 }
 
-/// The marker before a frame as seen from an element. `before` is how it is seen from the frame's
-/// own marker: from the element it is `element` steps farther. `None` if there is none.
+/// The marker of the frame before, as seen from an element of this frame: `element` steps farther
+/// than from this frame's own marker, as `before` has it. `None` if `before` is.
 fn later(before: Option<Anchor>, element: usize) -> Option<Anchor>
     requires { IfSome before (λ a. a.steps ≤ 2 ^ 16) × (element < 100) }
     ensures value { (f : FormatView) (w : SomeWitnesses) (y : ShownFrame)
@@ -232,8 +232,8 @@ fn later(before: Option<Anchor>, element: usize) -> Option<Anchor>
     }
 }
 
-/// The marker after a frame as seen from an element. `after` is how it is seen from the frame's own
-/// marker: from the element it is `element` steps nearer. `None` if there is none.
+/// The marker of the frame after, as seen from an element of this frame: `element` steps nearer
+/// than from this frame's own marker, as `after` has it. `None` if `after` is.
 fn sooner(after: Option<Anchor>, element: usize) -> Option<Anchor>
     requires { IfSome after (λ a. a.steps ≤ 2 ^ 16) }
     ensures value { (f : FormatView) (w : SomeWitnesses) (y : ShownFrame)

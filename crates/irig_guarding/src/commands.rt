@@ -24,7 +24,7 @@ pub fn command_of(line: &Line) -> Option<Command>
     command_in(line.bytes.as_slice())
 }
 
-/// What the bytes of a line ask for; `None` if they are not valid or too many.
+/// What the bytes of a line ask for; `None` if they are not valid, or more than `LINE_LIMIT`.
 fn command_in(line: &[u8]) -> Option<Command>
     ensures { MatchOption result ((asked : SomeCommand) → Asks asked line.now → ⊥)
         (λ asked. Asks asked line.now) }
@@ -108,7 +108,8 @@ fn is_closing(command: &Command) -> bool
     matches!(command, Command::End | Command::Abort)
 }
 
-/// Whether a line is a comment, or blank: it asks for nothing. False if it is too long.
+/// Whether a line is a comment, or blank: it asks for nothing. False if it is too long, even if it
+/// begins as a comment.
 pub fn is_comment(line: &Line) -> bool
     ensures { IsTrue result ↔ Asks command.Nothing line.now.bytes.items }
 {

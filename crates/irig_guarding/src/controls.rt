@@ -29,9 +29,9 @@ use irig_safety::{
 };
 
 /// Whether each of `frames`, those that read well now, is the former one that begins when it does,
-/// or all its control functions are borne out. If not, `Err` is the first fault. Both lists are in
-/// rising order, so one pass over both is enough. Former frames after the last of `frames` are not
-/// looked for: `check_safe` did that before.
+/// or has only control functions that are borne out (`pass`). If not, `Err` is the first fault,
+/// `Lost` or `Unrecorded`. Both lists are in rising order, so one pass over both is enough. Former
+/// frames after the last of `frames` are not looked for: `check_safe` did that before.
 pub fn check_controls(
     session: &Session,
     opened: &Original,
@@ -59,14 +59,15 @@ pub fn check_controls(
     Ok(())
 }
 
-/// Judges one more frame, if `passed` former frames are passed before it: how many are passed after
-/// it, or its fault. If the next former frame begins later, or there is none, the frame is between
-/// former ones: its functions are judged by the frames there, and `passed` stays. If the next one
-/// begins earlier, no frame begins when it does: it is `Lost`. If both begin at the same time, one
-/// more is passed: without a look at the functions if the fields are the same, else the functions
-/// are judged by the former frames on both sides of that one. In the clauses `rest` is any frames
-/// after it, and `found` their fault, if they have one, from a place of the former on
-/// (`ControlsAt`).
+/// Judges one more frame. `passed` is how many former frames are passed before it; `Ok` has how
+/// many are passed after it, `Err` its fault. If the next former frame begins later, or there is
+/// none, the frame is between former ones: its functions are judged by the two before and the two
+/// after it (`judge`: `Unrecorded` if they are not borne out), and `passed` stays. If the next one
+/// begins earlier, no frame begins when that one does: `Lost`, with that one. If both begin at the
+/// same time, one more is passed. If the fields are the same too, the functions are not looked at;
+/// else they are judged by the former frames on both sides of that one (`judge`). In the clauses
+/// `rest` is any frames after `frame`, and `found` the fault of these frames, if they have one,
+/// from a place of the former on (`ControlsAt`).
 fn pass(
     session: &Session,
     opened: &Original,
@@ -112,8 +113,9 @@ fn pass(
     judge(session, opened, &near, frame, passed + 1)
 }
 
-/// How many former frames are passed after a frame whose functions are looked at: `next`, if all
-/// are borne out, else `Unrecorded`. `near` is the former frames next to it.
+/// Judges a frame by its control functions (`is_borne`). `Ok` if all are borne out: it has `next`,
+/// which is how many former frames the caller counts as passed after the frame. Else `Unrecorded`
+/// with the frame. `near` is the former frames next to it.
 fn judge(
     session: &Session,
     opened: &Original,
@@ -130,7 +132,8 @@ fn judge(
     }
 }
 
-/// Whether all control functions of a frame are borne out. True if its format has none.
+/// Whether all control functions of a frame are borne out (`is_function_borne`). True if the format
+/// has none.
 fn is_borne(session: &Session, opened: &Original, near: &Witnesses, frame: &Seen) -> bool
     ensures { IsTrue result ↔ IsBorne opened.now session.now.state near.now frame.now }
 {
@@ -143,8 +146,10 @@ fn is_borne(session: &Session, opened: &Original, near: &Witnesses, frame: &Seen
     true
 }
 
-/// Whether a control function of a frame is borne out: by the nearest frames (`is_shared`), by the
-/// recording (`may_be`) or by most other recordings (`is_told`).
+/// Whether a control function of a frame, by its number, is borne out. One of three is enough: the
+/// two former frames nearest to the frame have it as the frame does (`is_shared`), the recording
+/// has its pulse or lost it (`may_be`), or of the frames of other recordings with this time more
+/// have it so than otherwise (`is_told`).
 fn is_function_borne(
     session: &Session,
     opened: &Original,
@@ -164,7 +169,7 @@ fn is_function_borne(
 }
 
 /// Whether the pulse of a control function is there, and is as recorded, or what was recorded of it
-/// was lost (`is_recorded_or_lost`). False if there is no pulse.
+/// was lost (`is_recorded_or_lost`). False for `None`: the session has no such pulse.
 fn may_be(session: &Session, opened: &Original, pulse: Option<Pulse>) -> bool
     ensures { IsTrue result ↔ MatchOption pulse ⊥ (λ q.
         IsRecorded session.now.state.format opened.now.pulses q
@@ -176,8 +181,9 @@ fn may_be(session: &Session, opened: &Original, pulse: Option<Pulse>) -> bool
     }
 }
 
-/// Whether a control function of the frame of a marker has a pulse, and the recording has one of
-/// the same class that rises within a tenth of an interval of it. False if there is no pulse.
+/// Whether the recording has the pulse of a control function of the frame with this marker: it has
+/// one of the same class that rises within a tenth of an interval of that pulse (`Original::has`).
+/// False if the session has no pulse for the function.
 pub fn is_recorded_at(session: &Session, opened: &Original, marker: usize, function: u32) -> bool
     requires { function < 64 }
     ensures { IsTrue result ↔ MatchOption (slice_get session.now.state.pulses
@@ -191,9 +197,10 @@ pub fn is_recorded_at(session: &Session, opened: &Original, marker: usize, funct
     }
 }
 
-/// Whether a pulse is as recorded: one of its class was, within a tenth of an interval; or what was
-/// recorded of it was lost: no pulse with a class was within half an interval of it, so the
-/// recording says nothing against it.
+/// Whether a pulse is as recorded: the recording has one of its class within a tenth of an interval
+/// of it. Or whether what was recorded of it was lost: the recording has no pulse with a class
+/// within half an interval of it, and so says nothing against it. False if it has one with a class
+/// that near, but none of this class within a tenth.
 fn is_recorded_or_lost(format: Format, opened: &Original, pulse: Pulse) -> bool
     ensures { IsTrue result ↔ (IsRecorded format opened.now.pulses pulse
         ⊎ IsLost format opened.now.pulses pulse) }
@@ -204,9 +211,9 @@ fn is_recorded_or_lost(format: Format, opened: &Original, pulse: Pulse) -> bool
     !opened.has_any(format, pulse)
 }
 
-/// The pulse of an element of the frame of a marker, both from 0; `None` if the session has no such
-/// pulse. The pulses of a session count from 1, so 1 is added. The test itself adds nothing, as the
-/// sum could be too large.
+/// The pulse of an element of the frame with this marker, both from 0; `None` if the session has no
+/// such pulse. The pulses of a session count from 1, so 1 is added. The test itself adds nothing,
+/// as the sum of marker and element could be too large.
 pub fn pulse_at(session: &Session, marker: usize, element: usize) -> Option<Pulse>
     ensures { result ≡ slice_get session.now.state.pulses (marker + element) }
 {

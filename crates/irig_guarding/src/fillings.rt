@@ -27,7 +27,7 @@ pub fn filled_frames(session: &Session, opened: &Original, frames: &[Seen]) -> u
     filled_among(session, opened, frames)
 }
 
-/// How many of some frames have a control function that is not in the recording.
+/// How many of some frames have a control function that is not in the recording (`is_whole`).
 fn filled_among(session: &Session, opened: &Original, frames: &[Seen]) -> usize
     ensures { AreFilled opened.now session.now.state frames.now result }
 {
@@ -41,7 +41,8 @@ fn filled_among(session: &Session, opened: &Original, frames: &[Seen]) -> usize
 }
 
 /// Whether all control functions of a frame are recorded at their places (`is_recorded_at`): the
-/// recording has a pulse of the same width class there. True if the format has none.
+/// recording has a pulse of the same width class there. True if the format has none. False also if
+/// the frame has no pulse for one.
 fn is_whole(session: &Session, opened: &Original, frame: &Seen) -> bool
     ensures { IsTrue result ↔ IsWhole opened.now session.now.state frame.now }
 {

@@ -33,13 +33,14 @@ use irig_safety::{Original, Terms};
 use irig_script::Status;
 use std::alloc::{AllocError, Global};
 
-/// Runs a proposed script on a session, in which no group is open, repair by repair: a repair is an
+/// Runs a proposed script on a session repair by repair; no group is open in it. A repair is an
 /// edit, or the lines from a `begin` to the next `end` or `abort`. One that is accepted and safe is
 /// kept and printed, as comments are. Any other line is printed as a comment, after the reason. If
 /// no frame of the recording reads well, a comment says so first. `terms` are frames of other
 /// recordings, which can support a frame, too, and whether frames may move. Returns what is
 /// printed, whether all was kept, and how many frames have a control function then that is not in
-/// the recording. `Err` means that memory ran out.
+/// the recording (`filled_frames`: 0 if frames may move, or none of the recording reads well).
+/// `Err` means that memory ran out.
 pub fn guard(
     alloc: Global,
     session: &mut Session,
@@ -68,9 +69,10 @@ pub fn guard(
     Ok((out, Kept { status, filled }))
 }
 
-/// Runs lines on a session repair by repair, and prints each to `out`: as it is, or if it was
-/// dropped the reason and its lines as comments. `last` is listed again after each repair that is
-/// kept. Returns `AllAccepted`, or `SomeRefused` if a repair was dropped.
+/// Runs lines on a session repair by repair, and prints each to `out`, which has only the head
+/// before: as it is, or if it was dropped the reason and its lines as comments. `last` is listed
+/// again after each repair that is kept. Returns `AllAccepted`, or `SomeRefused` if a repair was
+/// dropped.
 fn guard_lines(
     alloc: Global,
     session: &mut Session,
@@ -103,8 +105,8 @@ fn guard_lines(
     Ok(status)
 }
 
-/// The status after one more repair: `status`, the one before it, if it was kept, and `SomeRefused`
-/// if it was dropped, for a reason.
+/// The status after one more repair. `SomeRefused` if that one was dropped, for the reason
+/// `dropped`; else `status`, which is the one before that repair.
 fn status_with(status: Status, dropped: Option<Reason>) -> Status
     ensures { result ≡ if is_none dropped then status else SomeRefused }
 {
@@ -114,10 +116,10 @@ fn status_with(status: Status, dropped: Option<Reason>) -> Status
     }
 }
 
-/// The place, from 0, after the last line of the repair that begins at the place `at`. It is one
-/// line, or if that is a `begin` a group, up to the line that closes it. A group that no line
-/// closes is all lines that are left. `IsCutBefore` says that of the lines of the repair and of
-/// those after it.
+/// The place, from 0, after the last line of the repair that begins at the place `at`. If the line
+/// there is a `begin`, the repair is a group: up to the first line that closes it (`closes`), or
+/// all lines that are left if none does. Any other line is a repair of its own. `IsCutBefore` says
+/// that of the lines of the repair and of those after it.
 fn repair_end(lines: &[Line], at: usize) -> usize
     requires { at < length lines.now }
     ensures more { at < result }
@@ -136,8 +138,9 @@ fn repair_end(lines: &[Line], at: usize) -> usize
     lines.len()
 }
 
-/// Tries one repair, and prints it to `out`. Returns why it was dropped; `None` if it was kept.
-/// `known` and `last` become those after it.
+/// Tries one repair (`try_repair`), and prints it to `out` (`put_repair`). Returns why it was
+/// dropped; `None` if it was kept. `known` and `last` become those after it, or stay if it was
+/// dropped.
 fn guard_repair(
     alloc: Global,
     session: &mut Session,
@@ -168,8 +171,10 @@ fn guard_repair(
 
 /// Tries one repair. Returns why it was dropped, and `None` if it was kept; then `known` and `last`
 /// become those after it. One comment or blank line alone is no repair (`are_remarks`): it does
-/// nothing, and is kept. If a repair was dropped, it is undone, so nothing has changed but what can
-/// be redone. Its list of markers is wrong then, so it works on a copy of `known` (`tried`).
+/// nothing, and is kept. A repair that is dropped is undone, so nothing has changed but what can be
+/// redone. `take` leaves markers that are wrong then, so it gets a copy of `known` (`tried`).
+/// Memory that runs out for that copy is `Err`; if it runs out in `take`, that is the reason
+/// `OutOfMemory`.
 fn try_repair(
     alloc: Global,
     session: &mut Session,

@@ -28,7 +28,8 @@ use std::alloc::Global;
 
 /// Whether what the frames show now may stay: it is safe by what they showed when the recording was
 /// opened, and each frame that read well before the repair still does. If so, returns the frames
-/// that read well now; else `NotSafe` with the first fault, or `OutOfMemory`.
+/// that read well now. Else `NotSafe` with the first fault (`check_listed`), or `OutOfMemory`, also
+/// if memory runs out for the list of these frames.
 pub fn check(
     alloc: Global,
     session: &Session,
@@ -50,8 +51,9 @@ pub fn check(
     }
 }
 
-/// Whether these frames, which read well now, may stay. If not, `NotSafe` with the first fault, or
-/// `OutOfMemory`, which can only come if frames may move.
+/// Whether these frames, which read well now, may stay: by `check_moved` if frames may move, else
+/// by `check_unmoved`. If not, `NotSafe` with the first fault, or `OutOfMemory`, which can only
+/// come if frames may move.
 fn check_listed(
     alloc: Global,
     session: &Session,
@@ -73,8 +75,8 @@ fn check_listed(
     }
 }
 
-/// Whether the frames that read well may stay, if none may move. If not, `NotSafe` with the first
-/// fault.
+/// Whether the frames that read well may stay, if none may move. They are judged by the earlier
+/// frames, at the places where those were (`check_frames`). If not, `NotSafe` with the first fault.
 fn check_unmoved(
     session: &Session,
     opened: &Original,
@@ -96,9 +98,10 @@ fn check_unmoved(
     }
 }
 
-/// Whether the frames that read well may stay, if they may move: they are judged by the places
-/// where the earlier ones are now (`moved_in`), those of the recording and those before the repair.
-/// If not, `NotSafe` with the first fault, or `OutOfMemory`.
+/// Whether the frames that read well may stay, if they may move. They are judged by the earlier
+/// frames, those of the recording and those before the repair, at the places where those are now
+/// (`moved_in`, `check_frames`). If not, `NotSafe` with the first fault; or `OutOfMemory` if memory
+/// runs out for the lists of the earlier frames.
 fn check_moved(
     alloc: Global,
     session: &Session,
@@ -136,9 +139,9 @@ fn check_moved(
 }
 
 /// Whether the frames may stay by those of the recording (`old`), and by those before the repair
-/// (`last`). There are four checks: of the times (`check_safe`), of the control functions, of the
-/// pulses, and that each frame of `last` still reads well (`check_unspoiled`). If not, the fault of
-/// the first check that fails.
+/// (`last`). There are four checks, in this order: of the times (`check_safe`), of the control
+/// functions (`check_borne`), of the pulses (`check_pulses`), and that each frame of `last` still
+/// reads well (`check_unspoiled`). If not, the fault of the first check that fails.
 fn check_frames(
     session: &Session,
     opened: &Original,
@@ -171,8 +174,8 @@ fn check_frames(
 }
 
 /// Whether the control functions of the frames are borne out: by the frames nearest to each, by the
-/// recording, or by most other recordings. If not, the first fault. If no frame of the recording
-/// reads well, no frame is nearest: then they are not judged.
+/// recording, or by most other recordings (`check_controls`). If not, the first fault. If no frame
+/// of the recording reads well, none is nearest: then they are not judged, and the answer is `Ok`.
 fn check_borne(
     session: &Session,
     opened: &Original,
@@ -193,9 +196,9 @@ fn check_borne(
     check_controls(session, opened, old, seen)
 }
 
-/// Whether the pulses of the frames are where they may be. If not, the first fault. If no frame of
-/// the recording reads well, they only have to be rooted: most pulses of each frame rise where the
-/// recording has one.
+/// Whether the pulses of the frames are where they may be (`check_stand`). If not, the first fault.
+/// If no frame of the recording reads well, they only have to be rooted (`check_rooted`): 60 of the
+/// 100 pulses of each frame or more are anchors, which rise where the recording has one.
 fn check_pulses(
     session: &Session,
     opened: &Original,

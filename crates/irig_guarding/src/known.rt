@@ -54,9 +54,10 @@ fn is_marker(known: Option<usize>, marker: usize) -> bool
 }
 
 /// Fills in what is not known yet. Each of `frames`, those that read well now, is compared with the
-/// first former frame that does not begin before it, if nothing is known of that one. So a frame
-/// that has moved can be missed: then it is only compared again later. Both lists are in rising
-/// order, so the place among the former ones only grows.
+/// first former frame that does not begin before it (`place_from`), if nothing is known of that
+/// former frame (`learn_one`). A frame that has moved can be missed so: then its pulses are only
+/// compared again later. Both lists are in rising order, so the place among the former ones only
+/// grows.
 pub fn learn(session: &Session, opened: &Original, frames: &[Seen], known: &mut Vec<Option<usize>>)
     requires { AreKnown opened.now session.now.state.pulses known.old.items }
     ensures { AreKnown opened.now session.now.state.pulses known.new.items }
@@ -68,9 +69,9 @@ pub fn learn(session: &Session, opened: &Original, frames: &[Seen], known: &mut 
     }
 }
 
-/// The place, from 0, of the first former frame, from the place `from` on, that does not begin
-/// before `rise`, in microseconds; how many there are, if all begin before it. It has no contract:
-/// a wrong place would only mean that less is known.
+/// The place, from 0, of the first former frame (`old`), from the place `from` on, that does not
+/// begin before `rise`, in microseconds; how many former frames there are, if all those begin
+/// before it. It has no contract: a wrong place would only mean that less is known.
 fn place_from(old: &[Shown], from: usize, rise: u64) -> usize {
     for place in from..old.len() {
         if rise <= old[place].rise {
@@ -81,9 +82,9 @@ fn place_from(old: &[Shown], from: usize, rise: u64) -> usize {
 }
 
 /// Compares the pulses of a frame with those of the former one at a place, if nothing is known of
-/// that one. If each pulse rises as long after the frame's marker as the former one did after its
-/// own, `known` gets the frame's marker. Else, and if there is no former frame at the place,
-/// nothing changes.
+/// the former one. If each pulse rises as long after the frame's marker as in the former frame
+/// after that one's (`keeps_rises`), `known` gets the frame's marker at that place. Else nothing
+/// changes, nor if there is no former frame at the place.
 fn learn_one(
     session: &Session,
     opened: &Original,
@@ -102,10 +103,10 @@ fn learn_one(
     }
 }
 
-/// Replaces each marker by what is still known of it after an edit. `place` says how many pulses
-/// are before those that the edit changed (`at`), and how many came instead (`come`). `before` is
-/// how many pulses there were before the edit, and `after` how many there are now. If `place` is
-/// `None`, nothing is known any more.
+/// Replaces each marker by what is still known of it after an edit (`followed`). `place` says how
+/// many pulses are before those that the edit changed (`at`), and how many came instead (`come`).
+/// `before` is how many pulses there were before the edit, and `after` how many there are now. If
+/// `place` is `None`, nothing is known any more.
 pub fn follow(known: &mut Vec<Option<usize>>, place: Option<Place>, before: usize, after: usize)
     ensures { (o : OriginalView) (ps qs : List SomePulse)
         → IfSome place (λ p. Became p.at p.come ps qs) → length ps ≡ before → length qs ≡ after
@@ -116,9 +117,9 @@ pub fn follow(known: &mut Vec<Option<usize>>, place: Option<Place>, before: usiz
     }
 }
 
-/// The marker that is known after the pulses at `place` became others. `known` is the one that was
-/// known before. `None` if that is `None`, if `place` is, or if the edit may have changed pulses of
-/// the frame. `before` and `after` are how many pulses there were and are.
+/// The marker that is known after an edit that changed pulses at `place`, if `known` was the one
+/// before. `None` if `known` or `place` is `None`, or if the edit may have changed pulses of the
+/// frame (`followed_by`). `before` and `after` are how many pulses there were and are.
 fn followed(
     known: Option<usize>,
     place: Option<Place>,
@@ -138,9 +139,10 @@ fn followed(
 /// whose 100 pulses are all before these keeps its marker. If a frame begins after them, its marker
 /// moves by as many places as there are more pulses now, or fewer. For any other frame the answer
 /// is `None`, since its pulses may have changed. `before` and `after` are how many pulses there
-/// were and are, so `before` + `come` - `after` of them went. The test has each number on the side
-/// on which it is added, so that nothing is below 0. `None` also if `come` is more than a `u64`
-/// holds, since the sums could be too large for their type.
+/// were and are, so `before` + `come` - `after` of them went. The second test has each number on
+/// the side on which it is added, so that nothing is below 0. `None` also if `come` is more than a
+/// `u64` holds, since the sums could be too large for their type, or if the marker is too large
+/// (`number`).
 fn followed_by(marker: usize, place: &Place, before: usize, after: usize) -> Option<usize>
     ensures { Follows place.now.at place.now.come before after (Some marker) result }
 {

@@ -34,7 +34,9 @@ use irig_script::{Reply, obey_command};
 use std::alloc::Global;
 
 /// Obeys an edit, and lets `known` follow the pulses that it changes. `Refused` if the editor
-/// refuses it: then nothing has changed. An edit has no other answer, so the last case never comes.
+/// refuses it: then nothing has changed. An edit has no other reply, so the last case never comes.
+/// The place of the edit is found before it is obeyed, since the edit can change what its address
+/// means.
 fn edit(
     session: &mut Session,
     known: &mut Vec<Option<usize>>,
@@ -60,8 +62,8 @@ fn edit(
     }
 }
 
-/// Obeys a line in a group: an edit, which can be `Refused`, or a comment, which does nothing. Any
-/// other line is `NoRepair`, also one that is not valid or too long.
+/// Obeys a line in a group: an edit, which can be `Refused`, or a comment or blank line, which does
+/// nothing. Any other line is `NoRepair`, also one that is not valid or too long.
 fn mend(session: &mut Session, known: &mut Vec<Option<usize>>, line: &Line) -> Result<(), Reason>
     ensures made { OnOk result (Obeyed session.old line.now.bytes.items session.new) }
     ensures stops { IfErr result (StopsAt session.old line.now.bytes.items) }
@@ -76,7 +78,8 @@ fn mend(session: &mut Session, known: &mut Vec<Option<usize>>, line: &Line) -> R
     }
 }
 
-/// Obeys a command in a group if it is an edit, which can be `Refused`; else `NoRepair`.
+/// Obeys a command in a group if it is an edit (`is_repair`), which can be `Refused`; any other is
+/// `NoRepair`. The command of a comment does not come here: `mend` itself obeys that.
 fn mend_by(
     session: &mut Session,
     known: &mut Vec<Option<usize>>,
@@ -98,8 +101,9 @@ fn mend_by(
     }
 }
 
-/// Obeys lines in a group, up to the first that is refused or is no edit and no comment: `Err` is
-/// its reason. What the lines before it did stays: the caller gives the group up.
+/// Obeys lines in a group, up to the first that is refused or is no edit and no comment (`mend`).
+/// `Err` is the reason of that line, `Refused` or `NoRepair`. What the lines before it did stays:
+/// the caller gives the group up.
 fn mend_all(
     session: &mut Session,
     known: &mut Vec<Option<usize>>,
@@ -119,9 +123,9 @@ fn mend_all(
     Ok(())
 }
 
-/// Ends the open group if what the frames show may stay, and returns the frames that read well. If
-/// not, the group stays open, and the caller gives it up: `Err` is why it may not stay. `Refused`
-/// only if no group is open.
+/// Ends the open group if what the frames show may stay (`check`), and returns the frames that read
+/// well. If it may not, the group stays open, and the caller gives it up. `Err` is `NotSafe` with
+/// the first fault then, or `OutOfMemory`. `Refused` only if no group is open.
 fn end_safely(
     alloc: Global,
     session: &mut Session,
@@ -145,7 +149,9 @@ fn end_safely(
 
 /// Obeys the lines of a group, those between `begin` and `end`. If it is safe, keeps what they did,
 /// and returns the frames that read well after it. If not, the group is given up: all is as it was
-/// but for what can be redone. Neither `begin` nor `abort` is refused: no group is open at first.
+/// but for what can be redone. `Err` is the reason of the first line that fails (`mend_all`), or
+/// why the group may not be kept (`end_safely`). Neither `begin` nor `abort` is refused: no group
+/// is open at first. So what `abort` returns is dropped.
 fn mend_group(
     alloc: Global,
     session: &mut Session,
@@ -184,7 +190,9 @@ fn mend_group(
 }
 
 /// Obeys an edit. If it is safe, keeps it, and returns the frames that read well after it. If not,
-/// it is undone, which is never refused: all is as it was but for what can be redone.
+/// it is undone: all is as it was but for what can be redone. `Err` is `Refused` if the editor
+/// refuses it (`edit`), or else why it may not be kept: `NotSafe` or `OutOfMemory` (`check`). The
+/// undo is never refused, so what it returns is dropped.
 fn mend_one(
     alloc: Global,
     session: &mut Session,
@@ -218,8 +226,10 @@ fn mend_one(
     }
 }
 
-/// Obeys one line if it is an edit, else `NoRepair`. If it is safe, keeps what it did, and returns
-/// the frames that read well after it. If not, all is as it was but for what can be redone.
+/// Obeys one line if it is an edit (`mend_one`). If the edit is safe, keeps what it did, and
+/// returns the frames that read well after it. If not, all is as it was but for what can be redone.
+/// Any other line is `NoRepair`, also one that is not valid or too long. So is a comment, but none
+/// comes here: `try_repair` keeps those.
 fn take_line(
     alloc: Global,
     session: &mut Session,
@@ -252,9 +262,10 @@ fn take_line(
     }
 }
 
-/// Obeys a repair, an edit or a group. If it is safe, keeps what it did, and returns the frames
-/// that read well after it. If not, all is as it was but for what can be redone. `NoRepair` also
-/// for a group that `abort` gives up, or that no line closes, and for no lines.
+/// Obeys a repair: one line that is an edit (`take_line`), or two or more that are a group, from
+/// `begin` to `end` (`mend_group`). If it is safe, keeps what it did, and returns the frames that
+/// read well after it. If not, all is as it was but for what can be redone. `NoRepair` for any
+/// other lines, also for a group that `abort` gives up, or that no line closes, and for no lines.
 pub fn take(
     alloc: Global,
     session: &mut Session,

@@ -1,6 +1,7 @@
 //! The control functions of frames whose pulses are odd: not as wide as the others of their class
-//! in their frame. `pulses` is all pulses of a recording, and `seen` its frames that read well,
-//! with nothing wrong in them.
+//! in their frame. A frame is even if it has none. `pulses` is all pulses of a recording, and
+//! `seen` its frames that read well, with nothing wrong in them, in rising order. `Err` means in
+//! each function that memory ran out.
 
 ghost use Rattle.std.specs.Prelude.{◌≡◌, ◌++◌, IfOk, OnOk};
 ghost use Rattle.std.specs.List.{flat_map};
@@ -13,7 +14,8 @@ use irig_edit::{Pulse, Session};
 use irig_safety::{Odd, Shown, odd_of};
 use std::alloc::{AllocError, Global};
 
-/// The control functions of all frames whose pulses are odd.
+/// The control functions whose pulses are odd, each with its frame, of all frames `seen`, in their
+/// order (`odd_of`).
 pub fn odd_among(
     alloc: Global,
     format: Format,
@@ -30,7 +32,8 @@ pub fn odd_among(
     Ok(all)
 }
 
-/// The frames of a session that read well and have no control function whose pulse is odd.
+/// The even frames of a session: those that read well and have no control function whose pulse is
+/// odd.
 pub fn even_frames(alloc: Global, session: &Session) -> Result<Vec<Shown>, AllocError>
     ensures { IfOk result (λ even. even.items ≡ even_frames session.now.state) }
 {
@@ -40,7 +43,8 @@ pub fn even_frames(alloc: Global, session: &Session) -> Result<Vec<Shown>, Alloc
     even_among(alloc, format, pulses.as_slice(), seen.as_slice())
 }
 
-/// The frames that have no control function whose pulse is odd.
+/// The even ones of the frames `seen`, in their order: those that have no control function whose
+/// pulse is odd, so `odd_of` finds none.
 fn even_among(
     alloc: Global,
     format: Format,
@@ -57,7 +61,8 @@ fn even_among(
     Ok(even)
 }
 
-/// Adds a frame to `even`, if it has no odd pulse (`so`).
+/// Adds a frame to `even` if `so`: the caller found no control function of it whose pulse is odd.
+/// Else nothing is added.
 fn put_if(even: &mut Vec<Shown>, so: bool, frame: Shown) -> Result<(), AllocError>
     ensures { OnOk result (even.new.items ≡ even.old.items ++ even_if so frame) }
 {

@@ -14,8 +14,10 @@ use irig_edit::{Pulse, Session};
 use irig_safety::{Original, Terms};
 use std::alloc::{AllocError, Global};
 
-/// What is known of a recording by the session that was opened on it, before any repair. `terms`
-/// are by what else repairs are judged: frames of other recordings, and whether frames may move.
+/// What is known of a recording by the session that was opened on it, before any repair. That is
+/// its frames that read well, their markers, all pulses, and the control functions whose pulses are
+/// not as wide as others in their frame (`odd_among`). `terms` are by what else repairs are judged:
+/// frames of other recordings, and whether frames may move.
 pub fn original_of(alloc: Global, session: &Session, terms: Terms) -> Result<Original, AllocError>
     ensures { IfOk result (λ opened. opened ≡ original_of terms session.now.state) }
 {

@@ -26,11 +26,12 @@ use irig_recording::Recording;
 use irig_safety::{Terms, backed};
 use std::alloc::{AllocError, Global};
 
-/// Adds to `terms` the frames of another recording that say something of this one. `recording` and
-/// `journal`, the text of its journal if it has one, are what was read of its dump; a dump has at
-/// most 2^28 bytes. `Dump` if it cannot be opened as a session, `OutOfMemory` if memory runs out
-/// after that. No other fault comes. After an error `terms` is not used. `memory`: memory runs out
-/// for the session only if no fault of the dump comes before that.
+/// Adds to `terms` the frames of another recording that say something of this one (`add_shown`).
+/// `recording` and `journal`, the text of its journal if it has one, are what was read of its dump.
+/// A dump has at most 2^28 bytes, so its journal has no more. `format` is that in which frames are
+/// read. `Dump` if it cannot be opened as a session, `OutOfMemory` if memory runs out after that.
+/// No other fault comes. After an error `terms` is not used. `memory`: memory runs out for the
+/// session only if no fault of the dump comes before that.
 pub fn add_frames(
     alloc: Global,
     recording: Recording,
@@ -58,8 +59,10 @@ pub fn add_frames(
     }
 }
 
-/// Adds to `terms` the frames of a session that say something of another recording, and next to
-/// them its even frames that do. `Err` means that memory ran out.
+/// Adds to `terms` two lists of frames of a session that say something of another recording
+/// (`backed`). One is picked from all that read well, the other from its even ones alone: so an
+/// even frame is in the second list only if the even one before or after it agrees with it. `Err`
+/// means that memory ran out.
 fn add_shown(
     alloc: Global,
     session: &Session,

@@ -28,9 +28,9 @@ pub struct Place {
     pub come: u128,
 }
 
-/// Where a command changes the pulses if it is obeyed. `None` if that is not known: of `invert`,
-/// which adds or removes an edge at each of two times, and of commands that edit no pulses, as
-/// `mark`.
+/// Where a command changes the pulses if it is obeyed, by the function below for its kind. `None`
+/// if that is not known: of `invert`, which adds or removes an edge at each of two times, and of
+/// commands that edit no pulses, as `mark`.
 pub fn place_of(session: &Session, command: &Command) -> Option<Place>
     ensures { (new : Machine) → Obeys command.now session.now Silent new
         → IfSome result (λ p. Became p.at p.come session.now.state.pulses new.state.pulses) }
@@ -60,7 +60,8 @@ fn place_of_delete(session: &Session, range: &Range) -> Place
 }
 
 /// The place of pulses that move: as many come as go, those from `first` to `last`, both included.
-/// Their count is taken as a `u128`, so that adding 1 is no overflow.
+/// Their count is taken as a `u128`, so that adding 1 is no overflow. It is 0 if `last` is before
+/// `first`, but such a command is refused.
 fn place_of_shift(session: &Session, range: &Range) -> Place
     ensures { (by : ℤ) (new : Machine) → Obeys (Command.Shift range.now by) session.now Silent new
         → Became result.at result.come session.now.state.pulses new.state.pulses }
@@ -124,7 +125,8 @@ fn place_of_insert(session: &Session, to: &Time) -> Place
 }
 
 /// The place of frames that are generated from `start` on. The pulses that rise before `start` stay
-/// before them. A hundred pulses come for each of `frames`.
+/// before them (`rising_before`). A hundred pulses come for each of `frames`, as a `u128`, so that
+/// the product is no overflow.
 fn place_of_regen(session: &Session, start: &Time, frames: u64) -> Place
     ensures { (moment : MomentView) (control : ℕ) (new : Machine)
         → Obeys (Command.Regen start.now frames moment control) session.now Silent new

@@ -1,6 +1,8 @@
 //! The script that is printed: what is kept, and the rest as comments. All is added to `out`. A
 //! frame reads well if nothing is wrong in it. Each function fails only if memory runs out: then a
-//! part can be in `out`. `unlines` in a contract: lines, each with a newline (10) after it.
+//! part can be in `out`. In contracts `unlines` is lines, each with a newline (10) after it,
+//! `IsRemark` that a line is a comment or blank, and `IsRemarkOf` that it is what is printed of
+//! another line.
 
 ghost use Rattle.std.specs.Prelude.{◌≡◌, ◌++◌, ◌∷◌, [], ℕ, List, OnOk};
 ghost use Rattle.std.specs.List.{AllByRecursion};
@@ -43,7 +45,8 @@ pub fn put_head(out: &mut Vec<u8>, opened: &[Shown]) -> Result<(), AllocError>
     }
 }
 
-/// Prints lines as they are, each with a newline after it. None of them has a newline in it.
+/// Prints lines as they are, each with a newline after it. None of them has a newline in it: that
+/// is so of each `Line`, and `plain` says it.
 pub fn put_lines(out: &mut Vec<u8>, lines: &[Line]) -> Result<(), AllocError>
     ensures text { OnOk result (out.new.items ≡ out.old.items ++ unlines (texts lines.now)) }
     ensures plain { AllByRecursion IsPlain (texts lines.now) }
@@ -54,8 +57,8 @@ pub fn put_lines(out: &mut Vec<u8>, lines: &[Line]) -> Result<(), AllocError>
     Ok(())
 }
 
-/// Prints a line as a comment, and a newline: a comment as it is, of any other line a number sign,
-/// a space and its first 900 bytes.
+/// Prints a line as a comment, and a newline. A comment or blank line is printed as it is. Of any
+/// other line a number sign, a space and its first 900 bytes are printed (`put_front`).
 fn put_remark(out: &mut Vec<u8>, line: &Line) -> Result<(), AllocError>
     ensures { OnOk result ((remark : List ℕ) × IsRemark remark × IsRemarkOf line.now.bytes.items remark
         × (out.new.items ≡ out.old.items ++ (remark ++ 10 ∷ []))) }

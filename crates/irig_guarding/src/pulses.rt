@@ -30,10 +30,10 @@ use irig_safety::{Fault, Original, Shown, Witnesses, frame_at, near_in, rise_or}
 
 /// Whether the pulses of each of `frames`, those that read well now, are where they may be. If a
 /// frame begins when a former one does, they have to rise as that one's did. Else they have to be
-/// where the recording supports them (`come`). If not, `Err` is the first fault. Both lists are in
-/// rising order, so one pass over both is enough. A frame whose pulses are known to rise as they
-/// did is passed without a look at them. Former frames after the last of `frames` are not looked
-/// for: `check_safe` did that before.
+/// where the recording supports them (`come`). If not, `Err` is the first fault: `Lost`, `Moved` or
+/// `Misplaced` (`pass`). Both lists are in rising order, so one pass over both is enough. A frame
+/// whose pulses are known to rise as they did is passed without a look at them (`is_unmoved`).
+/// Former frames after the last of `frames` are not looked for: `check_safe` did that before.
 pub fn check_stand(
     session: &Session,
     opened: &Original,
@@ -63,8 +63,9 @@ pub fn check_stand(
     Ok(())
 }
 
-/// Whether a frame has the fields and the rise of the former one at a place, and its pulses are
-/// known to rise as those of the former one. False also if no former frame is at the place.
+/// Whether a frame has the fields and the rise of the former one at a place of `old`, and its
+/// pulses are known to rise as those of the former one (`is_known`). False if they rise so but that
+/// is not known, and if no former frame is at the place.
 fn is_unmoved(old: &[Shown], known: &[Option<usize>], place: usize, frame: &Seen) -> bool
     ensures same { IsTrue result → slice_get old.now place ≡ Some frame.now.shown }
     ensures known { IsTrue result → get_or known.now place None ≡ Some frame.now.marker }
@@ -75,13 +76,14 @@ fn is_unmoved(old: &[Shown], known: &[Option<usize>], place: usize, frame: &Seen
     is_known(known, place, frame.marker)
 }
 
-/// Judges one more frame, if `passed` former frames are passed before it: how many are passed after
-/// it, or its fault. If the next former frame begins later, or there is none, the frame is between
-/// former ones: `come` judges it, and `passed` stays. If the next one begins earlier, no frame
-/// begins when it does: it is `Lost`. If both begin at the same time, the pulses of the frame have
-/// to rise as those of the former one: then one more is passed, else the frame is `Moved`. In the
-/// clauses `rest` is any frames after it, and `found` their fault, if they have one, from a place
-/// of the former on (`PulsesAt`).
+/// Judges one more frame. `passed` is how many former frames are passed before it; `Ok` has how
+/// many are passed after it, `Err` its fault. If the next former frame begins later, or there is
+/// none, the frame is between former ones: `come` judges it, and `passed` stays. If the next one
+/// begins earlier, no frame begins when that one does: `Lost`, with that one. If both begin at the
+/// same time, the pulses of the frame have to rise as those of the former one (`stands_as`): then
+/// one more is passed, else the frame is `Moved`. In the clauses `rest` is any frames after
+/// `frame`, and `found` the fault of these frames, if they have one, from a place of the former on
+/// (`PulsesAt`).
 fn pass(
     session: &Session,
     opened: &Original,
@@ -130,8 +132,9 @@ fn pass(
 }
 
 /// Judges a frame that begins when no former one does. `Ok` has how many former frames are passed
-/// after it, which is still `passed`. `near` is the former frames next to it. `Misplaced` if a
-/// pulse of it is neither an anchor nor on the line between those next to it (`are_placed`).
+/// after it, which is still `passed`. `near` is the former frames next to it. `Misplaced`, with the
+/// frame, if a pulse of it is neither an anchor nor where the anchors next to it have it
+/// (`are_placed`).
 fn come(
     session: &Session,
     opened: &Original,
@@ -148,8 +151,9 @@ fn come(
     }
 }
 
-/// Whether most pulses of each frame that reads well, 60 or more of its 100, are anchors. If not,
-/// `Misplaced` with the first frame that has fewer.
+/// Whether most pulses of each of `frames`, those that read well now, are anchors: 60 or more of
+/// its 100 (`is_rooted`). If not, `Misplaced` with the first frame that has fewer. `Ok` for no
+/// frames.
 pub fn check_rooted(session: &Session, opened: &Original, frames: &[Seen]) -> Result<(), Fault>
     ensures rooted { OnOk result
         (AllByRecursion (IsRooted opened.now session.now.state) frames.now) }
@@ -165,8 +169,8 @@ pub fn check_rooted(session: &Session, opened: &Original, frames: &[Seen]) -> Re
     Ok(())
 }
 
-/// Whether the pulses of a frame rise as those of the former one at a place of `old`: either that
-/// is known (`known`), or they are compared.
+/// Whether the pulses of a frame rise as those of the former one at a place of `old`. True if that
+/// is known (`is_known`); else they are compared (`keeps_rises`).
 fn stands_as(
     session: &Session,
     opened: &Original,
@@ -184,9 +188,10 @@ fn stands_as(
     keeps_rises(session, opened, opened.marker(place), frame.marker)
 }
 
-/// Whether each pulse of the frame of a marker rises as long after the marker as in the former
-/// frame of the marker `former`. Frames that read well have all 100 pulses, in rising order. Of
-/// others a pulse that is not there would count as rising at 0: so it saturates.
+/// Whether each pulse of the frame with the marker `marker` rises as long after it as in the former
+/// frame with the marker `former`, both from 0. Frames that read well have all 100 pulses, in
+/// rising order. In others a pulse that is not there would count as rising at 0, before the marker:
+/// so the subtractions saturate.
 pub fn keeps_rises(session: &Session, opened: &Original, former: usize, marker: usize) -> bool
     ensures { IsTrue result ↔ KeepsRises opened.now.pulses former session.now.state.pulses marker }
 {
@@ -201,8 +206,8 @@ pub fn keeps_rises(session: &Session, opened: &Original, former: usize, marker: 
     true
 }
 
-/// When the pulse of an element of the frame of a marker rises, in microseconds; 0 if it is not
-/// there.
+/// When the pulse of an element of the frame with this marker rises, in microseconds; 0 if there is
+/// no such pulse (`pulse_at`).
 pub fn rise_at(session: &Session, marker: usize, element: usize) -> u64
     ensures { result ≡ rise_in session.now.state.pulses marker element }
 {

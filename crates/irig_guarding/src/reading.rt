@@ -23,8 +23,8 @@ pub fn fine_frames(alloc: Global, session: &Session) -> Result<Vec<Shown>, Alloc
     Ok(shown)
 }
 
-/// Adds what the frame of a number, from 1, shows to `shown`, if it reads well; else nothing. The
-/// pulses of a session, and so the markers of its frames, count from 1, too.
+/// Adds what the frame of a number, from 1, shows to `shown`, if it reads well (`put_verdict`);
+/// else nothing. The pulses of a session, and so the markers of its frames, count from 1, too.
 fn put_frame(shown: &mut Vec<Shown>, session: &Session, number: usize) -> Result<(), AllocError>
     requires { (1 ≤ number) × (number ≤ length (frames_of session.now.state)) }
     ensures { (r : Record) → slice_get (frames_of session.now.state) (number - 1) ≡ Some r
@@ -36,8 +36,8 @@ fn put_frame(shown: &mut Vec<Shown>, session: &Session, number: usize) -> Result
     put_verdict(shown, rise, frame.verdict)
 }
 
-/// Adds what a frame shows that begins at `rise`, in microseconds, to `shown`, if it reads well: it
-/// is read, and nothing is wrong. Else nothing is added.
+/// Adds what a frame shows that begins at `rise`, in microseconds, to `shown`, if it reads well: by
+/// its `verdict` it is read, and nothing is wrong (`Fine`). Else nothing is added.
 fn put_verdict(shown: &mut Vec<Shown>, rise: u64, verdict: Verdict) -> Result<(), AllocError>
     ensures { OnOk result (shown.new.items ≡ shown.old.items ++ shown_at rise verdict) }
 {

@@ -21,7 +21,8 @@ pub fn put_reason(out: &mut Vec<u8>, reason: Reason) -> Result<(), AllocError>
     Ok(())
 }
 
-/// Prints the reason itself, without `# not kept: ` and the newline.
+/// Prints the reason itself, without `# not kept: ` and the newline. A refusal is printed with its
+/// name (`put_refusal`), a fault with its frame (`put_fault`).
 fn put_text(out: &mut Vec<u8>, reason: Reason) -> Result<(), AllocError>
     ensures { OnOk result (out.new.items ≡ out.old.items ++ reason_text reason) }
 {

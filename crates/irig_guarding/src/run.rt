@@ -65,8 +65,9 @@ pub fn guard_on_parts<R: Read, W: Write, S: Shelf>(
     }
 }
 
-/// Opens a dump by what was read of it; `Err` says why it cannot be opened. No group is open then.
-/// To prove that, an `end` is tried: it is refused, and changes nothing.
+/// Opens a dump by what was read of it; `Err` says why it cannot be opened. No group is open in the
+/// session. No clause of `open_parts` says so: to prove it, an `end` is tried, which is refused and
+/// changes nothing.
 fn open_closed(
     alloc: Global,
     recording: Recording,
@@ -95,10 +96,10 @@ fn open_closed(
 }
 
 /// Runs a proposed script on a session under guard, prints the script that is accepted to `out`,
-/// and writes what `product` asks for to the shelf. The first step that fails ends it: `ReadFailed`
-/// for the script, `OutOfMemory` for the run, `PrintFailed` for `out`, of which a part can be
-/// printed then, and `WriteFailed` for the shelf. The error of a call says no more, so it is
-/// dropped.
+/// and writes what `product` asks for to the shelf. Returns how the run ended (`Kept`). The first
+/// step that fails ends it: `ReadFailed` for the script, `OutOfMemory` for the run, `PrintFailed`
+/// for `out`, of which a part can be printed then, and `WriteFailed` for the shelf. The error of a
+/// call says no more, so it is dropped.
 pub fn guard_session<R: Read, W: Write, S: Shelf>(
     alloc: Global,
     session: &mut Session,
@@ -132,8 +133,8 @@ pub fn guard_session<R: Read, W: Write, S: Shelf>(
     }
 }
 
-/// Writes what is asked for of a session to the shelf: nothing, its track, or its track with the
-/// journal. `Err` means that the write failed.
+/// Writes what `product` asks for of a session to the shelf: nothing, its track, or its track with
+/// the journal. `Err` means that the write failed; none is made for nothing.
 fn write_product<S: Shelf>(
     session: &Session,
     product: Product,

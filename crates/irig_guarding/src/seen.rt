@@ -49,8 +49,8 @@ pub fn seen_frames(alloc: Global, session: &Session) -> Result<Vec<Seen>, AllocE
     Ok(seen)
 }
 
-/// What the frames of a session show that read well, without their markers. `seen` is these frames;
-/// the session is for the contract alone.
+/// What the frames of a session show that read well, without their markers (`shown_among`). `seen`
+/// is these frames; the session is for the contract alone.
 pub fn shown_of(alloc: Global, session: &Session, seen: &[Seen]) -> Result<Vec<Shown>, AllocError>
     requires { seen.now ≡ seen_frames session.now.state }
     ensures { IfOk result (λ shown. shown.items ≡ fine_frames session.now.state) }
@@ -71,7 +71,8 @@ fn shown_among(alloc: Global, seen: &[Seen]) -> Result<Vec<Shown>, AllocError>
 }
 
 /// Whether `frame` has the same fields and the same rise as the frame at a place, from 0, of the
-/// list `old`. False if the list has none there.
+/// list `old` (`is_same`). False if the list has none there. The contract says only what true
+/// means: after false callers look further.
 pub fn is_as_before(old: &[Shown], place: usize, frame: &Seen) -> bool
     ensures { IsTrue result → slice_get old.now place ≡ Some frame.now.shown }
 {
@@ -81,8 +82,8 @@ pub fn is_as_before(old: &[Shown], place: usize, frame: &Seen) -> bool
     }
 }
 
-/// Adds the frame of a number, from 1, to `seen`, if it reads well; else nothing. The pulses of a
-/// session count from 1, too, so 1 is taken off its marker.
+/// Adds the frame of a number, from 1, to `seen`, if it reads well (`put_verdict`); else nothing.
+/// The pulses of a session count from 1, too, so 1 is taken off its marker.
 fn put_frame(seen: &mut Vec<Seen>, session: &Session, number: usize) -> Result<(), AllocError>
     requires { (1 ≤ number) × (number ≤ length (frames_of session.now.state)) }
     ensures { (r : Record) → slice_get (frames_of session.now.state) (number - 1) ≡ Some r
@@ -94,8 +95,9 @@ fn put_frame(seen: &mut Vec<Seen>, session: &Session, number: usize) -> Result<(
     put_verdict(seen, rise, frame.marker - 1, frame.verdict)
 }
 
-/// Adds a frame that begins at `rise`, in microseconds, to `seen`, if it reads well: it is read,
-/// and nothing is wrong. Else nothing is added. Its marker counts from 0.
+/// Adds a frame that begins at `rise`, in microseconds, to `seen`, if it reads well: by its
+/// `verdict` it is read, and nothing is wrong (`Fine`). Else nothing is added. Its marker counts
+/// from 0.
 fn put_verdict(
     seen: &mut Vec<Seen>,
     rise: u64,

@@ -1,6 +1,7 @@
 //! What a pulse means, straight from its width and the interval of the format: as `class` of
 //! irig_codes says, but with one comparison for each question. A loop over pulses asks for the
-//! interval once. `class_in` of the contracts is that meaning: Zero, One, Position or none.
+//! interval once, and has these questions inlined. `class_in` of the contracts is that meaning:
+//! Zero, One, Position or none.
 //!
 //! Width and interval are in microseconds. The interval is the time from one rise to the next; it
 //! is a multiple of 20, so that its twentieths are whole, and at most 100,000 (`HasTwentieths`).

@@ -56,9 +56,9 @@ pub fn count_markers(lens: &mut Lens<'_>, looks: &mut u64, format: Format) -> us
 }
 
 /// Puts the records of the markers after the places `from` to `to`, `to` not included, left of the
-/// gap, in order. If there is room for them the buffer does not grow, and nothing fails; else it
-/// fails only if memory runs out, and keeps the records found so far. After a growth the capacity
-/// is at most one and a half times the number of records (`bounded`).
+/// gap, in order; none if `from` is `to`. If there is room for them the buffer does not grow, and
+/// nothing fails; else it fails only if memory runs out, and keeps the records found so far. After
+/// a growth the capacity is at most one and a half times the number of records (`bounded`).
 pub fn fill(
     records: &mut Gap<Stored>,
     lens: &mut Lens<'_>,

@@ -31,11 +31,12 @@ use irig_track::{Lens, Pulse};
 /// How many elements a frame has.
 pub const ELEMENTS: usize = 100;
 
-/// The verdict on the frame of the marker `first`, which is pulse `at` of the track, from 0. It
-/// looks at no more than the 99 pulses after the marker; `looks` gets their count, too. Of the
-/// pulses that it looks at only the last can be a marker (`alone`): a marker comes right after
-/// another position identifier, a frame has no two in a row, and the check ends at the first pulse
-/// that is not as a frame has it.
+/// The verdict on the frame of the marker `first`, as `check` gives it. The caller knows that
+/// `first` is pulse `at` of the track, from 0, and a position identifier. It looks at no more than
+/// the 99 pulses after the marker; `looks` gets their count, too. Of the pulses that it looks at
+/// only the last can be a marker (`alone`): a marker comes right after another position identifier,
+/// a frame has no two in a row, and the check ends at the first pulse that is not as a frame has
+/// it.
 pub fn verdict(
     lens: &mut Lens<'_>,
     looks: &mut u64,
@@ -57,9 +58,9 @@ pub fn verdict(
 }
 
 /// How many looks a verdict took: one for each pulse after the marker, up to the one that fails,
-/// included; 99 if none fails. If element k fails since the track has ended, there is no such pulse
-/// to look at, so it took k - 1. An element that fails has a number from 1 on, so nothing
-/// saturates.
+/// included; 99 if none fails (`Read`). If element k fails since the track has ended, there is no
+/// such pulse to look at, so the verdict took k - 1. An element that fails has a number from 1 on,
+/// so nothing saturates.
 pub fn looks_of(verdict: Verdict) -> u64
     ensures { result ≡ looks_of verdict }
 {
@@ -72,10 +73,11 @@ pub fn looks_of(verdict: Verdict) -> u64
 
 /// The verdict on the frame of the marker `first`, which is pulse `at`. Only the lens counts the
 /// looks here: the verdict shows how many they are. Each pulse after the marker has to be in step
-/// with the one before it, and of a class that may be there; if both fail, the cause is `Step`. If
-/// all pulses are in order but the track ends within the frame, it is `Ended` at the first element
-/// that is missing. `Gathering` takes whether each element is One, from element 0 on; the marker is
-/// not One.
+/// with the one before it (else `Step`), and of a class that may be there (else `Class`, by
+/// `told`); if both fail, the cause is `Step`. If no pulse fails but the track ends within the
+/// frame, the cause is `Ended`, at the first element that is missing. If none of the 99 fails, the
+/// verdict is that of `read`. `Gathering` takes whether each element is One, from element 0 on; the
+/// marker is not One.
 fn check(lens: &mut Lens<'_>, format: Format, at: usize, first: Pulse) -> Verdict
     requires track { IsLongTrack lens.old.track.micros lens.old.track.pulses }
     requires first { slice_get lens.old.track.pulses at ≡ Some first }
@@ -127,7 +129,7 @@ fn read(format: Format, gathered: Gathering) -> Verdict
 /// left after it before the next position identifier. `digits` is how many were left before it,
 /// itself included. If that is 0, it has to be a position identifier: it is not One, and nine
 /// digits come after it. Else it has to be a digit, Zero or One. `None` if it is not what it has to
-/// be.
+/// be. It is inlined, as the loop of `check` calls it for each pulse.
 #[inline(always)]
 fn told(interval: u64, width: u64, digits: u64) -> Option<(bool, u64)>
     requires { HasTwentieths interval }

@@ -24,7 +24,8 @@ use std::alloc::AllocError;
 
 /// The record with its marker's number counted from the other end of the track: `pulses` less the
 /// number. It turns one count into the other, both ways. For a marker of the track nothing wraps;
-/// any other number wraps at 2^64, and wraps back if it is turned again.
+/// any other number wraps at 2^64, and wraps back if it is turned again. The clause `fits` says
+/// nothing of what this does: it is only for the proof, which needs that a number has 64 bits.
 pub fn turned(pulses: usize, kept: Stored) -> Stored
     ensures turned { result ≡ turned pulses kept }
     ensures fits { kept.marker < 2 ^ 64 }
@@ -45,7 +46,8 @@ pub fn record_at(records: &Gap<Stored>, pulses: usize, k: usize) -> Stored
     }
 }
 
-/// Removes all records: those left of the gap, and then those right of it.
+/// Removes all records: those left of the gap, and then those right of it. The memory stays taken
+/// (`capacity`).
 pub fn clear(records: &mut Gap<Stored>)
     ensures items { records.new.items ≡ [] }
     ensures capacity { records.new.capacity ≡ records.old.capacity }
@@ -60,9 +62,9 @@ pub fn clear(records: &mut Gap<Stored>)
 
 /// Removes the records of the markers after `first`, up to `last`, included, and leaves the gap
 /// where they were. `drop_back_to` removes those left of the gap first, so that the gap does not
-/// have to move over them; `part` then moves the gap next to the others, which `drop_up_to`
-/// removes. In the contract, `Parts` says that the records are three lists: those up to `first`,
-/// those that go, and those after `last`.
+/// have to move over them; `part` then moves the gap to just before the rest of those that go, and
+/// `drop_up_to` removes these. In the contract, `Parts` says that the records are three lists:
+/// those up to `first`, those that go, and those after `last`.
 pub fn cut_out(records: &mut Gap<Stored>, pulses: usize, first: usize, last: usize)
     requires { first ≤ last }
     ensures sides { (start middle rest : List Record)
@@ -75,7 +77,8 @@ pub fn cut_out(records: &mut Gap<Stored>, pulses: usize, first: usize, last: usi
     drop_up_to(records, pulses, last);
 }
 
-/// Moves the gap after the records of the markers up to `last`, and before all others.
+/// Moves the gap to the place after the records of the markers up to `last`, and before all others.
+/// It goes left over later ones, or right over those up to `last`; no record comes or goes.
 fn part(records: &mut Gap<Stored>, pulses: usize, last: usize)
     ensures shown { shown pulses records.new ≡ shown pulses records.old }
     ensures left { EndsUpTo last (left_of records.new) }
@@ -153,7 +156,8 @@ pub fn begins_up_to(records: &Gap<Stored>, pulses: usize, last: usize) -> bool
     place < records.len() && turned(pulses, records.get(place)).marker() <= last
 }
 
-/// Moves the gap over the record left of it, which is then counted from the back.
+/// Moves the gap to the left over one record, whose marker is then counted from the back. The
+/// caller has seen that a record is there.
 fn step_left(records: &mut Gap<Stored>, pulses: usize)
     requires { 0 < records.old.place }
     ensures shown { shown pulses records.new ≡ shown pulses records.old }
@@ -161,15 +165,15 @@ fn step_left(records: &mut Gap<Stored>, pulses: usize)
     ensures length { length records.new.items ≡ length records.old.items }
     ensures capacity { records.new.capacity ≡ records.old.capacity }
 {
-    // The caller has seen that a record is left of the gap. Here `last` is its place among all,
-    // from 0.
+    // Here `last` is the place of this record among all, from 0.
     let last = records.gap_at() - 1;
     let record = records.get(last);
     records.set(last, turned(pulses, record));
     records.step_left();
 }
 
-/// Moves the gap over the record right of it, which is then counted from the front.
+/// Moves the gap to the right over one record, whose marker is then counted from the front. The
+/// caller has seen that a record is there.
 fn step_right(records: &mut Gap<Stored>, pulses: usize)
     requires { records.old.place < length records.old.items }
     ensures shown { shown pulses records.new ≡ shown pulses records.old }
@@ -179,8 +183,7 @@ fn step_right(records: &mut Gap<Stored>, pulses: usize)
     ensures length { length records.new.items ≡ length records.old.items }
     ensures capacity { records.new.capacity ≡ records.old.capacity }
 {
-    // The caller has seen that a record is right of the gap. Here `first` is its place among all,
-    // from 0.
+    // Here `first` is the place of this record among all, from 0.
     let first = records.gap_at();
     let record = records.get(first);
     records.set(first, turned(pulses, record));

@@ -2,7 +2,8 @@
 //!
 //! A marker is the number of the pulse with which a frame begins, from 0. A verdict is `Read`, with
 //! the fields and the note of a sound frame, or `Broken`, with the least element that fails, 1 to
-//! 99, and why.
+//! 99, and why. What is marked `inline(always)` is asked in loops over records, or for each field
+//! of one.
 
 ghost use Rattle.std.specs.Prelude.{◌≡◌, ◌-◌, ◌^◌, ◌<◌, unwrap_or};
 ghost use Rattle.irig_index.specs.Kept.{IsNarrow, kept_of, part_of, verdict_kept};
@@ -60,7 +61,7 @@ impl Stored {
         self.marker
     }
 
-    /// The record of the same verdict, with another number for its marker.
+    /// The record with this number for its marker, and the verdict as it is.
     #[inline(always)]
     pub fn at(self, marker: usize) -> Stored
         ensures { result ≡ record { marker = marker; verdict = self.verdict } }
@@ -157,8 +158,8 @@ fn verdict(kept: Kept) -> Verdict
     }
 }
 
-/// A field of two decimal digits in a byte, or 255 for `None`. Two digits of four bits make at most
-/// 165, so the field is below 255.
+/// A field of two decimal digits as it is kept: in a byte, with 255 for `None`. Two digits of four
+/// bits make at most 165, so the field is below 255.
 #[inline(always)]
 fn byte(part: Option<u32>) -> u8
     requires { unwrap_or part 0 < 255 }
@@ -178,8 +179,8 @@ fn two_digits(byte: u8) -> Option<u32>
     if byte == 255 { None } else { Some(byte as u32) }
 }
 
-/// The straight binary seconds that are kept. The greatest number of 32 bits is `None`: they have
-/// only 17 bits.
+/// The field of the straight binary seconds, by what is kept of it. The greatest number of 32 bits
+/// is `None`: the field has only 17 bits, so it is never that number.
 #[inline(always)]
 fn binary(sbs: u32) -> Option<u32>
     ensures { result ≡ part_of (2 ^ 32 - 1) sbs }
@@ -187,8 +188,8 @@ fn binary(sbs: u32) -> Option<u32>
     if sbs == u32::MAX { None } else { Some(sbs) }
 }
 
-/// The control functions that are kept. The greatest number of 64 bits is `None`: they have at most
-/// 45 bits.
+/// The field of the control functions, by what is kept of it. The greatest number of 64 bits is
+/// `None`: the field has at most 45 bits, so it is never that number.
 #[inline(always)]
 fn functions(control: u64) -> Option<u64>
     ensures { result ≡ part_of (2 ^ 64 - 1) control }

@@ -30,11 +30,12 @@ pub(crate) fn count_all(entries: &[Entry]) -> usize
     count
 }
 
-/// Keeps the first `at` entries of the list, and makes one group of all steps after them, the
-/// nearest ones. The group has all their changes and leads to `cursor`. If no step comes after the
-/// first `at`, a group without changes is added. Only the entries are joined: the changes are in
-/// another list and stay there. This takes no memory: the list has a place for the group (if no
-/// step is joined, the caller has made it), so `unwrap` finds no error.
+/// Keeps the first `at` entries of the list, which has at least that many. Makes one group of all
+/// steps after them, the nearest ones; it has all changes of these steps and leads to `cursor`. If
+/// no step comes after the first `at`, a group without changes is added. `few` is the bound of
+/// `count_all`. Only the entries are joined: the changes are in another list and stay there. This
+/// takes no memory: the list has a place for the group (if no step is joined, the caller has made
+/// it), so `unwrap` finds no error.
 pub(crate) fn join_beyond(entries: &mut Vec<Entry>, at: usize, cursor: usize)
     requires within { at ≤ vec_len entries.old }
     requires place { at < vec_capacity entries.old }

@@ -1,10 +1,10 @@
 //! Groups: several edits that one undo reverses.
 //!
 //! The past has the steps that can be undone, the future those that can be redone. The nearest step
-//! of a side is the one that is undone or redone next, the farthest the last one. Each side has a
-//! list of entries, one for a step; that of the past begins with the farthest, which is the oldest.
-//! An `Entry` of it has how many changes a step has, and the cursor of the state it leads to. To
-//! turn a step is to make its change, and to leave the change that leads back in it.
+//! of a side is the one that is undone or redone next; the farthest is undone or redone last. Each
+//! side has a list of entries, one for a step; that of the past begins with the farthest, which is
+//! the oldest. An `Entry` of it has how many changes a step has, and the cursor of the state it
+//! leads to. To turn a step is to make its change, and to leave the change that leads back in it.
 //!
 //! A floor is the begin of the open group, an `Opening`: how many steps the past had, and the
 //! cursor. An undo does not go below it. `known` does nothing: it only lets the proof use what
@@ -92,8 +92,9 @@ impl<R: Reversible> Journal<R> {
     /// Makes one group of the newest `count` steps of the past; an undo of the group leads to
     /// `cursor`. The past must have `count` steps, and no group may be open. `state` is the present
     /// one, read for the proof alone. If `count` is 0, a group without changes is added: only that
-    /// takes memory. The only error is `OutOfMemory`; no step changes then. `irig_edit` calls this
-    /// as it opens a saved session, after it has made the changes of a saved group one by one.
+    /// takes memory. The only error is `OutOfMemory`, so it comes only then; no step changes.
+    /// `irig_edit` calls this as it opens a saved session, after it has made the changes of a saved
+    /// group one by one.
     pub fn gather(&mut self, state: &R, count: usize, cursor: usize) -> Result<(), JournalFault>
         requires within { count ≤ length (past_of R.delta self.old) }
         requires no_group { self.old.floor ≡ None }
@@ -163,10 +164,10 @@ impl<R: Reversible> Journal<R> {
     }
 }
 
-/// Keeps the first `at` entries of the past's list, and makes one step of all steps after them if
-/// they are more than one; one alone stays as it is. An undo of the new step leads to the state
-/// before the oldest of the joined steps. So the new step gets the cursor of that oldest one, the
-/// entry at index `at`, from 0. This takes no memory.
+/// Makes one step of all steps of the past's list after the first `at`, if they are more than one;
+/// one alone stays as it is. The list has at least `at` steps; its first `at` stay. An undo of the
+/// new step leads to the state before the oldest of the joined steps. So the new step gets the
+/// cursor of that oldest one, the entry at index `at`, from 0. This takes no memory.
 fn end_beyond(entries: &mut Vec<Entry>, at: usize)
     requires within { at ≤ vec_len entries.old }
     requires few { counts_of entries.old.items < 2 ^ 64 }
@@ -181,9 +182,9 @@ fn end_beyond(entries: &mut Vec<Entry>, at: usize)
     }
 }
 
-/// Undoes the newest steps until `at` are left in the past; those undone are in the future then. It
-/// takes no memory. The caller sets the cursor itself and clears the future, so the cursors here
-/// mean nothing.
+/// Undoes the newest steps until `at` are left in the past, which has at least that many; those
+/// undone are in the future then. It takes no memory. The caller sets the cursor itself and clears
+/// the future, so the cursors here mean nothing.
 fn turn_beyond<R: Reversible>(
     past: &mut Side<R::Change>,
     future: &mut Side<R::Change>,

@@ -1,11 +1,11 @@
 //! Steps turned, and moved from one side of the present to the other. Nothing here takes memory.
 //!
 //! The past has the steps that can be undone, the future those that can be redone. A side has the
-//! changes of its steps in one list, and in another, `entries`, the number of them and the cursor
-//! of each step. The nearest step of a side is the one that is undone or redone next, the farthest
-//! the last one. To turn a change is to make it to the state, and to leave the change that leads
-//! back. Each side has its places before (`places` makes them), so `unwrap` of a `push` finds no
-//! error. `known` does nothing: it only lets the proof use what holds of the state. Steps or
+//! changes of its steps in one list. In another, `entries`, it has for each step the number of its
+//! changes and its cursor. The nearest step of a side is the one that is undone or redone next, the
+//! farthest the last one. To turn a change is to make it to the state, and to leave the change that
+//! leads back. Each side has its places before (`places` makes them), so `unwrap` of a `push` finds
+//! no error. `known` does nothing: it only lets the proof use what holds of the state. Steps or
 //! changes are ready at a state (`AreReady`, `ReadyInTurn`) if they apply one after another from
 //! there, each with room for its turn. `steps_in` is a journal with these two sides. `LedByOneTurn`
 //! says that one turn, that of the nearest step, leads from the old state, cursor and steps to the
@@ -22,9 +22,10 @@ use crate::Reversible;
 use crate::side::Side;
 use std::mem;
 
-/// Turns a new change, for which room was made, and adds the change that leads back as the nearest
-/// step of the past. That step gets `before`, the cursor of the state before the change. All steps
-/// of the future are dropped: they led on from the state before the change.
+/// Turns a new change, and adds the change that leads back as the nearest step of the past. The
+/// caller has found that the change can be made, and made room for it and for the step. That step
+/// gets `before`, the cursor of the state before the change. All steps of the future are dropped:
+/// they led on from the state before the change.
 pub(crate) fn turn_new<R: Reversible>(
     past: &mut Side<R::Change>,
     future: &mut Side<R::Change>,
@@ -59,10 +60,10 @@ pub(crate) fn turn_new<R: Reversible>(
 }
 
 /// Turns the nearest step of one side, and moves it to the other: from the past it is an undo, from
-/// the future a redo. The two cursors are swapped: `cursor` becomes that of the state the step
-/// leads to, and the step, which now leads back, gets the former cursor. `from` must have a step,
-/// so `unwrap` of the `pop` finds one. The contract takes `from` as the past, so it says `undone`:
-/// a redo is an undo with past and future swapped.
+/// the future a redo. The two cursors are swapped. `cursor` becomes that of the state the step
+/// leads to; the step, which now leads back, gets the former `cursor`. `from` must have a step, so
+/// `unwrap` of the `pop` finds one. The contract takes `from` as the past, so it says `undone`: a
+/// redo is an undo with past and future swapped.
 pub(crate) fn turn_nearest<R: Reversible>(
     from: &mut Side<R::Change>,
     to: &mut Side<R::Change>,
@@ -95,9 +96,10 @@ pub(crate) fn turn_nearest<R: Reversible>(
 }
 
 /// Turns the nearest `count` changes of `from`, the nearest first, and moves each to the end of
-/// `to`. `from` has at least that many, and `to` has places for them. Both lists end with their
-/// nearest change. So in `to` the changes are in the opposite order, as they have to be to be
-/// turned back. The tally is what a state counts of its turns; `counted` says how much one adds.
+/// `to`. `from` has at least that many, so `unwrap` of the `pop` finds one, and `to` has places for
+/// them. Both lists end with their nearest change. So in `to` the changes are in the opposite
+/// order, as they have to be to be turned back. The tally is what a state counts of its turns;
+/// `counted` says how much one adds.
 fn turn_changes<R: Reversible>(
     from: &mut Vec<R::Change>,
     to: &mut Vec<R::Change>,

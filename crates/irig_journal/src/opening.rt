@@ -11,9 +11,10 @@ pub struct Opening {
     pub cursor: usize,
 }
 
-/// Whether a group is open and the past, which has `long` steps, has none that was made since its
-/// begin: then no step may be undone. `floor` is the begin of the open group; if it is `None`, no
-/// group is open and the answer is false. The past never has fewer steps than at the begin.
+/// Whether a group is open and no step was made since the group was begun: then no step may be
+/// undone. `long` is how many steps the past has. `floor` is the begin of the open group; if it is
+/// `None`, no group is open and the answer is false. The past never has fewer steps than at the
+/// begin of the group.
 pub(crate) fn is_at_floor(floor: Option<Opening>, long: usize) -> bool
     ensures { IsTrue result ↔ AtFloor floor long }
 {

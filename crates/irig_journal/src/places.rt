@@ -22,8 +22,9 @@ use crate::side::Side;
 use std::alloc::AllocError;
 
 /// Makes room for a change, its undo and its redo: on both sides, in the state and in the change.
-/// Nothing is made yet: the steps, the state and the change mean what they meant, also after an
-/// error. The change must be one that can be made.
+/// The change is not made yet: the steps, the state and the change mean what they meant, also after
+/// an error. The change must be one that can be made. `reserve_step` makes the places on both
+/// sides, `prepare` the rest.
 pub(crate) fn reserve_change<R: Reversible>(
     past: &mut Side<R::Change>,
     future: &mut Side<R::Change>,
@@ -74,8 +75,8 @@ fn reserve_step<C>(past: &mut Side<C>, future: &mut Side<C>) -> Result<(), Alloc
 /// Makes a place in `list` for one item more, and places in `other` for all items that `list` has
 /// with that one: `other` will be empty before it gets them. The items of both stay, also after an
 /// error. `reserve` makes places in addition to the items that are there. The subtraction is done
-/// only if `places` is above the capacity of `other`, which is never below the number of its items;
-/// so it is exact.
+/// only if `places` is above the capacity of `other`. A capacity is never below the number of
+/// items, so the difference does not saturate.
 fn reserve_one<T>(list: &mut Vec<T>, other: &mut Vec<T>) -> Result<(), AllocError>
     ensures list { (list.new.items ≡ list.old.items) × (vec_len list.new ≡ vec_len list.old) }
     ensures other { (other.new.items ≡ other.old.items) × (vec_len other.new ≡ vec_len other.old) }
@@ -95,11 +96,11 @@ fn reserve_one<T>(list: &mut Vec<T>, other: &mut Vec<T>) -> Result<(), AllocErro
 }
 
 /// Makes a place, in both lists, for the group that `gather` makes of the newest `count` steps of
-/// the past. Each list had places for all steps of both lists; with the group it has them, too. If
-/// `count` is above 0, nothing has to be done: the group gets the place of a step that it replaces.
-/// If it is 0, the group is one step more, which takes memory: `reserve` makes places in addition
-/// to the items that are there. The steps stay, also after an error, which only comes if `count` is
-/// 0.
+/// the past. Before the call each list has places for all steps of both lists (`places`); after it,
+/// also with the group. If `count` is above 0, nothing has to be done: the group gets the place of
+/// a step that it replaces. If it is 0, the group is one step more, which takes memory: `reserve`
+/// makes places in addition to the items that are there. The steps stay, also after an error, which
+/// only comes if `count` is 0.
 pub(crate) fn reserve_group(
     past: &mut Vec<Entry>,
     future: &mut Vec<Entry>,

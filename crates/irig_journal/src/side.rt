@@ -8,9 +8,9 @@ use crate::entry::Entry;
 use crate::size::Size;
 use std::alloc::Global;
 
-/// The steps on one side of the present: the changes of all steps in one list, and in another, for
-/// each step, how many of these changes are its own, and its cursor. Both lists end with the
-/// nearest. `IsWhole` says that these numbers add up to all changes.
+/// The steps on one side of the present. `changes` has the changes of all steps in one list;
+/// `entries` has for each step how many of these changes are its own, and its cursor. Both lists
+/// end with the nearest step. `IsWhole` says that these numbers add up to all changes.
 #[derive(Drop)]
 pub(crate) struct Side<C> {
     pub(crate) changes: Vec<C>,

@@ -37,10 +37,11 @@ impl<R: Reversible> Journal<R> {
         }
     }
 
-    /// Swaps past and future: what could be undone can be redone, and the other way round. The
-    /// oldest step becomes the last one to redo; the state stays. The opening of a saved journal
-    /// needs this swap: its steps back are made as edits and undone, so they are in the future, and
-    /// the swap brings them to the past. No group may be open. This takes no memory.
+    /// Swaps past and future: each step that could be undone can be redone, and each that could be
+    /// redone can be undone. The oldest step becomes the last one to redo; the state stays. The
+    /// opening of a saved journal needs this swap: its steps back are made as edits and undone, so
+    /// they are in the future, and the swap brings them to the past. No group may be open. This
+    /// takes no memory.
     pub fn turn_round(&mut self)
         requires no_group { self.old.floor ≡ None }
         ensures past { past_of R.delta self.new ≡ future_of R.delta self.old }

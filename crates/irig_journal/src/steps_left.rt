@@ -16,9 +16,9 @@ use crate::entry::Entry;
 use crate::step::{Step, weight_of};
 use std::marker::Model;
 
-/// The steps of one side that are left to be shown, one after another: those of `entries`, whose
-/// changes are all of `changes`, in the same order. If `from_oldest` the first of the lists comes
-/// next, else the last. This takes no memory.
+/// The steps of one side that are left to be shown, one after another. `entries` has these steps,
+/// and `changes` has just their changes, in the same order. If `from_oldest` the first of the lists
+/// comes next, else the last. This takes no memory.
 #[derive(Drop)]
 pub struct StepsLeft<'j, C> {
     pub(crate) changes: &'j [C],
@@ -75,7 +75,8 @@ fn entry_at_end(entries: &[Entry], first: bool) -> Option<(&Entry, &[Entry])>
 }
 
 /// The first `count` changes if `first` is true, else the last `count`; and with them all other
-/// changes. There are at least `count`: all changes of the step are in the list.
+/// changes. There are at least `count`, which is how many the next step has: its changes are all in
+/// the list.
 fn changes_at_end<C>(changes: &[C], count: usize, first: bool) -> (&[C], &[C])
     requires { count ≤ length changes.now }
     ensures parts { changes.now ≡ with_end first result.0.now result.1.now }

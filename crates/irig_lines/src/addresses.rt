@@ -52,8 +52,8 @@ fn base(text: &[u8]) -> Result<Base, BadLine>
 }
 
 /// The offset of an address: the text from its sign on, or no text if it has no sign. No text is 0,
-/// and a sign alone is 1 or -1. After a sign anything but a number is a `BadLine`; a text that
-/// begins with no sign is one, too, but does not come from `address`.
+/// and a sign alone is 1 or -1. After a sign anything but a number is a `BadLine`. So is a text
+/// that begins with no sign, but `address` passes no such text.
 fn offset(text: &[u8]) -> Result<i64, BadLine>
     ensures { Finds (IsOffset text.now) result }
 {
@@ -87,7 +87,8 @@ fn at(base: Base) -> Address
     Address { base, offset: 0 }
 }
 
-/// An address, or that of the cursor if the text is empty. `BadLine` if the text is neither.
+/// The address that a text is; that of the cursor if the text is empty. `BadLine` if it is neither
+/// empty nor an address.
 pub fn address_or_cursor(text: &[u8]) -> Result<Address, BadLine>
     ensures { Finds (IsAddressOrCursor text.now) result }
 {
@@ -98,9 +99,10 @@ pub fn address_or_cursor(text: &[u8]) -> Result<Address, BadLine>
     }
 }
 
-/// A range: two addresses with a comma between them, or one; that of the cursor if the text is
-/// empty. A comma alone is all pulses, `1,$`; just one side missing is a `BadLine`, as is a bad
-/// address. `rest` begins with the first comma, or is empty if there is none.
+/// A range: two addresses with a comma between them (`pair`), or one address. An empty text is the
+/// address of the cursor, and a comma alone is all pulses, `1,$`. If just one side of a comma is
+/// missing, or an address is bad, it is a `BadLine`. `rest` begins with the first comma, or is
+/// empty if there is none.
 pub fn range(text: &[u8]) -> Result<Range, BadLine>
     ensures { Finds (IsRange text.now) result }
 {
@@ -114,8 +116,9 @@ pub fn range(text: &[u8]) -> Result<Range, BadLine>
     }
 }
 
-/// The addresses before a comma and after it; if both texts are empty, a comma alone, those of the
-/// first pulse and the last. `BadLine` if just one text is empty, or one is no address.
+/// The two addresses of a range: `first` is the text before its comma, `second` the text after it.
+/// If both texts are empty, they are those of the first pulse and the last. `BadLine` if just one
+/// text is empty, or one is no address.
 fn pair(first: &[u8], second: &[u8]) -> Result<(Address, Address), BadLine>
     ensures { Finds (λ p. IsPair first.now second.now p.0 p.1) result }
 {

@@ -18,7 +18,8 @@ use crate::words::{no_word, split_word, two_words};
 use irig_codes::{Element, Kind, element_named, kind_named};
 use irig_moment::Moment;
 
-/// Two times, which have to be all the words of a text; else `BadLine`.
+/// Two times, which have to be all the words of a text. `BadLine` if the text has fewer or more
+/// words, or one of them is no time (`time`).
 pub fn times(arguments: &[u8]) -> Result<(Time, Time), BadLine>
     ensures { Finds (λ t. AreTimes (words_of arguments.now) t.0 t.1) result }
 {
@@ -26,9 +27,10 @@ pub fn times(arguments: &[u8]) -> Result<(Time, Time), BadLine>
     Ok((time(a)?, time(b)?))
 }
 
-/// The moment that a word is: a day, by its number in the year or by month and day, and a time of
-/// day, as `2024-001T00:00:00` or `2024-01-01T00:00:00`; maybe with hundredths of a second, as
-/// `.50`. `BadLine` for any other word, and if there is no such day or time.
+/// The moment that a word is: a day and a time of day, as `2024-001T00:00:00` or
+/// `2024-01-01T00:00:00`. The day has its number in the year, or month and day. The time may have
+/// hundredths of a second at its end, as `.50`. `BadLine` for any other word, and if there is no
+/// such day or time.
 pub fn moment(word: &[u8]) -> Result<Moment, BadLine>
     ensures { Finds (λ m. moment_of word.now ≡ Some m) result }
 {

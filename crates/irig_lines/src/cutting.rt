@@ -31,8 +31,8 @@ impl Until {
     }
 }
 
-/// What is before the first byte of a kind, and what is from that byte on. If there is no such
-/// byte, these are the whole text and an empty one.
+/// A text, cut before its first byte of the kind `until`: the second part begins with this byte. If
+/// the text has no such byte, the first part is the whole text and the second is empty.
 pub fn cut(text: &[u8], until: Until) -> (&[u8], &[u8])
     ensures before { result.0.now ≡ before until text.now }
     ensures onward { result.1.now ≡ onward until text.now }

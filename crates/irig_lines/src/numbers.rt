@@ -52,7 +52,7 @@ pub fn distance(word: &[u8]) -> Result<i64, BadLine>
     }
 }
 
-/// A number after a sign: below zero if the sign is a minus. Any other sign counts as a plus. The
+/// A number after a sign: below zero if `sign` is a minus. Any other byte counts as a plus. The
 /// number has to be below 2^63, so that it fits; one of 18 digits is.
 pub fn signed(sign: u8, number: u64) -> i64
     requires { number < 2 ^ 63 }

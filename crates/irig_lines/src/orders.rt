@@ -35,8 +35,8 @@ pub fn no_range(front: &[u8]) -> Result<(), BadLine>
 }
 
 /// What the address `front` asks for if no word is after it: to show its pulse. A `front` that is
-/// no address is a `BadLine`. So is an empty one, but a line with neither a range nor a word asks
-/// for nothing and does not come here.
+/// no address is a `BadLine`. An empty `front` is one, too, but does not come here: a line with
+/// neither a range nor a word asks for nothing.
 pub fn show(front: &[u8]) -> Result<Command, BadLine>
     ensures { Finds (Asks Keyword.Missing front.now []) result }
 {
@@ -159,9 +159,8 @@ pub fn unmark(front: &[u8], arguments: &[u8]) -> Result<Command, BadLine>
     Ok(Command::Unmark(letter(name)?))
 }
 
-/// What the arguments of `regen` ask for: to generate frames from a time on, with how many they
-/// are, the moment of the first one, and maybe control functions. `frames` reads them. A range, and
-/// any other arguments, are a `BadLine`.
+/// What the arguments of `regen` ask for: to generate frames from a time on. `frames` reads these
+/// arguments, and says what they are. A range, and any other arguments, are a `BadLine`.
 pub fn regen(front: &[u8], arguments: &[u8]) -> Result<Command, BadLine>
     ensures { Finds (Asks Keyword.Regen front.now (words_of arguments.now)) result }
 {
@@ -180,10 +179,10 @@ fn ranged(front: &[u8], arguments: &[u8]) -> Result<Range, BadLine>
     range(front)
 }
 
-/// What the arguments of `regen` ask for: a time, how many frames, the moment of the first one, and
-/// maybe control functions, as a number whose lowest bit is the first of them; 0 if they are
-/// missing. Any other arguments are a `BadLine`. A word that is missing is empty here, which none
-/// of the first three may be.
+/// What the arguments of `regen` ask for. They are a time, how many frames, the moment of the first
+/// one, and maybe control functions. These are a number whose lowest bit is the first of them, 0 if
+/// they are missing. Any other arguments are a `BadLine`. A word that is missing is empty here,
+/// which none of the first three may be.
 fn frames(arguments: &[u8]) -> Result<Command, BadLine>
     ensures { Finds (Asks Keyword.Regen [] (words_of arguments.now)) result }
 {

@@ -23,8 +23,9 @@ use crate::orders::{
 };
 use crate::words::{no_word, split_word};
 
-/// What a line asks for, its newline left out; `BadLine` if it is not valid. White space in front
-/// does not count. What is empty then, or a comment, asks for `Nothing`.
+/// What a line asks for; `BadLine` if it is not valid. `line` has no newline. White space at its
+/// begin does not count. If what follows is empty or a comment, the line asks for `Nothing`
+/// (`is_nothing`).
 pub fn parse_line(line: &[u8]) -> Result<Command, BadLine>
     ensures meant { IfOk result (λ command. Means command line.now) }
     ensures bad { OnErr result ((command : Command) → Means command line.now → ⊥) }
@@ -44,8 +45,8 @@ fn is_nothing(text: &[u8]) -> bool
     matches!(text, [] | [b'#', ..])
 }
 
-/// What a text asks for that begins with no white space: it is a range, a word and arguments, each
-/// of which may be missing. `BadLine` if it is not valid.
+/// What a text asks for, which is a range, a word and arguments; each of these may be missing. The
+/// text begins with no white space. `BadLine` if it is not valid (`asked`).
 fn in_text(text: &[u8]) -> Result<Command, BadLine>
     ensures { Finds (λ c. Orders c text.now) result }
 {
@@ -74,8 +75,8 @@ fn split_range(text: &[u8]) -> (&[u8], &[u8])
     (&text[..at], &text[at..])
 }
 
-/// Whether a byte ends a range. White space always does; a small letter does unless it is `quoted`:
-/// an apostrophe is just before it.
+/// Whether a byte ends a range. White space always does. A small letter does unless `quoted` is
+/// true, which says that an apostrophe is just before the byte. No other byte does.
 fn ends_range(quoted: bool, byte: u8) -> bool
     ensures { result ≡ (is_space byte || (not quoted && is_letter byte)) }
 {
@@ -84,8 +85,9 @@ fn ends_range(quoted: bool, byte: u8) -> bool
 
 /// What a range (`front`), a word and the arguments after it ask for; `BadLine` if the word is
 /// `Unknown`, or the range or the arguments are not valid for it. `Missing` is no word: then there
-/// are no arguments, and the range is the address of a pulse to be shown. The words that are not
-/// named here are those that are alone in a line.
+/// are no arguments, and the range is the address of a pulse to be shown. Each word that takes a
+/// range or arguments has its function in `orders`. The words that are not named here are those
+/// that are alone in a line (`asked_alone`).
 fn asked(front: &[u8], word: Keyword, arguments: &[u8]) -> Result<Command, BadLine>
     ensures { Finds (Asks word front.now (words_of arguments.now)) result }
 {
@@ -108,7 +110,8 @@ fn asked(front: &[u8], word: Keyword, arguments: &[u8]) -> Result<Command, BadLi
     }
 }
 
-/// What a word asks for that takes neither a range nor an argument; `BadLine` if there is one.
+/// What a word asks for that takes neither a range nor an argument; `BadLine` if there is one of
+/// these. `word` has to be one of those that `alone` knows (`IsAlone`).
 fn asked_alone(front: &[u8], word: Keyword, arguments: &[u8]) -> Result<Command, BadLine>
     requires { IsAlone word }
     ensures { Finds (Asks word front.now (words_of arguments.now)) result }
@@ -122,7 +125,8 @@ fn asked_alone(front: &[u8], word: Keyword, arguments: &[u8]) -> Result<Command,
     Ok(alone(word))
 }
 
-/// What a word asks for that is alone in a line: one of those below, `quit` being the last.
+/// What a word asks for that is alone in a line. The caller has found that it is one of those below
+/// or `quit` (`IsAlone`), so the last arm is `quit`.
 fn alone(word: Keyword) -> Command
     requires { IsAlone word }
     ensures { Asks word [] [] result }

@@ -33,7 +33,7 @@ pub fn no_word(text: &[u8]) -> Result<(), BadLine>
     }
 }
 
-/// The word, if there is just one; no word, or a second one, is a `BadLine`.
+/// The one word of a text. If the text has no word, or a second one, it is a `BadLine`.
 pub fn one_word(text: &[u8]) -> Result<&[u8], BadLine>
     ensures ok { IfOk result (λ w. words_of text.now ≡ w.now ∷ []) }
     ensures err { OnErr result ((x : List ℕ) → words_of text.now ≡ x ∷ [] → ⊥) }
@@ -46,8 +46,8 @@ pub fn one_word(text: &[u8]) -> Result<&[u8], BadLine>
     Ok(word)
 }
 
-/// The words, if there are just two: the first, and then `one_word` of what is after it. Fewer or
-/// more are a `BadLine`.
+/// The two words of a text. If it has fewer or more, it is a `BadLine`. `one_word` finds the
+/// second.
 pub fn two_words(text: &[u8]) -> Result<(&[u8], &[u8]), BadLine>
     ensures ok { IfOk result (λ w. words_of text.now ≡ w.0.now ∷ w.1.now ∷ []) }
     ensures err { OnErr result ((x : List ℕ) → (y : List ℕ) → words_of text.now ≡ x ∷ y ∷ [] → ⊥) }

@@ -1,7 +1,7 @@
 //! How the times and the rises of two frames go together. `other` is a frame that begins after
 //! `one`. Rises and distances are in microseconds. The stray of two frames is by how much their
-//! distance differs from the nominal one, which is as many frame periods as their times are apart.
-//! Bounds in contracts, as 2^60, only keep numbers small enough for their types.
+//! distance differs from the nominal one: as many frame periods as their times are apart. Bounds in
+//! contracts, as 2^60, only keep numbers small enough for their types.
 
 ghost use Rattle.std.specs.Prelude.{◌≡◌, ◌+◌, ◌*◌, ◌%◌, ◌==◌, ◌^◌, ◌<◌};
 ghost use Rattle.irig_safety.specs.Bearing.{agrees, allows, apart, clock_after, clock_of};
@@ -14,8 +14,8 @@ ghost use Rattle.irig_moment.specs.Generated.{period_of};
 use crate::shown::Shown;
 use irig_codes::{Fields, Format};
 
-/// The hundredths of a second from a day before the year begins to a time, since days count from 1;
-/// a time without hundredths has 0. Clocks are only compared.
+/// A time in hundredths of a second; fields without hundredths count as having 0. It is from a day
+/// before the year begins, as days count from 1. This does not matter: clocks are only compared.
 pub fn clock(fields: &Fields) -> u128
     ensures value { result ≡ clock_of fields.now }
     ensures small { result < 2 ^ 60 }
@@ -28,7 +28,7 @@ pub fn clock(fields: &Fields) -> u128
     8_640_000 * days + 360_000 * hours + 6_000 * minutes + 100 * seconds + hundredths
 }
 
-/// The frame period in hundredths of a second, which are 10,000 microseconds each.
+/// The frame period in hundredths of a second, 10,000 microseconds each: from 1 (G) to 1,000 (E).
 fn period(format: Format) -> u128
     ensures value { result ≡ period_of format }
     ensures some { 0 < result }
@@ -67,10 +67,10 @@ fn year(is_long: bool) -> u128
     }
 }
 
-/// By how many hundredths of a second the year of `other` begins after that of `one`; 0 if it is
-/// not the next year. Without years it is the next one if the clock would go back otherwise. A year
-/// is long if its number is a multiple of 4, as from 1901 to 2099; without years if `one` is on its
-/// day 366. 0 if just one year is known.
+/// By how many hundredths of a second the year of `other` begins after that of `one`. If both years
+/// are known: by a year if `other` is in the next one, else 0. A year is long if its number is a
+/// multiple of 4, as from 1901 to 2099. If neither is known: by a year if the clock would go back
+/// otherwise, and by a long one if `one` is on day 366. If just one is known: 0.
 fn turn(one: &Fields, other: &Fields) -> u128
     ensures value { result ≡ turn_of one.now.year other.now.year one.now other.now }
     ensures small { result < 2 ^ 32 }
@@ -109,7 +109,7 @@ fn inserted(one: &Fields, other: &Fields) -> u128
 }
 
 /// The time of `other` on the clock of the year of `one`, in hundredths of a second: with the turn
-/// of the year and the inserted second that are between them.
+/// of the year and the inserted second that are between them, if there are any.
 fn clock_after(one: &Shown, other: &Shown) -> u128
     ensures value { result ≡ clock_after one.now other.now }
     ensures small { result < 2 ^ 61 }
@@ -118,7 +118,7 @@ fn clock_after(one: &Shown, other: &Shown) -> u128
 }
 
 /// How many whole frame periods the time of `other` is after that of `one`, rounded down; 0 if it
-/// is not after it.
+/// is not later.
 pub fn periods(format: Format, one: &Shown, other: &Shown) -> u128
     ensures value { result ≡ periods format one.now other.now }
     ensures small { result < 2 ^ 61 }
@@ -138,9 +138,10 @@ fn goes_back(one: &Fields, other: &Fields) -> bool
         && one.minutes == other.minutes
 }
 
-/// Whether the time of `other` is whole frame periods after that of `one`, and no later than in the
-/// next year. False also if it goes back from second 60 to an earlier second of that minute: the
-/// inserted second, or a turn of the year, would make it seem later.
+/// Whether the time of `other` is whole frame periods after that of `one`, at least one, and its
+/// year is the same, the next, or unknown of both (`is_near_year`). False also if it goes back from
+/// second 60 to an earlier second of that minute (`goes_back`): the inserted second, or a turn of
+/// the year, would make it seem later.
 pub fn is_later(format: Format, one: &Shown, other: &Shown) -> bool
     ensures { result ≡ is_later format one.now other.now }
 {
@@ -191,17 +192,17 @@ fn slack(format: Format, one: &Shown, other: &Shown) -> u128
 }
 
 /// Whether two frames are so far from each other that their distance does not say how many frame
-/// periods it is: they may stray by half a period, 50 intervals, or more. That is so from 495
-/// periods on: half an interval and a thousandth of 49,500. Both sides are in units of 1/2000 of a
-/// microsecond, as `slack` is.
+/// periods it is: by `slack` they may stray by half a period, 50 intervals, or more. That is so
+/// from 495 periods on: half an interval and a thousandth of 49,500. Both sides are times 2,000, as
+/// `slack` is.
 pub fn is_far(format: Format, one: &Shown, other: &Shown) -> bool
     ensures { result ≡ is_far format one.now other.now }
 {
     1_000 * u128::from(format.frame_period()) <= slack(format, one, other)
 }
 
-/// Whether the time of `other` is whole frame periods later, and their distance shows as many: they
-/// stray by less than half a period.
+/// Whether the time of `other` is whole frame periods later (`is_later`), and their distance shows
+/// as many: they stray by less than half a period.
 pub fn is_shown(format: Format, one: &Shown, other: &Shown) -> bool
     ensures { result ≡ is_shown format one.now other.now }
 {
@@ -209,8 +210,9 @@ pub fn is_shown(format: Format, one: &Shown, other: &Shown) -> bool
         && 2 * stray(format, one, other) < u128::from(format.frame_period())
 }
 
-/// Whether the time of `one` leads to that of `other`: it is whole periods later, they are not far
-/// from each other (`is_far`), and `other` begins when it should, as far as it may stray (`slack`).
+/// Whether `one` leads to `other`, so that their times fit: `other` is whole periods later
+/// (`is_later`), not far from `one` (`is_far`), and begins when it should, as far as it may stray
+/// (`slack`).
 pub fn leads(format: Format, one: &Shown, other: &Shown) -> bool
     ensures { result ≡ leads format one.now other.now }
 {
@@ -219,26 +221,26 @@ pub fn leads(format: Format, one: &Shown, other: &Shown) -> bool
         && 2_000 * stray(format, one, other) <= slack(format, one, other)
 }
 
-/// Whether the times of two frames do not contradict each other: either the frames are far from
-/// each other (`is_far`), or the times differ by as many periods as the distance shows.
+/// Whether the times of two frames do not contradict each other: the frames are far from each other
+/// (`is_far`), or the times differ by as many periods as the distance shows (`is_shown`).
 pub fn allows(format: Format, one: &Shown, other: &Shown) -> bool
     ensures { result ≡ allows format one.now other.now }
 {
     is_far(format, one, other) || is_shown(format, one, other)
 }
 
-/// Whether two frames are near enough for their distance to say how many frame periods it is, and
-/// their times are as many apart.
+/// Whether two frames are near enough for their distance to say how many frame periods it is (not
+/// `is_far`), and their times are as many apart (`is_shown`).
 pub fn agrees(format: Format, one: &Shown, other: &Shown) -> bool
     ensures { result ≡ agrees format one.now other.now }
 {
     !is_far(format, one, other) && is_shown(format, one, other)
 }
 
-/// Whether the stray of `from` and `frame` is no more than that of `one` and `other` and half an
-/// interval. `one` and `other` are the frames on both sides of a stretch, `from` and `frame` the
-/// ends of a part of it: a part strays no more than the whole. True if the distance of `one` and
-/// `other` does not fit their times: then it says nothing.
+/// Whether `from` and `frame` stray by at most half an interval more than `one` and `other` do.
+/// `one` and `other` are the frames on both sides of a stretch, `from` and `frame` the ends of a
+/// part of it: a part strays no more than the whole. True if the distance of `one` and `other` does
+/// not fit their times (`is_shown`): then it says nothing.
 pub fn is_within(format: Format, one: &Shown, other: &Shown, from: &Shown, frame: &Shown) -> bool
     ensures { result ≡ is_within format one.now other.now from.now frame.now }
 {

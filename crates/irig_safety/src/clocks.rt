@@ -1,14 +1,14 @@
 //! When a frame begins by the clock that other frames show. The clock of two frames is how long a
 //! frame period takes in the recording, by their distance and their times. It is off if that is not
-//! the nominal period. Two frames agree if the later one's time is whole periods later, and they
-//! are that far apart, to half a period. `before2`, `before`, `after` and `after2` are the two
-//! frames before a frame, the nearer one last, and the two after it. `periods` is how many frame
-//! periods the time of the second frame is after that of the first, and `stray` by how many
-//! microseconds their distance differs from that many nominal periods.
+//! the nominal period. Two frames agree (`is_shown`) if the later one's time is whole periods
+//! later, and they are that far apart, to half a period. `before2`, `before`, `after` and `after2`
+//! are the two frames before a frame, the nearer one last, and the two after it. `periods` is how
+//! many frame periods the time of the second frame is after that of the first, and `stray` by how
+//! many microseconds their distance differs from that many nominal periods.
 //!
 //! The bounds are this project's own. Half an interval is as far as a pulse is nearest to its own
 //! place, and 8 in 100 (2 in 25) as far as a recorder's clock may be off: as far as
-//! `irig_demodulate` allows.
+//! `irig_demodulate` allows. Bounds in contracts only keep numbers small enough for their types.
 
 ghost use Rattle.std.specs.Prelude.{◌≡◌, ◌<◌, ◌^◌, Some};
 ghost use Rattle.irig_safety.specs.Clocks.{is_by_clock, is_by_next, is_in_time, shows_any_clock};
@@ -20,10 +20,11 @@ use crate::bearing::{apart, distance, is_later, is_shown, periods, stray};
 use crate::shown::Shown;
 use irig_codes::Format;
 
-/// Whether two frames agree, and so show by how much the clock is off, and that is a fortieth at
-/// most: more can be a step between them, at which the recorder lost something or has it twice. If
-/// one is the next after the other, up to 8 in 100 is allowed: between them are the pulses of one
-/// frame that reads well, which are in step, so a step can only be in the last interval.
+/// Whether two frames show a clock that others may be measured by: they agree, and it is off by a
+/// fortieth at most. More can be a step between them, at which the recorder lost something or has
+/// it twice. If they are one period apart, up to 8 in 100 is allowed: between them are just the
+/// pulses of the first, which reads well, so these are in step, and a step can only be in its last
+/// interval.
 pub fn shows_clock(format: Format, one: &Shown, other: &Shown) -> bool
     ensures { result ≡ shows_clock format one.now other.now }
 {
@@ -32,9 +33,11 @@ pub fn shows_clock(format: Format, one: &Shown, other: &Shown) -> bool
     is_shown(format, one, other) && (40 * off <= many * frame || many == 1 && 25 * off <= 2 * frame)
 }
 
-/// Whether by the clock of two frames (`one`, `other`) `frame` begins when it should after `from`,
-/// to half an interval. False if the time of `frame` is not later. Both sides are multiplied by the
-/// periods of the two (`whole`), so nothing is divided.
+/// Whether `frame` begins when it should after `from`, to half an interval: after as many periods
+/// of the clock of `one` and `other` as the times of `from` and `frame` are apart. False if the
+/// time of `frame` is not whole periods later (`is_later`). That `one` and `other` show a clock is
+/// not tested here, but by the callers. Both sides are times the periods of these two (`whole`), so
+/// nothing is divided.
 fn is_in_time(format: Format, one: &Shown, other: &Shown, from: &Shown, frame: &Shown) -> bool
     ensures { result ≡ is_in_time format one.now other.now from.now frame.now }
 {
@@ -46,8 +49,9 @@ fn is_in_time(format: Format, one: &Shown, other: &Shown, from: &Shown, frame: &
 }
 
 /// Whether `one` and `other` show a clock (`shows_clock`), and `frame` begins when it should after
-/// `from` by this clock, to half an interval: after as many periods as their times are apart. False
-/// if the time of `frame` is not later than that of `from`.
+/// `from` by this clock, to half an interval: after as many of its periods as the times of `from`
+/// and `frame` are apart. False if the time of `frame` is not whole periods after that of `from`
+/// (`is_in_time`).
 pub fn is_by_clock(format: Format, one: &Shown, other: &Shown, from: &Shown, frame: &Shown) -> bool
     ensures { result ≡ is_by_clock format one.now other.now from.now frame.now }
 {
@@ -55,9 +59,9 @@ pub fn is_by_clock(format: Format, one: &Shown, other: &Shown, from: &Shown, fra
 }
 
 /// Whether `one` and `other` are one period apart and show a clock (`shows_clock`), and `frame`
-/// begins when it should after `from` by this clock, to half an interval. False if `frame` is more
-/// than two periods after `from`: two frames that are so near say nothing of the clock further on,
-/// since it can wander.
+/// begins when it should after `from` by this clock, to half an interval (`is_by_clock`). False if
+/// `frame` is more than two periods after `from`: a clock that is seen over one period says nothing
+/// of periods further away, since it can wander.
 pub fn is_by_next(format: Format, one: &Shown, other: &Shown, from: &Shown, frame: &Shown) -> bool
     ensures { result ≡ is_by_next format one.now other.now from.now frame.now }
 {
@@ -67,7 +71,8 @@ pub fn is_by_next(format: Format, one: &Shown, other: &Shown, from: &Shown, fram
 }
 
 /// Whether two frames agree, and show a clock that is off by 8 in 100 at most, however far they are
-/// apart.
+/// apart. So a step can be between them: unlike after `shows_clock`, the callers compare this clock
+/// with that of other frames.
 pub fn shows_any_clock(format: Format, one: &Shown, other: &Shown) -> bool
     ensures { result ≡ shows_any_clock format one.now other.now }
 {
@@ -76,9 +81,10 @@ pub fn shows_any_clock(format: Format, one: &Shown, other: &Shown) -> bool
             <= 2 * (periods(format, one, other) * u128::from(format.frame_period()))
 }
 
-/// Whether the times of two frames are whole frame periods apart, on a clock that is off by 8 in
-/// 100 at most. Unlike in `shows_any_clock` the two do not have to agree: over many periods such a
-/// clock is off by more than half a period.
+/// Whether the times of two frames are whole frame periods apart (`is_later`), and their clock is
+/// off by 8 in 100 at most. Despite the name, also true if it is not off at all. Unlike in
+/// `shows_any_clock` the two do not have to agree: over many periods such a clock is off by more
+/// than half a period.
 fn is_off(format: Format, one: &Shown, other: &Shown) -> bool
     ensures { result ≡ is_off format one.now other.now }
 {
@@ -87,11 +93,12 @@ fn is_off(format: Format, one: &Shown, other: &Shown) -> bool
 }
 
 /// Whether `from` and `to` show the clock that `one` and `other` show: by that clock `to` begins
-/// when it should after `from`, to half an interval. Neither clock is off by more than 8 in 100.
-/// `from` and `to` are no more than a hundred times as far apart as `one` and `other`. The rises of
+/// when it should after `from`, to half an interval. False if one of the two clocks is off by more
+/// than 8 in 100, or `one` and `other` do not agree (`shows_any_clock`, `is_off`). False also if
+/// `from` and `to` are more than a hundred times as far apart as `one` and `other`. The rises of
 /// `one` and `other` are off by a tenth of an interval each at most, which makes 20 intervals over
-/// a hundred times their distance. That is less than half a frame, so this clock says how many
-/// frames apart `from` and `to` are.
+/// a hundred times their distance. That is less than half a frame, so up to there the clock says
+/// how many frames apart `from` and `to` are.
 fn is_same_clock(format: Format, one: &Shown, other: &Shown, from: &Shown, to: &Shown) -> bool
     ensures { result ≡ is_same_clock format one.now other.now from.now to.now }
 {
@@ -124,7 +131,7 @@ fn is_own_to(format: Format, before: &Shown, after: &Shown, after2: Option<Shown
 }
 
 /// How many microseconds `many` frame periods take on the clock of two frames, rounded down; 0 if
-/// their times are less than a period apart.
+/// their times are less than a period apart, as nothing can be divided by 0.
 fn long_by(format: Format, one: &Shown, other: &Shown, many: u128) -> u128
     requires { many < 2 ^ 61 }
     ensures { result ≡ long_by format one.now other.now many }
@@ -137,11 +144,12 @@ fn long_by(format: Format, one: &Shown, other: &Shown, many: u128) -> u128
     }
 }
 
-/// Whether the distance of two frames (`micros`) is as two clocks say. `one` and `other` are what
-/// it is by each of them. It has to be between these two, whichever is greater, or outside of them
-/// by half an `interval` at most. All are in microseconds. False if the two differ by more than six
-/// intervals: a step, at which the recorder lost something or has it twice, is not seen there if it
-/// is no larger than their difference. Six is this project's own choice.
+/// Whether the distance of two frames (`micros`) is as two clocks say. `one` is what it is by one
+/// clock, and `other` what it is by the other. It has to be between `one` and `other`, whichever is
+/// greater, or outside of them by half an `interval` at most. All are in microseconds. False if
+/// `one` and `other` differ by more than six intervals: a step, at which the recorder lost
+/// something or has it twice, is not seen if it is no larger than their difference. Six is this
+/// project's own.
 fn is_amidst(interval: u64, one: u128, other: u128, micros: u128) -> bool
     requires { micros < 2 ^ 64 }
     ensures { result ≡ is_amidst interval one other micros }
@@ -155,8 +163,9 @@ fn is_amidst(interval: u64, one: u128, other: u128, micros: u128) -> bool
 
 /// Whether the clock wanders, from that of the two frames before to that of the two after: the
 /// distance of `before` and `after` is between what these two clocks say (`is_amidst`). False if
-/// one of the clocks is off by more than 8 in 100, if `before` and `after` are more than a hundred
-/// times as far apart as the two before, or if one of the four frames is not there.
+/// one of the clocks is off by more than 8 in 100, or if `before` and `after` are more than a
+/// hundred times as far apart as the two before (`is_amid_of`). False also if `before2` or `after2`
+/// is not there.
 fn is_amid(
     format: Format,
     before2: Option<Shown>,
@@ -173,9 +182,10 @@ fn is_amid(
 }
 
 /// Whether the clock wanders, of four frames that are all there: the distance of `before` and
-/// `after` is between what the clock of the two before and that of the two after say. None of the
-/// clocks is off by more than 8 in 100. `before` and `after` are no more than a hundred times as
-/// far apart as the two before, for the reason at `is_same_clock`.
+/// `after` is between what the clock of the two before and that of the two after say (`is_amidst`).
+/// False if one of the three clocks is off by more than 8 in 100 (`shows_any_clock`, `is_off`), or
+/// if `before` and `after` are more than a hundred times as far apart as the two before, for the
+/// reason at `is_same_clock`.
 fn is_amid_of(
     format: Format,
     before2: &Shown,
@@ -200,9 +210,9 @@ fn is_amid_of(
 }
 
 /// Whether `before` and `after` show the recording's own clock, and `frame` is in time by it, to
-/// half an interval: counted from `before`, and `after` counted from `frame`. They show it if the
-/// two frames before show the same (`is_own_from`), or the two after do (`is_own_to`), or if theirs
-/// is between the clocks of both pairs (`is_amid`).
+/// half an interval (`is_in_time`): it begins when it should after `before`, and `after` when it
+/// should after `frame`. They show it if the two frames before show the same clock (`is_own_from`),
+/// or the two after do (`is_own_to`), or if theirs is between the clocks of both pairs (`is_amid`).
 pub fn is_by_own_clock(
     format: Format,
     before2: Option<Shown>,

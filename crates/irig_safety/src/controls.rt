@@ -22,8 +22,8 @@ pub fn functions(format: Format) -> u32
 }
 
 /// The element of a frame with the first control function, by the standard's layout: the digits of
-/// the time are before it. In G the hundredths take ten elements more; so does the year in each
-/// format, if the expression has one.
+/// the time are before it, in elements 0 to 49. In G the hundredths take ten elements more; so does
+/// the year in each format, if the expression has one.
 fn first_function(format: Format) -> usize
     ensures value { result ≡ first_function format.kind (has_year format.expression) }
     ensures few { result ≤ 70 }
@@ -37,7 +37,8 @@ fn first_function(format: Format) -> usize
 }
 
 /// The element of a frame with a control function, both from 0. Functions are in groups of nine
-/// elements, and a position identifier follows each group.
+/// elements, and a position identifier follows each group. That the frame has this function
+/// (`functions`) is not tested here.
 pub fn function_element(format: Format, function: u32) -> usize
     ensures { result ≡ function_element format function }
 {
@@ -45,8 +46,8 @@ pub fn function_element(format: Format, function: u32) -> usize
     first_function(format) + function + function / 9
 }
 
-/// The value of a control function in a frame, 1 or 0: the first one is the lowest bit. 0 if the
-/// frame has none.
+/// The value of a control function in a frame, 1 or 0: the first one is the lowest bit of 64. 0 if
+/// the frame has no control functions.
 pub fn function_of(frame: &Shown, function: u32) -> u64
     requires { function < 64 }
     ensures { result ≡ function_of function frame.now }
@@ -54,8 +55,8 @@ pub fn function_of(frame: &Shown, function: u32) -> u64
     (frame.fields.control.unwrap_or(0) >> function) % 2
 }
 
-/// Whether `other` is there, and has a control function as `frame` has it. False if it is not
-/// there.
+/// Whether `other` is there, and a control function has the same value in it as in `frame`
+/// (`function_of`). False if it is not there.
 pub fn shares(other: Option<Shown>, frame: &Shown, function: u32) -> bool
     requires { function < 64 }
     ensures { result ≡ shares function other frame.now }
@@ -66,9 +67,9 @@ pub fn shares(other: Option<Shown>, frame: &Shown, function: u32) -> bool
     }
 }
 
-/// Whether the two former frames nearest to a frame both have a control function as `frame` has it.
-/// They are one on each side, or the two of one side if the other has none. False if one of the two
-/// is not there.
+/// Whether the two former frames nearest to `frame` (`near`) both have a control function as
+/// `frame` has it (`shares`). They are one on each side, or the two of one side if the other has
+/// none. False if one of the two is not there.
 pub fn is_shared(near: &Witnesses, frame: &Shown, function: u32) -> bool
     requires { function < 64 }
     ensures { result ≡ is_shared function near.now frame.now }

@@ -6,7 +6,8 @@
 //! rises. Distances are in microseconds, and `periods` is how many frame periods the times of two
 //! frames are apart. Of the two frames before and the two after (`Sides`), `before` and `after` are
 //! the nearer ones. How far a clock or a curve may be off is this project's own. The bounds in
-//! contracts, as 2^73, only keep numbers small enough for their types.
+//! contracts, as 2^73, only keep numbers small enough for their types; `are_few` tests that of 500
+//! periods.
 
 ghost use Rattle.std.specs.Prelude.{◌≡◌, ◌≤◌, ◌<◌, ◌*◌, ◌^◌, IsTrue};
 ghost use Rattle.irig_codes.specs.Format.{interval_of};
@@ -32,7 +33,7 @@ pub struct Sides {
 }
 
 /// Whether each of the frames is at most 500 frame periods before the next: up to there no number
-/// below is too large for its type.
+/// below is too large for its type. That each is later than the one before it is not tested here.
 fn are_few(format: Format, sides: &Sides) -> bool
     ensures value { result ≡ are_few format sides.now }
     ensures before { IsTrue result → periods format sides.now.before2 sides.now.before ≤ 500 }
@@ -68,8 +69,8 @@ fn long_after(format: Format, sides: &Sides) -> u128
     distance(&sides.after, &sides.after2) * many
 }
 
-/// What both clocks are multiplied by, so that they can be compared: how many frame periods the two
-/// before are apart, times how many the two after are.
+/// What both clocks are multiplied by, so that they can be compared without dividing: how many
+/// frame periods the two before are apart, times how many the two after are.
 fn seen_over(format: Format, sides: &Sides) -> u128
     requires before { periods format sides.now.before2 sides.now.before ≤ 500 }
     requires after { periods format sides.now.after sides.now.after2 ≤ 500 }
@@ -81,7 +82,8 @@ fn seen_over(format: Format, sides: &Sides) -> u128
 }
 
 /// Whether `before` and `after` are as far apart as the mean of both clocks says, to half an
-/// interval: they are if the clock changes evenly. Both sides are times twice `seen_over`.
+/// interval: they are if the clock changes evenly. Both sides are times twice `seen_over`, so that
+/// nothing is divided.
 fn is_mean(format: Format, sides: &Sides) -> bool
     requires before { periods format sides.now.before2 sides.now.before ≤ 500 }
     requires across { periods format sides.now.before sides.now.after ≤ 500 }
@@ -96,8 +98,9 @@ fn is_mean(format: Format, sides: &Sides) -> bool
 }
 
 /// Whether the clock changes evenly from that of the two before to that of the two after
-/// (`is_mean`). False if one of the two clocks is off by more than 8 in 100 (`shows_any_clock`), or
-/// two frames are more than 500 periods apart.
+/// (`is_mean`). False if the distance of one of these pairs does not fit its times, or its clock is
+/// off by more than 8 in 100 (`shows_any_clock`). False also if `after` is not whole frame periods
+/// after `before` (`is_later`), or if a frame is more than 500 periods before the next (`are_few`).
 fn is_turning(format: Format, sides: &Sides) -> bool
     ensures value { result ≡ is_turning format sides.now }
     ensures before { IsTrue result → periods format sides.now.before2 sides.now.before ≤ 500 }
@@ -112,8 +115,8 @@ fn is_turning(format: Format, sides: &Sides) -> bool
 }
 
 /// What `bend` divides by. The clock changes by `difference` / `seen_over` from the middle of the
-/// two before to the middle of the two after, and `all` is twice the frame periods between these.
-/// 100 is in it twice, since `since` and `until` of the bend are in elements, 100 to a frame
+/// two before to the middle of the two after. `all` is twice the frame periods between these
+/// middles. 100 is in the answer twice, as `bend` has its elements in `since` and `until`, 100 to a
 /// period. So half of the change in one frame period is `difference` / (`seen_over` * `all`).
 fn turned_over(format: Format, sides: &Sides) -> u128
     requires before { periods format sides.now.before2 sides.now.before ≤ 500 }
@@ -127,11 +130,11 @@ fn turned_over(format: Format, sides: &Sides) -> u128
     10_000 * (seen_over(format, sides) * all)
 }
 
-/// How many microseconds the curve is off the straight line, `since` elements after one anchor and
-/// `until` before another. If each frame period is longer than the one before it by the same c, the
-/// curve is a parabola: s frame periods after one anchor and u before the other it is off by c * s
-/// * u / 2. 0 if the times of the frames are less than a period apart: then `turned_over` is 0, and
-/// nothing can be divided by it.
+/// How many microseconds the curve is off the straight line, rounded down, `since` elements after
+/// one anchor and `until` before the other. If each frame period is longer than the one before it
+/// by the same c, the curve is a parabola: s frame periods after one anchor and u before the other
+/// it is off by c * s * u / 2. 0 if the two before, or the two after, are less than a period apart:
+/// then `turned_over` is 0, and nothing can be divided by it.
 fn bend(format: Format, sides: &Sides, since: u128, until: u128) -> u128
     requires before { periods format sides.now.before2 sides.now.before ≤ 500 }
     requires across { periods format sides.now.before sides.now.after ≤ 500 }
@@ -147,7 +150,8 @@ fn bend(format: Format, sides: &Sides, since: u128, until: u128) -> u128
     }
 }
 
-/// By how many microseconds of a frame period both clocks differ, times `seen_over`.
+/// By how many microseconds a frame period is longer by one of both clocks than by the other, times
+/// `seen_over`.
 fn difference(format: Format, sides: &Sides) -> u128
     requires before { periods format sides.now.before2 sides.now.before ≤ 500 }
     requires after { periods format sides.now.after sides.now.after2 ≤ 500 }
@@ -161,7 +165,7 @@ fn difference(format: Format, sides: &Sides) -> u128
 /// Takes the bend (`by`) out of a time on the curve, `micros` microseconds after the first anchor,
 /// so that it can be compared with the straight line. If the frame periods become longer, the first
 /// ones are shorter than their mean, and the curve is earlier than the line: so the bend is added.
-/// Else it is taken off.
+/// Else it is taken off; 0 if it is more than `micros`.
 fn straightened(format: Format, sides: &Sides, by: u128, micros: u128) -> u128
     requires before { periods format sides.now.before2 sides.now.before ≤ 500 }
     requires after { periods format sides.now.after sides.now.after2 ≤ 500 }
@@ -176,7 +180,7 @@ fn straightened(format: Format, sides: &Sides, by: u128, micros: u128) -> u128
     }
 }
 
-/// Two intervals, in microseconds: the most that a curve may bend.
+/// Two intervals, in microseconds: the most that a curve may bend, which is this project's own.
 fn two_intervals(format: Format) -> u128
     ensures value { result ≡ 2 * interval_of format.kind }
     ensures small { result < 2 ^ 19 }
@@ -185,8 +189,9 @@ fn two_intervals(format: Format) -> u128
 }
 
 /// Whether a time (`rise`) is on the curve between two anchors, to a tenth of an interval: the bend
-/// is taken out, and what is left has to be on the straight line. False if the clock does not
-/// change evenly, or the curve bends by more than two intervals.
+/// is taken out, and what is left has to be on the straight line (`is_straight`). False if the
+/// clock does not change evenly, is far off, or is seen over too many periods (`is_turning`), or if
+/// the curve bends by more than two intervals. A rise before the first anchor counts as at it.
 fn is_bent(format: Format, sides: &Sides, before: &Anchor, rise: u64, after: &Anchor) -> bool
     requires { (before.now.steps ≤ 2 ^ 17) × (after.now.steps ≤ 2 ^ 17) }
     ensures { result ≡ is_bent format sides.now before.now rise after.now }
@@ -202,8 +207,9 @@ fn is_bent(format: Format, sides: &Sides, before: &Anchor, rise: u64, after: &An
     is_straight(format, before, micros, after)
 }
 
-/// Whether a time (`rise`) is on the curve between two anchors (`before`, `after`) that the four
-/// nearest frames (`near`) give. False if one of the four is not there.
+/// Whether a time (`rise`) is on the curve between two anchors (`before`, `after`), which follows
+/// from the clocks of the four nearest frames in `near` (`is_bent`). False if one of the four is
+/// not there.
 pub fn is_on_curve(
     format: Format,
     near: &Witnesses,

@@ -3,10 +3,11 @@
 
 ghost use Rattle.irig_safety.specs.Meaning.{SafeMeans};
 
-/// Does nothing: its contract is a theorem. It says what it means that new frames are safe by
-/// former ones. Each former frame is among the new ones, or its time or its control functions were
-/// wrong, and the new frame that rises when it did mends it. Each new frame that is neither a
-/// former one nor mends one is borne out: the former frames next to it have its time there.
+/// Does nothing: its contract is a theorem (`SafeMeans`). It says what it means that new frames, in
+/// the order of their rises, are safe by former ones. Each former frame is among the new ones, or
+/// its time or its control functions were wrong, and the new frame that rises when it did mends it.
+/// Each new frame that is neither a former one nor mends one is borne out: the former frames next
+/// to it have its time there.
 pub fn safe_frames_are_kept_or_borne_out()
     ensures { SafeMeans }
 {}

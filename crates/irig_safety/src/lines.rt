@@ -7,7 +7,8 @@
 //! frames next to them bear it out. Two frames agree if they are near enough for their distance to
 //! say how many periods it is, and their times are as many apart. `steps` are elements, and
 //! `micros` the microseconds that they took. The bounds in contracts only keep numbers small enough
-//! for their types: 500 frames have 50,000 elements, which is less than 2^16.
+//! for their types: 500 frames have 50,000 elements, which is less than 2^16, and 2^17 leaves room
+//! for the elements of one frame more.
 
 ghost use Rattle.std.specs.Prelude.{◌≡◌, ◌≤◌, ◌<◌, ◌+◌, ◌-◌, ◌*◌, ◌/◌, ◌^◌, IfSome, IsTrue};
 ghost use Rattle.irig_codes.specs.Format.{interval_of};
@@ -32,7 +33,7 @@ pub struct Anchor {
     pub rise: u64,
 }
 
-/// How many elements that many frames have: 100 each. Up to 2^64 frames the product fits its type.
+/// How many elements `frames` frames have: 100 each. Up to 2^64 frames the product fits its type.
 fn elements(frames: u128) -> u128
     requires { frames < 2 ^ 64 }
     ensures { result ≡ 100 * frames }
@@ -40,9 +41,10 @@ fn elements(frames: u128) -> u128
     100 * frames
 }
 
-/// Whether the distance of two frames says how many elements it is: they agree, or the recording's
-/// own clock has `frame` there. One of the two is `frame`, the other is next to it. They are 500
-/// frame periods apart at most: up to there no number below is too large for its type.
+/// Whether the distance of `one` and `other` says how many elements it is: they agree (`agrees`),
+/// or the recording's own clock has `frame` there (`is_own`). One of the two is `frame`, and the
+/// other is next to it; `one` is the earlier. False if they are more than 500 frame periods apart:
+/// up to there no number below is too large for its type.
 fn is_counted(format: Format, near: &Witnesses, frame: &Shown, one: &Shown, other: &Shown) -> bool
     ensures value { result ≡ is_counted format near.now frame.now one.now other.now }
     ensures few { IsTrue result → periods format one.now other.now ≤ 500 }
@@ -52,9 +54,10 @@ fn is_counted(format: Format, near: &Witnesses, frame: &Shown, one: &Shown, othe
 }
 
 /// The marker of the frame before `frame` as an anchor for an element of `frame`, from 0. Its steps
-/// are the elements of the frames between, and those of `frame` before the element. `None` if there
-/// is no such frame, or its distance does not say how many elements it is. Elements are 0 to 99;
-/// 100 in the contract is just a bound.
+/// are the elements from that marker to the one of `frame`, and those of `frame` before the
+/// element. `None` if no frame is before, or its distance from `frame` does not say how many
+/// elements it is, or is over 500 periods (`is_counted`). Elements are 0 to 99; 100 in the contract
+/// is just a bound.
 pub fn marker_before(
     format: Format,
     near: &Witnesses,
@@ -80,9 +83,10 @@ pub fn marker_before(
 }
 
 /// The marker of the frame after `frame` as an anchor for an element of `frame`, from 0. Its steps
-/// are the elements up to it, less those of `frame` before the element. `None` if there is no such
-/// frame, or its distance does not say how many elements it is. It is 100 elements or more from the
-/// frame's own marker, so nothing is below 0 for elements 0 to 99.
+/// are the elements from the marker of `frame` to that one, less those of `frame` before the
+/// element. As they are 100 or more, nothing is below 0 for elements 0 to 99. `None` if no frame is
+/// after, or its distance from `frame` does not say how many elements it is, or is over 500 periods
+/// (`is_counted`).
 pub fn marker_after(
     format: Format,
     near: &Witnesses,
@@ -124,7 +128,8 @@ pub fn between(from: u64, to: u64) -> u128
 
 /// Whether a time `micros` microseconds after the first of two anchors is on the line between them,
 /// to a tenth of an interval. It is as many elements from each anchor as the anchor's `steps`. Both
-/// sides are times all steps (`whole`), so nothing is divided.
+/// sides are times all steps (`whole`), so nothing is divided. The bound of `micros` is 2^65, not
+/// 2^64, as `straightened` (in `curves`) can add to a time.
 pub fn is_straight(format: Format, before: &Anchor, micros: u128, after: &Anchor) -> bool
     requires { (before.now.steps ≤ 2 ^ 17) × (after.now.steps ≤ 2 ^ 17) × (micros < 2 ^ 65) }
     ensures { result ≡ is_straight format before.now micros after.now }
@@ -135,10 +140,10 @@ pub fn is_straight(format: Format, before: &Anchor, micros: u128, after: &Anchor
     apart(found, wanted) <= whole * tenth(format)
 }
 
-/// Whether a rise, in microseconds, is on the line between two anchors, to a tenth of an interval.
-/// Or on the curve that pulses are on if the clock of the frames before becomes evenly that of the
-/// frames after (`near`), as on a tape (`is_on_curve`). A rise before the first anchor counts as at
-/// it.
+/// Whether a rise, in microseconds, is on the line between two anchors, to a tenth of an interval
+/// (`is_straight`). Or it is on the curve that pulses are on if the clock of the frames before
+/// becomes evenly that of the frames after (`near`), as on a tape (`is_on_curve`). A rise before
+/// the first anchor counts as at it.
 fn is_between(format: Format, near: &Witnesses, before: &Anchor, rise: u64, after: &Anchor) -> bool
     requires { (before.now.steps ≤ 2 ^ 17) × (after.now.steps ≤ 2 ^ 17) }
     ensures { result ≡ is_between format near.now before.now rise after.now }
@@ -158,10 +163,10 @@ fn is_nominal(format: Format, steps: u128, micros: u128) -> bool
     1_000 * apart(micros, steps * interval) <= 100 * interval + micros
 }
 
-/// Whether two frames show a clock that is not far off (`shows_clock`), and by that clock `steps`
-/// elements, 100 to a period, take `micros` microseconds, to a tenth of an interval. `whole` is how
-/// many periods the two frames are apart. Both sides are multiplied by it, so that nothing is
-/// divided by it.
+/// Whether two frames show a clock, and by it `steps` elements, 100 to a period, take `micros`
+/// microseconds, to a tenth of an interval. False if their distance does not fit their times, or
+/// the clock is far off (`shows_clock`). Both sides are times `whole`, which is how many periods
+/// the two frames are apart, so that nothing is divided by it.
 fn is_at_clock(format: Format, steps: u128, micros: u128, one: &Shown, other: &Shown) -> bool
     requires { (steps ≤ 2 ^ 17) × (micros < 2 ^ 64) }
     ensures { result ≡ is_at_clock format steps micros one.now other.now }
@@ -172,7 +177,7 @@ fn is_at_clock(format: Format, steps: u128, micros: u128, one: &Shown, other: &S
 }
 
 /// Whether `steps` elements take `micros` microseconds by the clock of two frames, to a tenth of an
-/// interval (`is_at_clock`). False if one of the frames is not there.
+/// interval. False if one of the frames is not there, or their clock is far off (`is_at_clock`).
 fn is_at_clock_of(
     format: Format,
     steps: u128,
@@ -190,8 +195,8 @@ fn is_at_clock_of(
 }
 
 /// Whether `steps` elements take `micros` microseconds by the clock of the two nearest frames, to a
-/// tenth of an interval: one on each side, or both on the one side that has any. False if there are
-/// fewer.
+/// tenth of an interval. They are one on each side, or both on the one side that has any. False if
+/// there are fewer, or if their clock is far off (`shows_clock`).
 fn is_clocked(format: Format, near: &Witnesses, steps: u128, micros: u128) -> bool
     requires { (steps ≤ 2 ^ 17) × (micros < 2 ^ 64) }
     ensures { result ≡ is_clocked format near.now steps micros }
@@ -204,8 +209,8 @@ fn is_clocked(format: Format, near: &Witnesses, steps: u128, micros: u128) -> bo
 }
 
 /// Whether `steps` elements take `micros` microseconds: by the nominal interval, to a tenth of it
-/// and a thousandth of `micros` (`is_nominal`), or by the clock of the two nearest frames, to a
-/// tenth of an interval (`is_clocked`).
+/// and a thousandth of `micros` (`is_nominal`), or by the clock of the two nearest frames (`near`),
+/// to a tenth of an interval (`is_clocked`).
 fn is_along(format: Format, near: &Witnesses, steps: u128, micros: u128) -> bool
     requires { (steps ≤ 2 ^ 17) × (micros < 2 ^ 64) }
     ensures { result ≡ is_along format near.now steps micros }
@@ -215,8 +220,8 @@ fn is_along(format: Format, near: &Witnesses, steps: u128, micros: u128) -> bool
 
 /// Whether a rise, in microseconds, is where the anchors of the pulse (`before`, `after`) have it.
 /// If both are there: on the line or the curve between them (`is_between`). If one is: as far from
-/// it as the nominal interval or the clock of the two nearest frames says (`is_along`). False if
-/// there is none.
+/// it as the nominal interval or the clock of the two nearest frames (`near`) says (`is_along`). A
+/// rise on the wrong side of an anchor counts as at it. False if there is no anchor.
 pub fn is_on_line(
     format: Format,
     near: &Witnesses,

@@ -1,10 +1,11 @@
 //! Whether a frame that read well, with nothing wrong in it, and is another one now, is mended by
-//! that. `former` is the frame as it was, `frame` as it is now, `near` the former frames next to
-//! it, two on each side (`before` and `after` are the nearer ones), and `others` what is known
-//! besides: `frames` of other recordings of the same code, and which pulses are not as wide as
-//! others. Two frames contradict each other if they are near enough for their distance to say how
-//! many frame periods it is, and their times say another number (`allows` is false). Frames bear
-//! out another one if they have its time there (`is_borne`).
+//! that. `former` is the frame as it was, and `frame` as it is now. `near` is the former frames
+//! next to it, two on each side: `before` and `after` are the nearer ones, and one that is not
+//! there is `None`. `others` is what is known besides: `frames` of other recordings of the same
+//! code, and which pulses are not as wide as others. Two frames contradict each other if they are
+//! near enough for their distance to say how many frame periods it is, and their times say another
+//! number (`allows` is false). Frames bear out another one if they have its time there
+//! (`is_borne`).
 
 ghost use Rattle.std.specs.Prelude.{◌≡◌, ◌↔◌, IsTrue};
 ghost use Rattle.irig_safety.specs.Mended.{Mends, contradicts_from, contradicts_to, is_mended};
@@ -18,10 +19,10 @@ use crate::terms::Others;
 use crate::witnesses::{Witnesses, is_borne};
 use irig_codes::Format;
 
-/// Whether the frame that is there now (`frame`) mends the former one: its time was wrong and is
-/// right now (`is_time_mended`), or only control functions changed, and are right now
-/// (`is_control_mended`). Other recordings (`others`) have to confirm the time of the first or the
-/// last frame, and control functions if the two frames next to it do not both have all of them.
+/// Whether the frame that is there now (`frame`) mends the former one. Either its time was wrong
+/// and now is right (`is_time_mended`), or only control functions changed, and now are right
+/// (`is_control_mended`). Other recordings (`others`) have to confirm two things: the time of the
+/// first or the last frame, and control functions, unless both frames next to it have just these.
 /// Else they are not asked.
 pub fn mends(
     format: Format,
@@ -37,8 +38,9 @@ pub fn mends(
         || is_control_mended(format, others, near, former, frame)
 }
 
-/// Whether the time of a frame was wrong and is mended: of one between two others (`is_mended`), or
-/// of the first or the last one (`is_mended_at_end`), which another recording has to confirm.
+/// Whether the time of a frame was wrong and is mended. For one between two others the frames next
+/// to it decide alone (`is_mended`). For the first or the last one another recording has to confirm
+/// what they say (`is_mended_at_end`).
 fn is_time_mended(
     format: Format,
     others: &Others,
@@ -52,9 +54,9 @@ fn is_time_mended(
     is_mended(format, near, former, frame) || is_mended_at_end(format, others, near, former, frame)
 }
 
-/// Whether the time of a frame was wrong and is mended: the frames on both sides contradict what it
-/// was (`former`), and those next to it bear out what it is now (`frame`). False if one side has no
-/// frame.
+/// Whether the time of a frame between two others was wrong and is mended: the nearest one on each
+/// side contradicts what it was (`former`), and the frames next to it bear out what it is now
+/// (`frame`). False if one side has no frame: such a one is left to `is_mended_at_end`.
 fn is_mended(format: Format, near: &Witnesses, former: &Shown, frame: &Shown) -> bool
     ensures { result ≡ is_mended format near.now.before2 near.now.before former.now
         near.now.after near.now.after2 frame.now }
@@ -70,9 +72,10 @@ fn is_mended(format: Format, near: &Witnesses, former: &Shown, frame: &Shown) ->
 }
 
 /// Whether the time of the first or the last frame was wrong, and is mended: the two next to it
-/// contradict what it was (`former`), and bear out what it is now (`frame`). If the sender's clock
-/// was set there, the recording alone would look the same. So another recording has to have the new
-/// time, and none the former one. False if both sides have frames, or one of the two is not there.
+/// contradict what it was (`is_refuted` of `former`), and bear out what it is now (`is_borne` of
+/// `frame`). If the sender's clock was set there, the recording alone would look the same. So
+/// another recording has to have the new time, and none the former one (`is_among`). False if both
+/// sides have frames, or one of the two is not there.
 fn is_mended_at_end(
     format: Format,
     others: &Others,

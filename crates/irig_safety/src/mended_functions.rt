@@ -1,12 +1,13 @@
 //! Whether the control functions of a frame that read well, which are others now, are mended by
-//! that. A frame reads well if nothing is wrong in it. `former` is the frame as it was, `frame` as
-//! it is now, `near` the former frames next to it (`before` and `after` are the nearer ones), and
-//! `others` what is known besides: `frames` of other recordings of the same code, those of them in
-//! which no pulse is odd (`even`), and the control functions here whose pulse is (`odd`). A pulse
-//! is odd if it is not as wide as the others of its class in its frame, so damage made it. Control
-//! functions count from 0, and are the bits of a `u64`, so a number is below 64. The parity of a
-//! frame is whether its ones up to element 75 are odd in number or even: some codes keep it the
-//! same in each frame. Two frames contradict each other if their distance says how many frame
+//! that. A frame reads well if nothing is wrong in it. `former` is the frame as it was, and `frame`
+//! as it is now. `near` is the former frames next to it: `before` and `after` are the nearer ones,
+//! and one that is not there is `None`. `others` is what is known besides: `frames` of other
+//! recordings of the same code, frames of these recordings in which no pulse of a control function
+//! is odd (`even`), and the control functions of this recording whose pulses are odd (`odd`). A
+//! pulse is odd if it is not as wide as the others of its class in its frame, so damage made it.
+//! Control functions count from 0, and are the bits of a `u64`, so a number is below 64. The parity
+//! of a frame is whether its ones up to element 75 are odd in number or even: some codes keep it
+//! the same in each frame. Two frames contradict each other if their distance says how many frame
 //! periods it is, and their times say another number.
 
 ghost use Rattle.std.specs.Prelude.{◌≡◌, ◌↔◌, ◌<◌, ◌⊎◌, IsTrue};
@@ -24,10 +25,10 @@ use crate::terms::Others;
 use crate::witnesses::{Witnesses, allows_from, allows_to};
 use irig_codes::{Fields, Format};
 
-/// Whether a frame is the former one but for its control functions, and these are mended: both
-/// frames next to it have all of them, which no other recording has to confirm; or each that
-/// changed is mended for itself, which most frames of other recordings with its time have to
-/// confirm (`is_function_mended`).
+/// Whether a frame is the former one but for its control functions, and these are mended, in one of
+/// two ways. Either both frames next to it have just these: then no other recording is asked
+/// (`has_control_of_both`). Or each one that changed is mended for itself, which most frames of
+/// other recordings with the frame's time have to confirm (`has_control_of_most`).
 pub fn is_control_mended(
     format: Format,
     others: &Others,
@@ -43,8 +44,8 @@ pub fn is_control_mended(
 }
 
 /// Whether a frame is the former one but for its control functions, and has just those that both
-/// frames next to it have. It does not matter which of them changed. False if one side has no
-/// frame.
+/// frames next to it have. It does not matter which functions changed. False if anything else
+/// changed, or one side has no frame.
 fn has_control_of_both(near: &Witnesses, former: &Shown, frame: &Shown) -> bool
     ensures { IsTrue result
         ↔ HasControlOfBoth near.now.before former.now near.now.after frame.now }
@@ -58,7 +59,8 @@ fn has_control_of_both(near: &Witnesses, former: &Shown, frame: &Shown) -> bool
     }
 }
 
-/// Whether two frames both have just these control functions; with `None`, that neither has any.
+/// Whether two frames both have just these control functions; if `control` is `None`, whether
+/// neither has any.
 fn both_have(one: &Shown, other: &Shown, control: Option<u64>) -> bool
     ensures { IsTrue result
         ↔ (one.now.fields.control ≡ control) × (other.now.fields.control ≡ control) }
@@ -66,8 +68,9 @@ fn both_have(one: &Shown, other: &Shown, control: Option<u64>) -> bool
     one.fields.control == control && other.fields.control == control
 }
 
-/// Whether a frame is the former one but for some control functions, and each of these is mended by
-/// most other recordings (`is_function_mended`).
+/// Whether a frame is the former one but for some control functions, and each of these is mended:
+/// other recordings confirm it, and something here says so too (`is_function_mended`). False if
+/// anything else changed.
 fn has_control_of_most(
     format: Format,
     others: &Others,
@@ -101,10 +104,11 @@ fn are_functions_mended(
     true
 }
 
-/// Whether a control function is as it was, or mended. It is mended if most frames of other
-/// recordings with the time of `frame` have it as it is now (`is_told`), and something here says so
-/// too: both frames next to it have it so, or the parity says so (`is_by_parity`), or its pulse was
-/// not as wide as others (`is_by_width`).
+/// Whether a control function (`function`) is as it was, or mended. It is mended if more frames of
+/// other recordings with the time of `frame` have it as it is now than otherwise (`is_told`), and
+/// something here says so too. That is one of three: both frames next to `frame` are there and have
+/// it so (`shares`), or the parity says so (`is_by_parity`), or its pulse in the former frame was
+/// odd (`is_by_width`).
 fn is_function_mended(
     format: Format,
     others: &Others,
@@ -124,8 +128,9 @@ fn is_function_mended(
                 || is_by_width(others, former, frame, function))
 }
 
-/// Whether exactly one control function changed, this gave the frame the parity that frames of
-/// other recordings have (`is_parity_mended`), and no frame next to it contradicts its time.
+/// Whether exactly one control function changed, and this gave the frame the parity that frames of
+/// other recordings have (`is_parity_mended`). Also no frame next to it may contradict its time as
+/// it is now; a side without a frame does not (`allows_from`, `allows_to`).
 fn is_by_parity(
     format: Format,
     others: &Others,
@@ -141,9 +146,11 @@ fn is_by_parity(
         && is_parity_mended(format, others.frames.as_slice(), former, frame)
 }
 
-/// Whether the pulse of a control function of the former frame is odd: not as wide as the others of
-/// its class in its frame. And of the frames of its time in other recordings in which no such pulse
-/// is odd, more have to have the function as the frame has it now than otherwise.
+/// Whether the pulse of a control function (`function`) of the former frame was odd (the list `odd`
+/// has it), and sound frames of other recordings confirm the function as `frame` has it. These are
+/// the list `even`: no pulse of theirs is odd. Of those with the time of `frame`, more have to have
+/// the function as `frame` has it than otherwise (`is_told`). False if as many have it otherwise,
+/// or there are none.
 fn is_by_width(others: &Others, former: &Shown, frame: &Shown, function: u32) -> bool
     requires { function < 64 }
     ensures { result ≡ is_by_width others.now former.now frame.now function }
@@ -152,7 +159,7 @@ fn is_by_width(others: &Others, former: &Shown, frame: &Shown, function: u32) ->
         && is_told(others.even.as_slice(), frame, function)
 }
 
-/// A frame with these control functions instead of its own.
+/// The frame `frame`, but with these control functions instead of its own; with `None` it has none.
 fn with_control(frame: &Shown, control: Option<u64>) -> Shown
     ensures { result ≡ with_control control frame.now }
 {

@@ -1,8 +1,9 @@
 //! Where the frames of a recording are after an edit that moves them. The former frames (`old`) are
 //! those that read well, with nothing wrong in them, before the edit, and `new` those that do after
-//! it. Places in a list count from 0. Two frames have one time here if their day and time of day
-//! are the same: years are not compared. `from_time` in a contract is the rest of a list from the
-//! first frame on that has a time.
+//! it. Places in a list count from 0. Two frames have one time here if `clock` gives the same
+//! number for them: their day and time of day are the same. Years are not compared, and second 60
+//! is the same as second 0 of the next minute. `from_time` in a contract is the rest of a list from
+//! the first frame on that has a time.
 
 ghost use Rattle.std.specs.Prelude.{◌≡◌, ◌≤◌, IfOk, drop, length};
 ghost use Rattle.irig_safety.specs.Moved.{from_time, moved_in, moved_to, rest_of};
@@ -13,9 +14,9 @@ use crate::shown::Shown;
 use std::alloc::{AllocError, Global};
 
 /// The former frames (`old`) where they are now: each at the rise of the first frame of `new` that
-/// has its time. The search for one begins after the frame of `new` at which the last one was
-/// found, since frames keep their order. A former frame that is not found stays where it was:
-/// `frame_at` gives `None` for it. `Err` means that memory ran out.
+/// has its time (`place_of`). Frames keep their order, so each search begins after the frame of
+/// `new` that was found last. A former frame that is not found stays where it was: `place_of` is
+/// the length of the list then, and `frame_at` is `None` there. `Err` means that memory ran out.
 pub fn moved_in(alloc: Global, old: &[Shown], new: &[Shown]) -> Result<Vec<Shown>, AllocError>
     ensures { IfOk result (λ moved. moved.items ≡ moved_in old.now new.now) }
 {
@@ -29,8 +30,8 @@ pub fn moved_in(alloc: Global, old: &[Shown], new: &[Shown]) -> Result<Vec<Shown
     Ok(moved)
 }
 
-/// The place in the list `new` of the first frame from the place `from` on that has the time of
-/// `frame`, without its year; the length of the list, if none has.
+/// The place in the list `new` of the first frame that has the time of `frame`, without its year:
+/// the first from the place `from` on. The length of the list, if none has it.
 fn place_of(frame: &Shown, new: &[Shown], from: usize) -> usize
     requires { from ≤ length new.now }
     ensures within { result ≤ length new.now }
@@ -58,8 +59,9 @@ fn moved_to(frame: &Shown, at: Option<Shown>) -> Shown
     }
 }
 
-/// Where the next search begins. If a frame was found at `place`, that is after it. If none was,
-/// `place` is the end of the list, and the next search begins where this one did, at `passed`.
+/// Where the next search begins. If the last one found a frame, `place` is where that is, and the
+/// next begins after it. If it found none, `place` is the length of the list, and the next begins
+/// where the last one did, at `passed`.
 fn rest_of(new: &[Shown], place: usize, passed: usize) -> usize
     requires { (place ≤ length new.now) × (passed ≤ length new.now) }
     ensures within { result ≤ length new.now }

@@ -20,7 +20,9 @@ pub struct Odd {
     pub function: u32,
 }
 
-/// The control functions of a frame with this marker whose pulses are odd.
+/// The control functions of a frame (`frame`, with its marker among `pulses`) whose pulses are odd
+/// (`is_odd`), in the order of their numbers. Empty if none is, or its format carries none. `Err`
+/// means that memory ran out.
 pub fn odd_of(
     alloc: Global,
     format: Format,
@@ -39,7 +41,8 @@ pub fn odd_of(
     Ok(odd)
 }
 
-/// Adds a control function of a frame to `odd`, if its pulse is odd (`so`).
+/// Adds a control function of a frame to `odd`, if `so` is true: the caller found that its pulse is
+/// odd. Else nothing changes. `Err` means that memory ran out.
 fn put_if(odd: &mut Vec<Odd>, so: bool, frame: &Shown, function: u32) -> Result<(), AllocError>
     ensures { OnOk result (odd.new.items ≡ odd.old.items ++ odd_if so frame.now function) }
 {
@@ -52,7 +55,8 @@ fn put_if(odd: &mut Vec<Odd>, so: bool, frame: &Shown, function: u32) -> Result<
     Ok(())
 }
 
-/// Whether a control function of a frame, which rises then and has this time, is one of `odd`.
+/// Whether `odd` has this control function of a frame that rises when `frame` does and has its
+/// time: its pulse was odd (`is_odd_of`).
 pub fn has_odd(odd: &[Odd], frame: &Shown, function: u32) -> bool
     ensures { result ≡ has_odd odd.now frame.now function }
 {
@@ -64,8 +68,9 @@ pub fn has_odd(odd: &[Odd], frame: &Shown, function: u32) -> bool
     false
 }
 
-/// Whether this is that control function of a frame, which rises then and has this time. If frames
-/// may move, another frame can be at the rise of one.
+/// Whether `odd` is this control function of a frame that rises when `frame` does and has the same
+/// time (`is_of_time`). Other control functions do not matter. The rise alone is not enough: if
+/// frames may move, another frame can begin when the one in `odd` did.
 fn is_odd_of(odd: &Odd, frame: &Shown, function: u32) -> bool
     ensures { result ≡ is_odd_of odd.now frame.now function }
 {

@@ -25,9 +25,10 @@ use irig_recording::Pulse;
 use std::marker::Model;
 
 /// What is known of a recording as it was opened: the frames that read well, with nothing wrong in
-/// them, the places of their markers, from 0, and all pulses, which rise; and by what else repairs
-/// are judged: whether frames may move, and frames of other recordings (`terms`), and the control
-/// functions whose pulses are not as wide as the others of their class in their frame (`odd`).
+/// them, the places of their markers, from 0, and all pulses, each of which rises and falls no
+/// earlier than the one before it. And by what else repairs are judged: whether frames may move and
+/// frames of other recordings (`Terms`), and the control functions whose pulses are odd (`odd`):
+/// not as wide as the others of their class in their frame.
 #[derive(Drop)]
 pub struct Original {
     frames: Vec<Shown>,
@@ -56,8 +57,9 @@ impl Model for Original {
 }
 
 impl Original {
-    /// A recording with these frames, pulses, odd ones of these, and terms. `markers` has the
-    /// marker of each of `frames`, at the same place.
+    /// A recording with these frames and pulses, the control functions whose pulses are odd
+    /// (`odd`), and these terms. `markers` has the marker of each of `frames`, at the same place.
+    /// Pulses have to rise in order, and to fall in order: the searches need both.
     pub fn new(
         frames: Vec<Shown>,
         markers: Vec<usize>,
@@ -103,15 +105,15 @@ impl Original {
         is_told(self.others.frames.as_slice(), frame, function)
     }
 
-    /// What is known of control functions besides: by frames of other recordings of the same code,
-    /// and by the pulses of this one that are odd.
+    /// What is known of control functions besides the frames of the recording: what frames of other
+    /// recordings of the same code have, and which pulses of this one are odd.
     pub fn others(&self) -> &Others
         ensures { result.now ≡ others_of self.now }
     {
         &self.others
     }
 
-    /// The frames that read well, in rising order.
+    /// The former frames, in rising order.
     pub fn frames(&self) -> &[Shown]
         ensures { result.now ≡ self.now.frames }
     {
@@ -128,7 +130,7 @@ impl Original {
         }
     }
 
-    /// All pulses, in rising order.
+    /// All pulses of the recording, in rising order.
     pub fn pulses(&self) -> &[Pulse]
         ensures { result.now ≡ self.now.pulses }
     {
@@ -136,7 +138,8 @@ impl Original {
     }
 
     /// When the pulse of an element, from 0, of the frame with this marker rises, in microseconds;
-    /// 0 if there is no such pulse. The test adds nothing, as the sum could be too large.
+    /// 0 if there is no such pulse. The test subtracts, as the sum of marker and element could be
+    /// too large for its type.
     pub fn rise(&self, marker: usize, element: usize) -> u64
         ensures { result ≡ rise_in self.now.pulses marker element }
     {
@@ -148,11 +151,12 @@ impl Original {
         }
     }
 
-    /// Whether a pulse is there and is an anchor: its place was recorded, so other places are
-    /// measured from it. It rises when a pulse of the recording rises. Or it rises when one falls
-    /// and falls when one rises: so a gap becomes a pulse if a recording is turned over. `place`,
-    /// from 0, is the pulse of the recording that is looked at first, to save a search. It becomes
-    /// the next one to look at: the answer does not depend on it.
+    /// Whether `pulse` is an anchor: its place was recorded, so other places are measured from it.
+    /// False for `None`. There are two kinds. One rises when a pulse of the recording does; its
+    /// fall does not matter. The other rises when one falls and falls when one rises: so a gap
+    /// becomes a pulse if a recording is turned over. `place`, from 0, is the pulse of the
+    /// recording that is looked at first, to save a search. It becomes the next one to look at: the
+    /// answer does not depend on it.
     pub fn holds(&self, pulse: Option<Pulse>, place: &mut usize) -> bool
         ensures { result ≡ is_anchor self.now.pulses pulse }
     {
@@ -162,16 +166,17 @@ impl Original {
         }
     }
 
-    /// Whether a pulse is as recorded: one of the same class rises within a tenth of an interval of
-    /// it. Two bad widths count as one class.
+    /// Whether `pulse`, which may be an edited one, is as recorded: a recorded pulse of the same
+    /// class rises within a tenth of an interval of it. Two bad widths count as one class.
     pub fn has(&self, format: Format, pulse: Pulse) -> bool
         ensures { IsTrue result ↔ IsRecorded format self.now.pulses pulse }
     {
         has_alike(format, false, self.pulses.as_slice(), pulse)
     }
 
-    /// Whether a recorded pulse that has a class rises within half an interval of a pulse: up to
-    /// there it is nearest to the place of the same element.
+    /// Whether a recorded pulse that has a class, any one, rises within half an interval of
+    /// `pulse`: up to there it is nearest to the place of the same element. False if all that rise
+    /// there have bad widths.
     pub fn has_any(&self, format: Format, pulse: Pulse) -> bool
         ensures { IsTrue result ↔ IsNear format true self.now.pulses pulse }
     {
@@ -179,8 +184,9 @@ impl Original {
     }
 }
 
-/// Whether a pulse rises when a recorded one does, or is a gap turned over, as in
-/// `Original::holds`. `place` is looked at first. Only the search of a rise moves it on.
+/// Whether a pulse rises when a recorded one does, or rises when one falls and falls when one
+/// rises, as a gap does that is turned over (`Original::holds`). `place` is looked at first, and
+/// the search of a rise moves it on. The two other searches begin at the new place and leave it.
 fn is_anchor(recorded: &[Pulse], pulse: Pulse, place: &mut usize) -> bool
     requires rising { IsNonDecreasingBy (λ (p : SomePulse). p.rise) recorded.now }
     requires falling { IsNonDecreasingBy (λ (p : SomePulse). p.fall) recorded.now }
@@ -190,7 +196,8 @@ fn is_anchor(recorded: &[Pulse], pulse: Pulse, place: &mut usize) -> bool
         || has_fall(recorded, pulse.rise, *place) && is_rise(recorded, pulse.fall, *place)
 }
 
-/// Whether one of some pulses rises at a time. `place` is looked at first, and does not change.
+/// Whether one of some pulses rises at a time. `place` is looked at first, and stays as it is: `at`
+/// is a copy of it for `has_rise`, which would move it on.
 fn is_rise(recorded: &[Pulse], time: u64, place: usize) -> bool
     requires { IsNonDecreasingBy (λ (p : SomePulse). p.rise) recorded.now }
     ensures { result ≡ is_rise recorded.now time }
@@ -209,9 +216,10 @@ pub fn rise_or(pulse: Option<Pulse>) -> u64
     }
 }
 
-/// The former frames next to a place: the two before it, and the two from `next` on. `next` is the
-/// place itself for a frame that is between former ones, and the place after it for one that is at
-/// a former one's place. `frame_behind` is the frame before a place, and `None` before the first.
+/// The former frames next to a place of `frames`: the two before `place`, and the two from `next`
+/// on. `next` is `place` for a frame that is between former ones, and `place` + 1 for one that is
+/// at a former one's place. One that is not there is `None`: `frame_behind` is the frame before a
+/// place, and `None` before the first; `frame_at` is the one at a place, and `None` after the last.
 pub fn near_in(frames: &[Shown], place: usize, next: usize) -> Witnesses
     requires { (place ≤ length frames.now) × (next ≤ length frames.now) }
     ensures { result ≡ near_in frames.now place next }
@@ -224,9 +232,10 @@ pub fn near_in(frames: &[Shown], place: usize, next: usize) -> Witnesses
     }
 }
 
-/// Whether one of some pulses is near a pulse, as near as `reach_of` says, and has its class, or
-/// with `any` some class. The pulses are in rising order, so those that can be near are in a row:
-/// from the first that is not too early (`low`) to the last that is not too late.
+/// Whether one of the recorded pulses is near `pulse`, as near as `reach_of` says, and has its
+/// class, or with `any` some class (`is_alike`). They are in rising order, so those that can be
+/// near are in a row: from the first that is not too early (`low`) to the last that is not too
+/// late. False at the first that is too late, or if all are looked at.
 fn has_alike(format: Format, any: bool, recorded: &[Pulse], pulse: Pulse) -> bool
     requires { IsNonDecreasingBy (λ (p : SomePulse). p.rise) recorded.now }
     ensures { IsTrue result ↔ IsNear format any recorded.now pulse }
@@ -246,9 +255,9 @@ fn has_alike(format: Format, any: bool, recorded: &[Pulse], pulse: Pulse) -> boo
     false
 }
 
-/// How near a pulse has to be, in microseconds: a tenth of an interval, which is how far two in
-/// step may be off, or if any class will do half of one, up to which a pulse is nearest to the
-/// place of its own element. Both are this project's own.
+/// How near a pulse has to be, in microseconds. Without `any` a tenth of an interval, which is how
+/// far two in step may be off. With `any`, if any class will do, half of one: up to there a pulse
+/// is nearest to the place of its own element. Both are this project's own.
 fn reach_of(format: Format, any: bool) -> u64
     ensures { result ≡ reach_of format any }
 {
@@ -259,7 +268,8 @@ fn reach_of(format: Format, any: bool) -> u64
     }
 }
 
-/// Whether a pulse has the class of another one; or with `any`, whether `other` has one at all.
+/// Whether `other` has the class of `pulse`, and two bad widths count as one class; or with `any`,
+/// whether `other` has a class at all, whatever `pulse` has.
 fn is_alike(format: Format, any: bool, other: Pulse, pulse: Pulse) -> bool
     ensures { IsTrue result ↔ IsAlike format any other pulse }
 {
@@ -270,7 +280,8 @@ fn is_alike(format: Format, any: bool, other: Pulse, pulse: Pulse) -> bool
     }
 }
 
-/// Whether two pulses have the same class. Two bad widths count as the same.
+/// Whether two pulses have the same class. Two bad widths count as the same, a bad one and a good
+/// one do not.
 fn is_same_class(format: Format, one: Pulse, other: Pulse) -> bool
     ensures { IsTrue result
         ↔ (class_of format (one.fall - one.rise) ≡ class_of format (other.fall - other.rise)) }
@@ -278,7 +289,8 @@ fn is_same_class(format: Format, one: Pulse, other: Pulse) -> bool
     element(format, one) == element(format, other)
 }
 
-/// The class of a pulse: what it means by its width. `None` if the width is bad.
+/// The class of a pulse: what it means by its width. `None` if the width is bad. A pulse that falls
+/// before it rises would have width 0.
 fn element(format: Format, pulse: Pulse) -> Option<Element>
     ensures { result ≡ class_of format (pulse.fall - pulse.rise) }
 {

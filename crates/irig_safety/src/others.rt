@@ -24,8 +24,9 @@ pub fn is_told(others: &[Shown], frame: &Shown, function: u32) -> bool
     votes(others, frame, function, false) < votes(others, frame, function, true)
 }
 
-/// How many of `others` have the time of `frame`, and a control function as `frame` has it (`so`),
-/// or as it does not have it (not `so`).
+/// How many of `others` have the time of `frame`, and a control function (`function`) as `frame`
+/// has it if `so` is true, or otherwise if `so` is false (`is_vote`). One with another time counts
+/// for neither.
 fn votes(others: &[Shown], frame: &Shown, function: u32, so: bool) -> usize
     requires { function < 64 }
     ensures { result ≡ votes so function others.now frame.now }
@@ -39,8 +40,8 @@ fn votes(others: &[Shown], frame: &Shown, function: u32, so: bool) -> usize
     many
 }
 
-/// Whether `other` has the time of `frame`, and a control function as `frame` has it (`so`), or as
-/// it does not have it (not `so`).
+/// Whether `other` has the time of `frame`, and a control function (`function`) as `frame` has it
+/// if `so` is true, or otherwise if `so` is false. With another time the answer is false for both.
 fn is_vote(other: &Shown, frame: &Shown, function: u32, so: bool) -> bool
     requires { function < 64 }
     ensures { result ≡ is_vote so function other.now frame.now }
@@ -52,8 +53,8 @@ fn is_vote(other: &Shown, frame: &Shown, function: u32, so: bool) -> bool
     if so { same } else { !same }
 }
 
-/// Whether a frame of other recordings has the time of `frame`. Its place and its control functions
-/// do not matter.
+/// Whether one of the frames of other recordings (`others`) has the time of `frame` (`is_of_time`).
+/// Where it begins and its control functions do not matter. False if there are none.
 pub fn is_among(others: &[Shown], frame: &Shown) -> bool
     ensures { result ≡ is_among others.now frame.now }
 {
@@ -79,10 +80,10 @@ pub fn is_of_time(one: &Fields, other: &Fields) -> bool
         && one.year.unwrap_or(100) == other.year.unwrap_or(100)
 }
 
-/// The frames of a recording that say something of another one, in their order: those with which a
-/// frame next to them agrees. So one that damage made alone is left out. `frame_behind` is the
-/// frame before a place, `frame_at` the one at it; `None` if there is none. `Err` means that memory
-/// ran out.
+/// Those of the frames of a recording that say something of another recording, in their order: each
+/// with which the frame before it or after it agrees (`is_backed`). So one that damage made alone
+/// is left out. `frame_behind` is the frame before a place, `frame_at` the one at it; `None` if
+/// there is none. `Err` means that memory ran out.
 pub fn backed(alloc: Global, format: Format, frames: &[Shown]) -> Result<Vec<Shown>, AllocError>
     ensures { IfOk result (λ kept. kept.items ≡ backed format frames.now) }
 {

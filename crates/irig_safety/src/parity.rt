@@ -17,7 +17,8 @@ use irig_codes::{Fields, Format};
 const PARITY: usize = 75;
 
 /// Whether exactly one control function changed from the former frame, and by that the parity of
-/// the frame changed to the one that the frames of `others` have (`have_parity`).
+/// the frame changed to the one that the frames of `others` have (`have_parity`). A change at an
+/// element after the parity's leaves the parity as it is, so then it is false.
 pub fn is_parity_mended(format: Format, others: &[Shown], former: &Shown, frame: &Shown) -> bool
     ensures { result ≡ is_parity_mended format others.now former.now frame.now }
 {
@@ -26,7 +27,7 @@ pub fn is_parity_mended(format: Format, others: &[Shown], former: &Shown, frame:
         && have_parity(format, others, parity_of(format, frame))
 }
 
-/// How many control functions differ in two frames.
+/// How many control functions differ in two frames, wherever their elements are.
 fn changes(format: Format, one: &Shown, other: &Shown) -> u32
     ensures { result ≡ changes (control_count_of format) one.now other.now }
 {
@@ -39,9 +40,10 @@ fn changes(format: Format, one: &Shown, other: &Shown) -> u32
     changed
 }
 
-/// Whether frames have this parity: at least 8 + 5 * n of them do, if n frames have the other one
-/// (`1 - parity`). So it is false for fewer than eight frames. Both numbers are this project's own:
-/// a few frames can have the same parity by chance.
+/// Whether frames have this parity, 1 or 0: at least 8 + 5 * n of them do, if n frames have the
+/// other one (`1 - parity`). So it is false for fewer than eight frames. Both numbers are this
+/// project's own: a few frames can have the same parity by chance. The sum is a `u128`, as 5 * n
+/// could be too large for a `usize`.
 fn have_parity(format: Format, frames: &[Shown], parity: u64) -> bool
     requires { parity ≤ 1 }
     ensures { result ≡ have_parity format parity frames.now }
@@ -73,7 +75,7 @@ fn parity_of(format: Format, frame: &Shown) -> u64
 }
 
 /// How many ones the elements of the time and of the year have; a part that the format does not
-/// have has none. There are six numbers of up to 12 ones.
+/// have has none. There are six numbers of up to 12 ones (`ones_of_number`), which makes 72.
 fn ones_of_time(fields: &Fields) -> u64
     ensures value { result ≡ ones_of_time fields.now }
     ensures few { result ≤ 72 }
@@ -87,7 +89,7 @@ fn ones_of_time(fields: &Fields) -> u64
 }
 
 /// How many ones the last three digits of a number have, each digit in binary. No number of a frame
-/// has more digits.
+/// has more digits. A digit has up to 4 ones, which makes 12.
 fn ones_of_number(number: u32) -> u64
     ensures value { result ≡ ones_of_number number }
     ensures few { result ≤ 12 }
@@ -104,7 +106,7 @@ fn ones_of_digit(digit: u32) -> u64
 }
 
 /// How many control functions are one, of those whose element is at the element of the parity or
-/// before it.
+/// before it. Those after it do not count. A frame has at most 45 functions.
 fn ones_of_functions(format: Format, frame: &Shown) -> u64
     ensures value { result ≡ ones_of_functions format (control_count_of format) frame.now }
     ensures few { result ≤ 45 }

@@ -9,8 +9,10 @@ ghost use Rattle.irig_recording.specs.declared.pulse.Pulse.{Pulse as SomePulse};
 
 use irig_recording::Pulse;
 
-/// Whether one of some pulses rises at a time. `place` is looked at first, and becomes the next one
-/// to look at: the answer does not depend on it.
+/// Whether one of some pulses rises at a time (`time`). `place` is looked at first; the answer does
+/// not depend on it. Then `place` becomes the next one to look at. That is the place after the
+/// pulse that was found. If none was found, it is the place of the first that rises later, or how
+/// many there are, if none does.
 pub fn has_rise(pulses: &[Pulse], time: u64, place: &mut usize) -> bool
     requires { IsNonDecreasingBy (λ (p : SomePulse). p.rise) pulses.now }
     ensures { result ≡ is_rise pulses.now time }
@@ -41,8 +43,8 @@ fn first_rise(pulses: &[Pulse], time: u64, place: usize) -> usize
     pulses.partition_point(|pulse| pulse.rise < time)
 }
 
-/// Whether one of some pulses falls at a time. `place` is looked at first: the answer does not
-/// depend on it.
+/// Whether one of some pulses falls at a time (`time`). `place` is looked at first (`first_fall`);
+/// the answer does not depend on it.
 pub fn has_fall(pulses: &[Pulse], time: u64, place: usize) -> bool
     requires { IsNonDecreasingBy (λ (p : SomePulse). p.fall) pulses.now }
     ensures { result ≡ is_fall pulses.now time }

@@ -2,13 +2,13 @@
 //! `old` is the frames that read well at first (the former ones) and `new` those that do now, both
 //! in the order of their rises. A frame leads to a later one if the later one's time is whole frame
 //! periods later and it rises that long after, nearly. A frame is borne out if the old ones next to
-//! it have its time there. A former frame is passed if the new frames that were looked at have one
-//! that begins when it does. The faults: `Lost` if a former frame has none, `Changed` if the one it
-//! has is not it and does not mend it, `Unsupported` of a new frame, that it is not borne out. A
-//! new frame mends a former one (`mends`) if that was wrong, by the frames next to it or by
-//! `others`, the frames of other recordings, and what it shows now is right by them. In clauses
-//! `behind` is the frame before a place, `rest` any frames after one, and `found` or `why` their
-//! fault, if they have one, from a place of the former on (`JudgedAt`, `Finds`).
+//! it have its time there. A former frame is passed if a new frame that was looked at begins when
+//! it does. The faults: `Lost` if no new frame begins when a former one does, `Changed` if one does
+//! that is not it and does not mend it, `Unsupported` if a new one is not borne out. A new frame
+//! mends a former one (`mends`) if that was wrong and the new one is right, by the frames next to
+//! it or by `others`: other recordings, and odd pulses. In clauses `behind` is the frame before a
+//! place, `rest` any new frames after one, and `found` or `why`, an `Option`, their fault, if any,
+//! by the former from a place on (`JudgedAt`, `Finds`).
 
 ghost use Rattle.std.specs.Prelude.{◌≡◌, ◌↔◌, ◌-◌, ◌≤◌, ◌+◌, ◌∷◌, List, IsTrue, None, Option, Some};
 ghost use Rattle.std.specs.Prelude.{Err, IfErr, IfOk, Ok, OnErr, OnOk, drop, if◌then◌else◌, length};
@@ -27,10 +27,10 @@ use crate::terms::Others;
 use crate::witnesses::{Witnesses, is_borne};
 use irig_codes::Format;
 
-/// Whether the frames that read well now are safe, by those that did at first, and by frames of
-/// other recordings. If not, `Err` is the first fault in the order of their rises. If none read
-/// well at first, the only fault is `Alone`: the new ones do not bear each other out
-/// (`are_of_themselves`).
+/// Whether the frames that read well now (`new`) are safe, by those that did at first (`old`) and
+/// by other recordings. If not, `Err` is the first fault in the order of their rises
+/// (`check_from`). If none read well at first, the only fault is `Alone`: the new ones do not bear
+/// each other out (`are_of_themselves`).
 pub fn check_safe(
     format: Format,
     others: &Others,
@@ -71,8 +71,8 @@ fn lead_on(format: Format, frames: &[Shown]) -> bool
     true
 }
 
-/// Whether each new frame is a former one, or mends one that was wrong, or is borne out by them,
-/// and no former one is gone. If not, the first fault. `kept`: how many former ones are passed.
+/// Whether each new frame is a former one, mends one, or is borne out (`passed`), and each former
+/// one is passed (`kept` counts them). If not, the first fault: `Lost` if at the end one is left.
 fn check_from(format: Format, others: &Others, old: &[Shown], new: &[Shown]) -> Result<(), Fault>
     ensures safe { OnOk result (IsSafeFrom format others.now None None old.now new.now) }
     ensures fault { IfErr result (FaultFrom format others.now None None old.now new.now) }
@@ -90,11 +90,11 @@ fn check_from(format: Format, others: &Others, old: &[Shown], new: &[Shown]) -> 
     }
 }
 
-/// Judges one more new frame, if `kept` former frames are passed before it: how many are passed
-/// after it, or why it is not safe. If the next former frame begins later, or none is left, the new
-/// one is between former ones or after them: `come` judges it. If the next one begins earlier, no
-/// new frame begins when it does: it is `Lost`. If both begin at the same time, one more is passed
-/// if the former one stays (`stays`), and else it is `Changed`.
+/// Judges one more new frame, `frame`. `kept` is how many former ones are passed before it. `Ok` is
+/// how many are after it, and `Err` why it is not safe. If the next former frame begins later, or
+/// none is left, the new one is between former ones or after them: `come` judges it. If the next
+/// one begins earlier, no new frame begins when it does: it is `Lost`. If both begin at the same
+/// time, one more is passed if the former one stays (`stays`), and else it is `Changed`.
 fn passed(
     format: Format,
     others: &Others,
@@ -126,8 +126,8 @@ fn passed(
     }
 }
 
-/// Judges a new frame that begins when no former one does. `Ok` has how many former frames are
-/// passed after it, which is still `kept`. `Unsupported` if it is not borne out.
+/// Judges a new frame that begins when no former one does. `kept` former ones are passed, before
+/// and after it: so `Ok` is `kept`. `Unsupported` if it is not borne out (`is_borne`).
 fn come(format: Format, old: &[Shown], kept: usize, frame: &Shown) -> Result<usize, Fault>
     requires { kept ≤ length old.now }
     ensures { result ≡ if is_borne format (behind (kept - 1) old.now) (behind kept old.now)
@@ -142,7 +142,7 @@ fn come(format: Format, old: &[Shown], kept: usize, frame: &Shown) -> Result<usi
 }
 
 /// Whether a former frame stays: `frame`, which begins when the former frame at `place` of `old`
-/// does, has the same fields as that one (`former`), or mends it.
+/// does, has the same fields as that one (`former`), or mends it (`mends`, by those next to it).
 fn stays(
     format: Format,
     others: &Others,
@@ -167,8 +167,8 @@ fn stays(
     mends(format, others, &near, former, frame)
 }
 
-/// The former frames next to a frame that begins between them, if `place` of them are before it:
-/// two on each side. `None` for one that is not there.
+/// The former frames next to one that begins between them: two on each side, and `None` for one
+/// that is not there. `place` is how many of `old` are before it.
 fn near(old: &[Shown], place: usize) -> Witnesses
     requires { place ≤ length old.now }
     ensures before2 { result.before2 ≡ behind (place - 1) old.now }
@@ -191,7 +191,7 @@ pub fn frame_at(frames: &[Shown], place: usize) -> Option<Shown>
     frames.get(place).copied()
 }
 
-/// The frame before a place, which counts from 0; `None` before the first.
+/// The frame before a place, which counts from 0; `None` for place 0.
 pub fn frame_behind(frames: &[Shown], place: usize) -> Option<Shown>
     requires { place ≤ length frames.now }
     ensures { result ≡ behind place frames.now }
@@ -203,9 +203,9 @@ pub fn frame_behind(frames: &[Shown], place: usize) -> Option<Shown>
     }
 }
 
-/// Whether each frame of `last`, which read well, still does: a frame of `new` begins when it does.
-/// What the two say is not compared. If not, `Lost` with the first frame of `last` for which there
-/// is none.
+/// Whether each frame of `last`, which read well before, still does: a frame of `new` begins when
+/// it does (`found_after`). What the two say is not compared. If not, `Lost` with the first frame
+/// of `last` for which there is none.
 pub fn check_unspoiled(last: &[Shown], new: &[Shown]) -> Result<(), Fault>
     ensures kept { OnOk result (NoneIsSpoiled last.now new.now) }
     ensures spoiled { OnErr result (NoneIsSpoiled last.now new.now → ⊥) }
@@ -224,10 +224,10 @@ pub fn check_unspoiled(last: &[Shown], new: &[Shown]) -> Result<(), Fault>
     }
 }
 
-/// Looks at one more new frame, if `found` frames of `last` are found again before it: how many are
-/// found after it. If the next frame of `last` begins when the new one does, that is one more. If
-/// it begins later, or there is no next one, as many. If it begins earlier, no new frame begins
-/// when it does: it is `Lost`.
+/// Looks at one more new frame, `frame`. The number `found` is how many frames of `last` were found
+/// again before it, and `Ok` is how many were after it. If the next one of `last` begins when
+/// `frame` does, that is one more. If it begins later, or there is none, it is `found`. If it
+/// begins earlier, no new frame begins when it does: it is `Lost`.
 fn found_after(last: &[Shown], found: usize, frame: &Shown) -> Result<usize, Fault>
     requires { found ≤ length last.now }
     ensures within { IfOk result (λ place. place ≤ length last.now) }

@@ -12,7 +12,8 @@ pub struct Shown {
     pub fields: Fields,
 }
 
-/// Whether two frames have the same fields and rise at the same microsecond.
+/// Whether two frames rise at the same microsecond and have the same fields. A field that only one
+/// of them has is a difference.
 pub fn is_same(one: &Shown, other: &Shown) -> bool
     ensures { IsTrue result ↔ (one.now ≡ other.now) }
 {

@@ -17,7 +17,7 @@ pub struct Terms {
     pub moved: bool,
     /// Frames of other recordings of the same code.
     pub others: Vec<Shown>,
-    /// Those of other recordings in which no pulse of a control function is odd.
+    /// Frames of these recordings in which no pulse of a control function is odd.
     pub even: Vec<Shown>,
 }
 
@@ -34,7 +34,7 @@ impl Model for Terms {
 }
 
 impl Terms {
-    /// The terms without other recordings.
+    /// The terms without other recordings, so both lists are empty. `moved` is as in `Terms`.
     pub fn new(alloc: Global, moved: bool) -> Terms
         ensures { result ≡ without_others moved }
     {
@@ -45,7 +45,9 @@ impl Terms {
         }
     }
 
-    /// Adds frames of another recording, and those of it in which no pulse is odd.
+    /// Adds frames of another recording (`others`) after those that are there, and those of its
+    /// frames in which no pulse of a control function is odd (`even`). `Err` means that memory ran
+    /// out; then some may be added.
     pub fn add(&mut self, others: &[Shown], even: &[Shown]) -> Result<(), AllocError>
         ensures { OnOk result (self.new ≡ with_more others.now even.now self.old) }
     {
@@ -60,7 +62,7 @@ impl Terms {
 pub struct Others {
     /// Frames of other recordings of the same code.
     pub frames: Vec<Shown>,
-    /// Those of other recordings in which no pulse of a control function is odd.
+    /// Frames of these recordings in which no pulse of a control function is odd.
     pub even: Vec<Shown>,
     /// The control functions of this recording whose pulses are odd.
     pub odd: Vec<Odd>,

@@ -20,7 +20,9 @@ pub struct Spread {
 }
 
 /// Whether the pulse of an element is odd: at least five others of its frame have its class, and
-/// its width is farther outside the range of theirs than the margin. False if it has no class.
+/// its width is farther outside the range of theirs than the margin (`is_outside`). False if fewer
+/// have its class, or it has none. If another one is like it (`is_like_one`) it is not odd, and no
+/// range is counted, which saves time.
 pub fn is_odd(format: Format, pulses: &[Pulse], marker: usize, element: usize) -> bool
     ensures { result ≡ is_odd format pulses.now marker element }
 {
@@ -31,8 +33,9 @@ pub fn is_odd(format: Format, pulses: &[Pulse], marker: usize, element: usize) -
     is_outside(format.interval(), spread, width_in(pulses, marker, element))
 }
 
-/// Whether the pulse of an element is like another one of its frame, which is so of nearly all, and
-/// is found soon: then it is not odd.
+/// Whether the pulse of an element is like another one of its frame (`is_like`): then it is not
+/// odd. Nearly all are, and the search for one is short. False says nothing: then `is_odd` looks at
+/// the range.
 fn is_like_one(format: Format, pulses: &[Pulse], marker: usize, element: usize) -> bool
     ensures { IsTrue result → is_odd format pulses.now marker element ≡ false }
 {
@@ -44,8 +47,9 @@ fn is_like_one(format: Format, pulses: &[Pulse], marker: usize, element: usize) 
     false
 }
 
-/// Whether the pulse of the element `other` has the class of that of `element`, and its width to a
-/// hundredth of the interval. Then the margin is no less than what they differ by.
+/// Whether the pulse of the element `other`, another one than `element`, has the class of that of
+/// `element`, and its width to a hundredth of the interval. Then the pulse of `element` is not odd:
+/// `other` is in the range of the others, and the margin is a hundredth of the interval or more.
 fn is_like(format: Format, pulses: &[Pulse], marker: usize, element: usize, other: usize) -> bool
     requires { other < 100 }
     ensures { IsTrue result → is_odd format pulses.now marker element ≡ false }
@@ -57,15 +61,17 @@ fn is_like(format: Format, pulses: &[Pulse], marker: usize, element: usize, othe
     is_close(format.interval(), one, two) && is_alike(format, pulses, marker, element, other)
 }
 
-/// Whether two widths differ by a hundredth of the interval at most.
+/// Whether two widths differ by a hundredth of the interval at most. It does not matter which one
+/// is greater: of the two differences the other one is 0.
 fn is_close(interval: u64, one: u64, other: u64) -> bool
     ensures { IsTrue result → (one ≤ other + interval / 100) × (other ≤ one + interval / 100) }
 {
     one.saturating_sub(other) <= interval / 100 && other.saturating_sub(one) <= interval / 100
 }
 
-/// Whether there are at least five widths, and another one is outside their range by more than the
-/// margin. Five is this project's own: fewer can be alike by chance.
+/// Whether there are at least five widths (`spread`), and another one (`width`) is outside their
+/// range by more than the margin (`margin_of`). False if there are fewer, or it is within. Five is
+/// this project's own: fewer can be alike by chance.
 fn is_outside(interval: u64, spread: Spread, width: u64) -> bool
     ensures { result ≡ is_outside interval spread width }
 {
@@ -75,8 +81,9 @@ fn is_outside(interval: u64, spread: Spread, width: u64) -> bool
     spread.many >= 5 && (width + margin < least || most + margin < width)
 }
 
-/// How far a width may be outside the range of others: a hundredth of the interval, and twice what
-/// these differ by. Both are this project's own: a recorder counts in steps, and a sender wavers.
+/// How far a width may be outside the range of others (`spread`): a hundredth of the interval, and
+/// twice what these differ by. Both are this project's own: a recorder counts in steps, and a
+/// sender wavers. It is a `u128`, as twice a `u64` and more can be too large for a `u64`.
 fn margin_of(interval: u64, spread: Spread) -> u128
     ensures value { result ≡ margin_of interval spread }
     ensures small { result < 2 ^ 67 }
@@ -85,8 +92,8 @@ fn margin_of(interval: u64, spread: Spread) -> u128
     u128::from(interval) / 100 + 2 * u128::from(apart)
 }
 
-/// The spread of the widths of the pulses of a frame that have the class of an element, without its
-/// own.
+/// The spread of the widths of those pulses of a frame that have the class of `element`, without
+/// its own (`is_alike`). All 0 if there are none, or its width is bad.
 fn spread_of(format: Format, pulses: &[Pulse], marker: usize, element: usize) -> Spread
     ensures { result ≡ spread_of format pulses.now marker element 100 }
 {
@@ -103,7 +110,8 @@ fn spread_of(format: Format, pulses: &[Pulse], marker: usize, element: usize) ->
     spread
 }
 
-/// The spread of some widths and one more.
+/// The spread of some widths (`spread`) and one more (`width`), which is both least and most if it
+/// is the first. A frame has 100 pulses, so there are fewer than 100 before.
 fn with_width(width: u64, spread: Spread) -> Spread
     requires { spread.many < 100 }
     ensures { result ≡ with_width width spread }
@@ -123,7 +131,8 @@ fn with_width(width: u64, spread: Spread) -> Spread
     }
 }
 
-/// Whether the pulse of the element `other` is not that of `element`, and has its class.
+/// Whether the pulse of the element `other` is not that of `element`, and has its class. False if
+/// one of them has no class, as one that is not there.
 fn is_alike(format: Format, pulses: &[Pulse], marker: usize, element: usize, other: usize) -> bool
     ensures { result ≡ is_alike format pulses.now marker element other }
 {
@@ -135,7 +144,8 @@ fn is_alike(format: Format, pulses: &[Pulse], marker: usize, element: usize, oth
         )
 }
 
-/// Whether two classes are the same. False if there is none.
+/// Whether two pulses have the same class, each `None` if the width is bad. False if one of them
+/// has none, or neither has.
 fn is_same_class(one: Option<Element>, other: Option<Element>) -> bool
     ensures { result ≡ is_same_class one other }
 {
@@ -148,7 +158,8 @@ fn is_same_class(one: Option<Element>, other: Option<Element>) -> bool
 }
 
 /// How wide the pulse of an element is, from 0, of the frame with this marker; 0, which has no
-/// class, if there is none.
+/// class, if there is none. The test subtracts, as the sum of marker and element could be too large
+/// for its type.
 fn width_in(pulses: &[Pulse], marker: usize, element: usize) -> u64
     ensures { result ≡ width_in pulses.now marker element }
 {
@@ -159,7 +170,7 @@ fn width_in(pulses: &[Pulse], marker: usize, element: usize) -> u64
     }
 }
 
-/// How wide a pulse is; 0 if there is none.
+/// How wide a pulse is; 0 if there is none, or if it would fall before it rises.
 fn width_or(pulse: Option<Pulse>) -> u64
     ensures { result ≡ width_or pulse }
 {

@@ -1,9 +1,9 @@
 //! Whether the frames on both sides of a frame bear out its time. A frame leads to a later one if
 //! the later one's time is whole frame periods later and it rises that long after, to half an
-//! interval and a thousandth of the distance. It contradicts a later one if the two are near enough
-//! for their distance to say how many periods it is, and their times say another number. The clock
-//! of two frames is how long a frame period takes in the recording, by their distance and times.
-//! They stray by how much their distance is off from the nominal one.
+//! interval and a thousandth of the distance. It contradicts a later one (not `allows`) if they are
+//! near enough for their distance to say how many periods it is, and their times say another
+//! number. The clock of two frames is how long a period takes by their distance and times. They
+//! stray by how much their distance is off from the nominal one.
 
 ghost use Rattle.std.specs.Prelude.{◌≡◌, Some};
 ghost use Rattle.irig_safety.specs.Heard.{heard, is_disputed, is_overruled};
@@ -26,9 +26,8 @@ pub struct Witnesses {
     pub after2: Option<Shown>,
 }
 
-/// Whether `before` leads to `frame`, or `frame` leads to `after`. If `before` and `after` are both
-/// there, and their distance shows as many periods as their times, the step that leads strays by no
-/// more than these two do, and half an interval. False if neither is there.
+/// Whether `before` leads to `frame`, or `frame` leads to `after`. If both are there, this step is
+/// also compared with the distance of the two (`is_led_by`). False if neither is there.
 fn is_led(format: Format, before: Option<Shown>, after: Option<Shown>, frame: &Shown) -> bool
     ensures { result ≡ is_led format before after frame.now }
 {
@@ -40,8 +39,8 @@ fn is_led(format: Format, before: Option<Shown>, after: Option<Shown>, frame: &S
     }
 }
 
-/// Whether `before` leads to `frame`, or `frame` leads to `after`, and this step strays no more
-/// than `is_within` allows: `is_led` of two frames that are both there.
+/// Whether `before` leads to `frame`, or `frame` leads to `after`, and strays by at most half an
+/// interval more than `before` and `after`, unless these do not fit each other (`is_within`).
 fn is_led_by(format: Format, before: &Shown, after: &Shown, frame: &Shown) -> bool
     ensures { result ≡ is_led format (Some before.now) (Some after.now) frame.now }
 {
@@ -49,7 +48,7 @@ fn is_led_by(format: Format, before: &Shown, after: &Shown, frame: &Shown) -> bo
         || leads(format, frame, after) && is_within(format, before, after, frame, after)
 }
 
-/// Whether the frame before a frame does not contradict it. True if there is none.
+/// Whether the frame before a frame does not contradict it (`allows`). True if there is none.
 pub fn allows_from(format: Format, before: Option<Shown>, frame: &Shown) -> bool
     ensures { result ≡ allows_from format before frame.now }
 {
@@ -59,7 +58,7 @@ pub fn allows_from(format: Format, before: Option<Shown>, frame: &Shown) -> bool
     }
 }
 
-/// Whether a frame does not contradict the frame after it. True if there is none.
+/// Whether a frame does not contradict the frame after it (`allows`). True if there is none.
 pub fn allows_to(format: Format, frame: &Shown, after: Option<Shown>) -> bool
     ensures { result ≡ allows_to format frame.now after }
 {
@@ -70,7 +69,7 @@ pub fn allows_to(format: Format, frame: &Shown, after: Option<Shown>) -> bool
 }
 
 /// Whether a frame begins when it should, to half an interval, by the clock of the two before it.
-/// False if just one is there, or they show no clock.
+/// False if `before2` is not there, or they show no clock (`is_by_clock`).
 fn is_timed_from(format: Format, before2: Option<Shown>, before: &Shown, frame: &Shown) -> bool
     ensures { result ≡ is_timed_from format before2 before.now frame.now }
 {
@@ -81,7 +80,7 @@ fn is_timed_from(format: Format, before2: Option<Shown>, before: &Shown, frame: 
 }
 
 /// Whether a frame begins when it should, to half an interval, by the clock of the two after it.
-/// False if just one is there, or they show no clock.
+/// False if `after2` is not there, or they show no clock (`is_by_clock`).
 fn is_timed_to(format: Format, frame: &Shown, after: &Shown, after2: Option<Shown>) -> bool
     ensures { result ≡ is_timed_to format frame.now after.now after2 }
 {
@@ -91,8 +90,8 @@ fn is_timed_to(format: Format, frame: &Shown, after: &Shown, after2: Option<Show
     }
 }
 
-/// Whether a frame begins when it should, to half an interval, by the clock of the two before it,
-/// if these are one period apart and it is no more than two periods after them. Else false.
+/// Whether a frame begins when it should, to half an interval, by the clock of the two before it.
+/// False unless these are there, a period apart, and it is at most two after them (`is_by_next`).
 fn is_next_from(format: Format, before2: Option<Shown>, before: &Shown, frame: &Shown) -> bool
     ensures { result ≡ is_next_from format before2 before.now frame.now }
 {
@@ -102,8 +101,8 @@ fn is_next_from(format: Format, before2: Option<Shown>, before: &Shown, frame: &
     }
 }
 
-/// Whether a frame begins when it should, to half an interval, by the clock of the two after it, if
-/// these are one period apart and it is no more than two periods before them. Else false.
+/// Whether a frame begins when it should, to half an interval, by the clock of the two after it.
+/// False unless these are there, a period apart, and it is at most two before them (`is_by_next`).
 fn is_next_to(format: Format, frame: &Shown, after: &Shown, after2: Option<Shown>) -> bool
     ensures { result ≡ is_next_to format frame.now after.now after2 }
 {
@@ -124,8 +123,8 @@ fn is_timed_by(format: Format, near: &Witnesses, a: &Shown, b: &Shown, frame: &S
         || is_next_to(format, frame, b, near.after2)
 }
 
-/// Whether a frame begins when it should, to half an interval, by a clock of the frames next to it:
-/// with frames on both sides as in `is_timed_by`, else of the two on one side, if there are two.
+/// Whether a frame begins when it should, to half an interval, by a clock of those next to it: with
+/// frames on both sides as in `is_timed_by`, else of the two on one side. False if there are fewer.
 fn is_timed(format: Format, near: &Witnesses, frame: &Shown) -> bool
     ensures { result
         ≡ is_timed format near.now.before2 near.now.before near.now.after near.now.after2 frame.now }
@@ -152,7 +151,8 @@ pub fn is_own(format: Format, near: &Witnesses, frame: &Shown) -> bool
     }
 }
 
-/// Whether a frame can be borne out: it has no inserted second 60, or frames are on both sides.
+/// Whether a frame can be borne out: it has no inserted second 60, or frames are on both sides. By
+/// one side alone, second 0 of the next minute (from before) or 59 (from after) fits just as well.
 fn may_stand(near: &Witnesses, frame: &Shown) -> bool
     ensures { result ≡ may_stand near.now.before near.now.after frame.now }
 {
@@ -205,8 +205,8 @@ fn is_disputed(
 }
 
 /// The frames next to a place that are heard. If just one of the two nearest is overruled
-/// (`is_overruled`), the next one on its side replaces it, and none is after that. Else, if one
-/// side has none and the two of the other contradict each other (`is_disputed`), none. Else all.
+/// (`is_overruled`), the next on its side replaces it. If one side has none and the two of the
+/// other contradict each other (`is_disputed`): none. Else all, also if both nearest are overruled.
 fn heard(format: Format, near: &Witnesses) -> Witnesses
     ensures { result
         ≡ heard format near.now.before2 near.now.before near.now.after near.now.after2 }
@@ -241,7 +241,7 @@ fn heard(format: Format, near: &Witnesses) -> Witnesses
     }
 }
 
-/// Whether the frames next to a frame that are heard bear out its time.
+/// Whether the frames next to a frame that are heard (`heard`) bear out its time (`bears`).
 pub fn is_borne(format: Format, near: &Witnesses, frame: &Shown) -> bool
     ensures { result
         ≡ is_borne format near.now.before2 near.now.before near.now.after near.now.after2 frame.now }

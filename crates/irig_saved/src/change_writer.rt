@@ -24,8 +24,9 @@ use irig_track::Pulse;
 use itoa::Buffer;
 use std::alloc::AllocError;
 
-/// Writes the first line of a change, with its newline. Only a splice has more lines, one for each
-/// pulse that it inserts. They are not written here: `put_pulse` writes one of them.
+/// Writes the first line of a change, with its newline, by the function for its kind (`put_splice`
+/// and so on). Only a splice has more lines, one for each pulse that it inserts. They are not
+/// written here: `put_pulse` writes one of them.
 pub fn put_single(text: &mut Vec<u8>, single: &Single) -> Result<(), AllocError>
     ensures { OnOk result (text.new.items
         ≡ text.old.items ++ (single_line single.now ++ 10 ∷ [])) }
@@ -39,8 +40,8 @@ pub fn put_single(text: &mut Vec<u8>, single: &Single) -> Result<(), AllocError>
     }
 }
 
-/// Writes the first line of a splice, `splice AT COUNT K`: the first pulse that goes, how many go,
-/// and how many come.
+/// Writes the first line of a splice, `splice AT COUNT K`: `at` is the first pulse that goes,
+/// `count` how many go, and `put` how many come.
 fn put_splice(text: &mut Vec<u8>, at: u64, count: u64, put: u64) -> Result<(), AllocError>
     ensures { OnOk result (text.new.items
         ≡ text.old.items ++ (numbered (codes "splice") (at ∷ count ∷ put ∷ []) ++ 10 ∷ [])) }
@@ -66,9 +67,9 @@ fn put_toggle(text: &mut Vec<u8>, a: u64, b: u64) -> Result<(), AllocError>
     put_numbered(text, b"toggle", &[a, b])
 }
 
-/// Writes the line of a shift, `shift I J D MARKS`: the pulses `i` to `j`, both included, move by
-/// `by` microseconds (below 0 is earlier), and with them the marks of the letters that are true in
-/// `marks`. MARKS are these letters, or `-` if there are none.
+/// Writes the line of a shift, `shift I J D MARKS`. The pulses `i` to `j`, both included, move by
+/// `by` microseconds (below 0 is earlier). With them move the marks of the letters that are true in
+/// `marks`: MARKS are these letters, or `-` if there are none.
 fn put_shift(text: &mut Vec<u8>, i: u64, j: u64, by: i64, marks: &Letters) -> Result<(), AllocError>
     ensures { OnOk result (text.new.items
         ≡ text.old.items ++ (single_line (Shift i j by marks.now) ++ 10 ∷ [])) }
@@ -120,8 +121,9 @@ fn put_set_format(text: &mut Vec<u8>, kind: Kind, expression: u8) -> Result<(), 
     put_formatted(text, b"setformat", kind, expression)
 }
 
-/// Writes the line that sets a mark to a time, `setmark x TIME`, or, if `time` is `None`, the line
-/// that clears it, `setmark x -`. `letter` is the place of x in the alphabet, from 0 (a) to 25.
+/// Writes the line that sets a mark to a time, `setmark x TIME`. If `time` is `None` it is the line
+/// that clears the mark, `setmark x -`. `letter` is the place of x in the alphabet, from 0 (a) to
+/// 25.
 fn put_set_mark(text: &mut Vec<u8>, letter: u8, time: Option<u64>) -> Result<(), AllocError>
     requires { letter < 26 }
     ensures { OnOk result (text.new.items
@@ -133,7 +135,7 @@ fn put_set_mark(text: &mut Vec<u8>, letter: u8, time: Option<u64>) -> Result<(),
     Ok(())
 }
 
-/// Writes a space and the time, or a space and `-` if it is `None`.
+/// Writes a space and the time in microseconds; a space and `-` if `time` is `None`.
 fn put_time(text: &mut Vec<u8>, time: Option<u64>) -> Result<(), AllocError>
     ensures { OnOk result (text.new.items ≡ text.old.items ++ 32 ∷ time_word time) }
 {

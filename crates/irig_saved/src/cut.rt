@@ -22,8 +22,8 @@ pub fn word_of(text: &[u8]) -> Option<(&[u8], &[u8])>
     cut(text, b' ')
 }
 
-/// What is before the first place of a byte, and what is after it. The byte itself is in neither.
-/// `None` if it does not occur.
+/// What is before the first place of `byte` in a text, and what is after it. The byte itself is in
+/// neither. `None` if the text does not have the byte.
 fn cut(text: &[u8], byte: u8) -> Option<(&[u8], &[u8])>
     ensures { CutAt byte text.now result }
 {

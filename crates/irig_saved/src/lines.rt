@@ -66,9 +66,9 @@ pub fn format(head: &[u8], text: &[u8]) -> Option<(Kind, u8)>
     Some((kind_named(name)?, expression(rest)?))
 }
 
-/// The time in a line `mark x TIME`, if x is this letter. `None` for any other line, also for that
-/// of another letter. The letter is given as its byte in a text, `a` to `z`; the contract asks only
-/// for a byte that is a visible character, above the space.
+/// The time, in microseconds, in a line `mark x TIME`, if x is the letter of `letter_byte`. `None`
+/// for any other line, also for that of another letter. The letter is given as its byte in a text,
+/// `a` to `z`; the contract asks only for a byte that is a visible character, above the space.
 pub fn mark(letter_byte: u8, text: &[u8]) -> Option<u64>
     requires { (32 < letter_byte) × (letter_byte < 127) }
     ensures { Decodes IsNumber
@@ -122,9 +122,9 @@ pub fn pulse(text: &[u8]) -> Option<Pulse>
     Some(Pulse { rise, fall })
 }
 
-/// The three numbers in a line `splice AT COUNT K`, the first one of a splice: the first pulse that
-/// goes, how many go, and how many come. `None` for any other line. The pulses that come are in the
-/// lines after this one.
+/// The three numbers in a line `splice AT COUNT K`, which is the first line of a splice. They are
+/// the first pulse that goes, how many go, and how many come. `None` for any other line. The pulses
+/// that come are in the lines after this one.
 pub fn splice(text: &[u8]) -> Option<(u64, u64, u64)>
     ensures { Decodes AreThree (λ t. line (codes "splice") (words_of_three t)) text.now result }
 {
@@ -140,9 +140,10 @@ pub fn splice(text: &[u8]) -> Option<(u64, u64, u64)>
     }
 }
 
-/// The change in a line, if it is a toggle, a shift, or the setting of a format or of a mark: these
-/// have one line. `None` for any other line, also for the first one of a splice or a group. The
-/// lines of the four kinds begin with different words, so the order of the tests does not matter.
+/// The change in a line, if it is one of those that have one line: a toggle, a shift, or the
+/// setting of a format or of a mark. `None` for any other line, also for the first one of a splice
+/// or a group. The lines of the four kinds begin with different words, so the order of the tests
+/// does not matter.
 pub fn short(text: &[u8]) -> Option<Single>
     ensures { Decodes IsShort single_line text.now result }
 {
@@ -180,8 +181,9 @@ fn set_mark(text: &[u8]) -> Option<(Letter, Option<u64>)>
 }
 
 /// What a line `shift I J D MARKS` says: the first and the last pulse that move, by how many
-/// microseconds (below 0 is earlier), and the marks that move with them: MARKS are their letters,
-/// or `-` if no mark moves. `None` for any other line.
+/// microseconds (below 0 is earlier), and the marks that move with these pulses. MARKS are the
+/// letters of these marks, or `-` if no mark moves (`move_in` reads D and MARKS). `None` for any
+/// other line.
 fn shift(text: &[u8]) -> Option<(u64, u64, i64, Letters)>
     ensures { Decodes IsShift (λ t. line (codes "shift") (words_of_shift t)) text.now result }
 {

@@ -41,7 +41,7 @@ use crate::stop::Stop;
 use std::alloc::Global;
 
 /// Reads `count` lines of pulses, `RISE FALL`: those that a splice inserts. It stops at the first
-/// line of another form.
+/// line of another form. If the text has fewer whole lines, it stops at what comes after them.
 pub fn pulses(alloc: Global, count: u64, text: &[u8]) -> Result<(Pulses, &[u8]), Stop<'_>>
     ensures { Parses (ArePulses count) pulse_lines (λ _. 0 < count) text.now result }
 {
@@ -64,8 +64,9 @@ pub fn pulses(alloc: Global, count: u64, text: &[u8]) -> Result<(Pulses, &[u8]),
 
 /// Reads one change that is no group. A splice, which replaces pulses by others, has a first line
 /// and one more for each pulse that it inserts; each other kind has one line. It stops at the first
-/// line if that begins no such change, else at the first line that should be a pulse and is none.
-/// Only the pulses of a splice take memory.
+/// line if this is neither the first one of a splice (`splice`) nor a change of one line (`short`).
+/// Else it stops at the first line that should be a pulse and is none. Only the pulses of a splice
+/// take memory.
 pub fn single(alloc: Global, text: &[u8]) -> Result<(Single, &[u8]), Stop<'_>>
     ensures { Parses IsSingle single_lines BeginsSplice text.now result }
 {
@@ -84,8 +85,8 @@ pub fn single(alloc: Global, text: &[u8]) -> Result<(Single, &[u8]), Stop<'_>>
     }
 }
 
-/// Reads `count` changes, none of them a group, in the order of the text. It stops at the first
-/// line that belongs to no such change.
+/// Reads `count` changes, none of them a group, in the order of the text. It stops at the line at
+/// which `single` stops for one of them.
 pub fn singles(alloc: Global, count: u64, text: &[u8]) -> Result<(Singles, &[u8]), Stop<'_>>
     ensures { Parses (AreSingles count) singles_lines Any text.now result }
 {
@@ -104,8 +105,9 @@ pub fn singles(alloc: Global, count: u64, text: &[u8]) -> Result<(Singles, &[u8]
     Ok((singles, rest))
 }
 
-/// Reads a change: a group, which is a line `group K` and K changes, none of them a group, or else
-/// one change alone. It stops at the first line that does not belong to it.
+/// Reads a change: a group or else one change alone. A group is a line `group K` and K changes that
+/// are no groups. It stops at the first line that does not belong to the change (`singles`,
+/// `single`).
 pub fn change(alloc: Global, text: &[u8]) -> Result<(Change, &[u8]), Stop<'_>>
     ensures { Parses IsChange change_lines Any text.now result }
 {
@@ -126,7 +128,7 @@ pub fn change(alloc: Global, text: &[u8]) -> Result<(Change, &[u8]), Stop<'_>>
 }
 
 /// Reads a step: a line `at C` with the cursor C of the state that the step leads to, and a change.
-/// It stops at the first line that does not belong to it.
+/// It stops at this line if it has another form, else at the line at which `change` stops.
 pub fn step(alloc: Global, text: &[u8]) -> Result<(SavedStep, &[u8]), Stop<'_>>
     ensures { Parses IsStep step_lines BeginsStep text.now result }
 {
@@ -142,8 +144,8 @@ pub fn step(alloc: Global, text: &[u8]) -> Result<(SavedStep, &[u8]), Stop<'_>>
     }
 }
 
-/// Reads `count` steps, in the order of the text. It stops at the first line that belongs to no
-/// step.
+/// Reads `count` steps, in the order of the text. It stops at the line at which `step` stops for
+/// one of them.
 pub fn steps(alloc: Global, count: u64, text: &[u8]) -> Result<(Steps, &[u8]), Stop<'_>>
     ensures { Parses (ManySteps count) steps_lines (BeginsSome count) text.now result }
 {
@@ -163,7 +165,7 @@ pub fn steps(alloc: Global, count: u64, text: &[u8]) -> Result<(Steps, &[u8]), S
 }
 
 /// Reads a line of the word `head` and a count, and then that many steps. It stops at this line if
-/// it has another form, else where `steps` stops. There is no space in `head`.
+/// it has another form, else at the line at which `steps` stops. There is no space in `head`.
 pub fn counted_steps<'a>(
     alloc: Global,
     head: &[u8],

@@ -48,7 +48,8 @@ pub enum Fault {
 /// journal, and with it they begin none. If lines are missing, it is the line at which the text
 /// ends; if there is text after the last line, it is the line of that text. `Fault::Memory` comes
 /// only if the text begins with the lines of a journal that has a step: its head, its marks, how
-/// many steps back there are, and one line more.
+/// many steps back there are, and one line more. The contract asks for less than 2^63 bytes, so
+/// that no line number overflows.
 pub fn parse(alloc: Global, text: &[u8]) -> Result<Saved, Fault>
     requires { length text.now < 2 ^ 63 }
     ensures exact { MatchResult result
@@ -66,7 +67,8 @@ pub fn parse(alloc: Global, text: &[u8]) -> Result<Saved, Fault>
 
 /// The number, from 1, of the line of `text` with which `rest` begins. `rest` is an end of `text`,
 /// from the begin of a line on, so it is no longer than `text`. The contract does not ask for that,
-/// so the difference of the lengths saturates at 0.
+/// so the difference of the lengths saturates at 0. It asks for less than 2^63 bytes, so that the
+/// number does not overflow.
 fn line_at(text: &[u8], rest: &[u8]) -> usize
     requires { length text.now < 2 ^ 63 }
     ensures { result
@@ -78,8 +80,8 @@ fn line_at(text: &[u8], rest: &[u8]) -> usize
 }
 
 /// Reads a journal from the front of a text, and returns it with the text after it; `parse` tests
-/// that there is none. `Stop::At` has the text from the first line at fault on, with which it
-/// begins no journal; `Stop::Memory` says that memory ran out.
+/// that there is none. `Stop::At` has the text from the first line at fault on: the lines up to and
+/// with this one begin no journal. `Stop::Memory` says that memory ran out.
 fn saved(alloc: Global, text: &[u8]) -> Result<(Saved, &[u8]), Stop<'_>>
     ensures { Parses IsSaved saved_lines ReachesSteps text.now result }
 {
@@ -109,7 +111,7 @@ fn saved(alloc: Global, text: &[u8]) -> Result<(Saved, &[u8]), Stop<'_>>
 }
 
 /// Reads the first three lines of a text: the name of a journal, its format and its cursor. Returns
-/// the format as a kind and an expression, 0 to 7, the cursor, and what is after the three lines.
+/// the format (a kind and an expression, 0 to 7), the cursor, and what is after the three lines.
 /// Whether the kind permits the expression is not judged here. An error has the text from the first
 /// of these lines on that has another form or no newline.
 fn head(text: &[u8]) -> Result<((Kind, u8), u64, &[u8]), &[u8]>

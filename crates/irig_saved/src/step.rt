@@ -6,7 +6,7 @@ ghost use Rattle.irig_saved.specs.SavedText.{step_lines};
 
 use crate::change::Change;
 
-/// A change, and where the cursor is after an undo or a redo has made it.
+/// A change, and the cursor after an undo or a redo has made this change.
 #[derive(Drop)]
 pub struct SavedStep {
     /// The cursor, a pulse from 1, or 0 before the first.

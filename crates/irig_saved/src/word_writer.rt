@@ -66,8 +66,8 @@ pub(crate) fn put_lettered(text: &mut Vec<u8>, head: &[u8], letter: u8) -> Resul
     put_word(text, &[b'a' + letter])
 }
 
-/// Writes a whole line: the word `head`, the kind of time code of a format, such as `B`, the number
-/// of its coded expression, 0 to 7, and the newline.
+/// Writes a whole line for a format: the word `head`, the kind of time code (such as `B`), the
+/// number of the coded expression (0 to 7), and the newline.
 pub(crate) fn put_formatted(
     text: &mut Vec<u8>,
     head: &[u8],

@@ -36,8 +36,8 @@ pub fn number(word: &[u8]) -> Option<u64>
     }
 }
 
-/// The distance that a word is, in microseconds: a number from -2^63 to 2^63 - 1, with a minus if
-/// it is below 0, without leading zeros. `None` for any other word, as `+5`, `05` or `-0`.
+/// The distance that a word is, in microseconds: a decimal number from -2^63 to 2^63 - 1. It has a
+/// minus if it is below 0, and no leading zeros. `None` for any other word, as `+5`, `05` or `-0`.
 pub fn distance(word: &[u8]) -> Option<i64>
     ensures { Decodes IsDistance (λ d. signed_decimal d) word.now result }
 {

@@ -17,8 +17,9 @@ use crate::word_writer::{put_formatted, put_lettered, put_number, put_numbered};
 use irig_codes::{Format, Kind};
 use std::alloc::AllocError;
 
-/// Writes all lines of a journal before its first step: the name, the format, the cursor, one for
-/// each mark that is set, and `past`, how many steps of the past come next.
+/// Writes all lines of a journal before its first step: the name, the format, the cursor and a line
+/// for each mark that is set. The last line is `past P` with `past`, how many steps of the past
+/// come next.
 pub fn put_head(
     text: &mut Vec<u8>,
     format: Format,
@@ -37,9 +38,9 @@ pub fn put_head(
     put_past(text, past)
 }
 
-/// Writes the lines of a step that are before those of its changes: `at C` with the cursor of the
-/// state that the step leads to, and if `is_group`, `group K` with the number of its changes,
-/// `changes`. Else `changes` is not used.
+/// Writes the lines of a step that are before those of its changes. The first is `at C` with
+/// `cursor`, that of the state that the step leads to. If `is_group`, a second is `group K` with
+/// `changes`, the number of its changes; else `changes` is not used.
 pub fn put_step(
     text: &mut Vec<u8>,
     cursor: u64,

@@ -16,26 +16,29 @@ pub fn lines_ask_for_one_command()
 
 /// Does nothing. Its contract: a script has one run.
 ///
-/// Two runs of one script from one machine that run out of memory and fail to write at the same
-/// lines print the same bytes, write the same texts, end with the same status and leave the same
-/// machine. So do two runs from the bytes of one dump.
+/// This is of two runs of one script from one machine, if memory runs out in both at the same
+/// lines, and writes fail in both at the same lines. They print the same bytes, write the same
+/// texts, end with the same status and leave the same machine. So do two runs from the bytes of one
+/// dump (`on_dumps`).
 pub fn scripts_have_one_run()
     ensures same { OneRun }
     ensures on_dumps { OneDumpRun }
 {
-    // Its contract is what the proof of this one begins with: calls have one outcome.
+    // The proof begins with the contract of this call: calls have one outcome.
     calls_give_back();
 }
 
 /// Does nothing. Its contract: a script runs on a saved session as it does on the session itself.
 ///
-/// The saved text, of at most 2^28 bytes, is opened again without a wire's name, in any format.
-/// Each script then prints the same bytes and writes the same texts as it does from this session
-/// with no group open, if both runs run out of memory and fail to write at the same lines.
+/// The saved text is opened again without a wire's name, in any format; it has at most 2^28 bytes,
+/// the limit of a dump (`IsShort`). A script then prints the same bytes and writes the same texts
+/// as it does from this session with no group open: a saved session has none open. Memory has to
+/// run out at the same lines in both runs, and writes have to fail at the same lines.
 pub fn saved_sessions_run_on(session: &Session)
     ensures same { IsShort session.now → RunsOn session.now }
 {
-    // The proof begins with their contracts: calls have one outcome, and the saved text opens.
+    // The proof begins with the contracts of these two: calls have one outcome, and the saved text
+    // opens.
     calls_give_back();
     saved_goes_on(session);
 }

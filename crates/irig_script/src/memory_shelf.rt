@@ -47,7 +47,7 @@ impl MemoryShelf {
         }
     }
 
-    /// The texts written, in order.
+    /// The texts written, in order; a write that failed has none.
     pub fn texts(&self) -> &[Vec<u8>]
         ensures { map (λ t. t.items) result.now ≡ self.now.texts }
     {

@@ -31,9 +31,10 @@ use std::io::{Read, Write};
 /// recording has at the line's recorder's time. Returns whether the column of each line has a
 /// number, lines of the header not counted (`numbered`); and of the frames that have a time,
 /// whether one is believed, and how many are not (`standing`). The column is `settings.column`, or
-/// if `settings.named` is there, the one with that name in the last line of the header. The error
-/// is any `RunFault`; those of a header and its columns come only if a name is looked for. What was
-/// printed before an error stays printed.
+/// if `settings.named` is there, the one with that name in the last line of the header; the caller
+/// has seen that there is a header then (`named`). The error is any `RunFault`; those of a header
+/// and its columns come only if a name is looked for. What was printed before an error stays
+/// printed.
 pub fn align<R: Read, W: Write>(
     alloc: Global,
     recording: LongRecording,

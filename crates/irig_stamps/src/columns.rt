@@ -9,7 +9,8 @@ ghost use Rattle.irig_stamps.specs.Columns.{column_of, passed, word_at, part_at,
 
 use crate::cutting::{Until, cut};
 
-/// Column `k` of a line, from 0. No byte if the line has no such column.
+/// Column `k` of a line, from 0: that of `part` if the byte `comma` parts columns, and of `word` if
+/// white space does (`None`). No byte if the line has no such column.
 pub fn column(comma: Option<u8>, k: usize, line: &[u8]) -> &[u8]
     ensures { result.now ≡ column_of comma k line.now }
 {
@@ -50,9 +51,10 @@ fn part(comma: u8, k: usize, line: &[u8]) -> &[u8]
     part
 }
 
-/// What is left of a line after its first column; no byte if nothing comes after it. If a byte
-/// parts columns, the one after the column is passed, too. If white space does, it is still there:
-/// `word` passes it before the next column.
+/// What is left of a line after its first column; no byte if nothing comes after it. If the byte
+/// `comma` parts columns, that byte after the column is passed, too (`after_part`). If white space
+/// does, the white space after the column is still there (`after_word`): `word` passes it before
+/// the next column.
 pub fn passed(comma: Option<u8>, line: &[u8]) -> &[u8]
     ensures { result.now ≡ passed comma line.now }
 {

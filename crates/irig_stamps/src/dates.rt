@@ -47,7 +47,8 @@ fn counted_on(settings: &Settings<'_>, days: u32) -> Option<u32>
 }
 
 /// The month and the day in it, both from 1, of a day of a year (`days`, from 1). `None` if the
-/// year is not known or has no such day.
+/// year is not known or has no such day (`date_from`). The calendar of jiff ends with the year
+/// 9999.
 pub fn date_in(year: Option<u32>, days: u32) -> Option<(u32, u32)>
     requires { IfSome year (λ y. y ≤ 9999) }
     ensures { result ≡ date_in year days }

@@ -45,7 +45,8 @@ struct Header {
 
 /// Reads the header of the lines, and finds the column with a name in its last line. What was read
 /// is returned with the column, since it can reach past the header and cannot be read again. Any of
-/// the faults of the head of this file can be the error.
+/// the faults of the head of this file can be the error. The caller has seen that there is a
+/// header, of at least one line.
 pub fn find<R: Read>(
     alloc: Global,
     lines: &mut R,
@@ -99,7 +100,8 @@ fn read_header<R: Read>(
 
 /// Reads a part of the lines into the buffer, and adds it to the header. Returns whether the header
 /// needs no more reads: all its lines have ended, or nothing is left to read. If it needs more and
-/// has 1 MiB or more, it is `LongHeader`: so a header that ends in this read is not too long.
+/// what was read has 1 MiB or more, it is `LongHeader`: so a header that ends in this read is not
+/// too long. Bytes in memory have far fewer than 2^64 newlines, so their count never saturates.
 /// `ReadFailed` if the read fails, `OutOfMemory` if memory runs out.
 fn read_more<R: Read>(
     lines: &mut R,
@@ -152,8 +154,8 @@ fn newline(byte: u8) -> usize
 }
 
 /// The column, from 0, that has a name in the last line of the header. `bytes` is what was read of
-/// the lines. `NoHeader` if that line is not there, `NoColumn` if none has the name, and
-/// `TwoColumns` if two have it.
+/// the lines. `NoHeader` if that line is not there; `NoColumn` if no column has the name, and
+/// `TwoColumns` if two have it (`place_of`).
 fn find_in(settings: &Settings<'_>, name: &[u8], bytes: &[u8]) -> Result<usize, RunFault>
     requires { 0 < settings.now.header }
     ensures { (lines : Option (List ℕ)) (left : Option (List ℕ))

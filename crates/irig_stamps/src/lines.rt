@@ -9,7 +9,7 @@ use std::alloc::Global;
 pub struct Lines {
     /// The front of the line that is being read.
     pub line: Vec<u8>,
-    /// How many lines have ended; 2^64 - 1 stands for all greater counts.
+    /// How many lines have ended; 2^64 - 1 means that many or more.
     pub count: u64,
     /// Whether each line that has ended has a number in its column, those of the header not
     /// counted.

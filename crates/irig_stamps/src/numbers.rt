@@ -1,10 +1,11 @@
 //! The decimal number in a column. The result is the column's number times 10^`places`, as a whole
 //! number. A `Picos` is such a result: its sign, and its size, the number without the sign. A size
 //! is rounded up if `up`, else down. Each function returns `None` if the text is no number, and the
-//! size 2^120 for each greater one, since no recorder's time that far from zero has a time. `whole`
-//! and `fraction` are digits in ASCII, before the point and after it. `point_after` gives the size
-//! of a number without an exponent, `to_the_left` and `to_the_right` that of one whose exponent has
-//! a minus or none, and `digits` the value of digits. White space is a space, a tab or a carriage
+//! size 2^120 for each greater one, since no recorder's time that far from zero has a time. The
+//! parameters `whole` and `fraction` are digits in ASCII, before the point and after it; the
+//! function `whole` is for another use, numbers without a point. `point_after` gives the size of a
+//! number without an exponent, `to_the_left` and `to_the_right` that of one whose exponent has a
+//! minus or none, and `digits` the value of digits. White space is a space, a tab or a carriage
 //! return. `cut` parts a text before the first byte that is no white space (`Text`), or no digit
 //! (`Other`).
 
@@ -84,8 +85,8 @@ fn below(size: Option<u128>) -> Option<Picos>
 }
 
 /// The whole number that a text is, if it has only digits and at least one; 2^120 if it is greater.
-/// White space is not passed here: a text with it is no whole number. `digits` has the value of
-/// digits that come after a value, here 0, and ends at 2^120 itself.
+/// White space is not passed here: a text with it is no whole number. `digits` gives the value of
+/// digits that come after another value, here 0; it never gives more than 2^120.
 pub fn whole(text: &[u8]) -> Option<u128>
     ensures { result ≡ option_map (λ v. min v (2 ^ 120)) (whole_in text.now) }
 {
@@ -97,7 +98,7 @@ pub fn whole(text: &[u8]) -> Option<u128>
 }
 
 /// The size of the number that a text without a sign is; `None` if the text does not begin with a
-/// digit, or is no number after that.
+/// digit, or if `with_fraction` refuses what is after its first digits.
 fn size_in(up: bool, places: usize, text: &[u8]) -> Option<u128>
     ensures { result ≡ option_map (λ v. min v (2 ^ 120)) (size_in up places text.now) }
 {
@@ -109,8 +110,8 @@ fn size_in(up: bool, places: usize, text: &[u8]) -> Option<u128>
 }
 
 /// The size of a number with the digits `whole` before its point. `rest` is what is after them:
-/// nothing, a point, an exponent or white space; else `None`. A point must have a digit after it:
-/// without one it is `None`, too.
+/// nothing, a point, an exponent or white space; with anything else it is `None` (`with_exponent`).
+/// A point must have a digit after it: without one it is `None`, too.
 fn with_fraction(up: bool, places: usize, whole: &[u8], rest: &[u8]) -> Option<u128>
     ensures { result ≡ option_map (λ v. min v (2 ^ 120))
         (with_fraction up places whole.now rest.now) }
@@ -148,8 +149,8 @@ fn with_exponent(
 }
 
 /// The size of a number with these digits. `rest` is what is after the e of its exponent: maybe a
-/// sign, digits, and maybe white space; else `None`. Without a sign the point moves to the right,
-/// as with a plus.
+/// sign, digits, and maybe white space; else `None` (`powered`). With a minus the point moves to
+/// the left, with a plus or no sign to the right.
 fn after_e(up: bool, places: usize, whole: &[u8], fraction: &[u8], rest: &[u8]) -> Option<u128>
     ensures { result ≡ option_map (λ v. min v (2 ^ 120))
         (after_e up places whole.now fraction.now rest.now) }

@@ -1,6 +1,7 @@
 //! How lines were aligned.
 
-/// Which frames of a track are believed: those whose time another frame near them supports.
+/// Which frames of a track are believed: those whose time another frame near them supports, or all
+/// that have a time, if the settings say so (`alone`).
 #[derive(Clone, Copy)]
 pub struct Standing {
     /// Whether at least one is believed.

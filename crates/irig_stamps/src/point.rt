@@ -1,8 +1,8 @@
 //! The point of a decimal number, moved. `whole` is the digits before the point and `fraction`
 //! those after it, as ASCII. The result is a whole number: digits after the moved point are
 //! dropped. If `up` and one of them is not 0, the result is one more. `power`, an exponent of 10,
-//! is at most 2^120, which stands for each greater one, too. `cut` with `Weight` parts digits
-//! before the first that is not 0.
+//! is at most 2^120, which means that or more. `cut` with `Weight` parts digits before the first
+//! that is not 0.
 
 ghost use Rattle.std.specs.Prelude.{◌≡◌, ◌≤◌, ◌^◌, ◌+◌, ◌*◌, ◌-◌, ◌∷◌, ℕ, suc, List, min};
 ghost use Rattle.std.specs.Prelude.{drop, false, true, ◌&&◌, ◌||◌};
@@ -13,7 +13,7 @@ use crate::cutting::{Until, cut};
 /// No greater number is returned: 2^120. Greater ones are all too far from zero to have a time.
 const MOST: u128 = 1_329_227_995_784_915_872_903_807_060_280_344_576;
 
-/// The number times 10^(`places` + `power`); 2^120 if it is greater.
+/// The number times 10^(`places` + `power`), rounded as the head says; 2^120 if it is greater.
 pub fn to_the_right(up: bool, places: usize, power: u128, whole: &[u8], fraction: &[u8]) -> u128
     requires { power ≤ 2 ^ 120 }
     ensures { (e : ℕ) → power ≡ min e (2 ^ 120)
@@ -31,7 +31,9 @@ pub fn to_the_right(up: bool, places: usize, power: u128, whole: &[u8], fraction
     )
 }
 
-/// The number times 10^`places`, divided by 10^`power`; 2^120 if it is greater.
+/// The number times 10^`places`, divided by 10^`power`, and rounded as the head says; 2^120 if it
+/// is greater. If `power` is above `places` the point goes to the left (`point_before`), else to
+/// the right (`point_after`).
 pub fn to_the_left(up: bool, places: usize, power: u128, whole: &[u8], fraction: &[u8]) -> u128
     requires { power ≤ 2 ^ 120 }
     ensures { (e : ℕ) → power ≡ min e (2 ^ 120)
@@ -90,7 +92,7 @@ fn after(count: usize, digits: &[u8]) -> &[u8]
     &digits[count.min(digits.len())..]
 }
 
-/// Whether some digit is not zero.
+/// Whether some digit is not zero; `false` if there is no digit.
 fn has_weight(digits: &[u8]) -> bool
     ensures { result ≡ has_weight digits.now }
 {
@@ -100,7 +102,7 @@ fn has_weight(digits: &[u8]) -> bool
 
 /// A value with one more decimal digit, in ASCII, after it: 10 times the value, and the digit. If
 /// that is greater than 2^120, it is 2^120. A value above a tenth of 2^120 is looked at first, so
-/// that nothing overflows.
+/// that nothing overflows. A digit in ASCII is not below `0`, so nothing saturates.
 fn more(value: u128, digit: u8) -> u128
     requires { value ≤ 2 ^ 120 }
     ensures value { result ≡ min (10 * value + (digit - 48)) (2 ^ 120) }

@@ -35,8 +35,9 @@ const END: u64 = 4_611_686_018_427_387_904;
 
 /// How long after the start of the track a recorder's time is, as two numbers in picoseconds: the
 /// first less the second. The offset is the recorder's time at the start, so it is subtracted. The
-/// time and the offset can be below zero (`negative`, `early`); the two numbers are not. No sum
-/// reaches the end of its type: a time has at most 2^120, as `number` gives it, an offset 2^119.
+/// time and the offset can be below zero (`negative`, `early`): one that is goes to the other of
+/// the two numbers, without its sign. So neither number is below zero. No sum reaches the end of
+/// its type: a time has at most 2^120, as `number` gives it, an offset 2^119.
 fn span(settings: &Settings<'_>, picos: Picos) -> (u128, u128)
     requires { settings.now.offset ≤ 2 ^ 119 }
     ensures added { result.0 ≡ min (added settings.now picos) (2 ^ 128 - 1) }
@@ -132,8 +133,9 @@ fn why_word<'a>(why: Why) -> &'a [u8]
     }
 }
 
-/// The word for a recorder's time that has no time of year: if `--why` asked for it (then
-/// `known.whys` is there) the word why it has none, else a hyphen.
+/// The word for a recorder's time that has no time of year, as the caller has found. If
+/// `settings.why` asks for it, `known.whys` is there, and the word says why (`why_word`). Else it
+/// is a hyphen.
 fn none_word<'a>(
     pulses: &mut Lens<'_>,
     known: &Known,
@@ -213,7 +215,8 @@ fn put_line(text: &mut Vec<u8>, comma: Option<u8>, line: &[u8]) -> Result<(), Al
 }
 
 /// What comes before a line of the header, in the new column of times: that column's name before
-/// the last line of the header, a hyphen before each other one. `count` lines are before the line.
+/// the last line of the header, a hyphen before each other one. `count` lines are before the line;
+/// the caller has seen that it is one of the header.
 fn header_word<'a>(settings: &Settings<'a>, count: u64) -> &'a [u8]
     requires { count < settings.now.header }
     ensures { header_word settings.now count ≡ Some result.now }

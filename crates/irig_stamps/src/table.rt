@@ -1,8 +1,8 @@
 //! A table of the frames of a track that have a time. Each record is a frame of the track, and
 //! `held` says of each, at the same place, from 0, whether it is believed: whether another frame
 //! near it supports its time, or with `settings.alone` whether it has a time at all. A frame's
-//! period is its duration. `settings` say how a time is written, and `format` is the track's code.
-//! Their bounds keep each year in four digits. An `AllocError` says that memory ran out; a text can
+//! period is its duration. `settings` say how a time is written; their bounds keep each year in
+//! four digits. `format` is the track's code. An `AllocError` says that memory ran out; a text can
 //! have a part of what was to be added then.
 
 ghost use Rattle.std.specs.Prelude.{◌≡◌, ◌≤◌, ◌<◌, ◌++◌, ℕ, List, Some, slice_get, length, IfOk};
@@ -48,8 +48,9 @@ pub fn list<W: Write>(
 }
 
 /// Prints the table of the track that a lens shows, with the results and errors of `list`. First it
-/// finds which frames are believed (`held`), on which day the first of them is, and how many frames
-/// have a time and are not believed. The year of a frame without one depends on that first day.
+/// finds which frames are believed (`held`), on which day the first of these is, and how many
+/// frames have a time and are not believed. If a frame carries no year, its year depends on that
+/// first day.
 fn list_track<W: Write>(
     alloc: Global,
     pulses: &mut Lens<'_>,
@@ -141,8 +142,8 @@ fn put_frame(
     put_start(text, settings, held_at(held, place), start)
 }
 
-/// Adds the row of a frame, by where it starts; nothing if there is no start, since the frame has
-/// no time. `held` says whether the frame is believed.
+/// Adds the row of a frame, by its start; nothing if there is no start, since the frame has no
+/// time. `held` says whether the frame is believed, as `held_at` gives it.
 fn put_start(
     text: &mut Vec<u8>,
     settings: &Settings<'_>,
@@ -183,8 +184,9 @@ fn put_row(
 }
 
 /// The last word of a row: `yes` if the frame is believed and the next one follows it one period
-/// later, `no` if it is believed and none does, and `unsupported` if it is not believed. `None`,
-/// which `held` never is for a record that is there, counts as not believed.
+/// later (`is_followed`), `no` if it is believed and the next one does not, and `unsupported` if it
+/// is not believed. `None`, which `held` never is for a record that is there, counts as not
+/// believed.
 fn answer<'a>(held: Option<bool>, is_followed: bool) -> &'a [u8]
     ensures { result.now ≡ answer_of held is_followed }
 {

@@ -28,7 +28,7 @@ fn digit(unit: u64, number: u64) -> u8
 }
 
 /// Adds a time to a text, in the form of the settings; a hyphen if there is no time, or if the form
-/// is that of a date and the time has none.
+/// is that of a date and the time has no date (`put_time`).
 pub fn put_word(
     text: &mut Vec<u8>,
     settings: &Settings<'_>,
@@ -70,7 +70,8 @@ fn put_ordinal(text: &mut Vec<u8>, year: Option<u32>, time: &Time) -> Result<(),
     text.extend_from_slice(&clock(time))
 }
 
-/// Adds a year of four digits and a hyphen; nothing if it is not known. Callers give at most 9999.
+/// Adds a year of four digits and a hyphen; nothing if the year is not known. Callers give at most
+/// 9999: of a greater year it would add only the last four digits.
 fn put_year(text: &mut Vec<u8>, year: Option<u32>) -> Result<(), AllocError>
     ensures { OnOk result (text.new.items ≡ text.old.items ++ year_text year) }
 {
@@ -86,8 +87,9 @@ fn put_year(text: &mut Vec<u8>, year: Option<u32>) -> Result<(), AllocError>
     }
 }
 
-/// Adds a time as `YYYY-MM-DDThh:mm:ss.ffffff`, or a hyphen if the year is not known or has no such
-/// day, as day 366 of a year of 365 days.
+/// Adds a time as `YYYY-MM-DDThh:mm:ss.ffffff`, or a hyphen if `date_in` finds no date: the year is
+/// not known, or has no such day, as day 366 of a year of 365 days. The bound of the year is that
+/// of `date_in`.
 fn put_calendar(text: &mut Vec<u8>, year: Option<u32>, time: &Time) -> Result<(), AllocError>
     requires { IfSome year (λ y. y ≤ 9999) }
     ensures { OnOk result (text.new.items ≡ text.old.items ++ calendar_text year time.now) }
@@ -118,7 +120,8 @@ fn day_seconds(time: &Time) -> u64
     3600 * time.hours as u64 + 60 * time.minutes as u64 + time.micros / 1_000_000
 }
 
-/// Adds a whole number in decimal. Its digits end where `digits` does, and begin at `start`.
+/// Adds a whole number in decimal. Its digits are at the end of `digits`, from the place `start`
+/// on, as `write_digits` says.
 pub fn put_number(text: &mut Vec<u8>, number: u64) -> Result<(), AllocError>
     ensures { OnOk result (text.new.items ≡ text.old.items ++ decimal number) }
 {

@@ -1,11 +1,11 @@
 //! The pulses between two frames that have a time. A part is pulses in a row, as elements of one
 //! frame whose time is known; it may have no pulse. Pulses and elements count from 0. `from` and
 //! `to` are two believed frames, `to` the next after `from` of those that have a time; `missing` is
-//! what frames have to be between them by their times. A pair of parts is the pulses counted on
-//! from `from` and those counted back from `to`, each side at most a frame, which is 100 pulses. A
-//! frame is believed if another one near it supports its time. Pulses are in step if each rises one
-//! interval after the one before. `Lens` shows the pulses of a track. `century` is 20 for 2000 to
-//! 2099. Bounds in `requires`, as 2 ^ 32 and 2 ^ 59, only keep sums in their types.
+//! what frames have to be between them by their times. A pair is two parts: a first side counted on
+//! from `from`, and a second counted back from `to`, each of 100 pulses at most, which is a frame.
+//! A frame is believed if another one near it supports its time. Pulses are in step if each rises
+//! one interval after the one before. `Lens` shows the pulses of a track. `century` is 20 for 2000
+//! to 2099. Bounds in `requires`, as 2 ^ 32 and 2 ^ 59, only keep sums in their types.
 
 ghost use Rattle.std.specs.Prelude.{◌≡◌, ◌≤◌, ◌<◌, ◌+◌, ◌-◌, ◌^◌, IfSome, min, slice_get};
 ghost use Rattle.irig_codes.specs.Format.{frame_period_of};
@@ -58,12 +58,11 @@ pub fn gap(from: &Part, to: &Part) -> usize
     to.number - (from.number + from.count)
 }
 
-/// The pulses that are counted between two parts, on from the first and back from the second.
-/// `after` pulses follow the first in step, and `before` ones lead to the second. If one frame is
-/// missing, its 100 pulses are there, and the two counts overlap, then all are in step: all are
-/// counted on from the first part, and the second part of the pair is empty. Else `sides_by`
-/// answers for what each side keeps (`kept`): `None` if a pulse would be of both. `in_step` says
-/// whether the two sides meet in step then.
+/// The pair between two parts, of what the caller counted: `after` pulses in step after the first
+/// and `before` ones before the second. If one frame is missing, its 100 pulses are there, and the
+/// counts overlap, all are in step: the first side has all 100, and the second is empty. Else each
+/// side has what `kept` leaves it, and `sides_by` makes the pair: `None` if a pulse would be of
+/// both. `in_step` is what the caller found: whether the two sides then meet in step.
 fn sides(
     from: &Part,
     to: &Part,
@@ -89,9 +88,9 @@ fn sides(
     sides_by(from, to, head, tail, missing, in_step)
 }
 
-/// The first `head` pulses after a part and the last `tail` before another, as parts of the missing
-/// frames; `None` if a pulse would be of both. If the recorder slipped where they meet (`is_seam`),
-/// one is left out: the last of the first side, or the first of the second if the first has none.
+/// The first `head` pulses after a part and the last `tail` before another, as parts of the first
+/// and last missing frame; `None` if a pulse would be of both. If the recorder slipped between them
+/// (`is_seam`), one is left out: the last of the first side, or if it has none, the second's first.
 fn sides_by(
     from: &Part,
     to: &Part,
@@ -116,9 +115,9 @@ fn sides_by(
     ))
 }
 
-/// Whether the recorder slipped (lost or added some time) where two sides meet: they do not meet in
-/// step, and are together all pulses of one or two missing frames. The time must not go on there.
-/// With any other number of pulses the elements of both do not follow each other anyway.
+/// Whether the recorder slipped (lost or added some time) where sides of `head` and `tail` pulses
+/// meet: not in step, though they are all `gap` pulses between the frames, those of just one or two
+/// frames. The time must not go on there. For another `gap` the elements do not go on anyway.
 fn is_seam(in_step: bool, gap: usize, head: usize, tail: usize) -> bool
     requires { (head ≤ 100) × (tail ≤ 100) }
     ensures { result ≡ is_seam in_step gap head tail }
@@ -126,8 +125,8 @@ fn is_seam(in_step: bool, gap: usize, head: usize, tail: usize) -> bool
     !in_step && head + tail == gap && (gap == 100 || gap == 200)
 }
 
-/// How many of the `head` pulses of the first side have a time: at a slip (`seam`) its last one has
-/// none. A moment has a time only if the pulses around it have one, so none over the slip has.
+/// How many of the `head` pulses of the first side have a time: all, but at a slip (`seam`) not the
+/// last. A moment has a time only if the pulses around it have one, so none over the slip has.
 fn head_left(seam: bool, head: usize) -> usize
     ensures left { result ≡ head_left seam head }
     ensures few { result ≤ head }
@@ -135,8 +134,8 @@ fn head_left(seam: bool, head: usize) -> usize
     if seam { head.saturating_sub(1) } else { head }
 }
 
-/// How many of the `tail` pulses of the second side have a time: at a slip (`seam`) its first one
-/// has none, if the first side has no pulse that could be left out.
+/// How many of the `tail` pulses of the second side have a time: all, but at a slip (`seam`) not
+/// the first, if the first side has no pulse that could be left out (`head` is 0).
 fn tail_left(seam: bool, head: usize, tail: usize) -> usize
     ensures left { result ≡ tail_left seam head tail }
     ensures few { result ≤ tail }
@@ -163,8 +162,8 @@ fn kept(is_one: bool, count: usize, other: usize) -> usize
     }
 }
 
-/// The frames that are missing between two. The times of the two must be as many periods apart as
-/// their markers, to the nearest period. `None` if they are not, if no frame is missing, if a
+/// The frames missing between two, whose times must be as many periods apart as their markers
+/// (first pulses), to the nearest period. `None` if they are not, if no frame is missing, if a
 /// marker is not there, or for the other reasons of `missing_in` (midnight, the end of a minute).
 pub fn missing_by(
     pulses: &mut Lens<'_>,
@@ -194,9 +193,10 @@ pub fn missing_by(
     }
 }
 
-/// The parts between two frames, if `after` pulses after the first and `before` ones before the
-/// second are in step. The two sides meet in step if the pulse after those that the first side
-/// keeps rises one interval after the one before it. `None` if a pulse would be of both.
+/// The pair between two frames, as `sides` makes it of what the caller counted: `after` pulses in
+/// step after the first, `before` ones before the second. `None` if a pulse would be of both. Only
+/// one thing is tested here: the two sides meet in step if the pulse after those that the first
+/// side keeps (`kept`) rises one interval after the one before it.
 pub fn sides_at(
     pulses: &mut Lens<'_>,
     format: Format,
@@ -225,9 +225,9 @@ pub fn min(one: usize, other: usize) -> usize
     if one <= other { one } else { other }
 }
 
-/// The pulses that are counted between two frames: on from `from`, and back from `to`; only back if
-/// `from` is `None`, as `to` is the first, and then the pair's second part is empty. `None` if one
-/// of the frames is not believed, which is a part without pulses, or if nothing can be counted.
+/// What is counted between two frames: on from `from` and back from `to` (`between`). If `from` is
+/// `None`, `to` is the first: then only back, with an empty part (`counted_before`). `None` if a
+/// frame is not believed, which is a part without pulses, or for the reasons these two name.
 pub fn sides_before(
     pulses: &mut Lens<'_>,
     format: Format,

@@ -23,9 +23,11 @@ const PICOS: u64 = 1_000_000;
 /// The time of year `picos` picoseconds after the start of a track. `None` unless the last pulse
 /// that has risen by then and the next one have times, one interval apart: between them the time
 /// goes evenly. `find` says how many pulses have risen by a microsecond, so the number of the last
-/// of them is one less. `None` also if none has risen.
+/// of them is one less. `None` also if none has risen. Pulses rise at whole microseconds, so the
+/// whole ones of `picos` are enough for `find`.
 ///
-/// The years of two digits are of this `century`: 20 for 2000 to 2099.
+/// It makes at most two looks more than the number of the pulses has binary digits. The years of
+/// two digits are of this `century`: 20 for 2000 to 2099.
 pub fn time_by(
     pulses: &mut Lens<'_>,
     parts: &[Part],
@@ -58,9 +60,10 @@ pub fn time_by(
     Some(shared(format, &place, picos - PICOS * from, to - from))
 }
 
-/// Whether the pulse after pulse `number` has the time one interval later. Pulse `number` is the
-/// element that `place` has. The next pulse has to be the next element of the same frame or, after
-/// element 99, the first of a frame one period later. False if the next pulse has no time.
+/// Whether the pulse after pulse `number` has the time one interval later. `place` is what
+/// `place_of` gave for pulse `number`: its element and its frame's time. The next pulse has to be
+/// the next element of the same frame or, after element 99, the first of a frame one period later
+/// (`is_later`). False if the next pulse is of no part, or is not there.
 fn goes_on(parts: &[Part], format: Format, century: u32, number: usize, place: &Place) -> bool
     requires parts { (n : ℕ) × AreParts format 0 n parts.now }
     requires century { century ≤ 99 }
@@ -79,9 +82,10 @@ fn goes_on(parts: &[Part], format: Format, century: u32, number: usize, place: &
     }
 }
 
-/// The time when `part` picoseconds since the rise of an element (`place`) are over. Up to the next
-/// rise `whole` microseconds were recorded. Of the format's nominal interval the same share is
-/// over, so a clock that is slow or fast does no harm.
+/// The time `part` picoseconds after the rise of an element (`place`) and before the next rise,
+/// which was recorded `whole` microseconds after that of the element. The share of the recorded
+/// interval that is over is taken of the format's nominal interval (`share`), so a clock that is
+/// slow or fast does no harm.
 fn shared(format: Format, place: &Place, part: u64, whole: u64) -> Time
     requires order { part < 1000000 * whole }
     requires small { whole ≤ 2 ^ 41 }
@@ -96,9 +100,10 @@ fn shared(format: Format, place: &Place, part: u64, whole: u64) -> Time
 }
 
 /// How many microseconds of a nominal interval are over, if `micros` microseconds and `picos`
-/// picoseconds of the recorded one are, which is `whole` microseconds long. Rounded down. `micros`
-/// and `picos` are multiplied one by one, as one product in picoseconds could overflow. What the
-/// inner division drops is less than 1, so the result, rounded down, is the same.
+/// picoseconds of the recorded one are, which is `whole` microseconds long. Rounded down.
+/// `interval` is the nominal one, 100,000 microseconds at most (in E). `micros` and `picos` are
+/// multiplied with it one by one, as one product in picoseconds could overflow. What the inner
+/// division drops is less than 1, so the result, rounded down, is the same.
 fn share(interval: u64, micros: u64, picos: u64, whole: u64) -> u64
     requires interval { interval ≤ 100000 }
     requires picos { picos < 1000000 }

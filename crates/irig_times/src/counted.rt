@@ -52,8 +52,9 @@ pub fn timed_parts(
     counted_parts(alloc, pulses, &whole, format, century)
 }
 
-/// The pulses of the frames that are believed, and those that are counted next to them, before each
-/// frame and after the last, as parts in order. `whole` is all frames that have a time.
+/// The parts of all frames that have a time (`whole`), and what is counted around them, in order:
+/// for each frame what `put_frame` adds, and after the last one what `counted_after` counts there.
+/// The part of a frame that is not believed is empty.
 fn counted_parts(
     alloc: Global,
     pulses: &mut Lens<'_>,
@@ -93,10 +94,11 @@ fn part_at(parts: &[Part], place: usize) -> Option<Part>
     }
 }
 
-/// Adds to a list what is counted before a frame (`part`), and what the frame keeps of its own
-/// pulses. If the time jumps before the frame, nothing is counted there, and the frame does not
-/// keep the elements that carry its time (`after_jump`). What comes after it can leave it fewer,
-/// too (`kept_before`). `before` and `next` are the frames before and after it, `None` if there is
+/// Adds to a list what is counted before a frame (`part`): two parts, or none (`sides_without`).
+/// Then adds the frame with what it keeps of its own pulses. If the time jumps before the frame
+/// (`is_jump_between`), nothing is counted there, and the frame does not keep the elements that
+/// carry its time (`after_jump`). What comes after the frame can leave it fewer, too
+/// (`kept_before`). `before` and `next` are the frames before and after it, `None` if there is
 /// none. If memory runs out, the list can have some of this.
 fn put_frame(
     list: &mut Vec<Part>,
@@ -127,9 +129,10 @@ fn put_frame(
     Ok(())
 }
 
-/// What a frame (`part`) keeps of its own pulses by what is after it: at most its marker, its first
-/// pulse, if the time jumps there; those that are surely its own, if tens of intervals are lost
-/// there; else all. `next` is the frame after it, `None` if it is the last.
+/// What a frame (`part`) keeps of its own pulses by what is after it. If the time jumps there, at
+/// most its marker, its first pulse (`before_jump`). If tens of intervals are lost there, those
+/// that are surely its own (`up_to_loss`). Else all; a frame that is not believed has none. `next`
+/// is the frame after it, `None` if it is the last.
 fn kept_before(
     pulses: &mut Lens<'_>,
     format: Format,
@@ -150,8 +153,9 @@ fn kept_before(
     before_jump(jumps, up_to_loss(pulses, format, part, next))
 }
 
-/// What is counted before a frame (`part`); `None` if the time `jumps` there, or if nothing can be
-/// counted. `before` is the frame before it, `None` if it is the first.
+/// What is counted before a frame (`part`), as `sides_before` answers. `None` if the caller found
+/// that the time `jumps` there, if a frame is not believed, or if nothing can be counted. `before`
+/// is the frame before it, `None` if it is the first.
 fn sides_without(
     pulses: &mut Lens<'_>,
     format: Format,

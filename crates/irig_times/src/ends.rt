@@ -1,11 +1,11 @@
 //! The pulses at the two ends of a track that have a time. A part is pulses that follow one
 //! another, as elements of one frame whose time is known. A frame is believed if another one near
 //! it supports its time; one that is not is a part without pulses. A pulse says an element by its
-//! width: its class is 0, 1 or a position identifier, or none. Pulses and elements count from 0.
-//! `Lens` shows the pulses of a track. `wanted` is the elements that a frame should have. At each
-//! end a hundred pulses in step are counted at most, which is a frame: further on a slip of one
-//! whole interval, which leaves pulses in step, would go unseen. Bounds as 2 ^ 30 and 2 ^ 59 only
-//! keep sums in their types.
+//! width: its class is 0, 1 or a position identifier, or none. A pulse falls after it rises, so no
+//! width is cut to 0. Pulses and elements count from 0. `Lens` shows the pulses of a track.
+//! `wanted` is the elements that a frame should have. At each end a hundred pulses in step are
+//! counted at most, which is a frame: further on a slip of one whole interval, which leaves pulses
+//! in step, would go unseen. Bounds as 2 ^ 30 and 2 ^ 59 only keep sums in their types.
 
 ghost use Rattle.std.specs.Prelude.{◌≡◌, ◌≤◌, ◌<◌, ◌+◌, ◌-◌, ◌^◌, IfSome, length, min, slice_get};
 ghost use Rattle.irig_codes.specs.Format.{frame_period_of};
@@ -23,8 +23,9 @@ use crate::time::Time;
 use irig_codes::{Element, Fields, Format, Kind, class, encode, fits};
 use irig_track::Lens;
 
-/// The fields of a frame of a time. Control functions and straight binary seconds are no part of a
-/// time: they are 0 if the format has them. What the format lacks is `None`.
+/// The fields of a frame of a time. Hundredths are there if the format has them, rounded down. The
+/// year is the time's own, which callers test (`fits`). Control functions and straight binary
+/// seconds are no part of a time: 0 if the format has them, else `None`.
 pub fn fields_at(format: Format, time: &Time) -> Fields
     requires { time.now.micros < 2 ^ 32 }
     ensures { result ≡ fields_at format time.now }
@@ -89,8 +90,8 @@ pub fn is_identifier(element: Element) -> bool
 }
 
 /// Whether pulse `number` is as wide as another element than `wanted` has at `element`. Only the
-/// elements of the time and position identifiers are compared, as nobody knows what control
-/// functions a frame has. A pulse that is not there, or has a width of no class, says nothing.
+/// elements of the time and position identifiers in `wanted` are compared, as nobody knows what
+/// control functions a frame has. False if the pulse is not there, or its width is of no class.
 pub fn contradicts(
     pulses: &mut Lens<'_>,
     format: Format,
@@ -116,7 +117,7 @@ pub fn contradicts(
 }
 
 /// How many of the first `told` pulses of a part contradict the elements that its frame should have
-/// (`wanted`). `told` leaves out a pulse that can say nothing (`telling`).
+/// (`contradicts`). The caller takes `told` from `telling`, without a pulse that can say nothing.
 fn contradictions(
     pulses: &mut Lens<'_>,
     format: Format,
@@ -169,7 +170,7 @@ pub fn telling(pulses: &Lens<'_>, part: &Part) -> usize
 /// Whether a part can have its time: a frame of that time ends with its minute at the latest
 /// (`is_whole`), the format can carry that time (`fits`), and no pulse of the part contradicts it,
 /// of those that can say another time (`telling`). A single pulse that does is enough: a clock that
-/// is set by an hour can change just one element.
+/// is set by an hour can change just one element. A part without pulses has none that does.
 fn is_borne_out(pulses: &mut Lens<'_>, format: Format, part: &Part) -> bool
     requires few { part.now.element + part.now.count ≤ 100 }
     requires small { (part.now.number < 2 ^ 32) × (part.now.time.micros < 2 ^ 60) }
@@ -204,10 +205,11 @@ fn alone(pulses: &mut Lens<'_>, format: Format, part: Part) -> Option<(Part, Par
     }
 }
 
-/// The pulses after the last frame (`from`) that have a time, up to a hundred in step (`ahead`), as
-/// the first elements of a frame one period later. An empty part comes after them (`alone`). `None`
-/// if the last frame is not there, not believed, ends the day or shows a second 60 (`next_time`:
-/// nothing is counted over those), or if the pulses cannot have that time (`is_borne_out`).
+/// The pulses after the last frame (`from`) that have a time: up to a hundred in step (`ahead`), or
+/// none, as the first elements of a frame one period later. An empty part comes after them
+/// (`alone`). `None` if the last frame is not there, not believed, ends the day or shows a second
+/// 60 (`next_time`: nothing is counted over those), or if the pulses cannot have that time
+/// (`is_borne_out`).
 pub fn end_after(pulses: &mut Lens<'_>, format: Format, from: Option<Part>) -> Option<(Part, Part)>
     requires { IfSome from (λ a. (a.time.micros < 2 ^ 59) × (a.number + a.count < 2 ^ 30)) }
     ensures end { result ≡ end_after format pulses.old.track.pulses from }
@@ -227,8 +229,8 @@ pub fn end_after(pulses: &mut Lens<'_>, format: Format, from: Option<Part>) -> O
     alone(pulses, format, head_of(&from, count, time))
 }
 
-/// The pulses before the first frame (`to`) that have a time: up to a hundred in step, as `behind`
-/// counts them, as the last elements of a frame one period earlier. An empty part comes after them
+/// The pulses before the first frame (`to`) that have a time: up to a hundred in step (`behind`),
+/// or none, as the last elements of a frame one period earlier. An empty part comes after
 /// (`alone`). `None` if the first frame is not believed or begins the day (`time_before`: nothing
 /// is counted over midnight), or if the pulses cannot have that time (`is_borne_out`).
 pub fn end_before(pulses: &mut Lens<'_>, format: Format, to: &Part) -> Option<(Part, Part)>

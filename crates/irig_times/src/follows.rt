@@ -1,6 +1,7 @@
 //! Which time is one frame period after another. Periods are in microseconds. Years are of two
 //! digits, in a century: 20 for 2000 to 2099. Of two times `a` is the first, and `b` the second.
-//! Bounds in `requires`, as 2 ^ 60, only keep sums in their types.
+//! Hours are 0 to 23, and minutes 0 to 59. Bounds in `requires`, as 2 ^ 60, only keep sums in their
+//! types.
 
 ghost use Rattle.std.specs.Prelude.{◌≡◌, ◌+◌, ◌*◌, ◌%◌, ◌≤◌, ◌<◌, ◌^◌, pos};
 ghost use Rattle.jiff_core.specs.Calendar.{days_in_year};
@@ -41,21 +42,21 @@ pub fn same_day(a: &Time, b: &Time) -> bool
     same_year(a.year, b.year) && a.days == b.days
 }
 
-/// Whether two times are in the same hour.
+/// Whether two times are in the same hour of the same day.
 fn same_hour(a: &Time, b: &Time) -> bool
     ensures { result ≡ same_hour a.now b.now }
 {
     same_day(a, b) && a.hours == b.hours
 }
 
-/// Whether two times are in the same minute.
+/// Whether two times are in the same minute of the same hour and day.
 fn same_minute(a: &Time, b: &Time) -> bool
     ensures { result ≡ same_minute a.now b.now }
 {
     same_hour(a, b) && a.minutes == b.minutes
 }
 
-/// Whether two times are the same.
+/// Whether two times are the same: in the same minute, and as many microseconds after it began.
 pub fn same_time(a: &Time, b: &Time) -> bool
     ensures { result ≡ same_time a.now b.now }
 {
@@ -87,7 +88,8 @@ fn day_follows(century: u32, a: &Time, b: &Time) -> bool
     }
 }
 
-/// How many days a year of two digits has in a century: 365 or 366.
+/// How many days a year of two digits has in a century: 365 or 366. Of a larger `year` the last two
+/// digits count. With its century it is 9999 at most, so it fits an `i16`.
 fn year_length(century: u32, year: u32) -> u32
     requires { century ≤ 99 }
     ensures { result ≡ days_in_year (pos (100 * century + year % 100)) }
@@ -121,9 +123,9 @@ fn minute_follows(century: u32, a: &Time, b: &Time) -> bool
     }
 }
 
-/// Whether the second time is a frame period later, if the first is in a minute of this length in
-/// microseconds: in the same minute, or in the next one if the period leads past the end. False if
-/// the first time is past that minute.
+/// Whether the second time is a frame period later, if the first is in a minute of `length`
+/// microseconds: in the same minute, or in the next one if the period leads past the end. The next
+/// one then begins when `length` is over. False if the first time is past that minute.
 fn is_later_in(length: u64, century: u32, period: u64, a: &Time, b: &Time) -> bool
     requires century { century ≤ 99 }
     requires small { (length < 2 ^ 32) × (period < 2 ^ 32) }
@@ -141,8 +143,8 @@ fn is_later_in(length: u64, century: u32, period: u64, a: &Time, b: &Time) -> bo
     }
 }
 
-/// Whether the second time is one frame period after the first, in a minute of 60 seconds or of 61:
-/// each minute may have a second 60, since the time zone is not known.
+/// Whether the second time is one frame period after the first (`is_later_in`), in a minute of 60
+/// seconds or of 61: each minute may have a second 60, since the time zone is not known.
 pub fn is_later(century: u32, period: u64, a: &Time, b: &Time) -> bool
     requires century { century ≤ 99 }
     requires small { period < 2 ^ 32 }

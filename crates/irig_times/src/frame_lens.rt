@@ -48,7 +48,7 @@ impl<'a> FrameLens<'a> {
         self.index.len()
     }
 
-    /// The record at place `k`, from 0. It is counted as a look.
+    /// The record at place `k`, from 0. It is counted as a look, unless the count is at 2^64 - 1.
     pub fn record(&mut self, k: usize) -> Record
         requires { k < length self.old.records }
         ensures value { slice_get self.old.records k ≡ Some result }

@@ -33,9 +33,9 @@ pub fn is_on_island(format: Format, before: &Nearest, frame: &Shown, after: &Nea
         || is_between(format, before.far(), frame, after.near())
 }
 
-/// Whether the first of three frames before a frame and the first of three after it are shores, and
-/// agree with each other. The first of three is the nearest to the frame; the other two can support
-/// it.
+/// Whether the first of three frames before a frame and the first of three after it are shores
+/// (`is_shore_before`, `is_shore_after`), and agree with each other. The first of three is the
+/// nearest one to the frame; the other two can support it. False if one of the shores is not there.
 fn is_between(format: Format, before: Three, frame: &Shown, after: Three) -> bool
     ensures { result ≡ (is_shore_before format before.2 before.1 before.0 frame.now
         && (is_shore_after format frame.now after.0 after.1 after.2
@@ -48,7 +48,7 @@ fn is_between(format: Format, before: Three, frame: &Shown, after: Three) -> boo
 
 /// Whether the first of three frames before a frame is a shore: it is there and does not agree with
 /// the frame. Also, the second or the third has to agree with the first, so that no single wrong
-/// frame is a shore. If there is no second, and so no third, that is not asked for.
+/// frame is a shore. If there is no second, there is no third, and this is not asked for.
 pub fn is_shore_before(format: Format, before: Three, frame: &Shown) -> bool
     ensures { result ≡ is_shore_before format before.2 before.1 before.0 frame.now }
 {
@@ -65,7 +65,7 @@ pub fn is_shore_before(format: Format, before: Three, frame: &Shown) -> bool
 
 /// Whether the first of three frames after a frame is a shore: it is there and does not agree with
 /// the frame. Also, the second or the third has to agree with the first, so that no single wrong
-/// frame is a shore. If there is no second, and so no third, that is not asked for.
+/// frame is a shore. If there is no second, there is no third, and this is not asked for.
 fn is_shore_after(format: Format, frame: &Shown, after: Three) -> bool
     ensures { result ≡ is_shore_after format frame.now after.0 after.1 after.2 }
 {
@@ -80,7 +80,7 @@ fn is_shore_after(format: Format, frame: &Shown, after: Three) -> bool
     }
 }
 
-/// Whether two frames are there, one before the other, and agree.
+/// Whether two frames are there, `before` the earlier, and agree. False if one is `None`.
 fn agree(format: Format, before: Option<Shown>, after: Option<Shown>) -> bool
     ensures { result ≡ agree format before after }
 {

@@ -1,4 +1,5 @@
-//! Where the time jumps between two frames: a clock was set, or intervals were lost. Two pulses are
+//! Where the time jumps between two frames: a clock was set, or intervals were lost. At an end of
+//! the track it jumps if pulses there say another time than the frame next to them. Two pulses are
 //! in step if the second rises one interval after the first. A part is pulses in a row, as elements
 //! of one frame whose time is known. `from` and `to` are frames that have a time, as parts; one
 //! without pulses is not believed. A frame is believed if another one near it supports its time.
@@ -26,8 +27,8 @@ use irig_track::Lens;
 /// The pulses of a frame.
 const FRAME_PULSES: usize = 100;
 
-/// Whether each pulse after the hundred of a frame, up to the marker of another and with it, is in
-/// step with the one before.
+/// Whether each pulse after the hundred of a frame, up to the marker of the next and with it, is in
+/// step with the one before. If the two overlap, only the pulse after the hundred is tested.
 fn are_joined(pulses: &mut Lens<'_>, format: Format, from: &Part, to: &Part) -> bool
     requires order { from.now.number + from.now.count ≤ to.now.number }
     requires small { to.now.number < 2 ^ 30 }
@@ -72,8 +73,8 @@ fn runs_on(format: Format, century: u32, from: &Part, to: &Part) -> bool
 
 /// Whether the time jumps between two frames that have a time, with no other such frame between
 /// them. False if the times fit the count of pulses (`runs_on`). Else true if all pulses up to the
-/// second marker are in step, also for three periods or more over midnight, which `runs_on` does
-/// not count; or if the markers are whole periods apart and the times are not as many (`slips`).
+/// second marker are in step (`are_joined`), also for three periods or more over midnight, which
+/// `runs_on` does not count; or if the markers are whole periods apart, the times not (`slips`).
 fn is_jump(pulses: &mut Lens<'_>, format: Format, century: u32, from: &Part, to: &Part) -> bool
     requires century { century ≤ 99 }
     requires times { (from.now.time.micros < 2 ^ 59) × (to.now.time.micros < 2 ^ 59) }
@@ -93,7 +94,7 @@ fn is_jump(pulses: &mut Lens<'_>, format: Format, century: u32, from: &Part, to:
     slips(format, century, &from.time, &to.time, first, last)
 }
 
-/// Whether a distance is a whole number of periods, to half an interval, all in microseconds.
+/// Whether a distance is a whole number of periods (0, too), to half an interval, in microseconds.
 fn is_whole_apart(period: u64, interval: u64, distance: u64) -> bool
     requires { (0 < period) × (period < 2 ^ 32) }
     ensures { result ≡ is_whole_apart period interval distance }
@@ -103,8 +104,8 @@ fn is_whole_apart(period: u64, interval: u64, distance: u64) -> bool
 }
 
 /// Whether two times can be those of frames that are `count` periods apart; a `count` of 0 is taken
-/// as 1. If it is 2, the one frame between them must have a time (`middle`). Three periods and more
-/// are not counted over midnight: then the answer is true.
+/// as 1. If it is 2, the one frame between them must have a time (`middle`). If it is more, their
+/// microseconds of the day are compared; over midnight they are not, and the answer is true.
 pub fn are_apart(century: u32, period: u64, count: u64, from: &Time, to: &Time) -> bool
     requires century { century ≤ 99 }
     requires small { (period < 2 ^ 25) × (count < 2 ^ 42 + 2) }
@@ -164,8 +165,8 @@ fn slips_by(format: Format, century: u32, from: &Time, to: &Time, first: Pulse, 
 }
 
 /// Whether the last frame (`from`) is believed, a time follows it on its day (`next_time`), and yet
-/// nothing is counted after it (`end_after`): pulses there say another time, or no frame can have
-/// that time.
+/// `end_after` gives `None`: pulses there say another time, or no frame can have that time. False
+/// if it gives an empty part.
 fn is_denied_after(pulses: &mut Lens<'_>, format: Format, from: &Part) -> bool
     requires small { (from.now.time.micros < 2 ^ 59) × (from.now.number + from.now.count < 2 ^ 30) }
     ensures denied { result ≡ is_denied_after format pulses.old.track.pulses from.now }
@@ -177,8 +178,8 @@ fn is_denied_after(pulses: &mut Lens<'_>, format: Format, from: &Part) -> bool
 }
 
 /// Whether the first frame (`to`) is believed, a time is before it on its day (`time_before`), and
-/// yet nothing is counted before it (`end_before`): pulses there say another time, or no frame can
-/// have that time.
+/// yet `end_before` gives `None`: pulses there say another time, or no frame can have that time.
+/// False if it gives an empty part.
 fn is_denied_before(pulses: &mut Lens<'_>, format: Format, to: &Part) -> bool
     requires small { (to.now.time.micros < 2 ^ 59) × (to.now.number < 2 ^ 30) }
     ensures denied { result ≡ is_denied_before format pulses.old.track.pulses to.now }
@@ -189,8 +190,9 @@ fn is_denied_before(pulses: &mut Lens<'_>, format: Format, to: &Part) -> bool
         && end_before(pulses, format, to).is_none()
 }
 
-/// Whether the time jumps between two frames; before the first one, if there is no `from`; or after
-/// the last one, if there is no `to`. False if there is neither.
+/// Whether the time jumps between two frames (`is_jump`). If `to` is `None`, `from` is the last: if
+/// pulses after it deny the next time (`is_denied_after`). If `from` is `None`, `to` is the first:
+/// if pulses before it deny the time before (`is_denied_before`). False if both are `None`.
 pub fn is_jump_between(
     pulses: &mut Lens<'_>,
     format: Format,
@@ -213,8 +215,8 @@ pub fn is_jump_between(
     }
 }
 
-/// A frame, if the time `jumps` after it: of its pulses at most the marker keeps its time, since
-/// nobody knows at which element the time jumps. Else as it is.
+/// A frame, if the caller found that the time `jumps` after it: of its pulses at most the marker
+/// keeps its time, since nobody knows at which element the time jumps. Else as it is.
 pub fn before_jump(jumps: bool, part: Part) -> Part
     ensures { result ≡ before_jump jumps part }
 {
@@ -228,9 +230,9 @@ pub fn before_jump(jumps: bool, part: Part) -> Part
     }
 }
 
-/// A frame, if the time `jumps` before it: its first elements, which carry its time, lose it, and
-/// the pulses after them keep it, since the time was surely right from there on. Else as it is. A
-/// frame of fewer pulses keeps none.
+/// A frame, if the caller found that the time `jumps` before it: its first elements, which carry
+/// its time (`time_elements`), lose it. The pulses after them, if any, keep it, since it was surely
+/// right from there on. If the time does not jump, the frame as it is.
 pub fn after_jump(format: Format, jumps: bool, part: Part) -> Part
     requires small { (part.number < 2 ^ 32) × (part.element < 2 ^ 32) }
     ensures { result ≡ after_jump format.kind jumps part }

@@ -29,14 +29,15 @@ pub struct Missing {
     pub last: Time,
 }
 
-/// The time in the minute of another, `micros` microseconds after that minute began.
+/// The time in the minute of `time`, `micros` microseconds after that minute began. Nothing is
+/// carried: it can be past the end of the minute, which callers test.
 fn at_micros(time: &Time, micros: u64) -> Time
     ensures { result ≡ at_micros time.now micros }
 {
     Time { micros, ..*time }
 }
 
-/// The time on the day of another, `micros` microseconds after this hour and minute began.
+/// The time on the day of `time`, `micros` microseconds after this hour and minute began.
 fn at_minute(time: &Time, hours: u32, minutes: u32, micros: u64) -> Time
     ensures { result ≡ at_minute time.now hours minutes micros }
 {
@@ -49,16 +50,17 @@ fn at_minute(time: &Time, hours: u32, minutes: u32, micros: u64) -> Time
 }
 
 /// The microseconds of the minute with this number in its hour, for a frame whose time is counted
-/// and not read. The last one, 59, has 61 seconds here, as it can have a leap second in each time
-/// zone of whole hours; any other one has 60. A frame that is read with a second 60 has it in any
-/// minute.
+/// and not read. The last one, 59, has 61 seconds here: in each time zone of whole hours a leap
+/// second is at the end of that minute. Any other minute has 60. A frame that is read may have a
+/// second 60 in any minute: that is not tested here.
 fn minute_end(minutes: u32) -> u64
     ensures { result ≡ minute_end minutes }
 {
     if minutes == 59 { LONG_MINUTE } else { MINUTE }
 }
 
-/// Whether a frame of a time that lasts `period` ends in its minute (`minute_end`), or with it.
+/// Whether a frame that begins at `time` and lasts `period` ends with its minute at the latest
+/// (`minute_end`).
 pub fn is_whole(period: u64, time: &Time) -> bool
     requires { (period < 2 ^ 32) × (time.now.micros < 2 ^ 60) }
     ensures { result ≡ is_whole period time.now }
@@ -66,8 +68,8 @@ pub fn is_whole(period: u64, time: &Time) -> bool
     time.micros + period <= minute_end(time.minutes)
 }
 
-/// Whether `time` is one period after `from` and one period before `to`, and a frame of that time
-/// ends in its minute, or with it.
+/// Whether `time` is one period after `from` and one period before `to` (`is_later`), and a frame
+/// of that time ends with its minute at the latest (`is_whole`).
 fn is_middle(century: u32, period: u64, from: &Time, time: &Time, to: &Time) -> bool
     requires century { century ≤ 99 }
     requires small { period < 2 ^ 32 }
@@ -80,7 +82,8 @@ fn is_middle(century: u32, period: u64, from: &Time, time: &Time, to: &Time) -> 
 }
 
 /// The time of the one frame that is missing between two: one period after the first and one before
-/// the second, in the minute of the first or of the second. `None` if there is no such time, or its
+/// the second. A period is shorter than a minute, so this time is in the minute of the first or of
+/// the second: both are tried. `None` if neither fits (`is_middle`): there is no such time, or its
 /// frame would end after its minute.
 pub fn middle(century: u32, period: u64, from: &Time, to: &Time) -> Option<Time>
     requires century { century ≤ 99 }
@@ -157,8 +160,8 @@ pub fn day_micros(time: &Time) -> u64
     MINUTE * (60 * time.hours as u64 + time.minutes as u64) + time.micros
 }
 
-/// How many periods two rises in microseconds are apart, to the nearest; 0 if the second is not
-/// later.
+/// How many periods two rises in microseconds are apart, to the nearest, a half up; 0 if the second
+/// is not later. The clause `few` only keeps sums of callers in their types.
 pub fn rounded(period: u64, from: u64, to: u64) -> u64
     requires some { 0 < period }
     requires small { (period < 2 ^ 32) × (to < 2 ^ 60) }
@@ -168,11 +171,12 @@ pub fn rounded(period: u64, from: u64, to: u64) -> u64
     (2 * to.saturating_sub(from) + period) / (2 * period)
 }
 
-/// The frames that are missing between two, if the markers of the two are `count` periods apart:
-/// `count` - 1 frames. `from` and `to` are the times of the two. `None` if no frame is missing, if
-/// the times are not `count` periods apart, or if the first or the last missing frame would end
-/// after its minute. If more than one is missing, also `None` over midnight, as the times are
-/// compared by the microseconds of one day, and if `from` is in a second 60 (`next_time`).
+/// The frames that are missing between two. `count` is how many periods apart the caller found the
+/// markers of the two, so `count` - 1 frames are missing. `from` and `to` are the times of the two.
+/// `None` if `count` is 0 or 1; if the times are not `count` periods apart; or if the first or the
+/// last missing frame would end after its minute. If one frame is missing, `middle` decides. If
+/// more are, it is also `None` over midnight, as the times are compared by the microseconds of one
+/// day, and if `from` is in a second 60 (`next_time`).
 pub fn missing_in(century: u32, period: u64, count: u64, from: &Time, to: &Time) -> Option<Missing>
     requires century { century ≤ 99 }
     requires small { (period < 2 ^ 25) × (count < 2 ^ 42 + 2) }
@@ -201,7 +205,7 @@ pub fn later_micros(period: u64, count: u64, from: &Time) -> u128
     u128::from(day_micros(from)) + u128::from(count) * u128::from(period)
 }
 
-/// One missing frame, which has this time: it is the first and the last. `None` without a time.
+/// One missing frame, of this time: it is the first and the last. `None` if there is no time.
 fn missing_one(time: Option<Time>) -> Option<Missing>
     ensures { result ≡ missing_one time }
 {
@@ -216,7 +220,7 @@ fn missing_one(time: Option<Time>) -> Option<Missing>
 }
 
 /// Two missing frames or more: the first and the last have these times. `None` if one of the times
-/// is not there, or its frame would end after its minute.
+/// is not there, or its frame would end after its minute (`is_whole`).
 fn missing_more(period: u64, first: Option<Time>, last: Option<Time>) -> Option<Missing>
     requires small { period < 2 ^ 25 }
     requires first { IfSome first (λ t. t.micros < 2 ^ 60) }

@@ -1,7 +1,9 @@
 //! The five frames that are nearest to one. They are frames that have a time, on one side of it.
 //! Five, since each of the first three can be a shore of an island, and the two after it support
 //! that one. An island is up to three frames that are wrong alike; a shore is the frame next to it.
-//! `Shown` is what a frame shows: its fields, and when its marker rises.
+//! `Shown` is what a frame shows: its fields, and when its marker rises. In contracts, `nearest` is
+//! the first five frames of a list, and `with_frame` is a list with one more frame before it, if
+//! that is there.
 
 ghost use Rattle.std.specs.Prelude.{◌≡◌, List, []};
 ghost use Rattle.irig_safety.specs.declared.shown.Shown.{Shown};
@@ -9,7 +11,7 @@ ghost use Rattle.irig_times.specs.{Nearest.nearest, Support.with_frame};
 
 use irig_safety::Shown;
 
-/// A frame, if it is there, and the two next after it that are farther away.
+/// A frame, and the two next after it that are farther away; `None` for each that is not there.
 pub type Three = (Option<Shown>, Option<Shown>, Option<Shown>);
 
 /// The five frames that are nearest to a frame on one side of it, the nearest one first; `None` for
@@ -37,8 +39,9 @@ impl Nearest {
         }
     }
 
-    /// These after a nearer frame: `frame` is the first then, and the fifth is dropped. If `frame`
-    /// is `None`, they stay as they are.
+    /// The five nearest with one more frame, which is nearer than all of them: `frame` becomes the
+    /// first, each other one moves one place on, and the fifth is dropped. If `frame` is `None`,
+    /// the five stay as they are.
     pub fn with(self, frame: Option<Shown>) -> Nearest
         ensures { (frames : List Shown) → self ≡ nearest frames
             → result ≡ nearest (with_frame frame frames) }

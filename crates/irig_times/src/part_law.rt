@@ -9,9 +9,11 @@ ghost use Rattle.irig_times.specs.PartLaws.{KeepsTimes, NeverFallsByParts, OfCal
 ghost use Rattle.irig_times.specs.Origins.{FramesAreSupported, TimesAreCounted};
 ghost use Rattle.irig_times.specs.PartLaws.{TimedPartsAreParts};
 
-/// Does nothing. Its contract is what holds of the times by the pulses that have one:
+/// Does nothing. Its contract is what holds of the times by the pulses that have one. The time of a
+/// pulse goes on if the next pulse has the time one interval later.
 ///
-/// - A moment has one time at most (`one`), exact as a pulse rises (`points`).
+/// - A moment has one time at most (`one`). At the rise of a pulse whose time goes on, it is
+///   exactly the time of that pulse (`points`).
 /// - Time never falls within a part (`falls`), or over pulses that all have a time that goes on
 ///   (`over`). It is not before the last pulse's time, and it is before the next pulse's time
 ///   (`between`).
@@ -19,7 +21,7 @@ ghost use Rattle.irig_times.specs.PartLaws.{TimedPartsAreParts};
 /// - To round moments down to picoseconds changes no time (`picos`).
 /// - No pulse is in two parts (`parts`). A pulse of a part is of a believed frame, or is counted
 ///   from one, at most a hundred pulses on or back (`counted`).
-/// - Another frame agrees with each believed frame, or it is the only one (`supported`).
+/// - Another frame agrees with each believed frame, or that one is the only frame (`supported`).
 /// - A moment that has a time by a believed frame alone has it by the parts too, except next to a
 ///   jump of the time, before tens of lost intervals, and in a last element that no believed frame
 ///   follows (`keeps`).

@@ -3,13 +3,13 @@
 //! both believed: another frame near each supports its time. A side is the pulses after `from`, or
 //! back from `to`; pulse 0 of a side is the nearest to the frame. A pair is the part counted on
 //! from `from` and the part counted back from `to`. Pulses are in step if each rises one interval
-//! after the one before. A side counts a hundred pulses in step at most, a frame: further on a slip
-//! of one whole interval, which leaves pulses in step, would go unseen. If intervals are lost
-//! between the frames, a side keeps only what is borne out: of its pulses before the first that
-//! says another element (`denies`) those that are nearer than the farthest position identifier at
-//! its place (`confirms`). `missing` is the frames that have to be between the two by their times,
-//! and `wanted` the elements that the frame of a side should have. `Lens` shows the pulses of a
-//! track. Bounds in `requires`, as 2 ^ 32 and 2 ^ 59, only keep sums in their types.
+//! after the one before. A side counts a frame, 100 pulses in step, at most: further on a slip of
+//! one whole interval, which leaves pulses in step, would go unseen. If intervals are lost between
+//! the frames, a side keeps what is borne out: of its pulses before the first that says another
+//! element (`denies`) those nearer than the farthest position identifier at its place (`confirms`).
+//! `missing` is the frames that have to be between the two by their times, `wanted` the elements
+//! that the frame of a side should have. `Lens` shows the pulses of a track. Bounds in `requires`,
+//! as 2 ^ 32, only keep sums in their types. `century` is 20 for 2000 to 2099.
 
 ghost use Rattle.std.specs.Prelude.{◌≡◌, ◌≤◌, ◌<◌, ◌+◌, ◌^◌};
 ghost use Rattle.irig_times.specs.Sides.{between, borne, borne_at, confirmed, placed, side_after};
@@ -28,8 +28,8 @@ use irig_track::Lens;
 /// The microseconds of a minute with a second 60.
 const LONG_MINUTE: u64 = 61_000_000;
 
-/// How many of the first `most` pulses of a side come before the first that says another element;
-/// all `most` if none does.
+/// How many of the first `most` pulses of a side come before the first of them that says another
+/// element than `wanted` (`denies`); all `most` if none does.
 fn undenied(
     pulses: &mut Lens<'_>,
     format: Format,
@@ -53,8 +53,8 @@ fn undenied(
 }
 
 /// How many of the first `most` pulses of a side are nearer than the farthest of them that is a
-/// position identifier at its place; 0 if none is. That one is not counted: what is lost can be
-/// within it.
+/// position identifier at its place (`confirms`); 0 if none is. The identifier is not counted: what
+/// is lost can be within it.
 fn confirmed(
     pulses: &mut Lens<'_>,
     format: Format,
@@ -78,9 +78,9 @@ fn confirmed(
 }
 
 /// How many of the first `most` pulses of a side are kept: of those before the first that says
-/// another element (`undenied`) the ones that are nearer than the farthest position identifier at
-/// its place. It is not kept itself, since what is lost can be within it. On a side that goes back
-/// the farthest pulse of all is not taken for one (`placed`). 0 if there is no such identifier.
+/// another element (`undenied`) the ones nearer than the farthest position identifier at its place
+/// (`confirmed`); 0 if no such identifier is there. On a side that goes back the farthest of those
+/// pulses is not taken for an identifier (`placed`).
 fn borne(
     pulses: &mut Lens<'_>,
     format: Format,
@@ -112,7 +112,7 @@ fn placed(side: &Side, most: usize) -> usize
 }
 
 /// How many of the first `most` pulses of a side are kept (`borne`), if its frame has this time; 0
-/// if no frame can have it: it is past 61 seconds of its minute, or does not fit the format.
+/// if no frame can have it: it is past 61 seconds of its minute, or the format cannot carry it.
 pub fn borne_at(
     pulses: &mut Lens<'_>,
     format: Format,
@@ -158,7 +158,7 @@ fn side_after(part: &Part) -> Side
 }
 
 /// The side before a frame: from the pulse before its first one back. If the first one is pulse 0,
-/// there is no such pulse, and callers ask for none.
+/// there is no pulse before it, and callers ask for none.
 fn side_before(part: &Part) -> Side
     ensures { result ≡ side_before part.now }
 {
@@ -168,10 +168,10 @@ fn side_before(part: &Part) -> Side
     }
 }
 
-/// The pair between two frames, if intervals are lost there. `after` pulses after the first and
-/// `before` ones before the second are in step; of these each side keeps what is borne out. `None`
-/// if tens of intervals are lost, as each position identifier is then at the place of another; or
-/// if a pulse would be of both sides.
+/// The pair between two frames, if intervals are lost there. `after` is how many pulses after the
+/// first the caller found in step, `before` how many before the second: of these each side keeps
+/// what is borne out (`borne_at`). `None` if tens of intervals are lost, as each position
+/// identifier is then at the place of another; or if a pulse would be of both sides.
 fn torn_sides(
     pulses: &mut Lens<'_>,
     format: Format,
@@ -196,9 +196,9 @@ fn torn_sides(
     sides_at(pulses, format, from, to, head, tail, missing)
 }
 
-/// The pair between two frames, if `after` pulses after the first and `before` ones before the
-/// second are in step: what `sides_at` makes of these, or of fewer if intervals are lost there
-/// (`torn_sides`). `None` if a pulse would be of both sides, or tens of intervals are lost.
+/// The pair between two frames. The caller found `after` pulses after the first in step, and
+/// `before` ones before the second: `torn_sides` answers for these if intervals are lost there
+/// (`is_torn`), else `sides_at`. `None` if a pulse would be of both, or tens of intervals are lost.
 fn sides_in(
     pulses: &mut Lens<'_>,
     format: Format,
@@ -222,10 +222,10 @@ fn sides_in(
     }
 }
 
-/// The pulses between two frames that have a time: up to a hundred in step with the first (`ahead`)
-/// and with the second (`behind`). `None` if `missing_by` gives no missing frames, as if none is
-/// missing, the times do not fit the distance, or two or more are missing over midnight. `None`,
-/// too, for the reasons of `sides_in`. `century` is 20 for 2000 to 2099.
+/// The pulses between two frames that have a time: what `sides_in` keeps of up to a hundred in step
+/// with the first (`ahead`) and with the second (`behind`). `None` if `sides_in` says so, or if
+/// `missing_by` gives no missing frames: none is missing, the times do not fit the markers'
+/// distance, or it is a case that `missing_by` does not count, as two or more over midnight.
 pub fn between(
     pulses: &mut Lens<'_>,
     format: Format,

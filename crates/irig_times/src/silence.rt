@@ -30,8 +30,8 @@ fn is_silence(format: Format, micros: u64) -> bool
     micros > 2 * format.interval()
 }
 
-/// Whether silence is before the first pulse of a track, from the begin of the recording to its
-/// rise; false if the track has no pulse.
+/// Whether silence is before the first pulse of a track, from the begin of the recording to the
+/// rise of that pulse (`is_silence`); false if the track has no pulse.
 fn is_silent_before(format: Format, first: Option<Pulse>) -> bool
     ensures { result ≡ is_silent_before format first }
 {
@@ -42,7 +42,8 @@ fn is_silent_before(format: Format, first: Option<Pulse>) -> bool
 }
 
 /// Whether silence is after the last pulse of a track, from its rise to the end of the recording,
-/// which is `micros` microseconds long; false if the track has no pulse.
+/// which is `micros` microseconds long (`is_silence`); false if the track has no pulse. The
+/// subtraction stops at 0, but no pulse rises after the end.
 fn is_silent_after(format: Format, micros: u64, last: Option<Pulse>) -> bool
     ensures { result ≡ is_silent_after format micros last }
 {
@@ -52,7 +53,8 @@ fn is_silent_after(format: Format, micros: u64, last: Option<Pulse>) -> bool
     }
 }
 
-/// Whether a part begins with the first pulse of a track, and silence is before it.
+/// Whether a part begins with the first pulse of a track, and silence is before that pulse
+/// (`is_silent_before`).
 fn follows_silence(pulses: &mut Lens<'_>, format: Format, part: &Part) -> bool
     ensures silent { result ≡ follows_silence format pulses.old.track.pulses part.now }
     ensures pulses { pulses.new.track ≡ pulses.old.track }
@@ -64,7 +66,8 @@ fn follows_silence(pulses: &mut Lens<'_>, format: Format, part: &Part) -> bool
     is_silent_before(format, first)
 }
 
-/// Whether a part ends with the last pulse of a track, and silence is after it.
+/// Whether a part ends with the last pulse of a track, and silence is after that pulse
+/// (`is_silent_after`). False for a track without pulses: its last one is not there.
 fn precedes_silence(pulses: &mut Lens<'_>, format: Format, part: &Part) -> bool
     requires small { (part.now.number < 2 ^ 32) × (part.now.count ≤ 100) }
     ensures silent { result ≡ precedes_silence format pulses.old.track.micros
@@ -90,8 +93,8 @@ fn has_its_time(pulses: &Lens<'_>, format: Format, part: &Part) -> bool
     part.element == 0 && telling(pulses, part) >= time_elements(format)
 }
 
-/// Whether a part before the first frame counts: it is not next to silence, or it has all elements
-/// of its time.
+/// Whether a part before the first frame counts: it is not next to silence (`follows_silence`), or
+/// it has all elements of its time (`has_its_time`).
 fn counts_before(pulses: &mut Lens<'_>, format: Format, part: &Part) -> bool
     requires small { (part.now.number < 2 ^ 32) × (part.now.count ≤ 100) }
     ensures counts { result ≡ counts_before format pulses.old.track.pulses part.now }
@@ -100,8 +103,10 @@ fn counts_before(pulses: &mut Lens<'_>, format: Format, part: &Part) -> bool
     !follows_silence(pulses, format, part) || has_its_time(pulses, format, part)
 }
 
-/// The pulses of a part up to the last position identifier that is where its frame should have one,
-/// without it. Only those count that come before a pulse that says another element (`borne_at`).
+/// A part with its first pulses alone: those before its last position identifier that is where its
+/// frame should have one. Only identifiers before the first pulse that says another element are
+/// taken (`borne_at`). It has no pulse if there is no such identifier, or if no frame can have its
+/// time.
 fn up_to_mark(pulses: &mut Lens<'_>, format: Format, part: &Part) -> Part
     requires small { (part.now.number < 2 ^ 32) × (part.now.count ≤ 100) }
     ensures part { result ≡ up_to_mark format pulses.old.track.pulses part.now }
@@ -112,8 +117,8 @@ fn up_to_mark(pulses: &mut Lens<'_>, format: Format, part: &Part) -> Part
 }
 
 /// What counts of a part before silence, and the empty part after it (`next`). `None` if the part
-/// does not have all elements of its time. From its last position identifier on nothing counts
-/// (`up_to_mark`), as nothing shows what was lost there.
+/// does not have all elements of its time (`has_its_time`). From its last position identifier on
+/// nothing counts (`up_to_mark`), as nothing shows what was lost there.
 fn before_silence(
     pulses: &mut Lens<'_>,
     format: Format,
@@ -153,8 +158,8 @@ fn heard_before(
 }
 
 /// The pulses after the last frame that have a time (`sides`, as `end_after` gives them), as far as
-/// they count: all, if no silence is after them; else what `before_silence` leaves. `None` if there
-/// are none, or none count.
+/// they count. All do, unless they end the track and silence is after it (`precedes_silence`): then
+/// what `before_silence` leaves. `None` if there are none, or none count.
 fn heard_after(
     pulses: &mut Lens<'_>,
     format: Format,
@@ -175,9 +180,10 @@ fn heard_after(
     }
 }
 
-/// The pulses before the first frame (`to`) that have a time, and an empty part. `None` if the
-/// frame is not believed or begins the day, if a pulse says another time, if no frame can have that
-/// time, or if silence is before them and not all elements of the time are there.
+/// The pulses before the first frame (`to`) that have a time, and an empty part. `end_before` gives
+/// them: `None` if the frame is not believed or begins the day, if a pulse says another time, or if
+/// no frame can have that time. `heard_before` gives `None`, too, if silence is before them and not
+/// all elements of the time are there.
 pub fn counted_before(pulses: &mut Lens<'_>, format: Format, to: &Part) -> Option<(Part, Part)>
     requires { (to.now.time.micros < 2 ^ 59) × (to.now.number < 2 ^ 30) }
     ensures end { result ≡ counted_before format pulses.old.track.pulses to.now }
@@ -187,10 +193,11 @@ pub fn counted_before(pulses: &mut Lens<'_>, format: Format, to: &Part) -> Optio
     heard_before(pulses, format, sides)
 }
 
-/// The pulses after the last frame (`from`) that have a time, and an empty part. `None` if the
-/// frame is not there, not believed, ends the day or shows a second 60, if a pulse says another
-/// time, if no frame can have that time, or if silence is after them and not all elements of the
-/// time are there. With silence after them they end before the last position identifier.
+/// The pulses after the last frame (`from`) that have a time, and an empty part. `end_after` gives
+/// them: `None` if the frame is not there, not believed, ends the day or shows a second 60, if a
+/// pulse says another time, or if no frame can have that time. If they end the track and silence is
+/// after it, `heard_after` gives only those before the last position identifier, and `None` if not
+/// all elements of the time are there.
 pub fn counted_after(
     pulses: &mut Lens<'_>,
     format: Format,

@@ -4,7 +4,7 @@
 //! nor read with a note, and ends with its minute of 61 seconds at the latest. `Lens` shows the
 //! pulses of a track, and `FrameLens` its records. Neither is changed, but for its count of looks.
 //! `PartedAt` claims how many records have a marker up to a pulse: this is also the place of the
-//! first record after it.
+//! first record after it. `AreFrames` claims that the records are those of a track.
 
 ghost use Rattle.std.specs.Prelude.{◌≡◌, ◌↔◌, ◌<◌, ◌≤◌, ◌+◌, IsTrue, length, slice_get, Some};
 ghost use Rattle.irig_codes.specs.Format.{FormatView};
@@ -32,7 +32,7 @@ pub struct FrameStart {
 }
 
 /// Where the frame of the record at a place starts: when its marker rises, its time, and whether
-/// the next frame follows it (`is_followed`). `None` if the frame has no time.
+/// the next frame follows it (`is_followed`). `None` if the frame has no time (`timed`).
 pub fn start_of(
     pulses: &mut Lens<'_>,
     records: &mut FrameLens<'_>,
@@ -99,9 +99,10 @@ fn started(
 }
 
 /// Whether the next frame begins right after the frame with these fields, and its time is one frame
-/// period later. `number` is the last pulse of the frame with these fields, and `next` the place of
-/// the next frame's record. False if there is no next frame, or it has no time. One can be
-/// subtracted from a marker: it is never pulse 0, since another position identifier is before it.
+/// period later (`is_later`). `number` is the last pulse of the frame with these fields, and `next`
+/// the place of the next frame's record. False if there is no next frame, it begins elsewhere, or
+/// it has no time. `marker - 1` is never below 0: a marker is not pulse 0, as another position
+/// identifier is before it.
 fn is_followed(
     records: &mut FrameLens<'_>,
     format: Format,

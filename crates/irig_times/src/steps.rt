@@ -26,10 +26,10 @@ pub fn pulse_at(pulses: &mut Lens<'_>, number: usize) -> Option<Pulse>
     }
 }
 
-/// Whether pulse `number` rises one interval after the one before it, to a tenth, and that step is
-/// as long as those next to it. With the first test alone a rise could be late by two tenths if the
-/// clock is a tenth fast, so that its other steps are nine tenths of an interval. False for pulse
-/// 0, or if one of the two pulses is not there.
+/// Whether pulse `number` is in step: it rises one interval after the one before it, to a tenth
+/// (`follows_at`), and that step is as long as those next to it (`is_even_at`). With the first test
+/// alone a rise could be late by two tenths if the clock is a tenth fast, so that its other steps
+/// are nine tenths of an interval. False for pulse 0, or if one of the two pulses is not there.
 fn is_in_step_at(pulses: &mut Lens<'_>, format: Format, number: usize) -> bool
     requires { number < 2 ^ 33 }
     ensures step { result ≡ is_in_step_at format pulses.old.track.pulses number }
@@ -38,8 +38,8 @@ fn is_in_step_at(pulses: &mut Lens<'_>, format: Format, number: usize) -> bool
     follows_at(pulses, format, number) && is_even_at(pulses, format, number)
 }
 
-/// Whether pulse `number` rises one interval after the one before it, to a tenth; false if one of
-/// the two is not there.
+/// Whether pulse `number` rises one interval after the one before it, to a tenth; false for pulse
+/// 0, or if one of the two is not there.
 pub fn follows_at(pulses: &mut Lens<'_>, format: Format, number: usize) -> bool
     ensures step { result ≡ follows_at format pulses.old.track.pulses number }
     ensures pulses { pulses.new.track ≡ pulses.old.track }
@@ -52,7 +52,8 @@ pub fn follows_at(pulses: &mut Lens<'_>, format: Format, number: usize) -> bool
     are_in_step(format, before, here)
 }
 
-/// Whether two pulses are there, and the second rises one interval after the first, to a tenth.
+/// Whether two pulses are there, and the second rises one interval after the first, to a tenth. If
+/// it rises earlier, the distance stops at 0, which is not in step.
 fn are_in_step(format: Format, before: Option<Pulse>, here: Option<Pulse>) -> bool
     ensures { result ≡ are_in_step format before here }
 {
@@ -64,8 +65,8 @@ fn are_in_step(format: Format, before: Option<Pulse>, here: Option<Pulse>) -> bo
     }
 }
 
-/// How long after the one before it pulse `number` rises, in microseconds; 0, which is not in step,
-/// if one of the two is not there.
+/// How long after the one before it pulse `number` rises, in microseconds. 0, which is not in step,
+/// for pulse 0, or if one of the two is not there.
 fn step_at(pulses: &mut Lens<'_>, number: usize) -> u64
     ensures step { result ≡ step_at pulses.old.track.pulses number }
     ensures low { result ≤ 2 ^ 40 }
@@ -84,8 +85,8 @@ fn step_at(pulses: &mut Lens<'_>, number: usize) -> u64
     }
 }
 
-/// Whether a step is as long as `other`, which is one next to it, to a tenth; also true if `other`
-/// is not in step at all.
+/// Whether a step is as long as `other`, the step before or after it, to a tenth of `other`. Also
+/// true if `other` is not in step at all: then there is nothing to compare.
 fn is_as_long(format: Format, step: u64, other: u64) -> bool
     requires { (step ≤ 2 ^ 40) × (other ≤ 2 ^ 40) }
     ensures { result ≡ is_as_long format step other }
@@ -98,8 +99,9 @@ fn is_as_long(format: Format, step: u64, other: u64) -> bool
 }
 
 /// Whether the step to pulse `number` is as long as the step before it and the one after it, to a
-/// tenth. One of these that is not in step itself is not compared, and so none that is not there:
-/// it counts as 0 (`step_at`).
+/// tenth (`is_as_long`). One of those two that is not in step is not compared, and so none that is
+/// not there: it counts as 0 (`step_at`). Pulse 0 has no step before it: the subtraction stops at
+/// 0, and its own step is 0, too.
 fn is_even_at(pulses: &mut Lens<'_>, format: Format, number: usize) -> bool
     requires { number < 2 ^ 33 }
     ensures even { result ≡ is_even_at format pulses.old.track.pulses number }
@@ -111,8 +113,8 @@ fn is_even_at(pulses: &mut Lens<'_>, format: Format, number: usize) -> bool
     is_as_long(format, step, before) && is_as_long(format, step, after)
 }
 
-/// How many of the `most` pulses from pulse `number` on are each in step with the one before, up to
-/// the first that is not.
+/// How many of the `most` pulses from pulse `number` on come before the first that is not in step
+/// with the one before it (`is_in_step_at`); all `most` if each is in step.
 pub fn ahead(pulses: &mut Lens<'_>, format: Format, number: usize, most: usize) -> usize
     requires { (number < 2 ^ 32) × (most < 2 ^ 32) }
     ensures count { result ≡ ahead format pulses.old.track.pulses number most }
@@ -130,7 +132,8 @@ pub fn ahead(pulses: &mut Lens<'_>, format: Format, number: usize, most: usize) 
 }
 
 /// Whether each of `many` pulses from pulse `number` on rises one interval after the one before it,
-/// to a tenth. True if `many` is 0. Unlike in `ahead`, steps are not compared with each other.
+/// to a tenth (`follows_at`). True if `many` is 0. Unlike in `ahead`, steps are not compared with
+/// each other.
 pub fn all_follow(pulses: &mut Lens<'_>, format: Format, number: usize, many: usize) -> bool
     requires { (number < 2 ^ 32) × (many < 2 ^ 32) }
     ensures follow { result ≡ all_follow format pulses.old.track.pulses number many }
@@ -146,8 +149,9 @@ pub fn all_follow(pulses: &mut Lens<'_>, format: Format, number: usize, many: us
     true
 }
 
-/// How many pulses before pulse `number` lead to it in step, `most` at most. From pulse `number`
-/// back, for each pulse that is in step the one before it is counted, up to the first that is not.
+/// How many pulses before pulse `number` lead to it in step, `most` at most: there are no more than
+/// `number`. It starts with pulse `number` and goes back. For each pulse that is in step
+/// (`is_in_step_at`) it counts the one before that pulse, up to the first that is not in step.
 pub fn behind(pulses: &mut Lens<'_>, format: Format, number: usize, most: usize) -> usize
     requires { (most ≤ number) × (number < 2 ^ 32) }
     ensures count { result ≡ behind format pulses.old.track.pulses number most }

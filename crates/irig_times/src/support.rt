@@ -5,7 +5,9 @@
 //! `Lens` shows the pulses of the track, and `FrameLens` its records. `before` and `after` are the
 //! five frames nearest to a frame that have a time; their `near`, `next` and `far` are three in a
 //! row, from the first, the second and the third on. What a frame shows (`Shown`) is its fields and
-//! when its marker rises. An error says that memory ran out.
+//! when its marker rises. In contracts, `shown_in` is what those frames of some records show that
+//! have a time, and `with_frame` is a list with one more frame before it, if that is there. An
+//! error says that memory ran out.
 
 ghost use Rattle.std.specs.Prelude.{◌≡◌, ◌<◌, ◌&&◌, IfOk, None, Some, [], drop, is_some, length};
 ghost use Rattle.std.specs.Prelude.{List, not, slice_get};
@@ -24,8 +26,8 @@ use irig_safety::Shown;
 use irig_track::Lens;
 use std::alloc::{AllocError, Global};
 
-/// Of each record, in order, whether its frame is believed. With `alone` each frame that has a time
-/// is; else one that has a time, is supported and is on no island.
+/// Of each record, in order, whether its frame is believed (`is_held`). With `alone` each frame
+/// that has a time is believed; without it each that has a time, is supported and is on no island.
 pub fn held_frames(
     alloc: Global,
     pulses: &mut Lens<'_>,
@@ -51,7 +53,7 @@ pub fn held_frames(
     Ok(list)
 }
 
-/// What the frame of the record at a place shows; `None` if it has no time.
+/// What the frame of the record at a place shows; `None` if it has no time (`timed`).
 fn shown_at(
     pulses: &mut Lens<'_>,
     records: &mut FrameLens<'_>,
@@ -77,8 +79,8 @@ fn shown_at(
     }
 }
 
-/// The five frames nearest to the place `from` that have a time, of the records from it on; `None`
-/// for each that is not there.
+/// The first five frames that have a time, of the records from the place `from` on; `None` for each
+/// that is not there. They are the five nearest after the frame before that place.
 fn shown_after(
     pulses: &mut Lens<'_>,
     records: &mut FrameLens<'_>,
@@ -105,8 +107,8 @@ fn shown_after(
     }
 }
 
-/// The first frame that has a time of the records from a place on, and the place after its record.
-/// If there is none, no frame and the number of all records.
+/// The first frame that has a time, of the records from the place `from` on, and the place after
+/// its record. If there is none, `None` and the number of all records.
 fn next_shown(
     pulses: &mut Lens<'_>,
     records: &mut FrameLens<'_>,
@@ -131,16 +133,17 @@ fn next_shown(
     (None, records.len())
 }
 
-/// Whether a frame is there, so whether a record has shown one that has a time.
+/// Whether a frame is there: its record shows one that has a time.
 fn is_there(frame: Option<Shown>) -> bool
     ensures { result ≡ is_some frame }
 {
     frame.is_some()
 }
 
-/// Whether a frame is there and believed. `before` is the nearest frames before it, and from the
-/// place `next` on are the records after it: these are looked at only if the frames before do not
-/// decide it (`is_sure`). `alone`: each frame that has a time is believed.
+/// Whether a frame is there and believed; false if it is `None`. If `alone`, each frame that is
+/// there is believed. `before` is the nearest frames before it; the records after it begin at the
+/// place `next`. True without a look at those, if the frames before suffice (`is_sure`); else
+/// `is_believed` decides.
 fn is_held(
     pulses: &mut Lens<'_>,
     records: &mut FrameLens<'_>,
@@ -186,7 +189,7 @@ fn is_sure(format: Format, before: &Nearest, frame: &Shown) -> bool
         && !is_shore_before(format, before.far(), frame)
 }
 
-/// Whether a frame is supported, and on no island.
+/// Whether a frame is supported (`is_supported`), and on no island (`is_on_island`).
 fn is_believed(format: Format, before: &Nearest, frame: &Shown, after: &Nearest) -> bool
     ensures { (left : List Shown) (right : List Shown) → before.now ≡ nearest left
         → after.now ≡ nearest right → result ≡ is_believed format left frame.now right }
@@ -195,7 +198,7 @@ fn is_believed(format: Format, before: &Nearest, frame: &Shown, after: &Nearest)
 }
 
 /// Whether one of the two nearest frames before a frame, or of the two nearest after it, agrees
-/// with it, or there is no other frame with a time at all.
+/// with it. Also true if no other frame has a time, so none could support it.
 fn is_supported(format: Format, before: &Nearest, frame: &Shown, after: &Nearest) -> bool
     ensures { result ≡ is_supported format before.now.second before.now.first after.now.first
         after.now.second frame.now }

@@ -15,11 +15,11 @@ use crate::torn::{are_tens, is_torn, tenths_found};
 use irig_codes::Format;
 use irig_track::Lens;
 
-/// Whether intervals are lost between two frames, and their number is a multiple of ten.
-/// `is_torn` says whether some are lost: it needs how many pulses after the first frame, and how
-/// many before the second, are in step. These counts end at 100, a frame, which is as much as it
-/// looks at. The lost ones are tens if the second marker is a multiple of ten intervals after the
-/// first, to a fifth of one (`are_tens`; `tenths_found` is that distance in tenths of an interval).
+/// Whether intervals are lost between two frames (`is_torn`), and their number is a multiple of
+/// ten. `is_torn` needs how many pulses after the first frame (`after`) and before the second
+/// (`before`) are in step; these counts end at 100, a frame, which is as much as it looks at. The
+/// lost ones are tens if the second marker is a multiple of ten intervals after the first, to a
+/// fifth of one (`are_tens`). `tenths_found` is that distance in tenths of an interval.
 fn loses_tens(pulses: &mut Lens<'_>, format: Format, from: &Part, to: &Part) -> bool
     requires order { from.now.number + from.now.count ≤ to.now.number }
     requires small { to.now.number < 2 ^ 32 }
@@ -35,14 +35,15 @@ fn loses_tens(pulses: &mut Lens<'_>, format: Format, from: &Part, to: &Part) -> 
     are_tens(tenths_found(pulses, from, to))
 }
 
-/// How many elements of a frame are surely its own, if the next frame's marker is `found` tenths of
-/// an interval after its own, and tens of intervals are lost between the two. A marker after the
-/// loss is whole frames before the next frame's. So if the loss were early in the frame, a marker
+/// How many elements of a frame are surely its own, if tens of intervals are lost up to the next
+/// frame, whose marker is `found` tenths of an interval after its own. Markers after the loss are
+/// whole frames before the next frame's marker. So if the loss were early in the frame, a marker
 /// would be at its element 10, 20 .. or 90: `found` to the nearest ten intervals, without whole
-/// frames. The frame reads well, so no marker is there, and the loss is later. So its own are the
-/// elements before the position identifier just before that place: 9, 19 .. or 89 of them. The
-/// identifier does not count, as a pulse with the loss within it can look like one. All 100 if
-/// whole frames are lost: then markers stay at element 0.
+/// frames. With 1700 tenths, 170 intervals, that is element 70. The frame reads well, so no marker
+/// is there, and the loss is later. Its own are the elements before the position identifier just
+/// before that place: here 69 of them, 0 to 68. The identifier does not count, as a pulse with the
+/// loss within it can look like one. All 100 count if `found` is whole frames: then that marker
+/// would be at element 0, where the frame has one anyway.
 fn sure_elements(found: u64) -> usize
     requires { found ≤ 2 ^ 54 }
     ensures { result ≡ sure_elements found }
@@ -62,7 +63,8 @@ fn front_of(part: Part, most: usize) -> Part
 }
 
 /// Of a frame before another one (`to`) the pulses that are surely its own: all, unless tens of
-/// intervals are lost between the two; then only the first of them (`sure_elements`).
+/// intervals are lost between the two (`loses_tens`); then only the first of them
+/// (`sure_elements`).
 fn before_loss(pulses: &mut Lens<'_>, format: Format, part: Part, to: &Part) -> Part
     requires order { part.number + part.count ≤ to.now.number }
     requires small { to.now.number < 2 ^ 32 }
@@ -77,8 +79,9 @@ fn before_loss(pulses: &mut Lens<'_>, format: Format, part: Part, to: &Part) -> 
     front_of(part, sure_elements(found))
 }
 
-/// Of a frame before the next one (`to`) the pulses that are surely its own: all, if no tens of
-/// intervals are lost between the two, or if there is no next frame; else the first of them.
+/// Of a frame before the next one (`to`) the pulses that are surely its own: all, if there is no
+/// next frame, or if no tens of intervals are lost between the two; else the first of them
+/// (`before_loss`).
 pub fn up_to_loss(pulses: &mut Lens<'_>, format: Format, part: Part, to: Option<Part>) -> Part
     requires order { IfSome to (λ b. part.number + part.count ≤ b.number) }
     requires small { IfSome to (λ b. b.number < 2 ^ 32) }

@@ -33,8 +33,8 @@ pub struct Side {
     pub number: usize,
 }
 
-/// How long after pulse `one` pulse `other` rises, in microseconds: both are numbers of pulses from
-/// 0. 0 if one of them is not there, or the other does not rise later.
+/// How many microseconds after pulse `one` pulse `other` rises; both are numbers of pulses, from 0.
+/// The result is 0 if one of them is not there, or `other` rises no later.
 fn from_to(pulses: &mut Lens<'_>, one: usize, other: usize) -> u64
     ensures time { result ≡ from_to pulses.old.track.pulses one other }
     ensures low { result ≤ 2 ^ 40 }
@@ -79,8 +79,8 @@ fn tenths_by(both: u64, time: u64) -> u64
 }
 
 /// How many tenths of an interval the second frame is after the first, as it was recorded: 990 for
-/// the first frame, the 99 intervals from its marker to its last element, and the time from there
-/// to the second marker by the mean interval of both frames.
+/// the 99 intervals of the first, and the time from its last element to the second marker by the
+/// mean interval of both (`tenths_by`). That time is 0 if one of these two pulses is not there.
 pub fn tenths_found(pulses: &mut Lens<'_>, from: &Part, to: &Part) -> u64
     requires { (from.now.number < 2 ^ 32) × (to.now.number < 2 ^ 32) }
     ensures count { result ≡ tenths_found pulses.old.track.pulses from.now to.now }
@@ -93,7 +93,7 @@ pub fn tenths_found(pulses: &mut Lens<'_>, from: &Part, to: &Part) -> u64
 }
 
 /// How many tenths of an interval the second marker should be after the first, if none was lost:
-/// 1000 for each frame period between them, to the nearest (`rounded`, from 0 to the distance).
+/// 1000 for each frame period between them, to the nearest (`rounded`); 0 if it rises no later.
 fn tenths_told(pulses: &mut Lens<'_>, format: Format, from: &Part, to: &Part) -> u64
     ensures count { result ≡ tenths_told format pulses.old.track.pulses from.now to.now }
     ensures few { result ≤ 2 ^ 54 }
@@ -113,8 +113,8 @@ fn are_near(one: u64, other: u64) -> bool
 }
 
 /// Whether these tenths of an interval are tens of intervals, to a fifth of one: a whole number of
-/// hundreds, to 2. If two frames between which intervals are lost are so far apart, tens are. A
-/// loss that is further off, as of 10.3 intervals, is not in step, so counting ends there.
+/// hundreds, to 2. A frame has ten tens, so if two frames are this far apart and intervals are
+/// lost, tens are. A loss further off, as of 10.3 intervals, is not in step: counting ends there.
 pub fn are_tens(count: u64) -> bool
     requires { count ≤ 2 ^ 54 }
     ensures { result ≡ are_tens count }
@@ -123,9 +123,9 @@ pub fn are_tens(count: u64) -> bool
 }
 
 /// Whether intervals are lost between two frames, or are there twice: the markers' distance
-/// (`tenths_found`) is more than half an interval off from the whole periods that it is nearest to.
-/// `after` pulses after the first and `before` ones before the second are in step, a hundred each
-/// at most. False if these counts overlap: then all pulses there are in step.
+/// (`tenths_found`) is over half an interval off from the nearest whole periods (`tenths_told`).
+/// `after` is how many pulses after the first the caller found in step, `before` how many before
+/// the second. False if these counts overlap: then all pulses there are in step.
 pub fn is_torn(
     pulses: &mut Lens<'_>,
     format: Format,
@@ -171,7 +171,7 @@ fn element_of(side: &Side, place: usize) -> usize
 }
 
 /// Whether a pulse is there and is a position identifier by its width, and `wanted`, the element
-/// that it should be, is another one.
+/// that it should be, is a 0 or a 1.
 fn is_stray(format: Format, pulse: Option<Pulse>, wanted: Element) -> bool
     ensures { result ≡ is_stray format pulse (Some wanted) }
 {
@@ -185,9 +185,9 @@ fn is_stray(format: Format, pulse: Option<Pulse>, wanted: Element) -> bool
 }
 
 /// Whether pulse `place` of a side says another element than `wanted`, the elements that the frame
-/// there should have. Only position identifiers and the elements of the time are compared; but a
-/// position identifier where none is wanted counts, too. False if the pulse is not there, or its
-/// width is of no class.
+/// there should have. Only position identifiers and the elements of the time are compared
+/// (`contradicts`); but a position identifier where none is wanted counts, too (`is_stray`). False
+/// if the pulse is not there, or its width is of no class.
 pub fn denies(
     pulses: &mut Lens<'_>,
     format: Format,
@@ -208,7 +208,7 @@ pub fn denies(
     is_stray(format, pulse, wanted[element])
 }
 
-/// Whether a pulse is there and is a position identifier by its width, as it should be (`wanted`).
+/// Whether a pulse is there and is a position identifier by its width, and `wanted` is one, too.
 fn is_mark(format: Format, pulse: Option<Pulse>, wanted: Element) -> bool
     ensures { result ≡ is_mark format pulse (Some wanted) }
 {

@@ -14,8 +14,9 @@ use crate::time::{time_in, timed};
 use irig_codes::{Fields, Format};
 use std::alloc::{AllocError, Global};
 
-/// The frames of a track that have a time, in order: of each record, which is a frame, `held` says
-/// whether it is believed. It fails only if memory runs out.
+/// The frames of a track that have a time, in order. `held` says of each record, which is a frame,
+/// whether it is believed; one that is not is there without pulses. It fails only if memory runs
+/// out.
 pub fn whole_parts(
     alloc: Global,
     records: &mut FrameLens<'_>,
@@ -36,8 +37,8 @@ pub fn whole_parts(
     Ok(list)
 }
 
-/// The frame of the record at a place, from 0, as a part; `None` if it has no time. `is_held` says
-/// whether it is believed.
+/// The frame of the record at a place, from 0, as a part; `None` if it has no time (`timed`).
+/// `is_held` is whether the frame is believed: if not, the part has no pulses (`whole`).
 fn whole_at(
     records: &mut FrameLens<'_>,
     format: Format,

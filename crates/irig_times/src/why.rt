@@ -1,6 +1,6 @@
-//! Why moments have no time. A frame is a part: its pulses, or none if not believed, as no near one
-//! supports its time. The time jumps if a clock was set, intervals were lost, or pulses at an end
-//! show another time. `Lens` shows pulses, counted from 0. `century`: 20 for 2000 to 2099.
+//! Why moments have no time. A frame is a part: its pulses, or none if not believed: no near one
+//! supports its time. Time jumps if a clock was set, intervals were lost or pulses at an end show
+//! another time. `Lens` shows pulses, from 0. `century`: 20 for 2000 to 2099. Bounds keep sums low.
 
 ghost use Rattle.std.specs.Prelude.{◌≡◌, ◌≤◌, ◌<◌, ◌+◌, ◌/◌, ◌^◌, ℕ, IfOk, IfSome, List, Bool, Some};
 ghost use Rattle.std.specs.Prelude.{MatchOption, length, slice_get};
@@ -71,7 +71,7 @@ pub fn find_whys(
     Ok(Whys { frames, gaps })
 }
 
-/// Why pulses have no time before each of `whole`, the frames that have one, and after the last.
+/// The `gaps` of `Whys`, if `whole` is its `frames`. Fails if memory runs out.
 fn gaps(
     alloc: Global,
     pulses: &mut Lens<'_>,
@@ -99,7 +99,7 @@ fn gaps(
 }
 
 /// Why pulses between two frames have no time; before the first if `from` is `None`, after the last
-/// if `to` is. `Step` if the time jumps there, else what `why_steady` says.
+/// if `to` is. `Step` if the time jumps there (`is_jump_between`), else what `why_steady` says.
 fn why_next_to(
     pulses: &mut Lens<'_>,
     format: Format,
@@ -142,7 +142,7 @@ fn why_steady(
     }
 }
 
-/// Why pulses between two frames have no time, if it does not jump: `Unbelieved` if one of the two
+/// Why pulses between two frames have no time, if no jump is there: `Unbelieved` if one of the two
 /// is not believed; else `Hole` if their times are as far apart as their markers, `Set` if not.
 fn why_between(pulses: &mut Lens<'_>, format: Format, century: u32, from: &Part, to: &Part) -> Why
     requires century { century ≤ 99 }

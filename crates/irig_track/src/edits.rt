@@ -34,9 +34,9 @@ use irig_recording::Pulse;
 
 impl Track {
     /// Whether replacing `count` pulses from `at` on, from 0, by those of `put` leaves a track
-    /// within the limits. It is false, too, if the pulses that would go are not there. Only `put`
-    /// is looked through: it has to fit between the pulses on both sides, and all others stay as
-    /// they are.
+    /// within the limits. It is false, too, if the pulses that would go are not there, or if there
+    /// would be more than the limit (`room`). Only `put` is looked through: its pulses have to fit
+    /// (`stands`) between the pulses that stay on both sides (`free_from`, `free_to`).
     pub fn can_splice(&self, at: usize, count: usize, put: &Gap<Pulse>) -> bool
         ensures { IsTrue result ↔ CanSplice self.now.micros at count put.now.items self.now.pulses }
     {
@@ -136,8 +136,8 @@ impl Track {
 
     /// Whether toggling the edges at the times `a` and `b`, in microseconds, leaves a track within
     /// the limits. It is false, too, unless `a` is before `b` and `b` within the length. There is
-    /// one pulse more afterwards only if there is an edge at neither of them, so only then room for
-    /// one is needed. Nothing tests that pulses do not touch: they would if two edges were at one
+    /// one pulse more afterwards only if neither time has an edge, so only then the limit has to
+    /// permit one more. Nothing tests that pulses do not touch: they would if two edges were at one
     /// time, but a toggle adds an edge only at a time that has none.
     pub fn can_toggle(&self, a: u64, b: u64) -> bool
         ensures { IsTrue result ↔ CanToggle self.now.micros a b self.now.pulses }
@@ -185,7 +185,8 @@ impl Track {
     }
 
     /// The least time, in microseconds, at which a pulse may rise that is inserted just before
-    /// pulse `at`, from 0: one after the fall of pulse `at` - 1; 0 if `at` is 0.
+    /// pulse `at`, from 0: one after the fall of pulse `at` - 1; 0 if `at` is 0. A time is at most
+    /// 2^40, so this is at most one more (`within`): no sum of a caller is too large.
     fn free_from(&self, at: usize) -> u64
         requires { at ≤ length self.now.pulses }
         ensures time { result ≡ following 0 (edges_of (take at self.now.pulses)) }
@@ -200,6 +201,7 @@ impl Track {
 
     /// The time, in microseconds, before which a pulse has to fall that is inserted just before
     /// pulse `at`, from 0: the rise of pulse `at`; one after the length if there is no such pulse.
+    /// The length is at most 2^40, so this is at most one more (`within`).
     fn free_to(&self, at: usize) -> u64
         requires { at ≤ length self.now.pulses }
         ensures time { result ≡

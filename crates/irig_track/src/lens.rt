@@ -59,7 +59,8 @@ impl<'a> Lens<'a> {
         Lens::on(recording.length(), recording.pulses())
     }
 
-    /// A lens on a length in microseconds and on pulses with such times, which has counted no look.
+    /// A lens on a length in microseconds and on pulses with times in microseconds. It has counted
+    /// no look. The caller has both from a track or a recording, so they keep the limits of `Lens`.
     fn on(micros: u64, pulses: &'a Gap<Pulse>) -> Lens<'a>
         requires { IsLongTrack micros pulses.now.items }
         ensures { result ≡ lens_view (track_view micros pulses.now.items
@@ -103,7 +104,7 @@ impl<'a> Lens<'a> {
 
     /// How many pulses rise at or before `time`, in microseconds: a search that halves the rest at
     /// each look, and counts each. It makes no more looks than the number of pulses has binary
-    /// digits.
+    /// digits. It is inlined, so that `Track::find`, whose looks nobody reads, does not count them.
     #[inline(always)]
     pub fn find(&mut self, time: u64) -> usize
         ensures count { result ≡ risen_by time self.old.track.pulses }

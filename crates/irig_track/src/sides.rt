@@ -28,7 +28,7 @@ pub(crate) fn next(pulses: &Gap<Pulse>) -> Option<Pulse>
     }
 }
 
-/// Removes the first pulse right of the gap, which has to be there: the caller has it from `next`.
+/// Removes the first pulse right of the gap. It has to be there: the caller has seen it by `next`.
 pub(crate) fn take_next(pulses: &mut Gap<Pulse>)
     requires { pulses.old.place < length pulses.old.items }
     ensures took { (p : Pulse) →

@@ -15,8 +15,9 @@ use irig_gap::Gap;
 use irig_recording::Pulse;
 
 /// Replaces the `count` pulses from `at` on, from 0, by all those of `put`, which is empty
-/// afterwards. The replaced ones go to `taken`, which must be empty. There is room for all, so no
-/// memory is taken. If as many come as go, no other pulse is moved in memory.
+/// afterwards. The replaced ones go to `taken`, which must be empty. The caller has made room in
+/// `pulses` and `taken`, so no memory is taken. If as many come as go, no other pulse is moved in
+/// memory (`exchange`).
 pub(crate) fn replace(
     pulses: &mut Gap<Pulse>,
     at: usize,
@@ -38,7 +39,7 @@ pub(crate) fn replace(
     let come = put.len();
     // So all pulses of `put` are right of its gap, from which they are taken in order.
     put.move_to(0);
-    // It is empty, so nothing moves: the proof has from this call that its place is 0.
+    // `taken` is empty, so nothing moves: the proof has from this call that its place is 0.
     taken.move_to(0);
     if count == come {
         exchange(pulses, at, count, put, taken);

@@ -108,7 +108,8 @@ impl Track {
         whole(alloc, 36 * self.pulses.len() + 140, &mut self.text_parts())
     }
 
-    /// Whether the first pulse rises at 0; false if there is no pulse.
+    /// Whether the first pulse rises at 0, so that the level is high from the start; false if there
+    /// is no pulse.
     pub(crate) fn begins_high(&self) -> bool
         ensures high { result ≡ begins_high (edges_of self.now.pulses) }
         ensures track { IsTrack self.now.micros self.now.pulses }
@@ -194,7 +195,7 @@ impl Track {
     }
 
     /// Whether a pulse rises or falls at `time`, in microseconds. Only the last pulse that rises at
-    /// or before `time` can have an edge there.
+    /// or before `time` can have an edge there: `false` if no pulse has risen by then.
     pub(crate) fn is_edge_at(&self, time: u64) -> bool
         ensures { result ≡ is_edge time self.now.pulses }
     {

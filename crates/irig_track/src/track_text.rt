@@ -78,8 +78,9 @@ impl Text for TrackText<'_> {
     }
 }
 
-/// Adds what comes next to `text`, until that has `enough` bytes. Returns the number of the pulse
-/// whose lines come next, from 0; `None` if the text has ended.
+/// Adds what comes next (`put_header`, `put_lines`) to `text`, until that has `enough` bytes.
+/// Returns the number of the pulse whose lines come next, from 0; `None` if the text has ended,
+/// also if it had before. It is inlined, so that the next lines are added without one call more.
 #[inline(always)]
 fn put_next(
     writer: &mut TextWriter,

@@ -26,8 +26,9 @@ fn is_byte(code: &[u8], byte: u8) -> bool
     }
 }
 
-/// Whether three bytes are at a place: a value, 0 or 1, a code of one printable byte that is not
-/// the wire's, and a newline.
+/// Whether three bytes are at the place `start`: a value, 0 or 1, a code of one printable byte that
+/// is not the wire's, and a newline. The text has three bytes from there on (`room`), so nothing is
+/// read past its end.
 #[inline(always)]
 fn is_apart(source: &[u8], start: usize, code: &[u8]) -> bool
     requires room { start + 3 ≤ length source.now }
@@ -54,8 +55,9 @@ fn spaces(bytes: u8x16) -> u64
     bytes.simd_le(u8x16::splat(b' ')).to_bitmask()
 }
 
-/// How many bytes from a place on are above 32, a space, up to the first that is not; 16 if all 16
-/// that are compared at once are.
+/// How many bytes from the place `from` on are above 32, a space, up to the first that is not: 0 to
+/// 15; or 16 if all 16 bytes that are compared at once are above it. The caller has tested that the
+/// text has 16 bytes from there on.
 #[inline(always)]
 fn dark_count(source: &[u8], from: usize) -> usize
     requires { from + 16 ≤ length source.now }
@@ -102,10 +104,10 @@ fn begins_value(byte: u8) -> bool
     matches!(byte, b'b' | b'B' | b'r' | b'R' | b's' | b'S')
 }
 
-/// The place after a vector, a real or a text, with its code and a newline, that begins at `start`.
-/// After the value come one space, a code of one byte that is not the wire's, and the newline. The
-/// bytes of the value are not looked at: on another code they may be any. `None` if something else
-/// is there.
+/// The place after a vector, a real or a text that begins at `start`, with its code and a newline.
+/// After the value come one space, a code of one byte above 32 that is not the wire's, and the
+/// newline. The bytes of the value are not looked at: on another code they may be any. `None` if
+/// something else is there, or if too few bytes are left: then `dark_end` may stop in the value.
 #[inline(always)]
 fn value_apart(source: &[u8], start: usize, code: &[u8]) -> Option<usize>
     requires { start < length source.now }
@@ -128,9 +130,10 @@ fn value_apart(source: &[u8], start: usize, code: &[u8]) -> Option<usize>
     Some(space + 3)
 }
 
-/// The place after a value, with its code and a newline, that begins at `start`. The code is one
-/// byte and not the wire's, so the value gives the wire no level. It is a 0 or a 1, or else a
-/// vector, a real or a text. `None` if something else is there.
+/// The place after a value on another code, with that code and a newline; the value begins at
+/// `start`. It is a 0 or a 1 (`is_apart`), or else a vector, a real or a text (`value_apart`). It
+/// gives the wire no level. `None` if both functions find something else there, also if the code is
+/// the wire's or has more than one byte. The shortest such value has three bytes (`room`).
 #[inline(always)]
 pub fn end_apart(source: &[u8], start: usize, code: &[u8]) -> Option<usize>
     requires room { start + 3 ≤ length source.now }

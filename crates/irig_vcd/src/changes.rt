@@ -57,10 +57,12 @@ fn digits_of(word: &[u8]) -> &[u8]
     }
 }
 
-/// Takes a token of any kind, with those that go with it, as the code of a value, and returns the
-/// clock after it. A time sets the clock; any other token leaves it as it is. If the token gives
-/// the wire a level, that goes into the trace at the time `clock`. A function of its own so that
-/// the loop over the tokens that are read in one step keeps its values in registers.
+/// Takes a token of any kind, and the tokens after it that belong to it: the code of a value, or
+/// the rest of a comment. Returns the clock after it. A time sets the clock (`time`); any other
+/// token leaves it as it is (`take_level`). If the token gives the wire a level, that goes into the
+/// trace at the time `clock`. An error is one of these two functions, or that memory ran out. A
+/// function of its own so that the loop over the tokens that are read in one step keeps its values
+/// in registers.
 #[inline(never)]
 fn take(
     token: Token<'_>,
@@ -92,8 +94,9 @@ fn take(
 }
 
 /// Takes the first tokens of a part, if something is open from the part before it: the code of a
-/// value, or the rest of a comment. If the value gives the wire a level, that goes into the trace
-/// at the time `clock`. If something is still open after this, no token is left.
+/// value, or the rest of a comment (`take_open`). If nothing is open, it takes none. If the value
+/// gives the wire a level, that goes into the trace at the time `clock`. If something is still open
+/// after this, no token is left. An error is one of `take_open`, or that memory ran out.
 fn resume(
     tokens: &mut Tokens,
     unit: Unit,

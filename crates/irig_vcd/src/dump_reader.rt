@@ -4,7 +4,8 @@
 //! and how many pulses. Bytes are held until `wanted` of them are there, and then read, so that the
 //! same bytes are not read again for each small part. `gone` counts those that were let go. The
 //! unit is that of time. An error is a fault of the dump, or `OutOfMemory`. In contracts, `HasRead`
-//! says which bytes came so far, and `extent_parts` is what the dump says: a result, or a fault.
+//! says which bytes came so far, `IsReader` that clock and counts are within their bounds, and
+//! `extent_parts` is what the dump says: a result, or a fault.
 //!
 //! Where `match` hands an error on, `?` would do the same; the proof of it takes longer.
 
@@ -99,11 +100,11 @@ impl DumpReader {
             && count <= LIMIT - progress.gone - progress.held.len()
     }
 
-    /// Reads the next part of the dump, or holds it until there is enough to read. With it the dump
-    /// has at most 2^48 bytes so far, which the caller asks `has_room`. A fault is one of the dump,
-    /// whatever comes after the part. Memory runs out only for the bytes that are held, for an edge
-    /// before the first fault, and, if there is no fault so far, for the code of the wire and the
-    /// first journal.
+    /// Reads the next part of the dump, or holds it until there is enough to read (`put_part`).
+    /// With it the dump has at most 2^48 bytes so far: the caller has asked `has_room`. A fault is
+    /// one of the dump, whatever comes after the part, and the reader is gone then. Memory runs out
+    /// only for the bytes that are held, for an edge before the first fault, and, if there is no
+    /// fault so far, for the code of the wire and the first journal.
     pub fn put(self, part: &[u8]) -> Result<DumpReader, VcdFault>
         requires short { bytes_read self + length part.now ≤ 2 ^ 48 }
         ensures read { IfOk result (λ r. (wire : Option (List ℕ)) (bytes : List ℕ)
@@ -128,7 +129,8 @@ impl DumpReader {
     }
 
     /// What the dump says, if nothing comes after its parts: the recording, and the text of its
-    /// journal from its first word up to its `$end`, or `None`. An error is the dump's first fault.
+    /// journal, or `None`. That text goes from the journal's first word up to its `$end`. An error
+    /// is the dump's first fault (`read_rest`, `finish`), or `OutOfMemory`.
     pub fn end(self) -> Result<(LongRecording, Option<Vec<u8>>), VcdFault>
         ensures read { IfOk result (λ x. (wire : Option (List ℕ)) (bytes : List ℕ)
             → HasRead wire bytes self
@@ -153,7 +155,9 @@ impl DumpReader {
     }
 }
 
-/// Holds the next part of the dump. Reads what is held if that is `wanted` bytes or more, else not.
+/// Holds the next part of the dump. If `wanted` bytes or more are held then, they are read, and
+/// errors are those of `read_held`. Else it fails only if memory runs out. `short`: the dump has at
+/// most 2^48 bytes so far, which `has_room` tests for the caller.
 fn put_part(progress: &mut Progress, part: &[u8]) -> Result<(), VcdFault>
     requires reader { IsReader progress.old }
     requires short { bytes_read progress.old + length part.now ≤ 2 ^ 48 }
@@ -184,7 +188,8 @@ fn put_part(progress: &mut Progress, part: &[u8]) -> Result<(), VcdFault>
 /// Reads the bytes that are held up to the last white space (`whole_len`), which cuts no word. Of
 /// these it keeps what belongs to the first journal (`gather`), and lets them go. It reads nothing
 /// while `read_to` has an inner error: that is a fault of the declarations, which more bytes may
-/// mend. Then `let_go(0)` only sets how many bytes it waits for: twice those that are held.
+/// mend. Then `let_go(0)` only sets how many bytes it waits for: twice those that are held. An
+/// error is an outer error of `read_to`, or that memory ran out.
 fn read_held(progress: &mut Progress) -> Result<(), VcdFault>
     requires reader { IsReader progress.old }
     ensures reader { OnOk result (IsReader progress.new) }
@@ -216,8 +221,9 @@ fn read_held(progress: &mut Progress) -> Result<(), VcdFault>
     }
 }
 
-/// Reads all bytes that are held, which are the last ones of the dump, and returns the unit. Now a
-/// fault of the declarations, the inner error of `read_to`, is one of the dump.
+/// Reads all bytes that are held, which are the last ones of the dump, and returns the unit. A
+/// fault of the declarations, the inner error of `read_to`, is now one of the dump. Other errors
+/// are an outer one of `read_to`, and that memory ran out.
 fn read_rest(progress: &mut Progress) -> Result<Unit, VcdFault>
     requires reader { IsReader progress.old }
     ensures extent { progress.new.reading.trace.extent ≡ progress.old.reading.trace.extent }

@@ -146,8 +146,8 @@ impl Journals {
     }
 
     /// The text of the one journal, from its first word up to its `$end`; `None` if there is no
-    /// journal. `BadJournal(1)` if there is a second one. `source` is the whole dump, whose places
-    /// were noted.
+    /// journal. `BadJournal(1)` if there is a second one. `source` is the whole dump in which the
+    /// places were noted, so they are within it (`LiesIn`).
     pub fn text<'a>(self, source: &'a [u8]) -> Result<Option<&'a [u8]>, VcdFault>
         requires within { LiesIn source.now self }
         ensures one { (all : List Comment) → Holds all self

@@ -96,7 +96,8 @@ fn last_lanes(lanes: u8x16, count: usize) -> u8x16
 }
 
 /// How many bytes from a place on show digits, up to the first that shows none: 0 to 15. Also 0 if
-/// all sixteen do: the number may then go on, and the caller reads it in another way.
+/// all sixteen do: the number may then go on, and the caller reads it in another way. The text has
+/// sixteen bytes from there on.
 #[inline(always)]
 fn digits_count(source: &[u8], from: usize) -> usize
     requires { from + 16 ≤ length source.now }

@@ -8,7 +8,8 @@
 //! In contracts, `HasReadWords` says that the declarations and the words after them are read, and
 //! `Stage` the same, or that nothing is read as there is no unit yet. `StopsAt` and `StopsIn` say
 //! that an error is the first fault after the declarations, or that memory ran out. `IsReady` and
-//! `IsOn` say that the clock fits the unit, or any unit as long as there is none.
+//! `IsOn` say that the clock fits the unit, or any unit as long as there is none. `short`: a dump
+//! in parts has at most 2^48 bytes, so no place overflows.
 //!
 //! Where `match` hands an error on, `?` would do the same; the proof of it takes longer.
 
@@ -185,10 +186,11 @@ fn drop_front(bytes: &mut Vec<u8>, count: usize)
     bytes.truncate(left);
 }
 
-/// Reads the declarations and what is after them in a part, which is the front of the dump; adds
-/// the code of the wire to `code`, which is empty, and returns the unit. The inner error is any
-/// fault of the declarations: nothing is read then, since more of the dump may mend it or bring
-/// another fault. The outer error is a fault whatever comes, or that memory ran out.
+/// Reads the declarations and what is after them in a part, the front of the dump: nothing was read
+/// before (`new`). Adds the code of the wire to `code`, which is empty, and returns the unit. The
+/// inner error is any fault of the declarations: nothing is read then, since more of the dump may
+/// mend it or bring another fault. The outer error is a fault whatever comes, or that memory ran
+/// out.
 fn begin(
     wire: Option<&[u8]>,
     code: &mut Vec<u8>,

@@ -10,6 +10,7 @@
 //! In contracts, a scan `s` is what the words so far say. `IsTraced` says that clock and trace have
 //! its time and its changes, `Passes` that the tokens that are left lead on from there to the same
 //! end as all did before, and `LiesOn` that the level is low and the stretch fits the trace.
+//! `late`: the trace is not ahead of the time `from`.
 //!
 //! Where `let .. else` hands `None` on, `?` would do the same; the proof of it takes longer.
 
@@ -38,8 +39,8 @@ pub struct Edge {
     pub end: usize,
 }
 
-/// Whether a newline, this value, this code and a newline are at a place: the end of a time line,
-/// and a level line. The four bytes are compared as one number, which is fast.
+/// Whether a newline, this value, this code and a newline are at the place `at`: the end of a time
+/// line, and a level line. The four bytes are compared as one number, which is fast.
 #[inline(always)]
 fn is_line(source: &[u8], at: usize, value: u8, code: u8) -> bool
     requires { at + 4 ≤ length source.now }
@@ -86,9 +87,11 @@ fn edge_at(source: &[u8], at: usize, high: bool, code: u8, unit: Unit) -> Option
     })
 }
 
-/// The pulse at a place, which is 16 or more: its rise and its fall. The rise has to be in a later
-/// microsecond than `after`, the fall in a later one than the rise, and not after `limit`; both are
-/// microseconds of the dump. `None` if something else is there.
+/// The pulse at the place `at`: its rise and its fall. `None` if these two edges are not there
+/// (`edge_at`), if the rise is not in a later microsecond than `after`, if the fall is not in a
+/// later one than the rise, or if the fall is after `limit`. `after` and `limit` are microseconds
+/// of the dump. `edge_at` needs 16 bytes before each edge, and 32 from it on: the 64 from `at` on
+/// suffice.
 #[inline(always)]
 fn pulse_at(
     source: &[u8],
@@ -200,7 +203,8 @@ fn pulses_in_micros(
 /// Takes the pulses here, after the time `from`, into the trace, and returns the time of the last
 /// fall, or `from` if none is taken (`pulses_in` says when it stops). A unit of a microsecond (9)
 /// or a nanosecond (6) is passed on as a constant: then the compiler knows by which number the
-/// times are cut, which is faster. It fails only if memory runs out.
+/// times are cut, which is faster. It fails only if memory runs out. A function of its own for
+/// speed, as `pulses_in_micros` is.
 #[inline(never)]
 pub fn pulses(
     tokens: &mut Tokens,

@@ -43,7 +43,7 @@ pub fn is_plain(code: &[u8]) -> bool
 }
 
 /// Whether whole pulses may be taken in one step: if the unit is a microsecond or less, and the
-/// code is plain and of one byte.
+/// code is plain and of one byte. `is_plain` is what the function of this name says of the code.
 pub fn is_quick(is_plain: bool, unit: Unit, code: &[u8]) -> bool
     ensures plain { result ≡ true → is_plain ≡ true }
     ensures unit { result ≡ true → unit ≤ 9 }
@@ -56,6 +56,7 @@ pub fn is_quick(is_plain: bool, unit: Unit, code: &[u8]) -> bool
 /// time after them. `from` is the time before them. A time sets the clock; a value on the code goes
 /// into the trace, with the pulses after it; a value on another code (`Apart`) is only passed. An
 /// error is `Backward` or `TimeTooLarge` for a time before the last or too late, or `OutOfMemory`.
+/// `is_plain` and `is_quick` are what the functions of these names say: the caller asks them once.
 #[inline(always)]
 pub fn follow_short(
     is_plain: bool,
@@ -106,10 +107,10 @@ fn has_sign(source: &[u8], at: usize) -> bool
     at < source.len() && source[at] == b'#'
 }
 
-/// Takes the whole pulses that come next, each in one step, and returns the time after them. It
-/// takes none, and returns `clock`, if `is_quick` is false, if the level is not low, if no number
-/// sign is next, with which the time of a pulse begins, or if the trace has no stretch: then the
-/// next change goes the usual way. It fails only if memory runs out.
+/// Takes the whole pulses that come next, each in one step (`pulses`), and returns the time after
+/// them, or `clock` if it takes none. It takes none if `is_quick` is false; if the level is not
+/// low; if no number sign is next, with which the time of a pulse begins; or if the trace has no
+/// stretch. The next change then goes the usual way. It fails only if memory runs out.
 #[inline(always)]
 fn ahead(
     is_quick: bool,

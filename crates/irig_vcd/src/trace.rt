@@ -150,7 +150,7 @@ impl Trace {
     }
 
     /// Whether two edges more can be kept on a stretch: with them there are at most 2 * `most` + 1
-    /// (`edges_kept`), one more than `most` pulses have. False if `most` pulses are whole.
+    /// (`edges_kept`), one more than `most` pulses have. False once `most` pulses have both edges.
     #[inline(always)]
     pub fn has_room(&self, stretch: Stretch) -> bool
         ensures { result ≡ true ↔ (length self.entry.now.edges + 2 ≤ edges_kept stretch.most) }
@@ -160,8 +160,8 @@ impl Trace {
 
     /// Takes the next rise and fall on a stretch, at times in microseconds of the dump. If edges
     /// are kept there, it keeps the fall at the last time, which waited, and `rise`; now `fall`
-    /// waits. All are at or after `stretch.from`. If none are kept, only the time is noted: the
-    /// level is low before and after. It fails only if memory runs out.
+    /// waits. All are at or after `stretch.from`, and the caller has asked `has_room`. If none are
+    /// kept, only the time is noted: the level stays low. It fails only if memory runs out.
     #[inline(always)]
     pub fn put_pulse(&mut self, rise: u64, fall: u64, stretch: Stretch) -> Result<(), AllocError>
         requires here { LiesOn stretch self.old }

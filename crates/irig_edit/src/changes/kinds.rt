@@ -5,6 +5,8 @@
 //! mark is a time that has one of the letters a to z as its name. Times are in microseconds. A
 //! `Span` says which pulses a turn touched: from pulse `at` on, from 0, `old` pulses became `new`.
 //! In a contract `micros` is the length of the track, and `spare` how many places it has free.
+//! `IsSpan` says that all pulses outside of a span are as before. `IsMark`: a mark is not set, or
+//! is within the length.
 //!
 //! What is marked "Read for .." does nothing: it only lets the proof use what a type promises.
 
@@ -24,11 +26,12 @@ use irig_saved::{Letters, Marks};
 use irig_track::{Span, Track};
 
 /// Turns a toggle: inverts the level from time `a` to time `b`. Returns which pulses it touched:
-/// those that rise at or before `b` and fall at or after `a` (`standing_in` counts such pulses).
-/// The same toggle leads back, so no other change has to be left. The caller has tested that the
-/// toggle can be made, and made room for one pulse more. `few` bounds how many pulses there are at
-/// this place afterwards: at most one more than the track had, and at most two more than had their
-/// rise after `a` up to `b`.
+/// those that rise at or before `b` and fall at or after `a`, before the turn and after it
+/// (`standing_in` counts such pulses). The same toggle leads back, so no other change has to be
+/// left. The caller has tested that the toggle can be made, and made room for one pulse more. `few`
+/// bounds how many pulses there are at this place afterwards: at most one more than the track had,
+/// and at most two more than had their rise after `a` up to `b`: one that rose before them, and a
+/// new one.
 pub(crate) fn turn_toggle(track: &mut Track, a: u64, b: u64) -> Span
     requires can { CanToggle track.old.micros a b track.old.pulses }
     requires spare { 0 < track.old.spare }
@@ -49,11 +52,11 @@ pub(crate) fn turn_toggle(track: &mut Track, a: u64, b: u64) -> Span
     span
 }
 
-/// Turns a shift of the pulses `i` to `j`, both included and from 0, by `by`, below 0 to earlier
-/// times. The marks of the letters that are true in `letters` move with them. `by` becomes its
-/// opposite, which leads back. Returns which pulses it touched: those that moved. The caller has
-/// tested that the shift can be made: so `by` is no longer than the track, and its opposite does
-/// not overflow.
+/// Turns a shift of the pulses `i` to `j`, both included and from 0. They move by `by`, below 0 to
+/// earlier times. The marks of the letters that are true in `letters` move with them, if they are
+/// set. `by` becomes its opposite, which leads back. Returns which pulses it touched: those that
+/// moved. The caller has tested that the shift can be made: so `by` is no longer than the track,
+/// and its opposite does not overflow.
 pub(crate) fn turn_shift(
     track: &mut Track,
     marks: &mut Marks,

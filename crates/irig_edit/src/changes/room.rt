@@ -8,7 +8,8 @@
 //!
 //! In a contract `HasRoomFor` says that there is the room that a turn and its turn back need.
 //! `IsAmpleFor` says that there is all the room that `room_for` asks for, and `PutsIn` is the part
-//! of this that `reserve_put` makes. `IsWithin`: no place is lost.
+//! of this that `reserve_put` makes. `IsWithin`: no place is lost. `looks` is the index's count of
+//! its reads of pulses; nothing here adds to it.
 //!
 //! What is marked "Read for .." does nothing: it only lets the proof use what a type promises.
 
@@ -39,9 +40,9 @@ impl Present {
         self.track.can_toggle(a, b)
     }
 
-    /// Whether the pulses `i` to `j`, both included and from 0, can be moved by `by` microseconds,
-    /// below 0 to earlier times, so that they touch no other pulse and stay within the length. It
-    /// is false, too, if one of them is not there, or `i` is above `j`.
+    /// Whether the pulses `i` to `j`, both included and from 0, can be moved by `by` microseconds.
+    /// A distance below 0 is to earlier times. Moved, they must touch no other pulse and stay
+    /// within the length. It is false, too, if one of them is not there or `i` is above `j`.
     pub(crate) fn can_shift(&self, i: usize, j: usize, by: i64) -> bool
         ensures can { IsTrue result ↔ CanShift self.now.state.micros i j by self.now.state.pulses }
         ensures state { IsState self.now.state }
@@ -61,9 +62,9 @@ impl Present {
     }
 
     /// Whether the pulses `i` to `j`, both included and from 0, can be moved by `by` microseconds
-    /// within the limits, and the marks of the letters that are true in `letters` with them. Each
-    /// of these marks has to be set and to stay within the length. It is false, too, if one of the
-    /// pulses is not there.
+    /// with the marks of the letters that are true in `letters`. The pulses have to be there, `i`
+    /// not above `j`, and to stay within the limits (`can_shift`). Each of these marks has to be
+    /// set and to stay within the length (`all_may_move`).
     fn can_move(&self, i: usize, j: usize, by: i64, letters: &Letters) -> bool
         ensures { IsTrue result ↔ CanShift self.now.state.micros i j by self.now.state.pulses
             × AllMayMove self.now.state.micros by letters.now self.now.state.marks
@@ -75,9 +76,10 @@ impl Present {
     }
 
     /// Whether a single change, whose pulses count from 1, can be made within the limits. A change
-    /// that names a pulse 0 cannot: a saved journal, the history of a session as text, can have
-    /// such a change, and 0 less 1 would wrap. `can_splice` and `can_move` test whether the pulses
-    /// are there. A format has to be permitted, and the time of a mark has to be within the length.
+    /// that names a pulse 0 cannot: 0 less 1 would wrap. Such a change can come from a saved
+    /// journal, the history of a session as text. `can_splice`, `can_toggle` and `can_move` say
+    /// what each of these changes needs. A format has to be permitted, and the time of a mark has
+    /// to be within the length; a mark can always be cleared (`may_mark`).
     pub(crate) fn allows(&self, single: &Single) -> bool
         ensures { IsTrue result ↔ FitsSingle self.now.state single.now }
     {
@@ -121,14 +123,15 @@ impl Present {
         self.index.reserve(records)
     }
 
-    /// How many records a turn of a single change adds, at most, to those there are; it is an upper
-    /// bound, which does not have to be reached. The change must be one that can be made.
+    /// An upper bound of how many records a turn of a single change adds to those there are. The
+    /// change must be one that can be made.
     ///
     /// A frame begins with a marker, a position identifier after another one. So a change can bring
     /// frames that begin in its new pulses, and two more: at its first new pulse, with the pulse
     /// before it, and at the pulse after its last one. `markers_among` counts the markers of new
     /// pulses as if they were a track of their own. A shift keeps the distances among its pulses,
-    /// so it brings only those two. A mark brings none.
+    /// so it brings only those two. A mark brings none. A format can change all frames, so they are
+    /// counted for it.
     fn records_for(&self, single: &Single) -> usize
         requires fits { FitsSingle self.now.state single.now }
         ensures records { result ≡ records_for self.now.state single.now }

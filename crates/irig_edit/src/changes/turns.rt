@@ -37,7 +37,7 @@ use irig_track::Pulse;
 
 /// The turns that move pulses or frames.
 impl Present {
-    /// Turns the single change of `turn`: makes it, with the frames repaired, and leaves the change
+    /// Turns the single change of `turn`: makes it and repairs the frames. It leaves the change
     /// that leads back in `turn`, with room for its own turn. This takes no memory.
     pub(crate) fn make_turn(&mut self, turn: &mut Turn)
         requires fits { FitsSingle self.old.state (single_of turn.old) }
@@ -55,12 +55,14 @@ impl Present {
         self.turn_single(&mut turn.single, &mut turn.taken);
     }
 
-    /// Turns a single change by its kind, and leaves the change that leads back in `single`.
+    /// Turns a single change, and leaves the change that leads back in `single`. Each kind has its
+    /// function: `splice`, `toggle`, `turn_shift`, `set_format` and, for a mark, `turn_mark`.
     /// `taken` is empty, with places for the pulses that a splice removes; afterwards it is empty
     /// again, with places for those that the way back removes. `passing` is how many free places
-    /// the track needs while the change is made: 1 for a toggle, else 0. A change that was found
-    /// possible names no pulse 0, so `at - 1` does not wrap. A mark has nothing to do with frames,
-    /// so `turn_mark` alone is enough for it.
+    /// the track needs while the change is made: 1 for a toggle, else 0. `before` and `after` ask
+    /// for room for the state as it is and as it will be. A change that was found possible names no
+    /// pulse 0, so `at - 1` does not wrap. A mark has nothing to do with frames, so they need no
+    /// repair after `turn_mark`.
     fn turn_single(&mut self, single: &mut Single, taken: &mut Gap<Pulse>)
         requires fits { FitsSingle self.old.state single.old }
         requires empty { taken.old.items ≡ [] }
@@ -118,7 +120,7 @@ impl Present {
 
     /// Turns a toggle: inverts the level from time `a` to time `b`; the same toggle leads back.
     /// While it is made there can be one pulse more than before and afterwards, so the track must
-    /// have a free place.
+    /// have a free place: the 1 in the clauses.
     fn toggle(&mut self, a: u64, b: u64)
         requires can { CanToggle self.old.state.micros a b self.old.state.pulses }
         requires before { HoldsState (places_in self.old) 1 self.old.state }
@@ -134,9 +136,9 @@ impl Present {
         self.index.repair(&mut self.track.lens(), self.format, span);
     }
 
-    /// Turns a shift. The caller has seen that `single` is a shift, so no other kind comes. The
-    /// distance in `single` becomes its opposite, which leads back. It is set only after the pulses
-    /// have moved: until then `marks` in `single` is borrowed.
+    /// Turns a shift. The caller has seen that `single` is a shift, so no other kind comes; `shift`
+    /// does the work. The distance in `single` becomes its opposite, which leads back. It is set
+    /// only after the pulses have moved: until then `marks` in `single` is borrowed.
     fn turn_shift(&mut self, single: &mut Single)
         requires shift { IsShift single.old }
         requires fits { FitsSingle self.old.state single.old }

@@ -20,9 +20,9 @@ use crate::session::session::Session;
 use crate::state::present::Present;
 use irig_saved::Pulses;
 
-/// Where the cursor goes if the pulses `i` to `j`, both included, are removed: to the pulse that
-/// then has number `i`, or else to the last one; it is 0 if none is left. `NoPulse` unless the
-/// pulses are there and `i` is not above `j`.
+/// The cursor after the pulses `i` to `j`, both included, are removed. It is the number `i`, which
+/// the pulse after them has then. If there is none, it is the last pulse that is left, or 0 if none
+/// is left. `NoPulse` unless the pulses are there and `i` is not above `j`.
 fn plan(present: &Present, i: usize, j: usize) -> Result<usize, Refusal>
     ensures plan { MatchResult result
         (λ cursor. Plans (Delete i j) present.now.state i (j + 1 - i) [] cursor)

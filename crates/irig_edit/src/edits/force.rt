@@ -26,8 +26,8 @@ use irig_track::Pulse;
 
 /// The pulse that replaces pulse `i`: the same rise, and a fall that gives it the nominal width of
 /// an element. `NoPulse` if pulse `i` is not there; `OutOfRange` if the new fall is after the
-/// length; `Touching` if it is at or after the next rise. `NoPulse`, E2, is tested before E1, since
-/// only a pulse that is there has a new fall.
+/// length; `Touching` if it is at or after the next rise. `NoPulse` (E2) is tested before E1: only
+/// a pulse that is there has a new fall. The others are tested in the order E1, E3.
 fn plan(present: &Present, i: usize, element: Element) -> Result<Pulse, Refusal>
     ensures { MatchResult result
         (λ p. Plans (Force i element) present.now.state i 1 (p ∷ []) i)
@@ -48,8 +48,8 @@ fn plan(present: &Present, i: usize, element: Element) -> Result<Pulse, Refusal>
     Ok(Pulse { rise, fall })
 }
 
-/// Whether there is a pulse after pulse `i`, and this next pulse rises at or before a time, in
-/// microseconds: if pulse `i` fell at that time, it would touch the next one.
+/// Whether pulse `i`, if it fell at `time`, in microseconds, would touch the next one: this rises
+/// at or before that time. False if no pulse is after pulse `i`, which the caller has found there.
 fn meets_next(present: &Present, i: usize, time: u64) -> bool
     requires { i ≤ length present.now.state.pulses }
     ensures { result ≡ meets_next i time present.now.state }
@@ -58,7 +58,7 @@ fn meets_next(present: &Present, i: usize, time: u64) -> bool
 }
 
 impl Session {
-    /// Gives pulse `i`, from 1, the nominal width of an element in the session's format: its rise
+    /// Gives pulse `i`, from 1, the nominal width of `element` in the session's format. Its rise
     /// stays, and its fall moves. The cursor goes to the pulse.
     ///
     /// E1 if the new fall is beyond the length; E2 unless the pulse is there; E3 if the new fall is

@@ -18,7 +18,8 @@ use irig_track::Pulse;
 use std::alloc::{AllocError, Global};
 
 /// How long this many frames of a format are together, in microseconds: 100 intervals each. There
-/// are at most 10,000, the limit of `regen`, and an interval has at most 100,000 microseconds.
+/// are at most 10,000 of them, the limit of `regen`. An interval has at most 100,000 microseconds,
+/// so the answer is at most 10^11 (`short`).
 pub(crate) fn span(format: Format, frames: u64) -> u64
     requires { frames ≤ 10000 }
     ensures value { result ≡ 100 * frames * interval_of format.kind }
@@ -28,11 +29,12 @@ pub(crate) fn span(format: Format, frames: u64) -> u64
 }
 
 /// The pulses of `frames` frames, one after the other, from `start` on. The caller has tested what
-/// the contract asks for: at most 10,000 frames, which end within 2^40 microseconds, the longest
-/// track; a frame can begin at the moment; the format has an element for each bit of `control`.
+/// the contract asks for. There are at most 10,000 frames, and they end within 2^40 microseconds,
+/// the longest track. A frame can begin at the moment. The format has an element for each bit of
+/// `control`.
 ///
-/// The first frame carries the moment, each later one a frame period more than the one before it;
-/// all carry the control functions `control`, whose lowest bit is the first control element.
+/// The first frame carries the moment, each later one a frame period more than the one before it.
+/// All carry the control functions `control`, whose lowest bit is the first control element.
 /// `fields` gives the fields of frame `k`, and `encode` its 100 elements. It fails only if memory
 /// runs out.
 pub(crate) fn pulses_of(
@@ -61,7 +63,8 @@ pub(crate) fn pulses_of(
 /// Adds the 100 pulses of frame `k`, from 0, after those of `pulses`. Frame 0 begins at `start`, in
 /// microseconds, so pulse `element` of frame `k` rises `100 * k + element` intervals later; its
 /// width is the nominal one of its element. The buffer has room for them, and its place is at the
-/// end, so `put` adds there.
+/// end, so `put` adds there. `few` and `within` are limits of the caller: with them no sum is too
+/// large for its type.
 fn put_frame(pulses: &mut Gap<Pulse>, format: Format, start: u64, k: u64, elements: &[Element; 100])
     requires last { pulses.old.place ≡ length pulses.old.items }
     requires room { length pulses.old.items + 100 ≤ pulses.old.capacity }

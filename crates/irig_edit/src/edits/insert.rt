@@ -23,11 +23,12 @@ use crate::session::session::Session;
 use crate::state::present::Present;
 use irig_track::Pulse;
 
-/// The number that a new pulse from time `a` to time `b` gets, if it can be inserted. `OutOfRange`
-/// unless `a < b` and `b` is within the length; `Touching` if a pulse has a part from `a` to `b`,
-/// the ends included; `TooMany` if `room`, how many more pulses the limit of 2^22 permits, is 0.
-/// The first that holds in this order is the answer. If none holds, all pulses that rise at or
-/// before `b` are before the new one, so its number is one more than their count (`find`).
+/// The number that a new pulse from time `a` to time `b` gets. If it cannot be inserted, the
+/// refusal is one of these. `OutOfRange` unless `a < b` and `b` is within the length; `Touching` if
+/// a pulse has a part from `a` to `b`, the ends included; `TooMany` if `room`, how many more pulses
+/// the limit of 2^22 permits, is 0. The first that holds in this order is the answer. If none
+/// holds, all pulses that rise at or before `b` come before the new one; `find` counts them, and
+/// the new number is one more.
 fn plan(present: &Present, a: u64, b: u64) -> Result<usize, Refusal>
     ensures { MatchResult result
         (λ i. Plans (Insert a b) present.now.state i 0 (pulse a b ∷ []) i)

@@ -40,10 +40,10 @@ fn plan(present: &Present, a: u64, b: u64) -> Result<(), Refusal>
 }
 
 impl Session {
-    /// Inverts the level from `a` to `b`, in microseconds: if there is an edge at one of these
-    /// times it goes, and if there is none, one comes. The cursor goes to the last pulse that rises
-    /// at or before `b`, or to 0 if there is none. Its number is known only after the change, so
-    /// `change` sets the cursor to 0 first.
+    /// Inverts the level from `a` to `b`, in microseconds. At each of these two times an edge goes
+    /// if one is there, and comes if none is. The cursor goes to the last pulse that rises at or
+    /// before `b`, or to 0 if there is none. Its number is known only after the change, so `change`
+    /// sets the cursor to 0 first.
     ///
     /// E1 unless `a < b` and `b` is within the length; E5 if there would be more than 2^22 pulses.
     pub fn invert(&mut self, a: u64, b: u64) -> Result<(), Refusal>

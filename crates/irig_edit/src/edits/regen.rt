@@ -33,15 +33,16 @@ use irig_codes::control_count;
 use irig_moment::Moment;
 
 /// The pulses that rise in a stretch of time: the number of the first, from 1, and how many there
-/// are. If there are none, `first` is the number that a new pulse there gets.
+/// are. If there are none, `first` is the number that a new pulse there gets. A track has at most
+/// 2^22 pulses, so `first` is at most one more (`few` in the contract of `plan`).
 #[derive(Clone, Copy)]
 struct Stretch {
     first: usize,
     count: usize,
 }
 
-/// The time at which `frames` frames from `start` on end. `None` unless `frames` is 1 to 10,000,
-/// this project's own limit, and the frames end within the length.
+/// The time at which `frames` frames from `start` on end. `None` unless `frames` is 1 to 10,000 and
+/// the frames end within the length. The limit of 10,000 is this project's own.
 fn end_of(present: &Present, start: u64, frames: u64) -> Option<u64>
     ensures { result ≡ (if are_frames start frames present.now.state
         then Some (frames_end present.now.state.format start frames) else None) }
@@ -135,11 +136,11 @@ fn plan(
 }
 
 impl Session {
-    /// Fills the time from `start` on, in microseconds, with frames in the session's format, of
-    /// pulses of nominal width. The pulses that rise in that time go, also one that falls after it.
-    /// The first frame carries the moment, each later one a frame period more, and all have the
-    /// control functions `control`, whose lowest bit is the first control element. The cursor goes
-    /// to the last new pulse.
+    /// Fills the time from `start` on, in microseconds, with `frames` frames in the session's
+    /// format. Their pulses have nominal widths. The pulses that rise in that time go, also one
+    /// that falls after it. The first frame carries the moment, each later one a frame period more.
+    /// All have the control functions `control`, whose lowest bit is the first control element. The
+    /// cursor goes to the last new pulse.
     ///
     /// E1 unless there are 1 to 10,000 frames, which end within the length; E3 if a pulse rises
     /// before the start and falls at it or after it; E5 if there would be more than 2^22 pulses; E7

@@ -24,10 +24,10 @@ use crate::session::session::Session;
 use crate::state::present::Present;
 use irig_saved::Single;
 
-/// Whether the pulses `i` to `j`, moved by `by` microseconds, would leave the track: the first
-/// would rise before 0, or the last would fall after the length. Each side of a comparison is a
-/// time or a sum, since a difference could go below 0. No sum overflows: times are at most 2^40,
-/// and a distance at most 2^63.
+/// Whether the pulses `i` to `j`, moved by `by` microseconds, would leave the track: pulse `i`
+/// would rise before 0, or pulse `j` would fall after the length. The caller has tested that they
+/// are there. Each side of a comparison is a time or a sum, since a difference could go below 0. No
+/// sum overflows: times are at most 2^40, and a distance at most 2^63.
 fn leaves(present: &Present, i: usize, j: usize, by: i64) -> bool
     requires { (1 ≤ i) × (i ≤ j) × (j ≤ length present.now.state.pulses) }
     ensures { result ≡ leaves i j by present.now.state }
@@ -45,7 +45,7 @@ fn leaves(present: &Present, i: usize, j: usize, by: i64) -> bool
 
 /// `Ok` if the pulses `i` to `j` can be moved by `by` microseconds. `NoPulse` unless they are there
 /// and `i` is not above `j`; `OutOfRange` if they would leave the track; `Touching` if they would
-/// touch others. `NoPulse`, E2, is tested before E1, since `leaves` reads the pulses. `can_shift`,
+/// touch others. `NoPulse` (E2) is tested before E1, since `leaves` reads the pulses. `can_shift`,
 /// which counts pulses from 0, tests all limits: after the other tests it is false only if the
 /// pulses would touch others.
 fn judge(present: &Present, i: usize, j: usize, by: i64) -> Result<(), Refusal>
@@ -69,10 +69,11 @@ fn judge(present: &Present, i: usize, j: usize, by: i64) -> Result<(), Refusal>
 }
 
 /// The change that moves the pulses `i` to `j` by `by` microseconds, and with them each mark from
-/// the rise of the first to the fall of the last, both included. As the moved pulses stay on the
-/// track, so do these marks, which needs no test. The refusals are those of `judge`: `NoPulse`,
-/// `OutOfRange`, `Touching`. In the contract `Becomes` says that this change leads to what the edit
-/// asks for, and `change_by` is the change that the edit makes.
+/// the rise of the first to the fall of the last, both included. Each such mark is between two
+/// moved edges, which stay on the track. So the marks stay there, too, and need no test. The
+/// refusals are those of `judge`: `NoPulse`, `OutOfRange`, `Touching`. In the contract `Becomes`
+/// says that this change leads to what the edit asks for, and `change_by` is the change that the
+/// edit makes.
 fn plan(present: &Present, i: usize, j: usize, by: i64) -> Result<Single, Refusal>
     ensures refused { IfErr result (λ e. judgement_of (Shift i j by) present.now.state ≡ Some e) }
     ensures allowed { OnOk result (judgement_of (Shift i j by) present.now.state ≡ None) }
@@ -92,9 +93,9 @@ fn plan(present: &Present, i: usize, j: usize, by: i64) -> Result<Single, Refusa
 }
 
 impl Session {
-    /// Moves the pulses `i` to `j`, both included and from 1, by `by` microseconds, below 0 to
-    /// earlier times. Each mark from the rise of the first to the fall of the last moves with them.
-    /// The cursor goes to pulse `j`.
+    /// Moves the pulses `i` to `j`, both included and from 1, by `by` microseconds. A distance
+    /// below 0 is to earlier times. Each mark from the rise of the first to the fall of the last
+    /// moves with them. The cursor goes to pulse `j`.
     ///
     /// E1 if the moved pulses would leave the track; E2 unless the pulses are there and `i` is not
     /// above `j`; E3 if they would touch the pulse before them or the one after.

@@ -23,10 +23,10 @@ use crate::session::session::Session;
 use crate::state::present::Present;
 use irig_track::Pulse;
 
-/// Pulse `i` as it is, if it can be made low from time `a` to time `b`. `OutOfRange` unless `a < b`
-/// and `b` is within the length; `NoPulse` unless pulse `i` is there; `NotInside` unless both times
-/// lie inside of it, not at its edges; `TooMany` if `room`, how many more pulses the limit of 2^22
-/// permits, is 0. The first that holds in this order is the answer.
+/// Pulse `i` as it is, if it can be made low from time `a` to time `b`; else a refusal.
+/// `OutOfRange` unless `a < b` and `b` is within the length; `NoPulse` unless pulse `i` is there;
+/// `NotInside` unless both times lie inside of it, not at its edges; `TooMany` if `room`, how many
+/// more pulses the limit of 2^22 permits, is 0. The first that holds in this order is the answer.
 fn plan(present: &Present, i: usize, a: u64, b: u64) -> Result<Pulse, Refusal>
     ensures { MatchResult result
         (λ p. Plans (Split i a b) present.now.state i 1
@@ -51,8 +51,8 @@ fn plan(present: &Present, i: usize, a: u64, b: u64) -> Result<Pulse, Refusal>
 }
 
 impl Session {
-    /// Makes the level low from `a` to `b`, in microseconds, inside of pulse `i`, from 1. So the
-    /// pulse becomes two, and the cursor goes to the second of them.
+    /// Makes the level low from time `a` to time `b`, in microseconds, inside of pulse `i`, which
+    /// counts from 1. So the pulse becomes two, and the cursor goes to the second of them.
     ///
     /// E1 unless `a < b` and `b` is within the length; E2 unless the pulse is there; E4 unless both
     /// times lie inside of it, not at its edges; E5 if there are 2^22 pulses.

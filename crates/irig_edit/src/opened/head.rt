@@ -25,11 +25,11 @@ use irig_saved::{Marks, Saved};
 use irig_vcd::VcdFault;
 use std::alloc::Global;
 
-/// The state of a recording with the format, cursor and marks of a journal, as a `Walk` (a state
-/// with its cursor and its steps), which has no steps yet; and the number, from 1, of the journal's
-/// line after its marks. `BadJournal`, with the number of the first line at fault, if the format is
-/// not permitted, or the cursor or a mark is beyond the recording. All this is judged before memory
-/// is taken; after that the only error is `OutOfMemory`.
+/// The state of a recording with the format, cursor and marks of a journal, as a `Walk`: a state
+/// with its cursor and its steps, of which it has none yet. With it comes the number, from 1, of
+/// the journal's line after its marks. `BadJournal`, with the number of the first line at fault, if
+/// the format is not permitted, or if the cursor or a mark is beyond the recording (`head_of`). All
+/// this is judged before memory is taken; after that the only error is `OutOfMemory`.
 pub(crate) fn start(
     alloc: Global,
     recording: Recording,
@@ -60,8 +60,8 @@ pub(crate) fn start(
 
 /// Judges the lines of a journal before its steps. Returns its format, and the number of the line
 /// after its marks, from 1. The format has to be permitted, the cursor at most the number of pulses
-/// and no mark beyond the length. Else the error is the number of the first line at fault, from 1:
-/// 2 for the format, 3 for the cursor, from 4 on for a mark.
+/// and no mark beyond the length. Else the error is the number of the first line at fault, from 1.
+/// It is 2 for the format, 3 for the cursor, and 4 or above for a mark (`line_behind`).
 fn head_of(recording: &Recording, saved: &Saved) -> Result<(Format, usize), usize>
     ensures { MatchResult result
         (λ head. (head_fault (state_of recording.now saved.now) saved.now ≡ None)

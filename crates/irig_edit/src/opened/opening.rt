@@ -42,9 +42,10 @@ impl Session {
     /// future are those of the journal, and `format` is not used. The bytes are dropped before the
     /// session takes its memory.
     ///
-    /// An error is a fault of the dump, or V13 with the number of the line at fault of the journal,
-    /// from 1. `OutOfMemory` comes only if the wire has an edge before the first fault of the dump,
-    /// or if the dump has no fault: then for the steps of its journal or for the session.
+    /// An error is a fault of the dump, or V13 with the number of the journal's line at fault, from
+    /// 1. `parts_of` judges the dump and the form of the journal's lines, `session_with` what these
+    /// say. `OutOfMemory` comes only if the wire has an edge before the first fault of the dump, or
+    /// if the dump has no fault: then for the steps of its journal or for the session.
     pub fn open_dump(
         alloc: Global,
         bytes: Vec<u8>,
@@ -72,10 +73,11 @@ impl Session {
     /// no step. If there is one, format, marks, cursor, past and future are those of the journal.
     /// The text is dropped before the session takes its memory.
     ///
-    /// V13 with the number of the line at fault of the journal, from 1. `OutOfMemory` can come if
-    /// there is no journal. With one it comes only while the lines of its steps are read, or after
-    /// the form of all lines, the format, the cursor and the marks are found right. The contract is
-    /// about every dump, `bytes` with a `wire`, that has this recording and this journal.
+    /// The error is V13 with the number of the journal's line at fault, from 1, or `OutOfMemory`.
+    /// Without a journal only the second can come. With a journal memory can run out while the
+    /// lines of its steps are read. After that it can run out only if the form of all lines, the
+    /// format, the cursor and the marks were found right. The contract is about every dump, `bytes`
+    /// with a `wire`, that has this recording and this journal.
     pub fn open_parts(
         alloc: Global,
         recording: Recording,
@@ -167,8 +169,9 @@ fn saved_of(alloc: Global, text: Option<Vec<u8>>) -> Result<Option<Saved>, VcdFa
 }
 
 /// The session of a recording with its journal, if there is one: then the format is the journal's,
-/// and `format` is not used. V13 if the journal does not fit the recording. Without a journal it is
-/// a session in `format`, with no steps; then the only error is `OutOfMemory`.
+/// and `format` is not used. With a journal the error is V13 if it does not fit the recording, or
+/// `OutOfMemory` (`session_of`). Without a journal it is a session in `format`, with no steps; then
+/// the only error is `OutOfMemory`.
 fn session_with(
     alloc: Global,
     recording: Recording,

@@ -7,8 +7,9 @@
 //! state with its cursor and steps. After an error nothing is said of what is left in it.
 //!
 //! `CanTakeAll`: all these steps can be taken. `CanBegin`: there is a step, and its first change is
-//! possible. `IsBad P`: V13 at a line that `P` holds of, or `OutOfMemory`. Where `match` hands an
-//! error on, `?` would do the same; the proof of it takes longer.
+//! possible. `IsBad P`: V13 at a line that `P` holds of, or `OutOfMemory`. With the bounds `lines`,
+//! `line` and `short` each number of a line fits its type. Where `match` hands an error on, `?`
+//! would do the same; the proof of it takes longer.
 
 ghost use Rattle.std.specs.Prelude.{◌≡◌, ◌+◌, ◌≤◌, ◌<◌, ◌^◌, ◌++◌, List, [], Err, IfErr, IfOk};
 ghost use Rattle.std.specs.Prelude.{MatchBool, MatchResult, None, OnOk, length, reverse};
@@ -46,8 +47,7 @@ pub(crate) enum NotTaken {
 
 impl Walk {
     /// Takes steps, the last of the list first, and undoes them again: the state is as before, and
-    /// the steps are ahead. Before the call there must be no step ahead. An error says which step
-    /// cannot be taken (`NotTaken::At`), or that memory ran out.
+    /// the steps are ahead. Before the call no step may be ahead. An error is that of `take_all`.
     fn follow(&mut self, alloc: Global, steps: Steps) -> Result<(), NotTaken>
         requires ahead { self.old.future ≡ [] }
         requires lines { length (steps_lines (reverse steps)) < 2 ^ 63 }
@@ -64,9 +64,9 @@ impl Walk {
         Ok(())
     }
 
-    /// Takes the steps of a journal, first those back, and makes the session. `line` is the number,
-    /// from 1, of the line after the journal's marks, which counts the steps back. V13 has the line
-    /// of the step that cannot be taken; the only other error is `OutOfMemory`.
+    /// Takes the steps of a journal, first those back, and makes the session. `start` (in `head`)
+    /// made `self`. `line`, from 1, is the line after the journal's marks, which counts the steps
+    /// back. V13 has the line of the step that cannot be taken; else the error is `OutOfMemory`.
     pub(crate) fn open(
         mut self,
         alloc: Global,
@@ -92,12 +92,12 @@ impl Walk {
         }
     }
 
-    /// Takes the steps back of a journal, undoes them, and swaps past and future, so they are the
-    /// past. Then it takes the steps forward and undoes them, too: they are ahead, to be redone.
-    /// `line` is the number, from 1, of the line that counts the steps forward. An error is V13
-    /// with the first line of the step that cannot be taken, or `OutOfMemory`. The newest step back
-    /// is just above `line`: so a step back begins `behind` lines above it (they are there, so
-    /// nothing saturates), and a step forward begins `before` lines after `line + 1`.
+    /// Takes the steps back of a journal and undoes them. Then it swaps past and future, so these
+    /// steps are the past. Last it takes the steps forward and undoes them, too: they are ahead, to
+    /// be redone. `line` is the number, from 1, of the line that counts the steps forward. An error
+    /// is V13 with the first line of the step that cannot be taken, or `OutOfMemory`. The newest
+    /// step back is just above `line`: so a step back begins `behind` lines above it (they are
+    /// there, so nothing saturates), and a step forward begins `before` lines after `line + 1`.
     fn follow_both(
         &mut self,
         alloc: Global,

@@ -97,8 +97,8 @@ impl Walk {
         }
     }
 
-    /// Moves the cursor to a pulse, from 1, or to 0, before the first. The caller has tested that
-    /// there is such a pulse; it is not tested here.
+    /// Moves the cursor to a pulse, which counts from 1. 0 is before the first pulse. The caller
+    /// has tested that the pulse is there; it is not tested here.
     pub(crate) fn go(&mut self, cursor: usize)
         ensures { self.new ≡ walk self.old.state cursor self.old.past self.old.future }
     {
@@ -123,8 +123,10 @@ impl Walk {
     }
 
     /// The session with the state, the cursor and the steps of this walk. The cursor must be at
-    /// most the number of pulses. `last_looks` is 0: it counts how often the last edit of the
-    /// session read a pulse to keep the frames true, and the session has made no edit yet.
+    /// most the number of pulses, and the steps must be ones that can be taken from this state
+    /// (`steps`): this is what a session promises. `last_looks` is 0: it counts how often the last
+    /// edit of the session read a pulse to keep the frames true, and the session has made no edit
+    /// yet.
     pub(crate) fn into_session(self, alloc: Global) -> Session
         requires cursor { self.cursor ≤ length self.state.pulses }
         requires steps { CanTakeAll self.state self.past × CanTakeAll self.state self.future }

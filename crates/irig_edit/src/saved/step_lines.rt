@@ -74,9 +74,9 @@ impl<'s> StepLines<'s> {
     }
 }
 
-/// Writes the first lines of the next step, those before its changes, to the block, and makes
-/// `changes`, which had no line left, the lines of its changes. Removes this step from `left`, and
-/// returns `false`. If no step is left it returns `true`, and nothing is written; otherwise there
+/// Begins the next step: writes its lines before its changes to the block, makes `changes`, which
+/// has no line left, the lines of its changes, and removes the step from `left`. The answer is
+/// `false` then. If no step is left, the answer is `true` and nothing is written. Otherwise there
 /// is a next step, so `unwrap` finds it. It fails only if memory runs out.
 fn begin_next<'s>(
     changes: &mut ChangeLines<'s>,
@@ -97,10 +97,10 @@ fn begin_next<'s>(
     Ok(false)
 }
 
-/// Writes the first line of a step `kept` by the journal, with the step's cursor, and if it is a
-/// group, a second line that counts its changes. A step that is no group has one change, so it
-/// needs no count. Returns the lines of the changes, which are still to be written. It fails only
-/// if memory runs out.
+/// Writes the first line of a step, with its cursor. If the step is a group, a second line counts
+/// its changes. `kept` is the step as the journal keeps it. A step that is no group has one change,
+/// so it needs no count. Returns the lines of the changes, which are still to be written. It fails
+/// only if memory runs out.
 fn begin_step<'s>(text: &mut Vec<u8>, kept: Step<'s, Turn>) -> Result<ChangeLines<'s>, AllocError>
     requires alone { kept.is_group ≡ false → length kept.changes.now ≡ 1 }
     ensures { IfOk result (λ left. text.new.items ++ left ≡ text.old.items ++ text_of (step_lines

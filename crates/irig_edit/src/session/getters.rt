@@ -56,8 +56,8 @@ impl Session {
         self.present.format()
     }
 
-    /// The time of a mark in microseconds; `None` if the mark is not set. `letter` names the mark,
-    /// as a byte of a text, `a` to `z`.
+    /// The time of a mark in microseconds; `None` if the mark is not set. `letter` names the mark:
+    /// it must be a byte from `a` to `z`, which are 97 to 122.
     pub fn mark_time(&self, letter: u8) -> Option<u64>
         requires { (97 ≤ letter) × (letter ≤ 122) }
         ensures { slice_get self.now.state.marks (letter - 97) ≡ Some result }
@@ -111,8 +111,9 @@ impl Session {
         self.present.index().len()
     }
 
-    /// The frame with a number, from 1 to `frames`, in the order of time: the number of the pulse
-    /// with which it begins, from 1, and what it says or why it is broken.
+    /// The frame with a number, which must be from 1 to `frames()`; frames are in the order of
+    /// time. It has the number of the pulse with which it begins, from 1, and what it says or why
+    /// it is broken.
     pub fn frame(&self, number: usize) -> Frame
         requires { (1 ≤ number) × (number ≤ length (frames_of self.now.state)) }
         ensures { IfSome (slice_get (frames_of self.now.state) (number - 1))

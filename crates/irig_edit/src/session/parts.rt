@@ -14,8 +14,8 @@ use irig_track::{Pulse, Track};
 use std::alloc::Global;
 
 /// Shows what a session keeps: an allocator, one state, a cursor, a journal of changes and a count
-/// of looks, and no former state. What the journal keeps is shown by one of its steps, as only
-/// types matter: `next` gives the oldest of the past, if there is one.
+/// of looks at pulses. It keeps no former state. What the journal keeps is shown by one of its
+/// steps, as only types matter: `next` gives the oldest of the past, if there is one.
 pub fn take_apart(session: &Session) {
     let Session {
         alloc,
@@ -71,7 +71,8 @@ fn turn_parts(turn: &Turn) {
 }
 
 /// Shows what a single change keeps: it is of one of these kinds, and keeps numbers, a kind of
-/// format or letters, and a splice the pulses that it inserts. None keeps a track.
+/// format or letters. A splice also keeps the pulses that it inserts. None keeps a track. For a
+/// toggle, which has two times, the names of its fields are enough.
 fn single_parts(single: &Single) {
     match single {
         Single::Splice { at, count, put } => {

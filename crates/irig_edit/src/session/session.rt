@@ -95,8 +95,8 @@ impl Session {
         self.change(Single::SetFormat { kind, expression }, cursor)
     }
 
-    /// Sets the mark of a letter to a time in microseconds, or clears it if that is `None`, as a
-    /// step; the cursor stays. The letter is a byte of a text, `a` to `z`.
+    /// Sets the mark of a letter to a time in microseconds, or clears it if `time` is `None`. This
+    /// is a step; the cursor stays. The letter must be a byte from `a` to `z`, which are 97 to 122.
     ///
     /// E1, `OutOfRange`, if the time is beyond the length; E11 if memory runs out.
     pub fn mark(&mut self, letter: u8, time: Option<u64>) -> Result<(), Refusal>
@@ -112,7 +112,7 @@ impl Session {
         self.change(Single::SetMark { letter, time }, cursor)
     }
 
-    /// Undoes the newest step: track, format, marks and cursor are those before this step, which
+    /// Undoes the newest step: track, format, marks and cursor are those before this step. The step
     /// can be redone then. This takes no memory.
     ///
     /// E9, `NothingToUndo`, if there is no step; E14, `GroupFloor`, if the newest step was made
@@ -165,9 +165,10 @@ impl Session {
         Ok(())
     }
 
-    /// Replaces `count` pulses from `first` on, from 1, by the pulses of `put`, as a step that
-    /// leaves the cursor at `cursor`, a pulse from 1, or 0. The edit that calls this has tested
-    /// that it is possible, so the only refusal is E11: memory runs out, and nothing changes.
+    /// Replaces `count` pulses from pulse `first` on, which counts from 1, by the pulses of `put`.
+    /// This is a step that leaves the cursor at `cursor`: a pulse that is there afterwards, from 1,
+    /// or 0. The edit that calls this has tested that it is possible. So the only refusal is E11:
+    /// memory runs out, and nothing changes.
     pub(crate) fn splice(
         &mut self,
         first: usize,
@@ -188,11 +189,12 @@ impl Session {
         self.change(Single::Splice { at, count, put }, cursor)
     }
 
-    /// Makes a change, which the caller has found possible, as a step that leaves the cursor at
-    /// `cursor`, a pulse from 1, or 0. All steps that could be redone are dropped. The memory for
-    /// an undo and a redo of the change is asked for here. If memory runs out, which is the only
-    /// error of `record`, the answer is E11 and nothing has changed. A `Turn` is the change with
-    /// places for the pulses that go; `place` is the present cursor, which an undo gives back.
+    /// Makes a change, which the caller has found possible, as a step. It leaves the cursor at
+    /// `cursor`: a pulse that is there afterwards, from 1, or 0. All steps that could be redone are
+    /// dropped. The memory for an undo and a redo of the change is asked for here. If memory runs
+    /// out, which is the only error of `record`, the answer is E11 and nothing has changed. A
+    /// `Turn` is the change with places for the pulses that go; `place` is the present cursor,
+    /// which an undo gives back.
     pub(crate) fn change(&mut self, single: Single, cursor: usize) -> Result<(), Refusal>
         requires fits { Fits self.old.state (One single) }
         requires cursor { cursor ≤ length (turned self.old.state (One single)).0.pulses }

@@ -26,8 +26,8 @@ pub(crate) fn moved_time(time: u64, by: i64) -> u64
     }
 }
 
-/// The mark moved by `by`, in microseconds, if it is set and `named` is true, which says that it is
-/// one of those that move. Else the mark as it is.
+/// The mark moved by `by`, in microseconds, if it is set and `named` is true; else the mark as it
+/// is. `named` says whether the mark is one of those that move.
 fn moved_if(mark: Option<u64>, named: bool, by: i64) -> Option<u64>
     requires { IsMark (2 ^ 40) mark }
     ensures { result ≡ moved_if by named mark }
@@ -71,7 +71,7 @@ pub(crate) fn letters_from(marks: &Marks, low: u64, high: u64) -> Letters
     letters
 }
 
-/// Whether a mark is set and, moved by `by`, would still be from 0 to the length `micros`, all in
+/// Whether a mark may be moved by `by`: it would still be from 0 to the length `micros`, all in
 /// microseconds. It is false for a mark that is not set. A mark is never beyond the length, so
 /// `micros - time` does not go below 0.
 fn may_move(mark: Option<u64>, by: i64, micros: u64) -> bool

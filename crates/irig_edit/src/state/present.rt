@@ -112,8 +112,8 @@ impl Present {
     }
 
     /// Whether a pulse rises at or before `b` and falls at or after `a`, in microseconds: a new
-    /// pulse from `a` to `b` would touch it. Only the last pulse that rises at or before `b` is
-    /// tested, as all earlier ones fall before it rises.
+    /// pulse from `a` to `b` would touch it. The caller has tested that `a` is before `b`. Only the
+    /// last pulse that rises at or before `b` is tested, as all earlier ones fall before it rises.
     pub(crate) fn is_touched(&self, a: u64, b: u64) -> bool
         requires { a < b }
         ensures { result ≡ is_touched a b self.now.state }
@@ -132,7 +132,8 @@ impl Present {
         self.format
     }
 
-    /// The mark of a letter, from 0 (0 is a): a time in microseconds, or `None` if it is not set.
+    /// The mark of a letter: a time in microseconds, or `None` if it is not set. `letter` is from 0
+    /// (a) to 25.
     pub(crate) fn mark(&self, letter: usize) -> Option<u64>
         requires { letter < 26 }
         ensures { slice_get self.now.state.marks letter ≡ Some result }

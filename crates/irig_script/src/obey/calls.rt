@@ -64,9 +64,9 @@ pub fn delete(session: &mut Session, range: Range) -> Reply
     reply_to(session.delete(i, j))
 }
 
-/// Moves the pulses of a range by this many microseconds: later, or earlier if it is below zero.
-/// Refused if one is not there (`NoPulse`), or if they would leave the track (`OutOfRange`) or meet
-/// the pulse before or after them (`Touching`).
+/// Moves the pulses of a range by `by` microseconds: later, or earlier if `by` is below zero.
+/// Refused if one of them is not there or the range ends before it begins (`NoPulse`), or if they
+/// would leave the track (`OutOfRange`) or meet the pulse before or after them (`Touching`).
 pub fn shift(session: &mut Session, range: Range, by: i64) -> Reply
     ensures { Obeys (Command.Shift range by) session.old result session.new }
 {
@@ -83,9 +83,10 @@ pub fn join(session: &mut Session, range: Range) -> Reply
     reply_to(session.join(i, j))
 }
 
-/// Makes the level low from one time to another inside of a pulse, so that it becomes two. Refused
-/// if the times are not in order or beyond the length (`OutOfRange`), the pulse is not there
-/// (`NoPulse`), a time is not inside of it (`NotInside`), or there are 2^22 pulses (`TooMany`).
+/// Makes two pulses of the one of `address`: the level becomes low inside of it, from the time
+/// `from` to `to`. Refused if the times are not in order or beyond the length (`OutOfRange`), the
+/// pulse is not there (`NoPulse`), a time is not inside of the pulse (`NotInside`), or there are
+/// 2^22 pulses (`TooMany`).
 pub fn split(session: &mut Session, address: Address, from: Time, to: Time) -> Reply
     ensures { Obeys (Command.Split address from to) session.old result session.new }
 {
@@ -94,9 +95,9 @@ pub fn split(session: &mut Session, address: Address, from: Time, to: Time) -> R
     reply_to(session.split(i, a, b))
 }
 
-/// Gives a pulse the nominal width of an element: its rise stays, and its fall moves. Refused if
-/// the pulse is not there (`NoPulse`), or the new fall would be beyond the length (`OutOfRange`) or
-/// not before the next rise (`Touching`).
+/// Gives a pulse the nominal width of `element`: its rise stays, and its fall moves. Refused if the
+/// pulse is not there (`NoPulse`), or the new fall would be beyond the length (`OutOfRange`) or not
+/// before the next rise (`Touching`).
 pub fn force(session: &mut Session, address: Address, element: Element) -> Reply
     ensures { Obeys (Command.Force address element) session.old result session.new }
 {
@@ -136,8 +137,8 @@ pub fn regen(session: &mut Session, start: Time, frames: u64, from: Moment, cont
     reply_to(session.regen(start, frames, from, control))
 }
 
-/// Reads frames in another format: a kind of time code, and the number of a coded expression.
-/// Refused if the kind has no such expression (`BadExpression`).
+/// Sets the format in which frames are read from now on: a kind of time code, and the number of a
+/// coded expression. Refused if the kind has no such expression (`BadExpression`).
 pub fn set_format(session: &mut Session, kind: Kind, expression: u8) -> Reply
     ensures { Obeys (Command.Format kind expression) session.old result session.new }
 {

@@ -40,13 +40,14 @@ pub enum DumpRunFault {
     Run(RunFault),
 }
 
-/// Opens a dump and obeys a script on its session, from the bytes that come in to those that go
-/// out. The wire is chosen by its name; without a name the dump has to have one wire of one bit.
-/// Frames are read in the format, unless the dump has a journal with another. The bytes of the dump
-/// (`source`) are dropped before the script is read. A fault of the dump, also that memory ran out
-/// for it, comes before all lines: nothing is read of the script, printed or written then. That
-/// memory ran out is reported only if the wire has an edge, or the dump itself can be read
-/// (`MayBeShort`): then its session needs memory.
+/// Opens a dump and obeys a script on its session. Returns whether a line was refused, as
+/// `engine::run` does. The wire is chosen by its name; without a name the dump has to have one wire
+/// of one bit. Frames are read in the format, unless the dump has a journal with another. The bytes
+/// of the dump (`source`) are dropped before the script is read. A fault of the dump (`Dump`), also
+/// that memory ran out for it, comes before all lines: nothing is read of the script, printed or
+/// written then. Any later error is one of the run (`Run`). That memory ran out is reported only if
+/// the wire has an edge, or the dump itself can be read (`MayBeShort`): then its session needs
+/// memory.
 pub fn run_on_dump<R: Read, W: Write, N: Witness, S: Shelf>(
     alloc: Global,
     source: Vec<u8>,
@@ -109,8 +110,8 @@ pub fn run_on_parts<R: Read, W: Write, N: Witness, S: Shelf>(
     }
 }
 
-/// Obeys a script on the session of a dump, as `engine::run` does: to its end, or to its line
-/// `quit`. An error is always one of the run, `Run`.
+/// Obeys a script on the session of a dump, as `engine::run` does: to the script's end, or to its
+/// line `quit`. Returns whether a line was refused. An error is always one of the run, `Run`.
 fn run_opened<R: Read, W: Write, N: Witness, S: Shelf>(
     mut session: Session,
     script: &mut R,

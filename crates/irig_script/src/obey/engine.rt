@@ -83,9 +83,10 @@ pub fn run<R: Read, W: Write, N: Witness, S: Shelf>(
 
 /// Reads a part of a script and obeys it. Returns whether the script has ended: there was nothing
 /// left to read, or a line was `quit`. At the end the last line may lack its newline, and is
-/// obeyed, too. A line that has not ended waits in `line`. `ReadFailed` if the read fails, and
-/// `PrintFailed` if an answer cannot be printed. In the contract, `reads` is how many reads were
-/// made before; `start`, `from` and `first` are script, desk and session as the run began.
+/// obeyed, too. A line that has not ended waits in `line`; `buffer` is room for the bytes of the
+/// read. `ReadFailed` if the read fails, and `PrintFailed` if an answer cannot be printed. In the
+/// contract, `reads` is how many reads were made before; `start`, `from` and `first` are script,
+/// desk and session as the run began.
 fn obey_read<R: Read, W: Write, N: Witness, S: Shelf>(
     script: &mut R,
     buffer: &mut [u8; READ_LIMIT],
@@ -180,8 +181,9 @@ fn obey_part<W: Write, N: Witness, S: Shelf>(
 
 /// Obeys a byte that comes after the front of a line: a newline ends the line, which is obeyed and
 /// answered; any other byte is added to it. Returns whether the script ends with this line: only
-/// `quit` ends it, and `obey_line` has no reply (`None`) to that. After an answer `line` is empty.
-/// `Err` if the answer is not printed whole.
+/// `quit` ends it, and `obey_line` has no reply (`None`) to that. `false` after any other line, and
+/// for a byte that is no newline. After an answer `line` is empty. `Err` if the answer is not
+/// printed whole.
 fn obey_byte<W: Write, N: Witness, S: Shelf>(
     line: &mut Line,
     byte: u8,
@@ -215,7 +217,8 @@ fn obey_byte<W: Write, N: Witness, S: Shelf>(
 }
 
 /// Notes a refusal in the status, shows output and shelf to the witness, and then prints the reply.
-/// So the witness sees that what a line wrote is there before its answer goes out.
+/// So the witness sees that what a line wrote is there before its answer goes out. `Err` if the
+/// reply is not printed whole.
 fn answer<W: Write, N: Witness, S: Shelf>(
     reply: Reply,
     session: &Session,

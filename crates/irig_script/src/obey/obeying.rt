@@ -1,8 +1,9 @@
 //! What is replied to a line of a script, and done for it. Each function below `obey` is called
-//! only with the commands of its purpose, so its last case never comes. The shelf is where `write`
-//! and `save` write their texts. In a contract, `Obeys` says that the session may give this reply
-//! to a command, and what it has then. `Puts` says which texts were written to the shelf, and how
-//! many writes failed. `since` is what the shelf promises of each later state.
+//! only with the commands of its purpose, so its last case never comes. The call of a command in
+//! `calls` says what it does and when it is refused. The shelf is where `write` and `save` write
+//! their texts. In a contract, `Obeys` says that the session may give this reply to a command, and
+//! what it has then. `Puts` says which texts were written to the shelf, and how many writes failed.
+//! `since` is what the shelf promises of each later state.
 
 ghost use Rattle.std.specs.Prelude.{◌≡◌, ◌≢◌, length};
 ghost use Rattle.irig_script.specs.Obey.Obeying.{Obeys};
@@ -61,9 +62,10 @@ fn write_or_obey<S: Shelf>(command: Command, session: &mut Session, shelf: &mut 
     }
 }
 
-/// Obeys a command that neither writes a text nor ends the script, so its purpose is not `Text` or
-/// `End`, and no reply is `Written` or `WriteFailed` (`IsQuiet`). A blank line or a comment, whose
-/// purpose is `Nothing`, changes nothing and prints nothing.
+/// Obeys a command that neither writes a text nor ends the script. Each purpose of a command has
+/// its function below, which says what the reply is. A blank line or a comment, whose purpose is
+/// `Nothing`, changes nothing and prints nothing (`Silent`). The purposes `Text` and `End` do not
+/// come, and no reply is `Written` or `WriteFailed` (`IsQuiet`).
 pub fn obey(command: Command, session: &mut Session) -> Reply
     requires goes_on { command ≢ Command.Quit }
     requires writes_none { command ≢ Command.Write }

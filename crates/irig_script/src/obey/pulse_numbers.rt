@@ -21,9 +21,10 @@ fn mark(session: &Session, letter: &Letter) -> Option<u64>
     session.mark_time(letter.byte())
 }
 
-/// The number that an address counts from; `None` if that is a mark which is not set. A mark means
-/// the last pulse that rises at or before it, 0 if none does. The cursor and the last pulse can be
-/// 0, too. Whether a pulse of this number is there is not tested here.
+/// The number of the pulse that an address counts from; `None` if its base is a mark that is not
+/// set. A mark means the last pulse that rises at or before it, 0 if none does. The cursor and the
+/// last pulse can be 0, too. A number is taken as it is: whether the track has a pulse of that
+/// number is tested in `pulse_at`.
 fn base(session: &Session, base: &Base) -> Option<u64>
     ensures { result ≡ base_of base.now (present_in session.now) }
 {
@@ -38,9 +39,11 @@ fn base(session: &Session, base: &Base) -> Option<u64>
     }
 }
 
-/// The number `number + by + offset`, of pulses; 0 if that is below 0. The answer has 128 bits, so
-/// that the sum of these 64-bit numbers fits. In the contract, `ahead` is an offset above 0 and
-/// `back` the size of one below 0; the other one is 0.
+/// The number of a pulse, `number + by + offset`; 0 if that is below 0. `number` is that of an
+/// address's base, `offset` is the address's, and `by` is how many pulses after the address's own
+/// one the caller means. The answer has 128 bits, so that the sum of these 64-bit numbers fits. In
+/// the contract, `ahead` is an offset above 0 and `back` the size of one below 0; the other one is
+/// 0.
 fn counted(number: u64, by: u64, offset: i64) -> u128
     ensures { result ≡ number + by + ahead offset - back offset }
 {
@@ -109,8 +112,8 @@ pub fn join_ends(session: &Session, range: &Range) -> (usize, usize)
     }
 }
 
-/// A time in microseconds: the number itself, or the time of a mark. If the mark is not set, it is
-/// 2^64 - 1, which is beyond every length, so the session refuses it.
+/// A time in microseconds: the number itself, however great, or the time of a mark. If the mark is
+/// not set, it is 2^64 - 1, which is beyond every length, so the session refuses it.
 pub fn time(session: &Session, time: &Time) -> u64
     ensures { result ≡ time_of time.now (present_in session.now) }
 {

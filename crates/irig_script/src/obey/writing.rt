@@ -13,10 +13,11 @@ use crate::print::reply::Reply;
 use irig_edit::Session;
 use irig_text::{Shelf, Text};
 
-/// Writes the text of the track to the shelf. The text is made in parts, so this takes no memory.
+/// Writes the text of the track, a dump, to the shelf. The reply is that of `write`. The text is
+/// made in parts, so this takes no memory.
 ///
-/// It is a call of its own, so that no other line pays for the room that a text in parts has on the
-/// stack.
+/// It is a call of its own and never inlined: else the room of a text in parts would be on the
+/// stack of `write_or_obey`, for each line of a script.
 #[inline(never)]
 pub fn write_dump<S: Shelf>(session: &Session, shelf: &mut S) -> Reply
     ensures answer { Writes (dump_text session.now) result }
@@ -28,8 +29,9 @@ pub fn write_dump<S: Shelf>(session: &Session, shelf: &mut S) -> Reply
 }
 
 /// Writes the text of the track with its journal, the history of the session, to the shelf. The
-/// text is made in parts, so this takes no memory. It is a call of its own, so that no other line
-/// pays for the room that a text in parts has on the stack.
+/// reply is that of `write`. The text is made in parts, so this takes no memory. It is a call of
+/// its own and never inlined: else the room of a text in parts would be on the stack of
+/// `write_or_obey`, for each line of a script.
 #[inline(never)]
 pub fn write_saved<S: Shelf>(session: &Session, shelf: &mut S) -> Reply
     ensures answer { Writes (saved_text (work_in session.now)) result }
@@ -41,7 +43,7 @@ pub fn write_saved<S: Shelf>(session: &Session, shelf: &mut S) -> Reply
 }
 
 /// Writes a text to the shelf. The reply is `Written`, with how many bytes the text has, or
-/// `WriteFailed`.
+/// `WriteFailed` if the shelf gives an error.
 fn write<T: Text, S: Shelf>(text: &mut T, shelf: &mut S) -> Reply
     ensures answer { Writes (T.rest text.old) result }
     ensures put { Puts (S.known shelf.old) (S.known shelf.new)

@@ -29,8 +29,9 @@ pub fn print_info<W: Write>(session: &Session, out: &mut W) -> Result<(), PrintF
 }
 
 /// Writes the length of the track in microseconds, how many pulses and frames it has, and their
-/// format: its kind, and the number of its coded expression. The row is empty before. These are at
-/// most 120 bytes, so the rest of the line, at most 83, has room.
+/// format: its kind, and the number of its coded expression. The row is empty before. The words
+/// have 32 bytes, the kind 1 and each of the four numbers at most 20: 113 in all, so at most 120.
+/// The rest of the line has at most 83, and the row has room for 256.
 fn put_track(row: &mut Row, session: &Session)
     requires { row.old ≡ [] }
     ensures text { row.new ≡ codes "length " ++ decimal session.now.state.micros
@@ -50,7 +51,7 @@ fn put_track(row: &mut Row, session: &Session)
 }
 
 /// Writes a word and a number. The row has room for the word and 20 digits more, the most that a
-/// number has.
+/// number has: 236 and 20 are the 256 bytes of a row.
 fn put_count(row: &mut Row, word: &[u8], count: u64)
     requires room { length row.old + length word.now ≤ 236 }
     ensures text { row.new ≡ row.old ++ word.now ++ decimal count }

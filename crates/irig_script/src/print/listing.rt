@@ -15,7 +15,8 @@ use irig_print::{Block, PrintFault, Row, put_frame};
 use std::io::Write;
 
 /// Prints a line for each frame of the track, in blocks: at the end what still waits goes out. It
-/// is a call of its own, so that no other line pays for the block on the stack.
+/// is a call of its own and never inlined: else the block would be on the stack of `print` for each
+/// reply, also for those that list nothing.
 #[inline(never)]
 pub fn print_frames<W: Write>(session: &Session, out: &mut W) -> Result<(), PrintFault>
     ensures { Prints (W.contents out.old) (W.contents out.new)
@@ -32,9 +33,9 @@ pub fn print_frames<W: Write>(session: &Session, out: &mut W) -> Result<(), Prin
     block.flush(out)
 }
 
-/// Writes the line of the frame with a number, from 1, into the row: its number, that of the pulse
-/// with which it begins, from 1, the rise of this pulse in microseconds, and what it says. `frame`
-/// gives its record, with that pulse from 1.
+/// Makes the row the line of the frame with a number, from 1: its number, that of the pulse with
+/// which it begins, from 1, the rise of this pulse in microseconds, and what it says. `frame` gives
+/// its record, with that pulse from 1.
 fn put_record(row: &mut Row, session: &Session, number: usize)
     requires { (1 ≤ number) × (number ≤ length (frames_of session.now.state)) }
     ensures { (r : Record) → slice_get (frames_of session.now.state) (number - 1) ≡ Some r

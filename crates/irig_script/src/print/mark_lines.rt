@@ -15,7 +15,8 @@ use std::io::Write;
 
 /// Prints a line for each mark that is set, a to z: places 0 to 25. A mark that is not set has an
 /// empty row, which prints nothing. At the end what still waits in the block goes out. It is a call
-/// of its own, so that no other line pays for the block on the stack.
+/// of its own and never inlined: else the block would be on the stack of `print` for each reply,
+/// also for those that list nothing.
 #[inline(never)]
 pub fn print_marks<W: Write>(session: &Session, out: &mut W) -> Result<(), PrintFault>
     ensures { Prints (W.contents out.old) (W.contents out.new)
@@ -33,7 +34,8 @@ pub fn print_marks<W: Write>(session: &Session, out: &mut W) -> Result<(), Print
     block.flush(out)
 }
 
-/// Writes the line of a mark into the row, with its time in microseconds; nothing if it is not set.
+/// Makes the row the line of a mark, with its time in microseconds. If the mark is not set, the row
+/// becomes empty.
 fn put_mark(row: &mut Row, letter: Letter, time: Option<u64>)
     ensures { row.new ≡ mark_line letter time }
 {

@@ -20,8 +20,9 @@ const FEW: usize = 14;
 const BLOCK: usize = 16384;
 
 /// Prints a line for each of `count` pulses after the first `before`, as far as the track has them.
-/// It uses the shortest block that has room for all lines, so that they go out by one write; if
-/// none has, the longest, which goes out more than once.
+/// There are three blocks: for one line, for `FEW` lines, and `BLOCK` (`print_many`). It uses the
+/// shortest that has room for all lines, so that they go out by one write; if none has, the
+/// longest, which goes out more than once.
 pub fn print_pulses<W: Write>(
     session: &Session,
     before: usize,
@@ -40,8 +41,9 @@ pub fn print_pulses<W: Write>(
     }
 }
 
-/// Prints a line for each of `count` pulses after the first `before`, by a long block, `BLOCK`. It
-/// is a call of its own, so that a short listing does not pay for the block on the stack.
+/// Prints a line for each of `count` pulses after the first `before`, as far as the track has them,
+/// by a long block, `BLOCK`. It is a call of its own and never inlined: else the long block would
+/// be on the stack of `print_pulses` for a short listing, too.
 #[inline(never)]
 fn print_many<W: Write>(
     session: &Session,
@@ -56,7 +58,8 @@ fn print_many<W: Write>(
 }
 
 /// Prints a line for each of `count` pulses after the first `before`, as far as the track has them.
-/// What has room in `block`, at least one line, goes out at a time.
+/// As many lines as have room in `block`, at least one, go out at a time. Nothing is printed if the
+/// track has no more than `before` pulses.
 fn print_in_blocks<W: Write>(
     session: &Session,
     before: usize,
@@ -81,10 +84,10 @@ fn print_in_blocks<W: Write>(
     Ok(())
 }
 
-/// Writes the lines of `count` pulses up to the one of number `last`, from 1, so that they end
-/// where the bytes do, and gives the place, from 0, where they start. They are written from the
-/// last to the first: so no digit has to be counted or moved before it is written. There is room,
-/// at most 72 bytes a line.
+/// Writes the lines of `count` pulses, the last of them of number `last`, from 1, to the end of
+/// `bytes`. Returns the place in `bytes`, from 0, at which the lines start. They are written from
+/// the last to the first: so no digit has to be counted or moved before it is written. The caller
+/// has room for all lines, at most 72 bytes each, and has seen that the pulses are there.
 fn write_pulses(bytes: &mut [u8], session: &Session, last: usize, count: usize) -> usize
     requires room { 72 * count ≤ length bytes.old }
     requires there { (count ≤ last) × (last ≤ length session.now.state.pulses) }

@@ -53,8 +53,9 @@ impl Reply {
     }
 }
 
-/// Prints what a reply asks for, by what the session has now: a line by one write, if the output
-/// takes it, and a listing in blocks of lines.
+/// Prints what a reply asks for, by what the session has now: nothing for `Silent`, else a line or
+/// a listing. A line goes out by one write, if the output takes it, and a listing in blocks of
+/// lines. The line of a refusal is that of `refused_line`.
 pub fn print<W: Write>(reply: Reply, session: &Session, out: &mut W) -> Result<(), PrintFault>
     ensures { Prints (W.contents out.old) (W.contents out.new)
         (reply_text session.now reply) result }
@@ -71,8 +72,8 @@ pub fn print<W: Write>(reply: Reply, session: &Session, out: &mut W) -> Result<(
     }
 }
 
-/// The line that says why a line of the script is refused. The reply is a refusal, so the last case
-/// is `WriteFailed`.
+/// The line that says why a line of the script is refused. The caller has a reply that is a
+/// refusal, so the last case is `WriteFailed`. The line is the same whatever the session has (`m`).
 fn refused_line(reply: Reply) -> &'static [u8]
     requires { is_refusal reply ≡ true }
     ensures { (m : Machine) → result.now ≡ reply_text m reply }

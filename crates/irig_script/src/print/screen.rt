@@ -50,7 +50,8 @@ impl<W: Write, N: Witness> Screen<W, N> {
         self.witness.see(&self.out, shelf);
     }
 
-    /// Prints what a reply asks for, by what the session has now.
+    /// Prints what a reply asks for, by what the session has now, to the output. The witness sees
+    /// nothing of it.
     pub fn print(&mut self, reply: Reply, session: &Session) -> Result<(), PrintFault>
         ensures out { Prints self.old.out self.new.out (reply_text session.now reply) result }
         ensures seen { self.new.seen ≡ self.old.seen }
