@@ -69,10 +69,10 @@ pub fn guard(
     Ok((out, Kept { status, filled }))
 }
 
-/// Runs lines on a session repair by repair, and prints each to `out`, which has only the head
-/// before: as it is, or if it was dropped the reason and its lines as comments. `last` is listed
-/// again after each repair that is kept. Returns `AllAccepted`, or `SomeRefused` if a repair was
-/// dropped.
+/// Runs lines on a session repair by repair, and adds each repair to `out`: its lines as they are,
+/// or if it was dropped the reason and its lines as comments. Before the call `out` has only what
+/// `put_head` printed. After each repair that is kept, `known` and `last` are brought up to date.
+/// Returns `AllAccepted`, or `SomeRefused` if a repair was dropped. `Err`: memory ran out.
 fn guard_lines(
     alloc: Global,
     session: &mut Session,

@@ -7,10 +7,11 @@ use irig_edit::calls_give_back;
 
 /// Does nothing: its contract is a theorem. It says what it means that a new state is safe by an
 /// old one in which some frame reads well. Each frame that reads well in the old state is in the
-/// new one, with the same fields at the same time. Or it was wrong, and the frame that begins when
-/// it did mends it: it reads well, with other fields. Each frame that reads well in the new state
-/// and is neither of these is borne out: the old frames next to it have its time there. If frames
-/// may move, "the same time" is where an old frame is now: at the next frame with its time.
+/// new one, with the same fields at the same time. Or what it showed was wrong, as the frames next
+/// to it say; then a frame of the new state begins when it did, reads well, and has other fields,
+/// which they support. Each other frame that reads well in the new state is borne out: the old
+/// frames next to it have its time there. If frames may move, an old frame counts as if it were
+/// where the next new frame with its time is.
 pub fn safe_states_are_kept_or_borne_out()
     ensures { SafeStatesMean }
 {}

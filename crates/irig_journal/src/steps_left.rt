@@ -102,9 +102,9 @@ fn step_with<'j, C>(entry: Entry, changes: &'j [C]) -> Step<'j, C>
     }
 }
 
-/// How much the changes of all steps that are left hold together, in the unit that the state's
-/// `weight` has. There are less than 2^64 steps, and each holds less than 2^64, so the sum fits in
-/// a `u128`.
+/// The sum of the weights of all steps that are left. The weight of a step is how much its changes
+/// hold: a count that the state chooses (`Reversible::weight`), as of pulses. There are less than
+/// 2^64 steps, and each weighs less than 2^64, so the sum fits in a `u128`.
 pub(crate) fn weight_of_all<R: Reversible>(mut steps: StepsLeft<'_, R::Change>) -> u128
     ensures { result ≡ sum_by (λ h. R.weighs (R.delta h.parts)) steps.entry }
 {

@@ -140,8 +140,9 @@ fn marking<'a>(alloc: Global) -> Result<Command<'a>, AllocError>
     writing(alloc)?.arg(alone)?.arg(why)?.arg(table)
 }
 
-/// The command with the options of `reading`, and those that say where the recorder's time is in a
-/// line.
+/// The command with the options of `reading`, and those of the recorder's time, which each line
+/// has in a column: which column it is, in which unit the time is, and what it was when the track
+/// began.
 fn placing<'a>(alloc: Global) -> Result<Command<'a>, AllocError>
     ensures { IfOk result (λ c. IsPlacing (app_of c)) }
 {

@@ -127,7 +127,8 @@ impl Journals {
 
     /// The text of the one journal: `bytes`, which the caller gathered of the first journal part by
     /// part. `None` if there is no journal; then `bytes` are dropped. `BadJournal(1)` if there is a
-    /// second one. It is for a dump in parts, and `text` for one that is in memory.
+    /// second one: its number is a line of the journal, here the first. It is for a dump in parts,
+    /// and `text` for one that is in memory.
     pub fn one(self, bytes: Vec<u8>) -> Result<Option<Vec<u8>>, VcdFault>
         ensures one { (all : List Comment) (dump : List ℕ) → Holds all self
             → IfSome self.first (λ p. text_at dump (Some p) ≡ Some bytes.items)

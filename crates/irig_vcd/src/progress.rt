@@ -224,8 +224,8 @@ fn begin(
     }
 }
 
-/// Reads a part of what is after the declarations, which comes after `gone` bytes of the dump. An
-/// error is a fault whatever comes, or that memory ran out.
+/// Reads a part that is after the declarations into `reading`. It comes after `gone` bytes of the
+/// dump, and ends where a word ends. An error is a fault whatever comes, or that memory ran out.
 fn go_on(
     unit: Unit,
     code: &[u8],

@@ -29,9 +29,9 @@ use irig_track::{Span, Track};
 /// those that rise at or before `b` and fall at or after `a`, before the turn and after it
 /// (`standing_in` counts such pulses). The same toggle leads back, so no other change has to be
 /// left. The caller has tested that the toggle can be made, and made room for one pulse more. `few`
-/// bounds how many pulses there are at this place afterwards: at most one more than the track had,
-/// and at most two more than had their rise after `a` up to `b`: one that rose before them, and a
-/// new one.
+/// bounds how many pulses touch the stretch from `a` to `b` afterwards, so how many looks the index
+/// needs. They are at most one more than the whole track had. Of them at most one rose before `a`,
+/// and at most one is new; all others rose after `a` up to `b` before the turn, too.
 pub(crate) fn turn_toggle(track: &mut Track, a: u64, b: u64) -> Span
     requires can { CanToggle track.old.micros a b track.old.pulses }
     requires spare { 0 < track.old.spare }

@@ -168,7 +168,8 @@ impl Session {
     /// Replaces `count` pulses from pulse `first` on, which counts from 1, by the pulses of `put`.
     /// This is a step that leaves the cursor at `cursor`: a pulse that is there afterwards, from 1,
     /// or 0. The edit that calls this has tested that it is possible. So the only refusal is E11:
-    /// memory runs out, and nothing changes.
+    /// memory runs out, and nothing changes. `at` of a `Splice` counts from 1, as `first` does; the
+    /// lists of the contract count from 0.
     pub(crate) fn splice(
         &mut self,
         first: usize,

@@ -15,7 +15,9 @@ pub trait Witness {
     /// What it saw, in order, if it shows it.
     ghost seen: { Self → Option (List Sight) };
 
-    /// Sees an output and a shelf as they are now.
+    /// Is called after each line was obeyed, with the output and the shelf as they are then. So a
+    /// contract can say what was out at each moment, not only at the end. A witness that shows what
+    /// it saw adds this sight at its end; none changes output or shelf.
     fn see<W: Write, S: Shelf>(&mut self, out: &W, shelf: &S)
         ensures { GrowsBy (seen self.old) (seen self.new)
             (sight (W.contents out.now) (S.known shelf.now).texts ∷ []) };
