@@ -155,7 +155,7 @@ AS_WIDE = 0.02  # intervals: a pulse that is off by more is not as wide as other
 AS_WIDE_IF_EVEN = 0.005  # the same where nearly all hardly differ: a quarter of that, and much more than they are off on a clock of 0.1 %
 OF_NEARLY_ALL = 3  # times as much as nearly all are off, if that is between both
 OF_OTHER_WIDTH = 0.1  # the share of the pulses of a class that are not nearly all: if more are off, a width says nothing
-APART = 0.01  # intervals: as irig_guard compares widths in a frame, one that is off by more is not as wide as the others
+ODD_WIDTH = 0.01  # intervals: as irig_guard compares widths in a frame, one that is off by more is not as wide as the others
 LEAST_ALIKE, FOR_DIFFERENCE = 5, 2  # that many others there have to be; and it is off by this many times as much as these differ, too
 
 # stretches that are there twice (copies, steps)

@@ -39,7 +39,7 @@ class Widths:
         if len(others) < limits.LEAST_ALIKE:
             return False
         low, high = min(others), max(others)
-        margin = int(limits.APART * self._interval) + limits.FOR_DIFFERENCE * (high - low)
+        margin = int(limits.ODD_WIDTH * self._interval) + limits.FOR_DIFFERENCE * (high - low)
         return not low - margin <= self._falls[pulse] - self._rises[pulse] <= high + margin
 
     def _is_as_wide(self, pulse: PulseIndex) -> Optional[bool]:
