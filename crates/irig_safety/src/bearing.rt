@@ -1,156 +1,19 @@
 //! How the times and the rises of two frames go together. `other` is a frame that begins after
-//! `one`. Rises and distances are in microseconds. The stray of two frames is by how much their
+//! `one`. Rises and distances are in microseconds. A time is later by whole frame periods if
+//! `is_later` says so, and `periods` is by how many. The stray of two frames is by how much their
 //! distance differs from the nominal one: as many frame periods as their times are apart. Bounds in
-//! contracts, as 2^60, only keep numbers small enough for their types.
+//! contracts, as 2^64, only keep numbers small enough for their types.
 
-ghost use Rattle.std.specs.Prelude.{◌≡◌, ◌+◌, ◌*◌, ◌%◌, ◌==◌, ◌^◌, ◌<◌};
-ghost use Rattle.irig_safety.specs.Bearing.{agrees, allows, apart, clock_after, clock_of};
-ghost use Rattle.irig_safety.specs.Bearing.{distance, goes_back};
-ghost use Rattle.irig_safety.specs.Bearing.{inserted_of, is_far, is_later};
-ghost use Rattle.irig_safety.specs.Bearing.{is_near_year, is_shown, leads, periods};
-ghost use Rattle.irig_safety.specs.Bearing.{is_within, slack, stray, turn_of, year_of};
-ghost use Rattle.irig_moment.specs.Generated.{period_of};
+ghost use Rattle.std.specs.Prelude.{◌≡◌, ◌^◌, ◌<◌};
+ghost use Rattle.irig_safety.specs.Bearing.{agrees, allows, apart};
+ghost use Rattle.irig_safety.specs.Bearing.{distance};
+ghost use Rattle.irig_safety.specs.Bearing.{is_far};
+ghost use Rattle.irig_safety.specs.Bearing.{is_shown, leads};
+ghost use Rattle.irig_safety.specs.Bearing.{is_within, slack, stray};
 
+use crate::calendar::{is_later, periods};
 use crate::shown::Shown;
-use irig_codes::{Fields, Format};
-
-/// A time in hundredths of a second; fields without hundredths count as having 0. It is from a day
-/// before the year begins, as days count from 1. This does not matter: clocks are only compared.
-pub fn clock(fields: &Fields) -> u128
-    ensures value { result ≡ clock_of fields.now }
-    ensures small { result < 2 ^ 60 }
-{
-    let days = u128::from(fields.days);
-    let hours = u128::from(fields.hours);
-    let minutes = u128::from(fields.minutes);
-    let seconds = u128::from(fields.seconds);
-    let hundredths = u128::from(fields.hundredths.unwrap_or(0));
-    8_640_000 * days + 360_000 * hours + 6_000 * minutes + 100 * seconds + hundredths
-}
-
-/// The frame period in hundredths of a second, 10,000 microseconds each: from 1 (G) to 1,000 (E).
-fn period(format: Format) -> u128
-    ensures value { result ≡ period_of format }
-    ensures some { 0 < result }
-{
-    u128::from(format.frame_period()) / 10_000
-}
-
-/// Whether the year `other` is the one after `one`, both of two digits: 0 comes after 99.
-fn is_next(one: u32, other: u32) -> bool
-    ensures { result ≡ ((one + 1) % 100 == other) }
-{
-    (u64::from(one) + 1) % 100 == u64::from(other)
-}
-
-/// Whether the year `other` is `one` or the one after it, or neither is known. False if just one is
-/// known.
-fn is_near_year(one: Option<u32>, other: Option<u32>) -> bool
-    ensures { result ≡ is_near_year one other }
-{
-    match (one, other) {
-        (Some(one), Some(other)) => one == other || is_next(one, other),
-        (None, None) => true,
-        _ => false,
-    }
-}
-
-/// How many hundredths of a second a year has: 365 days, or 366 if it is long.
-fn year(is_long: bool) -> u128
-    ensures value { result ≡ year_of is_long }
-    ensures small { result < 2 ^ 32 }
-{
-    if is_long {
-        3_162_240_000
-    } else {
-        3_153_600_000
-    }
-}
-
-/// By how many hundredths of a second the year of `other` begins after that of `one`. If both years
-/// are known: by a year if `other` is in the next one, else 0. A year is long if its number is a
-/// multiple of 4, as from 1901 to 2099. If neither is known: by a year if the clock would go back
-/// otherwise, and by a long one if `one` is on day 366. If just one is known: 0.
-fn turn(one: &Fields, other: &Fields) -> u128
-    ensures value { result ≡ turn_of one.now.year other.now.year one.now other.now }
-    ensures small { result < 2 ^ 32 }
-{
-    match (one.year, other.year) {
-        (Some(from), Some(to)) => {
-            if is_next(from, to) {
-                year(from % 4 == 0)
-            } else {
-                0
-            }
-        }
-        (None, None) => {
-            if clock(other) + inserted(one, other) < clock(one) {
-                year(one.days == 366)
-            } else {
-                0
-            }
-        }
-        _ => 0,
-    }
-}
-
-/// The hundredths of a second that the inserted second 60 of `one` adds to the clock of `other`:
-/// 100, or 0 if `one` is in no second 60, or `other` is, too. Second 60 has the clock of second 0
-/// of the next minute, but is a second before it.
-fn inserted(one: &Fields, other: &Fields) -> u128
-    ensures value { result ≡ inserted_of one.now other.now }
-    ensures small { result < 2 ^ 8 }
-{
-    if one.seconds == 60 && other.seconds != 60 {
-        100
-    } else {
-        0
-    }
-}
-
-/// The time of `other` on the clock of the year of `one`, in hundredths of a second: with the turn
-/// of the year and the inserted second that are between them, if there are any.
-fn clock_after(one: &Shown, other: &Shown) -> u128
-    ensures value { result ≡ clock_after one.now other.now }
-    ensures small { result < 2 ^ 61 }
-{
-    clock(&other.fields) + turn(&one.fields, &other.fields) + inserted(&one.fields, &other.fields)
-}
-
-/// How many whole frame periods the time of `other` is after that of `one`, rounded down; 0 if it
-/// is not later.
-pub fn periods(format: Format, one: &Shown, other: &Shown) -> u128
-    ensures value { result ≡ periods format one.now other.now }
-    ensures small { result < 2 ^ 61 }
-{
-    let period = period(format);
-    clock_after(one, other).saturating_sub(clock(&one.fields)) / period
-}
-
-/// Whether `one` is in second 60 of a minute, and `other` in an earlier second of the same minute.
-fn goes_back(one: &Fields, other: &Fields) -> bool
-    ensures { result ≡ goes_back one.now other.now }
-{
-    one.seconds == 60
-        && other.seconds != 60
-        && one.days == other.days
-        && one.hours == other.hours
-        && one.minutes == other.minutes
-}
-
-/// Whether the time of `other` is whole frame periods after that of `one`, at least one, and its
-/// year is the same, the next, or unknown of both (`is_near_year`). False also if it goes back from
-/// second 60 to an earlier second of that minute (`goes_back`): the inserted second, or a turn of
-/// the year, would make it seem later.
-pub fn is_later(format: Format, one: &Shown, other: &Shown) -> bool
-    ensures { result ≡ is_later format one.now other.now }
-{
-    let (from, to) = (clock(&one.fields), clock_after(one, other));
-    !goes_back(&one.fields, &other.fields)
-        && from < to
-        && is_near_year(one.fields.year, other.fields.year)
-        && from + periods(format, one, other) * period(format) == to
-}
+use irig_codes::Format;
 
 /// How many microseconds after `one` the frame `other` begins; 0 if it does not begin later.
 pub fn distance(one: &Shown, other: &Shown) -> u128

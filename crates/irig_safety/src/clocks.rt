@@ -1,22 +1,20 @@
-//! When a frame begins by the clock that other frames show. The clock of two frames is how long a
-//! frame period takes in the recording, by their distance and their times. It is off if that is not
-//! the nominal period. Two frames agree (`is_shown`) if the later one's time is whole periods
-//! later, and they are that far apart, to half a period. `before2`, `before`, `after` and `after2`
-//! are the two frames before a frame, the nearer one last, and the two after it. `periods` is how
-//! many frame periods the time of the second frame is after that of the first, and `stray` by how
-//! many microseconds their distance differs from that many nominal periods.
+//! When a frame begins by the clock that two other frames show. The clock of two frames is how long
+//! a frame period takes in the recording, by their distance and their times. It is off if that is
+//! not the nominal period. Two frames agree (`is_shown`) if the later one's time is whole periods
+//! later, and they are that far apart, to half a period. `periods` is how many frame periods the
+//! time of the second frame is after that of the first, and `stray` by how many microseconds their
+//! distance differs from that many nominal periods.
 //!
 //! The bounds are this project's own. Half an interval is as far as a pulse is nearest to its own
 //! place, and 8 in 100 (2 in 25) as far as a recorder's clock may be off: as far as
-//! `irig_demodulate` allows. Bounds in contracts only keep numbers small enough for their types.
+//! `irig_demodulate` allows.
 
-ghost use Rattle.std.specs.Prelude.{◌≡◌, ◌<◌, ◌^◌, Some};
+ghost use Rattle.std.specs.Prelude.{◌≡◌};
 ghost use Rattle.irig_safety.specs.Clocks.{is_by_clock, is_by_next, is_in_time, shows_any_clock};
 ghost use Rattle.irig_safety.specs.Clocks.{shows_clock};
-ghost use Rattle.irig_safety.specs.OwnClock.{is_amid, is_amidst, is_by_own_clock, is_off};
-ghost use Rattle.irig_safety.specs.OwnClock.{is_own_from, is_own_to, is_same_clock, long_by};
 
-use crate::bearing::{apart, distance, is_later, is_shown, periods, stray};
+use crate::bearing::{apart, distance, is_shown, stray};
+use crate::calendar::{is_later, periods};
 use crate::shown::Shown;
 use irig_codes::Format;
 
@@ -38,7 +36,7 @@ pub fn shows_clock(format: Format, one: &Shown, other: &Shown) -> bool
 /// time of `frame` is not whole periods later (`is_later`). That `one` and `other` show a clock is
 /// not tested here, but by the callers. Both sides are times the periods of these two (`whole`), so
 /// nothing is divided.
-fn is_in_time(format: Format, one: &Shown, other: &Shown, from: &Shown, frame: &Shown) -> bool
+pub fn is_in_time(format: Format, one: &Shown, other: &Shown, from: &Shown, frame: &Shown) -> bool
     ensures { result ≡ is_in_time format one.now other.now from.now frame.now }
 {
     let whole = periods(format, one, other);
@@ -79,153 +77,4 @@ pub fn shows_any_clock(format: Format, one: &Shown, other: &Shown) -> bool
     is_shown(format, one, other)
         && 25 * stray(format, one, other)
             <= 2 * (periods(format, one, other) * u128::from(format.frame_period()))
-}
-
-/// Whether the times of two frames are whole frame periods apart (`is_later`), and their clock is
-/// off by 8 in 100 at most. Despite the name, also true if it is not off at all. Unlike in
-/// `shows_any_clock` the two do not have to agree: over many periods such a clock is off by more
-/// than half a period.
-fn is_off(format: Format, one: &Shown, other: &Shown) -> bool
-    ensures { result ≡ is_off format one.now other.now }
-{
-    let whole = periods(format, one, other) * u128::from(format.frame_period());
-    is_later(format, one, other) && 25 * stray(format, one, other) <= 2 * whole
-}
-
-/// Whether `from` and `to` show the clock that `one` and `other` show: by that clock `to` begins
-/// when it should after `from`, to half an interval. False if one of the two clocks is off by more
-/// than 8 in 100, or `one` and `other` do not agree (`shows_any_clock`, `is_off`). False also if
-/// `from` and `to` are more than a hundred times as far apart as `one` and `other`. The rises of
-/// `one` and `other` are off by a tenth of an interval each at most, which makes 20 intervals over
-/// a hundred times their distance. That is less than half a frame, so up to there the clock says
-/// how many frames apart `from` and `to` are.
-fn is_same_clock(format: Format, one: &Shown, other: &Shown, from: &Shown, to: &Shown) -> bool
-    ensures { result ≡ is_same_clock format one.now other.now from.now to.now }
-{
-    shows_any_clock(format, one, other)
-        && is_off(format, from, to)
-        && periods(format, from, to) <= 100 * periods(format, one, other)
-        && is_in_time(format, one, other, from, to)
-}
-
-/// Whether `before` and `after` show the clock that `before2` and `before` show (`is_same_clock`).
-/// False if `before2` is not there.
-fn is_own_from(format: Format, before2: Option<Shown>, before: &Shown, after: &Shown) -> bool
-    ensures { result ≡ is_own_from format before2 before.now after.now }
-{
-    match before2 {
-        Some(before2) => is_same_clock(format, &before2, before, before, after),
-        None => false,
-    }
-}
-
-/// Whether `before` and `after` show the clock that `after` and `after2` show (`is_same_clock`).
-/// False if `after2` is not there.
-fn is_own_to(format: Format, before: &Shown, after: &Shown, after2: Option<Shown>) -> bool
-    ensures { result ≡ is_own_to format before.now after.now after2 }
-{
-    match after2 {
-        Some(after2) => is_same_clock(format, after, &after2, before, after),
-        None => false,
-    }
-}
-
-/// How many microseconds `many` frame periods take on the clock of two frames, rounded down; 0 if
-/// their times are less than a period apart, as nothing can be divided by 0.
-fn long_by(format: Format, one: &Shown, other: &Shown, many: u128) -> u128
-    requires { many < 2 ^ 61 }
-    ensures { result ≡ long_by format one.now other.now many }
-{
-    let whole = periods(format, one, other);
-    if whole == 0 {
-        0
-    } else {
-        many * distance(one, other) / whole
-    }
-}
-
-/// Whether the distance of two frames (`micros`) is as two clocks say. `one` is what it is by one
-/// clock, and `other` what it is by the other. It has to be between `one` and `other`, whichever is
-/// greater, or outside of them by half an `interval` at most. All are in microseconds. False if
-/// `one` and `other` differ by more than six intervals: a step, at which the recorder lost
-/// something or has it twice, is not seen if it is no larger than their difference. Six is this
-/// project's own.
-fn is_amidst(interval: u64, one: u128, other: u128, micros: u128) -> bool
-    requires { micros < 2 ^ 64 }
-    ensures { result ≡ is_amidst interval one other micros }
-{
-    let (whole, half) = (u128::from(interval), u128::from(interval / 2));
-    let (most, least) = (micros + half, micros.saturating_sub(half));
-    apart(one, other) <= 6 * whole
-        && (one <= most || other <= most)
-        && (least <= one || least <= other)
-}
-
-/// Whether the clock wanders, from that of the two frames before to that of the two after: the
-/// distance of `before` and `after` is between what these two clocks say (`is_amidst`). False if
-/// one of the clocks is off by more than 8 in 100, or if `before` and `after` are more than a
-/// hundred times as far apart as the two before (`is_amid_of`). False also if `before2` or `after2`
-/// is not there.
-fn is_amid(
-    format: Format,
-    before2: Option<Shown>,
-    before: &Shown,
-    after: &Shown,
-    after2: Option<Shown>,
-) -> bool
-    ensures { result ≡ is_amid format before2 before.now after.now after2 }
-{
-    match (before2, after2) {
-        (Some(before2), Some(after2)) => is_amid_of(format, &before2, before, after, &after2),
-        _ => false,
-    }
-}
-
-/// Whether the clock wanders, of four frames that are all there: the distance of `before` and
-/// `after` is between what the clock of the two before and that of the two after say (`is_amidst`).
-/// False if one of the three clocks is off by more than 8 in 100 (`shows_any_clock`, `is_off`), or
-/// if `before` and `after` are more than a hundred times as far apart as the two before, for the
-/// reason at `is_same_clock`.
-fn is_amid_of(
-    format: Format,
-    before2: &Shown,
-    before: &Shown,
-    after: &Shown,
-    after2: &Shown,
-) -> bool
-    ensures { result
-        ≡ is_amid format (Some before2.now) before.now after.now (Some after2.now) }
-{
-    let many = periods(format, before, after);
-    shows_any_clock(format, before2, before)
-        && shows_any_clock(format, after, after2)
-        && is_off(format, before, after)
-        && many <= 100 * periods(format, before2, before)
-        && is_amidst(
-            format.interval(),
-            long_by(format, before2, before, many),
-            long_by(format, after, after2, many),
-            distance(before, after),
-        )
-}
-
-/// Whether `before` and `after` show the recording's own clock, and `frame` is in time by it, to
-/// half an interval (`is_in_time`): it begins when it should after `before`, and `after` when it
-/// should after `frame`. They show it if the two frames before show the same clock (`is_own_from`),
-/// or the two after do (`is_own_to`), or if theirs is between the clocks of both pairs (`is_amid`).
-pub fn is_by_own_clock(
-    format: Format,
-    before2: Option<Shown>,
-    before: &Shown,
-    after: &Shown,
-    after2: Option<Shown>,
-    frame: &Shown,
-) -> bool
-    ensures { result ≡ is_by_own_clock format before2 before.now after.now after2 frame.now }
-{
-    (is_own_from(format, before2, before, after)
-        || is_own_to(format, before, after, after2)
-        || is_amid(format, before2, before, after, after2))
-        && is_in_time(format, before, after, before, frame)
-        && is_in_time(format, before, after, frame, after)
 }

@@ -16,7 +16,8 @@ ghost use Rattle.irig_safety.specs.Curves.{are_few, bend, is_bent, is_mean, is_o
 ghost use Rattle.irig_safety.specs.Curves.{long_after, long_before, seen_over, straightened};
 ghost use Rattle.irig_safety.specs.Curves.{turned_over};
 
-use crate::bearing::{apart, distance, is_later, periods};
+use crate::bearing::{apart, distance};
+use crate::calendar::{is_later, periods};
 use crate::clocks::shows_any_clock;
 use crate::lines::{Anchor, between, is_straight};
 use crate::shown::Shown;

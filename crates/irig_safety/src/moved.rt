@@ -8,8 +8,8 @@
 ghost use Rattle.std.specs.Prelude.{◌≡◌, ◌≤◌, IfOk, drop, length};
 ghost use Rattle.irig_safety.specs.Moved.{from_time, moved_in, moved_to, rest_of};
 
-use crate::bearing::clock;
-use crate::safety::frame_at;
+use crate::calendar::clock;
+use crate::near::frame_at;
 use crate::shown::Shown;
 use std::alloc::{AllocError, Global};
 

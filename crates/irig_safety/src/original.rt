@@ -3,24 +3,21 @@
 //! from 0; the pulse of element k is k places after it. The class of a pulse is what its width
 //! means.
 
-ghost use Rattle.std.specs.Prelude.{◌≡◌, ◌↔◌, ◌-◌, ◌<◌, ◌≤◌, IsTrue, get_or, length, slice_get};
-ghost use Rattle.std.specs.Prelude.{Some, false, true};
+ghost use Rattle.std.specs.Prelude.{◌≡◌, ◌↔◌, ◌<◌, IsTrue, get_or};
+ghost use Rattle.std.specs.Prelude.{true};
 ghost use Rattle.std.specs.List.Sorted.{IsNonDecreasingBy};
-ghost use Rattle.irig_codes.specs.Width.{class_of};
 ghost use Rattle.irig_recording.specs.declared.pulse.Pulse.{Pulse as SomePulse};
-ghost use Rattle.irig_safety.specs.Anchors.{is_anchor, is_rise};
-ghost use Rattle.irig_safety.specs.Original.{IsAlike, IsNear, IsRecorded, near_in, others_of};
-ghost use Rattle.irig_safety.specs.Original.{reach_of};
-ghost use Rattle.irig_safety.specs.{Others.is_told, Rises.rise_in, Rises.rise_or};
+ghost use Rattle.irig_safety.specs.Anchors.{is_anchor};
+ghost use Rattle.irig_safety.specs.Original.{IsNear, IsRecorded, others_of};
+ghost use Rattle.irig_safety.specs.{Others.is_told, Rises.rise_in};
 
 use crate::odd::Odd;
 use crate::others::is_told;
-use crate::rises::{has_fall, has_rise};
-use crate::safety::{frame_at, frame_behind};
+use crate::recorded::has_alike;
+use crate::rises::{is_anchor, rise_or};
 use crate::shown::Shown;
 use crate::terms::{Others, Terms};
-use crate::witnesses::Witnesses;
-use irig_codes::{Element, Format, class};
+use irig_codes::Format;
 use irig_recording::Pulse;
 use std::marker::Model;
 
@@ -182,117 +179,4 @@ impl Original {
     {
         has_alike(format, true, self.pulses.as_slice(), pulse)
     }
-}
-
-/// Whether a pulse rises when a recorded one does, or rises when one falls and falls when one
-/// rises, as a gap does that is turned over (`Original::holds`). `place` is looked at first, and
-/// the search of a rise moves it on. The two other searches begin at the new place and leave it.
-fn is_anchor(recorded: &[Pulse], pulse: Pulse, place: &mut usize) -> bool
-    requires rising { IsNonDecreasingBy (λ (p : SomePulse). p.rise) recorded.now }
-    requires falling { IsNonDecreasingBy (λ (p : SomePulse). p.fall) recorded.now }
-    ensures { result ≡ is_anchor recorded.now (Some pulse) }
-{
-    has_rise(recorded, pulse.rise, place)
-        || has_fall(recorded, pulse.rise, *place) && is_rise(recorded, pulse.fall, *place)
-}
-
-/// Whether one of some pulses rises at a time. `place` is looked at first, and stays as it is: `at`
-/// is a copy of it for `has_rise`, which would move it on.
-fn is_rise(recorded: &[Pulse], time: u64, place: usize) -> bool
-    requires { IsNonDecreasingBy (λ (p : SomePulse). p.rise) recorded.now }
-    ensures { result ≡ is_rise recorded.now time }
-{
-    let mut at = place;
-    has_rise(recorded, time, &mut at)
-}
-
-/// When a pulse rises, in microseconds; 0 if there is none.
-pub fn rise_or(pulse: Option<Pulse>) -> u64
-    ensures { result ≡ rise_or pulse }
-{
-    match pulse {
-        Some(pulse) => pulse.rise,
-        None => 0,
-    }
-}
-
-/// The former frames next to a place of `frames`: the two before `place`, and the two from `next`
-/// on. `next` is `place` for a frame that is between former ones, and `place` + 1 for one that is
-/// at a former one's place. One that is not there is `None`: `frame_behind` is the frame before a
-/// place, and `None` before the first; `frame_at` is the one at a place, and `None` after the last.
-pub fn near_in(frames: &[Shown], place: usize, next: usize) -> Witnesses
-    requires { (place ≤ length frames.now) × (next ≤ length frames.now) }
-    ensures { result ≡ near_in frames.now place next }
-{
-    Witnesses {
-        before2: frame_behind(frames, place.saturating_sub(1)),
-        before: frame_behind(frames, place),
-        after: frame_at(frames, next),
-        after2: frame_at(frames, next + 1),
-    }
-}
-
-/// Whether one of the recorded pulses is near `pulse`, as near as `reach_of` says, and has its
-/// class, or with `any` some class (`is_alike`). They are in rising order, so those that can be
-/// near are in a row: from the first that is not too early (`low`) to the last that is not too
-/// late. False at the first that is too late, or if all are looked at.
-fn has_alike(format: Format, any: bool, recorded: &[Pulse], pulse: Pulse) -> bool
-    requires { IsNonDecreasingBy (λ (p : SomePulse). p.rise) recorded.now }
-    ensures { IsTrue result ↔ IsNear format any recorded.now pulse }
-{
-    let reach = reach_of(format, any);
-    let low = pulse.rise.saturating_sub(reach);
-    let first = recorded.partition_point(|other| other.rise < low);
-    for place in first..recorded.len() {
-        let other = recorded[place];
-        if other.rise.saturating_sub(reach) > pulse.rise {
-            return false;
-        }
-        if is_alike(format, any, other, pulse) {
-            return true;
-        }
-    }
-    false
-}
-
-/// How near a pulse has to be, in microseconds. Without `any` a tenth of an interval, which is how
-/// far two in step may be off. With `any`, if any class will do, half of one: up to there a pulse
-/// is nearest to the place of its own element. Both are this project's own.
-fn reach_of(format: Format, any: bool) -> u64
-    ensures { result ≡ reach_of format any }
-{
-    if any {
-        format.interval() / 2
-    } else {
-        format.interval() / 10
-    }
-}
-
-/// Whether `other` has the class of `pulse`, and two bad widths count as one class; or with `any`,
-/// whether `other` has a class at all, whatever `pulse` has.
-fn is_alike(format: Format, any: bool, other: Pulse, pulse: Pulse) -> bool
-    ensures { IsTrue result ↔ IsAlike format any other pulse }
-{
-    if any {
-        element(format, other).is_some()
-    } else {
-        is_same_class(format, other, pulse)
-    }
-}
-
-/// Whether two pulses have the same class. Two bad widths count as the same, a bad one and a good
-/// one do not.
-fn is_same_class(format: Format, one: Pulse, other: Pulse) -> bool
-    ensures { IsTrue result
-        ↔ (class_of format (one.fall - one.rise) ≡ class_of format (other.fall - other.rise)) }
-{
-    element(format, one) == element(format, other)
-}
-
-/// The class of a pulse: what it means by its width. `None` if the width is bad. A pulse that falls
-/// before it rises would have width 0.
-fn element(format: Format, pulse: Pulse) -> Option<Element>
-    ensures { result ≡ class_of format (pulse.fall - pulse.rise) }
-{
-    class(format, pulse.fall.saturating_sub(pulse.rise))
 }

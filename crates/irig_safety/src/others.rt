@@ -9,7 +9,7 @@ ghost use Rattle.irig_safety.specs.Others.{is_backed_to, is_of_time, is_told, is
 
 use crate::bearing::agrees;
 use crate::controls::function_of;
-use crate::safety::{frame_at, frame_behind};
+use crate::near::{frame_at, frame_behind};
 use crate::shown::Shown;
 use irig_codes::{Fields, Format};
 use std::alloc::{AllocError, Global};

@@ -2,10 +2,11 @@
 //! the place that is looked at first saves a search. Places count from 0, and times are in
 //! microseconds.
 
-ghost use Rattle.std.specs.Prelude.{◌≡◌, ◌<◌, ◌≤◌, ℕ, get_or, length};
+ghost use Rattle.std.specs.Prelude.{◌≡◌, ◌<◌, ◌≤◌, ℕ, get_or, length, Some};
 ghost use Rattle.std.specs.List.Sorted.{IsNonDecreasingBy};
-ghost use Rattle.irig_safety.specs.Anchors.{is_fall, is_rise};
+ghost use Rattle.irig_safety.specs.Anchors.{is_fall, is_rise, is_anchor};
 ghost use Rattle.irig_recording.specs.declared.pulse.Pulse.{Pulse as SomePulse};
+ghost use Rattle.irig_safety.specs.{Rises.rise_or};
 
 use irig_recording::Pulse;
 
@@ -71,4 +72,36 @@ fn first_fall(pulses: &[Pulse], time: u64, place: usize) -> usize
         return place;
     }
     pulses.partition_point(|pulse| pulse.fall < time)
+}
+
+/// Whether a pulse rises when a recorded one does, or rises when one falls and falls when one
+/// rises, as a gap does that is turned over (`Original::holds`). `place` is looked at first, and
+/// the search of a rise moves it on. The two other searches begin at the new place and leave it.
+pub fn is_anchor(recorded: &[Pulse], pulse: Pulse, place: &mut usize) -> bool
+    requires rising { IsNonDecreasingBy (λ (p : SomePulse). p.rise) recorded.now }
+    requires falling { IsNonDecreasingBy (λ (p : SomePulse). p.fall) recorded.now }
+    ensures { result ≡ is_anchor recorded.now (Some pulse) }
+{
+    has_rise(recorded, pulse.rise, place)
+        || has_fall(recorded, pulse.rise, *place) && is_rise(recorded, pulse.fall, *place)
+}
+
+/// Whether one of some pulses rises at a time. `place` is looked at first, and stays as it is: `at`
+/// is a copy of it for `has_rise`, which would move it on.
+fn is_rise(recorded: &[Pulse], time: u64, place: usize) -> bool
+    requires { IsNonDecreasingBy (λ (p : SomePulse). p.rise) recorded.now }
+    ensures { result ≡ is_rise recorded.now time }
+{
+    let mut at = place;
+    has_rise(recorded, time, &mut at)
+}
+
+/// When a pulse rises, in microseconds; 0 if there is none.
+pub fn rise_or(pulse: Option<Pulse>) -> u64
+    ensures { result ≡ rise_or pulse }
+{
+    match pulse {
+        Some(pulse) => pulse.rise,
+        None => 0,
+    }
 }

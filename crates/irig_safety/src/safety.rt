@@ -13,15 +13,16 @@
 ghost use Rattle.std.specs.Prelude.{◌≡◌, ◌↔◌, ◌-◌, ◌≤◌, ◌+◌, ◌∷◌, List, IsTrue, None, Option, Some};
 ghost use Rattle.std.specs.Prelude.{Err, IfErr, IfOk, Ok, OnErr, OnOk, drop, if◌then◌else◌, length};
 ghost use Rattle.std.specs.Prelude.{slice_get};
-ghost use Rattle.irig_safety.specs.Faults.{FaultFrom, Finds, IsFault, IsSpoiledBy, JudgedAt};
+ghost use Rattle.irig_safety.specs.Faults.{FaultFrom, IsFault, JudgedAt};
 ghost use Rattle.irig_safety.specs.Safety.{AreOfThemselves, IsSafe, IsSafeFrom, LeadOn};
-ghost use Rattle.irig_safety.specs.Safety.{NoneIsSpoiled, Stays, behind};
+ghost use Rattle.irig_safety.specs.Safety.{Stays, behind};
 ghost use Rattle.irig_safety.specs.declared.fault.Fault.{Fault as SomeFault};
 ghost use Rattle.irig_safety.specs.{Witnesses.is_borne, declared.shown.Shown.Shown as ShownFrame};
 
 use crate::bearing::leads;
 use crate::fault::Fault;
 use crate::mended::mends;
+use crate::near::{frame_at, frame_behind, near};
 use crate::shown::{Shown, is_same};
 use crate::terms::Others;
 use crate::witnesses::{Witnesses, is_borne};
@@ -165,86 +166,4 @@ fn stays(
         after2: frame_at(old, place + 2),
     };
     mends(format, others, &near, former, frame)
-}
-
-/// The former frames next to one that begins between them: two on each side, and `None` for one
-/// that is not there. `place` is how many of `old` are before it.
-fn near(old: &[Shown], place: usize) -> Witnesses
-    requires { place ≤ length old.now }
-    ensures before2 { result.before2 ≡ behind (place - 1) old.now }
-    ensures before { result.before ≡ behind place old.now }
-    ensures after { result.after ≡ slice_get old.now place }
-    ensures after2 { result.after2 ≡ slice_get old.now (place + 1) }
-{
-    Witnesses {
-        before2: frame_behind(old, place.saturating_sub(1)),
-        before: frame_behind(old, place),
-        after: frame_at(old, place),
-        after2: frame_at(old, place + 1),
-    }
-}
-
-/// The frame at a place, from 0; `None` if there is none.
-pub fn frame_at(frames: &[Shown], place: usize) -> Option<Shown>
-    ensures { result ≡ slice_get frames.now place }
-{
-    frames.get(place).copied()
-}
-
-/// The frame before a place, which counts from 0; `None` for place 0.
-pub fn frame_behind(frames: &[Shown], place: usize) -> Option<Shown>
-    requires { place ≤ length frames.now }
-    ensures { result ≡ behind place frames.now }
-{
-    if place == 0 {
-        None
-    } else {
-        Some(frames[place - 1])
-    }
-}
-
-/// Whether each frame of `last`, which read well before, still does: a frame of `new` begins when
-/// it does (`found_after`). What the two say is not compared. If not, `Lost` with the first frame
-/// of `last` for which there is none.
-pub fn check_unspoiled(last: &[Shown], new: &[Shown]) -> Result<(), Fault>
-    ensures kept { OnOk result (NoneIsSpoiled last.now new.now) }
-    ensures spoiled { OnErr result (NoneIsSpoiled last.now new.now → ⊥) }
-    ensures fault { IfErr result (IsSpoiledBy last.now new.now) }
-{
-    let mut found = 0;
-    for frame in new {
-        match found_after(last, found, frame) {
-            Ok(place) => found = place,
-            Err(why) => return Err(why),
-        }
-    }
-    match frame_at(last, found) {
-        Some(former) => Err(Fault::Lost(former)),
-        None => Ok(()),
-    }
-}
-
-/// Looks at one more new frame, `frame`. The number `found` is how many frames of `last` were found
-/// again before it, and `Ok` is how many were after it. If the next one of `last` begins when
-/// `frame` does, that is one more. If it begins later, or there is none, it is `found`. If it
-/// begins earlier, no new frame begins when it does: it is `Lost`.
-fn found_after(last: &[Shown], found: usize, frame: &Shown) -> Result<usize, Fault>
-    requires { found ≤ length last.now }
-    ensures within { IfOk result (λ place. place ≤ length last.now) }
-    ensures kept { (rest : List ShownFrame) (why : Option SomeFault) → IfOk result (λ place.
-        Finds (drop place last.now) rest why → Finds (drop found last.now) (frame.now ∷ rest) why) }
-    ensures fault { (rest : List ShownFrame) → IfErr result (λ why.
-        Finds (drop found last.now) (frame.now ∷ rest) (Some why)) }
-{
-    let Some(former) = frame_at(last, found) else {
-        return Ok(found);
-    };
-    if frame.rise < former.rise {
-        return Ok(found);
-    }
-    if former.rise < frame.rise {
-        Err(Fault::Lost(former))
-    } else {
-        Ok(found + 1)
-    }
 }

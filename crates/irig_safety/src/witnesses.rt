@@ -6,15 +6,15 @@
 //! stray by how much their distance is off from the nominal one.
 
 ghost use Rattle.std.specs.Prelude.{◌≡◌, Some};
-ghost use Rattle.irig_safety.specs.Heard.{heard, is_disputed, is_overruled};
 ghost use Rattle.irig_safety.specs.OwnClock.{is_own};
 ghost use Rattle.irig_safety.specs.Witnesses.{allows_from, allows_to, bears, is_borne, is_led};
-ghost use Rattle.irig_safety.specs.Witnesses.{is_next_from, is_next_to, is_timed, is_timed_from};
-ghost use Rattle.irig_safety.specs.Witnesses.{is_timed_to, may_stand};
+ghost use Rattle.irig_safety.specs.Witnesses.{may_stand};
 
 use crate::bearing::{allows, is_within, leads};
-use crate::clocks::{is_by_clock, is_by_next, is_by_own_clock};
+use crate::heard::heard;
+use crate::own_clock::is_by_own_clock;
 use crate::shown::Shown;
+use crate::timed::is_timed;
 use irig_codes::Format;
 
 /// The frames next to a place: the two before it, the nearer one last, and the two after it.
@@ -68,75 +68,6 @@ pub fn allows_to(format: Format, frame: &Shown, after: Option<Shown>) -> bool
     }
 }
 
-/// Whether a frame begins when it should, to half an interval, by the clock of the two before it.
-/// False if `before2` is not there, or they show no clock (`is_by_clock`).
-fn is_timed_from(format: Format, before2: Option<Shown>, before: &Shown, frame: &Shown) -> bool
-    ensures { result ≡ is_timed_from format before2 before.now frame.now }
-{
-    match before2 {
-        Some(before2) => is_by_clock(format, &before2, before, before, frame),
-        None => false,
-    }
-}
-
-/// Whether a frame begins when it should, to half an interval, by the clock of the two after it.
-/// False if `after2` is not there, or they show no clock (`is_by_clock`).
-fn is_timed_to(format: Format, frame: &Shown, after: &Shown, after2: Option<Shown>) -> bool
-    ensures { result ≡ is_timed_to format frame.now after.now after2 }
-{
-    match after2 {
-        Some(after2) => is_by_clock(format, after, &after2, frame, after),
-        None => false,
-    }
-}
-
-/// Whether a frame begins when it should, to half an interval, by the clock of the two before it.
-/// False unless these are there, a period apart, and it is at most two after them (`is_by_next`).
-fn is_next_from(format: Format, before2: Option<Shown>, before: &Shown, frame: &Shown) -> bool
-    ensures { result ≡ is_next_from format before2 before.now frame.now }
-{
-    match before2 {
-        Some(before2) => is_by_next(format, &before2, before, before, frame),
-        None => false,
-    }
-}
-
-/// Whether a frame begins when it should, to half an interval, by the clock of the two after it.
-/// False unless these are there, a period apart, and it is at most two before them (`is_by_next`).
-fn is_next_to(format: Format, frame: &Shown, after: &Shown, after2: Option<Shown>) -> bool
-    ensures { result ≡ is_next_to format frame.now after.now after2 }
-{
-    match after2 {
-        Some(after2) => is_by_next(format, after, &after2, frame, after),
-        None => false,
-    }
-}
-
-/// Whether a frame begins when it should, to half an interval, by the clock of the frames on both
-/// sides (`a` and `b`), or by that of the next two on one side (`is_next_from`, `is_next_to`).
-fn is_timed_by(format: Format, near: &Witnesses, a: &Shown, b: &Shown, frame: &Shown) -> bool
-    ensures { result
-        ≡ is_timed format near.now.before2 (Some a.now) (Some b.now) near.now.after2 frame.now }
-{
-    is_by_clock(format, a, b, a, frame)
-        || is_next_from(format, near.before2, a, frame)
-        || is_next_to(format, frame, b, near.after2)
-}
-
-/// Whether a frame begins when it should, to half an interval, by a clock of those next to it: with
-/// frames on both sides as in `is_timed_by`, else of the two on one side. False if there are fewer.
-fn is_timed(format: Format, near: &Witnesses, frame: &Shown) -> bool
-    ensures { result
-        ≡ is_timed format near.now.before2 near.now.before near.now.after near.now.after2 frame.now }
-{
-    match (near.before, near.after) {
-        (Some(before), Some(after)) => is_timed_by(format, near, &before, &after, frame),
-        (Some(before), None) => is_timed_from(format, near.before2, &before, frame),
-        (None, Some(after)) => is_timed_to(format, frame, &after, near.after2),
-        (None, None) => false,
-    }
-}
-
 /// Whether a frame is in time by the recording's own clock: that of the frames on both sides, if
 /// those next to them bear it out (`is_by_own_clock`). False if a side has no frame.
 pub fn is_own(format: Format, near: &Witnesses, frame: &Shown) -> bool
@@ -169,76 +100,6 @@ fn bears(format: Format, near: &Witnesses, frame: &Shown) -> bool
         && (allows_from(format, near.before, frame) && allows_to(format, frame, near.after))
         || is_own(format, near, frame))
         && may_stand(near, frame)
-}
-
-/// Whether `before` and `after` contradict `frame`, and not each other. False if one is missing.
-fn is_overruled(
-    format: Format,
-    before: Option<Shown>,
-    frame: Option<Shown>,
-    after: Option<Shown>,
-) -> bool
-    ensures { result ≡ is_overruled format before frame after }
-{
-    match (before, frame, after) {
-        (Some(a), Some(b), Some(c)) => {
-            !allows(format, &a, &b) && !allows(format, &b, &c) && allows(format, &a, &c)
-        }
-        _ => false,
-    }
-}
-
-/// Whether one side of a place has no frame (`other`), and the two of the other side (`one` and
-/// then `next`) contradict each other. False if one of these two is not there.
-fn is_disputed(
-    format: Format,
-    other: Option<Shown>,
-    one: Option<Shown>,
-    next: Option<Shown>,
-) -> bool
-    ensures { result ≡ is_disputed format other one next }
-{
-    match (other, one, next) {
-        (None, Some(p), Some(q)) => !allows(format, &p, &q),
-        _ => false,
-    }
-}
-
-/// The frames next to a place that are heard. If just one of the two nearest is overruled
-/// (`is_overruled`), the next on its side replaces it. If one side has none and the two of the
-/// other contradict each other (`is_disputed`): none. Else all, also if both nearest are overruled.
-fn heard(format: Format, near: &Witnesses) -> Witnesses
-    ensures { result
-        ≡ heard format near.now.before2 near.now.before near.now.after near.now.after2 }
-{
-    let without_after = is_overruled(format, near.before, near.after, near.after2);
-    let without_before = is_overruled(format, near.before2, near.before, near.after);
-    if without_after && !without_before {
-        Witnesses {
-            before2: near.before2,
-            before: near.before,
-            after: near.after2,
-            after2: None,
-        }
-    } else if without_before && !without_after {
-        Witnesses {
-            before2: None,
-            before: near.before2,
-            after: near.after,
-            after2: near.after2,
-        }
-    } else if is_disputed(format, near.before, near.after, near.after2)
-        || is_disputed(format, near.after, near.before2, near.before)
-    {
-        Witnesses {
-            before2: None,
-            before: None,
-            after: None,
-            after2: None,
-        }
-    } else {
-        *near
-    }
 }
 
 /// Whether the frames next to a frame that are heard (`heard`) bear out its time (`bears`).

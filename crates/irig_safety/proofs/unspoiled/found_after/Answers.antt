@@ -1,7 +1,7 @@
 use Rattle.std.proofs.Common.{◌≡◌, ◌∙◌, ◌<◌, Some, None, sym, slice_get, arith}
 use Rattle.std.proofs.lemmas.Option.{slice_get_within}
 use Rattle.irig_safety.proofs.SafetyLemmas.{found_here, found_later, none_before, not_found, some_before}
-use Rattle.irig_safety.proofs.safety.found_after.Goals as goal
+use Rattle.irig_safety.proofs.unspoiled.found_after.Goals as goal
 
 pub returns-in_default-clause-kept : goal.returns-in_default-clause-kept
 returns-in_default-clause-kept c = λ rest why.

@@ -2,7 +2,7 @@ use Rattle.std.proofs.Common.{◌∙◌, sym}
 use Rattle.std.proofs.lemmas.Option.{slice_get-get_or}
 use Rattle.irig_safety.proofs.FaultLemmas.{spoiled_so}
 use Rattle.irig_safety.proofs.SafetyLemmas.{find_end, find_left, find_none}
-use Rattle.irig_safety.proofs.safety.check_unspoiled.Goals as goal
+use Rattle.irig_safety.proofs.unspoiled.check_unspoiled.Goals as goal
 
 pub returns-in-Err-clause-fault : goal.returns-in-Err-clause-fault
 returns-in-Err-clause-fault c =

@@ -1,5 +1,5 @@
 use Rattle.irig_safety.proofs.RecordedLemmas.{NoneBefore}
-use Rattle.irig_safety.proofs.original.has_alike.Given as goal
+use Rattle.irig_safety.proofs.recorded.has_alike.Given as goal
 
 abbrev pub invariant-loop-place : goal.invariant-loop-place
 invariant-loop-place l = NoneBefore l.format l.any l.recorded l.pulse l.place

@@ -3,7 +3,7 @@ use Rattle.std.proofs.lemmas.List.Sorted.{IsPartitionPoint-from_clause, IsPartit
 use Rattle.std.proofs.lemmas.Option.{slice_get-get_or}
 use Rattle.irig_recording.specs.declared.pulse.Pulse.{Pulse}
 use Rattle.irig_safety.proofs.RecordedLemmas.{found_here, none_at_all, none_early, none_later, none_more}
-use Rattle.irig_safety.proofs.original.has_alike.Goals as goal
+use Rattle.irig_safety.proofs.recorded.has_alike.Goals as goal
 
 pub loop-place-init : goal.loop-place-init
 loop-place-init c =
