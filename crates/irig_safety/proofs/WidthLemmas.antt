@@ -4,7 +4,7 @@ use Rattle.std.proofs.lemmas.Bool.Decides.{nat_tests}
 use Rattle.std.specs.Prelude.{nat_le, nat_lt}
 use Rattle.irig_codes.specs.Format.{FormatView, interval_of}
 use Rattle.irig_recording.specs.declared.pulse.Pulse.{Pulse}
-use Rattle.irig_safety.specs.Widths.{is_alike, is_odd, is_outside, margin_of, spread_of, width_in, with_width}
+use Rattle.irig_safety.specs.Widths.{is_other_of_class, is_odd, is_outside, margin_of, spread_of, width_in, with_width}
 use Rattle.irig_safety.specs.declared.widths.Spread.{Spread}
 
 -- the widths of all elements
@@ -64,7 +64,7 @@ covers_on v w s h =
     (omega arith, omega (arith, low, from), omega (arith, high, to))
 
 module _ (f : FormatView) (ps : List Pulse) (m e : ℕ) where
-  one_more : (n j : ℕ) (b : Bool) → b ≡ is_alike f ps m e n → (c : Bool) → c ≡ (j == n) → j < suc n → is_alike f ps m e j ≡ true
+  one_more : (n j : ℕ) (b : Bool) → b ≡ is_other_of_class f ps m e n → (c : Bool) → c ≡ (j == n) → j < suc n → is_other_of_class f ps m e j ≡ true
       → (j < n → Covers (spread_of f ps m e n) (width_in ps m j))
       → Covers (if b then with_width (width_in ps m n) (spread_of f ps m e n) else spread_of f ps m e n) (width_in ps m j)
   one_more n j true is true at less so h =
@@ -75,14 +75,14 @@ module _ (f : FormatView) (ps : List Pulse) (m e : ℕ) where
       covers_on (width_in ps m n) (width_in ps m j) (spread_of f ps m e n) (h (is_below j n false at refl less))
   one_more n j false is true at less so h =
       let same : j ≡ n = is_it j n true at refl in
-      let bad : false ≡ true = is ∙ (ap (is_alike f ps m e) (sym same) ∙ so) in
+      let bad : false ≡ true = is ∙ (ap (is_other_of_class f ps m e) (sym same) ∙ so) in
       absurd (cc)
   one_more n j false is false at less so h = h (is_below j n false at refl less)
 
-  covers_each : (n j : ℕ) → j < n → is_alike f ps m e j ≡ true → Covers (spread_of f ps m e n) (width_in ps m j)
+  covers_each : (n j : ℕ) → j < n → is_other_of_class f ps m e j ≡ true → Covers (spread_of f ps m e n) (width_in ps m j)
   covers_each zero j less so = absurd (omega (arith, less))
   covers_each (suc n) j less so =
-      one_more n j (is_alike f ps m e n) refl (j == n) refl less so (λ below. covers_each n j below so)
+      one_more n j (is_other_of_class f ps m e n) refl (j == n) refl less so (λ below. covers_each n j below so)
 
 no_other : (b : Bool) → (b && (false || false)) ≡ false
 no_other true = refl
@@ -99,7 +99,7 @@ not_outside i w v s h below above =
     (λ k. nat_le 5 s.many && (low k || high k)) ∙ no_other (nat_le 5 s.many)
 
 -- a pulse that is like another one of its frame is not odd
-pub like_not_odd : (f : FormatView) (ps : List Pulse) (m e j : ℕ) → j < 100 → is_alike f ps m e j ≡ true
+pub like_not_odd : (f : FormatView) (ps : List Pulse) (m e j : ℕ) → j < 100 → is_other_of_class f ps m e j ≡ true
     → width_in ps m e ≤ width_in ps m j + interval_of f.kind / 100 → width_in ps m j ≤ width_in ps m e + interval_of f.kind / 100
     → is_odd f ps m e ≡ false
 like_not_odd f ps m e j less so below above =

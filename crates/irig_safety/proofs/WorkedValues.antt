@@ -8,8 +8,8 @@ use Rattle.irig_codes.specs.declared.format.Kind.TheVariants.{E, G}
 use Rattle.irig_safety.specs.Bearing.{clock_of, is_far, is_later, leads, periods, slack, stray}
 use Rattle.irig_safety.specs.{Clocks.shows_clock, OwnClock.is_by_own_clock}
 use Rattle.irig_recording.specs.declared.pulse.Pulse.{Pulse}
-use Rattle.irig_safety.specs.{Anchors.is_anchor, Curves.is_bent, Lines.is_nominal, Rises.rise_in, Straight.is_straight}
-use Rattle.irig_safety.specs.{declared.curves.Sides.Sides, declared.lines.Anchor.Anchor}
+use Rattle.irig_safety.specs.{Anchors.is_anchor, Curves.is_on_curve_by, Lines.fits_nominal, Rises.rise_in, Straight.is_straight}
+use Rattle.irig_safety.specs.{declared.turning.Sides.Sides, declared.lines.Anchor.Anchor}
 use Rattle.irig_safety.specs.{Heard.is_overruled, Witnesses.is_led}
 use Rattle.irig_safety.specs.MendedFunctions.{HasControlOfBoth, with_control}
 use Rattle.irig_safety.specs.{Functions.function_element, Witnesses.is_borne, declared.shown.Shown.Shown}
@@ -203,10 +203,10 @@ beside_line : is_straight b4 (anchor 10 5000000) 101001 (anchor 10 5200000) ≡ 
 beside_line = refl
 
 -- at the nominal interval to a tenth of it and a thousandth: 100 elements of 10 ms
-nominal : is_nominal b4 100 1002002 ≡ true
+nominal : fits_nominal b4 100 1002002 ≡ true
 nominal = refl
 
-not_nominal : is_nominal b4 100 1002003 ≡ false
+not_nominal : fits_nominal b4 100 1002003 ≡ false
 not_nominal = refl
 
 -- a pulse that rises when one does, a gap that was turned over, and neither
@@ -271,11 +271,11 @@ abbrev turning : Sides
 turning = record { before2 = slow_at 1050950 51; before = slow_at 2103800 52; after = slow_at 6334200 56; after2 = slow_at 7396550 57 }
 
 -- it is a tenth of an interval from there, and a microsecond more; and on the other side of the line
-on_curve : is_bent b4 turning (anchor 200 2103800) 4216200 (anchor 200 6334200) ≡ true
+on_curve : is_on_curve_by b4 turning (anchor 200 2103800) 4216200 (anchor 200 6334200) ≡ true
 on_curve = refl
 
-beside_curve : is_bent b4 turning (anchor 200 2103800) 4216201 (anchor 200 6334200) ≡ false
+beside_curve : is_on_curve_by b4 turning (anchor 200 2103800) 4216201 (anchor 200 6334200) ≡ false
 beside_curve = refl
 
-other_side : is_bent b4 turning (anchor 200 2103800) 4222800 (anchor 200 6334200) ≡ false
+other_side : is_on_curve_by b4 turning (anchor 200 2103800) 4222800 (anchor 200 6334200) ≡ false
 other_side = refl

@@ -25,8 +25,8 @@ abbrev pub is_by_clock : FormatView → Shown → Shown → Shown → Shown → 
 is_by_clock f p q x y = shows_clock f p q && is_in_time f p q x y
 
 -- so on that of two frames, if the second is the next after the first, and y no more than two after x
-abbrev pub is_by_next : FormatView → Shown → Shown → Shown → Shown → Bool
-is_by_next f p q x y =
+abbrev pub is_by_near_clock : FormatView → Shown → Shown → Shown → Shown → Bool
+is_by_near_clock f p q x y =
     (periods f p q == 1) && nat_le (periods f x y) 2 && is_by_clock f p q x y
 
 -- the frames agree, and show a clock that is off by 8 in 100 at most

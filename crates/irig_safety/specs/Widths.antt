@@ -28,8 +28,8 @@ is_same_class (Some Position) (Some Position) = true
 is_same_class a b = false
 
 -- the pulse of element j is another one than that of element e, and has its class
-abbrev pub is_alike : FormatView → List Pulse → ℕ → ℕ → ℕ → Bool
-is_alike f pulses marker e j =
+abbrev pub is_other_of_class : FormatView → List Pulse → ℕ → ℕ → ℕ → Bool
+is_other_of_class f pulses marker e j =
     not (j == e)
     && is_same_class (class_of f (width_in pulses marker j)) (class_of f (width_in pulses marker e))
 
@@ -46,7 +46,7 @@ with_width w s = record {
 abbrev pub spread_of : FormatView → List Pulse → ℕ → ℕ → ℕ → Spread
 spread_of f pulses marker e zero = record { many = 0; least = 0; most = 0 }
 spread_of f pulses marker e (suc n) =
-    if is_alike f pulses marker e n
+    if is_other_of_class f pulses marker e n
     then with_width (width_in pulses marker n) (spread_of f pulses marker e n)
     else spread_of f pulses marker e n
 

@@ -5,11 +5,8 @@
 //! contracts, as 2^64, only keep numbers small enough for their types.
 
 ghost use Rattle.std.specs.Prelude.{◌≡◌, ◌^◌, ◌<◌};
-ghost use Rattle.irig_safety.specs.Bearing.{agrees, allows, apart};
-ghost use Rattle.irig_safety.specs.Bearing.{distance};
-ghost use Rattle.irig_safety.specs.Bearing.{is_far};
-ghost use Rattle.irig_safety.specs.Bearing.{is_shown, leads};
-ghost use Rattle.irig_safety.specs.Bearing.{is_within, slack, stray};
+ghost use Rattle.irig_safety.specs.Bearing.{agrees, allows, apart, distance, is_far, is_shown};
+ghost use Rattle.irig_safety.specs.Bearing.{is_within, leads, slack, stray};
 
 use crate::calendar::{is_later, periods};
 use crate::shown::Shown;

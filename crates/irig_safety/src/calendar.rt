@@ -5,18 +5,16 @@
 //! small enough for their types.
 
 ghost use Rattle.std.specs.Prelude.{◌≡◌, ◌+◌, ◌%◌, ◌==◌, ◌^◌, ◌<◌};
-ghost use Rattle.irig_safety.specs.Bearing.{clock_after, clock_of};
-ghost use Rattle.irig_safety.specs.Bearing.{goes_back};
-ghost use Rattle.irig_safety.specs.Bearing.{inserted_of, is_later};
-ghost use Rattle.irig_safety.specs.Bearing.{is_near_year, periods};
-ghost use Rattle.irig_safety.specs.Bearing.{turn_of, year_of};
+ghost use Rattle.irig_safety.specs.Bearing.{clock_after, clock_of, goes_back, inserted_of};
+ghost use Rattle.irig_safety.specs.Bearing.{is_later, is_near_year, periods, turn_of, year_of};
 ghost use Rattle.irig_moment.specs.Generated.{period_of};
 
 use crate::shown::Shown;
 use irig_codes::{Fields, Format};
 
-/// A time in hundredths of a second; fields without hundredths count as having 0. It is from a day
-/// before the year begins, as days count from 1. This does not matter: clocks are only compared.
+/// The day and time of day as one number, in hundredths of a second; fields without hundredths
+/// count as having 0. It counts from a day before the year begins, as days count from 1. This does
+/// not matter: clocks are only compared.
 pub fn clock(fields: &Fields) -> u128
     ensures value { result ≡ clock_of fields.now }
     ensures small { result < 2 ^ 60 }
@@ -38,7 +36,7 @@ fn period(format: Format) -> u128
 }
 
 /// Whether the year `other` is the one after `one`, both of two digits: 0 comes after 99.
-fn is_next(one: u32, other: u32) -> bool
+fn is_next_year(one: u32, other: u32) -> bool
     ensures { result ≡ ((one + 1) % 100 == other) }
 {
     (u64::from(one) + 1) % 100 == u64::from(other)
@@ -50,14 +48,14 @@ fn is_near_year(one: Option<u32>, other: Option<u32>) -> bool
     ensures { result ≡ is_near_year one other }
 {
     match (one, other) {
-        (Some(one), Some(other)) => one == other || is_next(one, other),
+        (Some(one), Some(other)) => one == other || is_next_year(one, other),
         (None, None) => true,
         _ => false,
     }
 }
 
 /// How many hundredths of a second a year has: 365 days, or 366 if it is long.
-fn year(is_long: bool) -> u128
+fn year_length(is_long: bool) -> u128
     ensures value { result ≡ year_of is_long }
     ensures small { result < 2 ^ 32 }
 {
@@ -78,15 +76,15 @@ fn turn(one: &Fields, other: &Fields) -> u128
 {
     match (one.year, other.year) {
         (Some(from), Some(to)) => {
-            if is_next(from, to) {
-                year(from % 4 == 0)
+            if is_next_year(from, to) {
+                year_length(from % 4 == 0)
             } else {
                 0
             }
         }
         (None, None) => {
             if clock(other) + inserted(one, other) < clock(one) {
-                year(one.days == 366)
+                year_length(one.days == 366)
             } else {
                 0
             }

@@ -7,7 +7,8 @@
 ghost use Rattle.std.specs.Prelude.{◌≡◌, ◌<◌, ◌≤◌};
 ghost use Rattle.irig_codes.specs.Format.{control_count_of, has_year};
 ghost use Rattle.irig_safety.specs.Controls.{is_shared};
-ghost use Rattle.irig_safety.specs.Functions.{first_function, function_element, function_of, shares};
+ghost use Rattle.irig_safety.specs.Functions.{first_function, function_element, function_of};
+ghost use Rattle.irig_safety.specs.Functions.{shares};
 
 use crate::shown::Shown;
 use crate::witnesses::Witnesses;

@@ -1,9 +1,8 @@
-//! Which of the frames next to a place are heard: those that may bear out a frame there. One is
-//! overruled if the frames on both of its sides contradict it and not each other. Two frames
+//! Which of the frames next to a place are heard: those that may bear out a frame there. Two frames
 //! contradict each other (not `allows`) if they are near enough for their distance to say how many
-//! frame periods it is, and their times say another number. In `Witnesses`, `before2` and `before`
-//! are the two frames before the place, the nearer one last, and `after` and `after2` the two after
-//! it, the nearer one first; `None` is one that is not there.
+//! frame periods it is, and their times say another number. `Witnesses` has two frames of each side
+//! of the place: `before2` and `before`, the nearer one last, and `after` and `after2`, the nearer
+//! one first. One that is not there is `None`.
 
 ghost use Rattle.std.specs.Prelude.{◌≡◌};
 ghost use Rattle.irig_safety.specs.Heard.{heard, is_disputed, is_overruled};
@@ -13,7 +12,8 @@ use crate::shown::Shown;
 use crate::witnesses::Witnesses;
 use irig_codes::Format;
 
-/// Whether `before` and `after` contradict `frame`, and not each other. False if one is missing.
+/// Whether a frame is overruled: `before` and `after` contradict it, and do not contradict each
+/// other. False if one of the three is not there.
 fn is_overruled(
     format: Format,
     before: Option<Shown>,
@@ -23,32 +23,36 @@ fn is_overruled(
     ensures { result ≡ is_overruled format before frame after }
 {
     match (before, frame, after) {
-        (Some(a), Some(b), Some(c)) => {
-            !allows(format, &a, &b) && !allows(format, &b, &c) && allows(format, &a, &c)
+        (Some(before), Some(frame), Some(after)) => {
+            !allows(format, &before, &frame)
+                && !allows(format, &frame, &after)
+                && allows(format, &before, &after)
         }
         _ => false,
     }
 }
 
-/// Whether one side of a place has no frame (`other`), and the two of the other side (`one` and
-/// then `next`) contradict each other. False if one of these two is not there.
+/// Whether one side of a place has no frame (`opposite` is its nearest), and the two frames of the
+/// other side, `first` and then `second`, contradict each other. False if one of these two is not
+/// there.
 fn is_disputed(
     format: Format,
-    other: Option<Shown>,
-    one: Option<Shown>,
-    next: Option<Shown>,
+    opposite: Option<Shown>,
+    first: Option<Shown>,
+    second: Option<Shown>,
 ) -> bool
-    ensures { result ≡ is_disputed format other one next }
+    ensures { result ≡ is_disputed format opposite first second }
 {
-    match (other, one, next) {
-        (None, Some(p), Some(q)) => !allows(format, &p, &q),
+    match (opposite, first, second) {
+        (None, Some(first), Some(second)) => !allows(format, &first, &second),
         _ => false,
     }
 }
 
 /// The frames next to a place that are heard. If just one of the two nearest is overruled
-/// (`is_overruled`), the next on its side replaces it. If one side has none and the two of the
-/// other contradict each other (`is_disputed`): none. Else all, also if both nearest are overruled.
+/// (`is_overruled`), it is left out, and the next one on its side replaces it. If one side has no
+/// frame, and the two of the other contradict each other (`is_disputed`), none is heard. Else all
+/// are, also if both nearest are overruled.
 pub fn heard(format: Format, near: &Witnesses) -> Witnesses
     ensures { result
         ≡ heard format near.now.before2 near.now.before near.now.after near.now.after2 }

@@ -26,6 +26,7 @@ mod safety;
 mod shown;
 mod terms;
 mod timed;
+mod turning;
 mod unspoiled;
 mod widths;
 mod witnesses;

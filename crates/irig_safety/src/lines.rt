@@ -1,19 +1,16 @@
-//! Whether a pulse is on the line between two whose place is known: all elements between them take
-//! equally long, to a tenth of an interval. That is how far two neighbours in step may be off; it
-//! is this project's own. A marker is the pulse with which a frame begins. `near` is the frames
-//! next to a frame: `before2` and `before` before it, the nearer one last, `after` and `after2`
-//! after it. The clock of two frames is how long a frame period takes in the recording, by their
-//! distance and their times. The recording's own clock is that of `before` and `after`, if other
-//! frames next to them bear it out. Two frames agree if they are near enough for their distance to
-//! say how many periods it is, and their times are as many apart. `steps` are elements, and
-//! `micros` the microseconds that they took. The bounds in contracts only keep numbers small enough
-//! for their types: 500 frames have 50,000 elements, which is less than 2^16, and 2^17 leaves room
-//! for the elements of one frame more.
+//! Whether a pulse is on the line between two anchors, which are pulses whose place is known: all
+//! elements between them take equally long, to a tenth of an interval. That is how far two
+//! neighbours in step may be off; it is this project's own. `steps` are elements, and `micros` the
+//! microseconds that they took. `near` is the frames next to a frame: `before2` and `before` before
+//! it, the nearer one last, `after` and `after2` after it. The clock of two frames is how long a
+//! frame period takes in the recording, by their distance and their times. The bounds in contracts
+//! only keep numbers small enough for their types: 500 frames have 50,000 elements, which is less
+//! than 2^16, and 2^17 leaves room for the elements of one frame more.
 
 ghost use Rattle.std.specs.Prelude.{◌≡◌, ◌≤◌, ◌<◌, ◌-◌, ◌/◌, ◌^◌, IfSome};
 ghost use Rattle.irig_codes.specs.Format.{interval_of};
-ghost use Rattle.irig_safety.specs.Lines.{is_along, is_at_clock, is_at_clock_of, is_between};
-ghost use Rattle.irig_safety.specs.Lines.{is_clocked, is_nominal, is_on_line};
+ghost use Rattle.irig_safety.specs.Lines.{fits_clock, fits_clock_if_both, fits_nearest_clock};
+ghost use Rattle.irig_safety.specs.Lines.{fits_nominal, fits_steps, is_on_line, is_on_line_between};
 ghost use Rattle.irig_safety.specs.Straight.{is_straight};
 
 use crate::bearing::{apart, distance};
@@ -41,7 +38,7 @@ fn tenth(format: Format) -> u128
 }
 
 /// How many microseconds the time `to` is after `from`; 0 if it is not later.
-pub fn between(from: u64, to: u64) -> u128
+pub fn micros_between(from: u64, to: u64) -> u128
     ensures value { result ≡ to - from }
     ensures small { result < 2 ^ 64 }
 {
@@ -58,7 +55,7 @@ pub fn is_straight(format: Format, before: &Anchor, micros: u128, after: &Anchor
 {
     let whole = before.steps + after.steps;
     let found = micros * whole;
-    let wanted = before.steps * between(before.rise, after.rise);
+    let wanted = before.steps * micros_between(before.rise, after.rise);
     apart(found, wanted) <= whole * tenth(format)
 }
 
@@ -66,20 +63,26 @@ pub fn is_straight(format: Format, before: &Anchor, micros: u128, after: &Anchor
 /// (`is_straight`). Or it is on the curve that pulses are on if the clock of the frames before
 /// becomes evenly that of the frames after (`near`), as on a tape (`is_on_curve`). A rise before
 /// the first anchor counts as at it.
-fn is_between(format: Format, near: &Witnesses, before: &Anchor, rise: u64, after: &Anchor) -> bool
+fn is_on_line_between(
+    format: Format,
+    near: &Witnesses,
+    before: &Anchor,
+    rise: u64,
+    after: &Anchor,
+) -> bool
     requires { (before.now.steps ≤ 2 ^ 17) × (after.now.steps ≤ 2 ^ 17) }
-    ensures { result ≡ is_between format near.now before.now rise after.now }
+    ensures { result ≡ is_on_line_between format near.now before.now rise after.now }
 {
-    is_straight(format, before, between(before.rise, rise), after)
+    is_straight(format, before, micros_between(before.rise, rise), after)
         || is_on_curve(format, near, before, rise, after)
 }
 
 /// Whether `steps` elements take as many microseconds as they nominally do, to a tenth of an
 /// interval and a thousandth of `micros`, for a clock that is off. Both sides are times 1,000, so
 /// nothing is divided.
-fn is_nominal(format: Format, steps: u128, micros: u128) -> bool
+fn fits_nominal(format: Format, steps: u128, micros: u128) -> bool
     requires { (steps ≤ 2 ^ 17) × (micros < 2 ^ 64) }
-    ensures { result ≡ is_nominal format steps micros }
+    ensures { result ≡ fits_nominal format steps micros }
 {
     let interval = u128::from(format.interval());
     1_000 * apart(micros, steps * interval) <= 100 * interval + micros
@@ -89,18 +92,18 @@ fn is_nominal(format: Format, steps: u128, micros: u128) -> bool
 /// microseconds, to a tenth of an interval. False if their distance does not fit their times, or
 /// the clock is far off (`shows_clock`). Both sides are times `whole`, which is how many periods
 /// the two frames are apart, so that nothing is divided by it.
-fn is_at_clock(format: Format, steps: u128, micros: u128, one: &Shown, other: &Shown) -> bool
+fn fits_clock(format: Format, steps: u128, micros: u128, one: &Shown, other: &Shown) -> bool
     requires { (steps ≤ 2 ^ 17) × (micros < 2 ^ 64) }
-    ensures { result ≡ is_at_clock format steps micros one.now other.now }
+    ensures { result ≡ fits_clock format steps micros one.now other.now }
 {
     let whole = periods(format, one, other);
     let wanted = steps * distance(one, other) / 100;
     shows_clock(format, one, other) && apart(micros * whole, wanted) <= whole * tenth(format)
 }
 
-/// Whether `steps` elements take `micros` microseconds by the clock of two frames, to a tenth of an
-/// interval. False if one of the frames is not there, or their clock is far off (`is_at_clock`).
-fn is_at_clock_of(
+/// Whether two frames are there, and by their clock `steps` elements take `micros` microseconds
+/// (`fits_clock`).
+fn fits_clock_if_both(
     format: Format,
     steps: u128,
     micros: u128,
@@ -108,42 +111,43 @@ fn is_at_clock_of(
     other: Option<Shown>,
 ) -> bool
     requires { (steps ≤ 2 ^ 17) × (micros < 2 ^ 64) }
-    ensures { result ≡ is_at_clock_of format steps micros one other }
+    ensures { result ≡ fits_clock_if_both format steps micros one other }
 {
     match (one, other) {
-        (Some(one), Some(other)) => is_at_clock(format, steps, micros, &one, &other),
+        (Some(one), Some(other)) => fits_clock(format, steps, micros, &one, &other),
         _ => false,
     }
 }
 
 /// Whether `steps` elements take `micros` microseconds by the clock of the two nearest frames, to a
 /// tenth of an interval. They are one on each side, or both on the one side that has any. False if
-/// there are fewer, or if their clock is far off (`shows_clock`).
-fn is_clocked(format: Format, near: &Witnesses, steps: u128, micros: u128) -> bool
+/// there are fewer, or their clock is far off (`fits_clock`).
+fn fits_nearest_clock(format: Format, near: &Witnesses, steps: u128, micros: u128) -> bool
     requires { (steps ≤ 2 ^ 17) × (micros < 2 ^ 64) }
-    ensures { result ≡ is_clocked format near.now steps micros }
+    ensures { result ≡ fits_nearest_clock format near.now steps micros }
 {
     match (near.before, near.after) {
-        (before, None) => is_at_clock_of(format, steps, micros, near.before2, before),
-        (None, Some(after)) => is_at_clock_of(format, steps, micros, Some(after), near.after2),
-        (Some(before), Some(after)) => is_at_clock(format, steps, micros, &before, &after),
+        (before, None) => fits_clock_if_both(format, steps, micros, near.before2, before),
+        (None, Some(after)) => fits_clock_if_both(format, steps, micros, Some(after), near.after2),
+        (Some(before), Some(after)) => fits_clock(format, steps, micros, &before, &after),
     }
 }
 
 /// Whether `steps` elements take `micros` microseconds: by the nominal interval, to a tenth of it
-/// and a thousandth of `micros` (`is_nominal`), or by the clock of the two nearest frames (`near`),
-/// to a tenth of an interval (`is_clocked`).
-fn is_along(format: Format, near: &Witnesses, steps: u128, micros: u128) -> bool
+/// and a thousandth of `micros` (`fits_nominal`), or by the clock of the two nearest frames
+/// (`near`), to a tenth of an interval (`fits_nearest_clock`).
+fn fits_steps(format: Format, near: &Witnesses, steps: u128, micros: u128) -> bool
     requires { (steps ≤ 2 ^ 17) × (micros < 2 ^ 64) }
-    ensures { result ≡ is_along format near.now steps micros }
+    ensures { result ≡ fits_steps format near.now steps micros }
 {
-    is_nominal(format, steps, micros) || is_clocked(format, near, steps, micros)
+    fits_nominal(format, steps, micros) || fits_nearest_clock(format, near, steps, micros)
 }
 
 /// Whether a rise, in microseconds, is where the anchors of the pulse (`before`, `after`) have it.
-/// If both are there: on the line or the curve between them (`is_between`). If one is: as far from
-/// it as the nominal interval or the clock of the two nearest frames (`near`) says (`is_along`). A
-/// rise on the wrong side of an anchor counts as at it. False if there is no anchor.
+/// If both are there: on the line or the curve between them (`is_on_line_between`). If one is: as
+/// far from it as the nominal interval or the clock of the two nearest frames (`near`) says
+/// (`fits_steps`). A rise on the wrong side of an anchor counts as at it. False if there is no
+/// anchor.
 pub fn is_on_line(
     format: Format,
     near: &Witnesses,
@@ -157,8 +161,8 @@ pub fn is_on_line(
 {
     match (before, after) {
         (None, None) => false,
-        (Some(a), None) => is_along(format, near, a.steps, between(a.rise, rise)),
-        (None, Some(b)) => is_along(format, near, b.steps, between(rise, b.rise)),
-        (Some(a), Some(b)) => is_between(format, near, &a, rise, &b),
+        (Some(from), None) => fits_steps(format, near, from.steps, micros_between(from.rise, rise)),
+        (None, Some(to)) => fits_steps(format, near, to.steps, micros_between(rise, to.rise)),
+        (Some(from), Some(to)) => is_on_line_between(format, near, &from, rise, &to),
     }
 }

@@ -1,21 +1,21 @@
 //! The markers of the frames next to a frame as anchors for its elements. A marker is the pulse
 //! with which a frame begins, and an anchor a pulse whose place is known. `near` is the frames next
-//! to a frame: `before` is the nearest before it, and `after` the nearest after it. Two frames agree
-//! if they are near enough for their distance to say how many periods it is, and their times are as
-//! many apart. The recording's own clock is that of `before` and `after`, if other frames next to
-//! them bear it out. The bounds in contracts only keep numbers small enough for their types: 500
-//! frames have 50,000 elements, which is less than 2^16.
+//! to a frame: `before` is the nearest before it, and `after` the nearest after it. Two frames
+//! agree if they are near enough for their distance to say how many periods it is, and their times
+//! are as many apart. The recording's own clock is that of `before` and `after`, if other frames
+//! next to them bear it out. The bounds in contracts only keep numbers small enough for their
+//! types: 500 frames have 50,000 elements, which is less than 2^16.
 
 ghost use Rattle.std.specs.Prelude.{◌≡◌, ◌≤◌, ◌<◌, ◌+◌, ◌*◌, ◌^◌, IfSome, IsTrue};
 ghost use Rattle.irig_safety.specs.Bearing.{periods};
-ghost use Rattle.irig_safety.specs.Lines.{is_counted};
-ghost use Rattle.irig_safety.specs.Lines.{marker_after, marker_before};
+ghost use Rattle.irig_safety.specs.Lines.{is_counted, marker_after, marker_before};
 
 use crate::bearing::agrees;
 use crate::calendar::periods;
 use crate::lines::Anchor;
+use crate::own_clock::is_on_own_clock;
 use crate::shown::Shown;
-use crate::witnesses::{Witnesses, is_own};
+use crate::witnesses::Witnesses;
 use irig_codes::Format;
 
 /// How many elements `frames` frames have: 100 each. Up to 2^64 frames the product fits its type.
@@ -27,14 +27,14 @@ fn elements(frames: u128) -> u128
 }
 
 /// Whether the distance of `one` and `other` says how many elements it is: they agree (`agrees`),
-/// or the recording's own clock has `frame` there (`is_own`). One of the two is `frame`, and the
-/// other is next to it; `one` is the earlier. False if they are more than 500 frame periods apart:
-/// up to there no number below is too large for its type.
+/// or `frame` is in time by the recording's own clock (`is_on_own_clock`). One of the two is
+/// `frame`, and the other is next to it; `one` is the earlier. False if they are more than 500
+/// frame periods apart: up to there no number of a line is too large for its type.
 fn is_counted(format: Format, near: &Witnesses, frame: &Shown, one: &Shown, other: &Shown) -> bool
     ensures value { result ≡ is_counted format near.now frame.now one.now other.now }
     ensures few { IsTrue result → periods format one.now other.now ≤ 500 }
 {
-    (agrees(format, one, other) || is_own(format, near, frame))
+    (agrees(format, one, other) || is_on_own_clock(format, near, frame))
         && periods(format, one, other) <= 500
 }
 

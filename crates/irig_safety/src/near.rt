@@ -1,7 +1,7 @@
 //! The frames next to a place in a list of frames, which is in the order of their rises. Places
-//! count from 0. In `Witnesses`, `before2` and `before` are the two frames before a place, the
-//! nearer one last, and `after` and `after2` the two after it, the nearer one first. One that is not
-//! there is `None`. In contracts `behind` is the frame before a place.
+//! count from 0. `Witnesses` has two frames of each side: `before2` and `before`, the nearer one
+//! last, and `after` and `after2`, the nearer one first. One that is not there is `None`. In
+//! contracts `behind` is the frame before a place.
 
 ghost use Rattle.std.specs.Prelude.{◌≡◌, ◌-◌, ◌≤◌, ◌+◌, length, slice_get};
 ghost use Rattle.irig_safety.specs.Safety.{behind};
@@ -18,7 +18,7 @@ pub fn frame_at(frames: &[Shown], place: usize) -> Option<Shown>
 }
 
 /// The frame before a place, which counts from 0; `None` for place 0.
-pub fn frame_behind(frames: &[Shown], place: usize) -> Option<Shown>
+pub fn frame_before(frames: &[Shown], place: usize) -> Option<Shown>
     requires { place ≤ length frames.now }
     ensures { result ≡ behind place frames.now }
 {
@@ -29,9 +29,9 @@ pub fn frame_behind(frames: &[Shown], place: usize) -> Option<Shown>
     }
 }
 
-/// The former frames next to one that begins between them: two on each side, and `None` for one
-/// that is not there. `place` is how many of `old` are before it.
-pub fn near(old: &[Shown], place: usize) -> Witnesses
+/// The frames of `old` next to a frame that begins between two of them, or before or after all.
+/// `place` is how many of `old` begin before it.
+pub fn near_between(old: &[Shown], place: usize) -> Witnesses
     requires { place ≤ length old.now }
     ensures before2 { result.before2 ≡ behind (place - 1) old.now }
     ensures before { result.before ≡ behind place old.now }
@@ -39,24 +39,23 @@ pub fn near(old: &[Shown], place: usize) -> Witnesses
     ensures after2 { result.after2 ≡ slice_get old.now (place + 1) }
 {
     Witnesses {
-        before2: frame_behind(old, place.saturating_sub(1)),
-        before: frame_behind(old, place),
+        before2: frame_before(old, place.saturating_sub(1)),
+        before: frame_before(old, place),
         after: frame_at(old, place),
         after2: frame_at(old, place + 1),
     }
 }
 
-/// The former frames next to a place of `frames`: the two before `place`, and the two from `next`
-/// on. `next` is `place` for a frame that is between former ones, and `place` + 1 for one that is
-/// at a former one's place. One that is not there is `None`: `frame_behind` is the frame before a
-/// place, and `None` before the first; `frame_at` is the one at a place, and `None` after the last.
+/// The frames of `frames` next to a frame: the two before `place`, and the two from `next` on.
+/// `next` is `place` for a frame that is between two of them (`near_between`), and `place` + 1 for
+/// one that is in place of the one at `place`, which then is not next to it.
 pub fn near_in(frames: &[Shown], place: usize, next: usize) -> Witnesses
     requires { (place ≤ length frames.now) × (next ≤ length frames.now) }
     ensures { result ≡ near_in frames.now place next }
 {
     Witnesses {
-        before2: frame_behind(frames, place.saturating_sub(1)),
-        before: frame_behind(frames, place),
+        before2: frame_before(frames, place.saturating_sub(1)),
+        before: frame_before(frames, place),
         after: frame_at(frames, next),
         after2: frame_at(frames, next + 1),
     }

@@ -1,7 +1,7 @@
 //! What is known of a recording as it was opened. Its frames that read well, with nothing wrong in
 //! them, are the former ones. A frame's marker is its first pulse, by its place among the pulses,
 //! from 0; the pulse of element k is k places after it. The class of a pulse is what its width
-//! means.
+//! means; a bad width has none.
 
 ghost use Rattle.std.specs.Prelude.{◌≡◌, ◌↔◌, ◌<◌, IsTrue, get_or};
 ghost use Rattle.std.specs.Prelude.{true};

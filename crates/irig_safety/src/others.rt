@@ -9,7 +9,7 @@ ghost use Rattle.irig_safety.specs.Others.{is_backed_to, is_of_time, is_told, is
 
 use crate::bearing::agrees;
 use crate::controls::function_of;
-use crate::near::{frame_at, frame_behind};
+use crate::near::{frame_at, frame_before};
 use crate::shown::Shown;
 use irig_codes::{Fields, Format};
 use std::alloc::{AllocError, Global};
@@ -82,7 +82,7 @@ pub fn is_of_time(one: &Fields, other: &Fields) -> bool
 
 /// Those of the frames of a recording that say something of another recording, in their order: each
 /// with which the frame before it or after it agrees (`is_backed`). So one that damage made alone
-/// is left out. `frame_behind` is the frame before a place, `frame_at` the one at it; `None` if
+/// is left out. `frame_before` is the frame before a place, `frame_at` the one at it; `None` if
 /// there is none. `Err` means that memory ran out.
 pub fn backed(alloc: Global, format: Format, frames: &[Shown]) -> Result<Vec<Shown>, AllocError>
     ensures { IfOk result (λ kept. kept.items ≡ backed format frames.now) }
@@ -92,7 +92,7 @@ pub fn backed(alloc: Global, format: Format, frames: &[Shown]) -> Result<Vec<Sho
         let frame = frames[place];
         if is_backed(
             format,
-            frame_behind(frames, place),
+            frame_before(frames, place),
             &frame,
             frame_at(frames, place + 1),
         ) {

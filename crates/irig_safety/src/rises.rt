@@ -1,10 +1,11 @@
-//! The rises and falls of recorded pulses. They are asked for in rising order most of the time, so
-//! the place that is looked at first saves a search. Places count from 0, and times are in
-//! microseconds.
+//! Which rises and falls the recorded pulses have. They are asked for in rising order most of the
+//! time, so the place that is looked at first saves a search. Places count from 0, and times are in
+//! microseconds. An anchor is a pulse whose place was recorded, so that other places are measured
+//! from it.
 
 ghost use Rattle.std.specs.Prelude.{◌≡◌, ◌<◌, ◌≤◌, ℕ, get_or, length, Some};
 ghost use Rattle.std.specs.List.Sorted.{IsNonDecreasingBy};
-ghost use Rattle.irig_safety.specs.Anchors.{is_fall, is_rise, is_anchor};
+ghost use Rattle.irig_safety.specs.Anchors.{is_anchor, is_fall, is_rise};
 ghost use Rattle.irig_recording.specs.declared.pulse.Pulse.{Pulse as SomePulse};
 ghost use Rattle.irig_safety.specs.{Rises.rise_or};
 
@@ -74,9 +75,10 @@ fn first_fall(pulses: &[Pulse], time: u64, place: usize) -> usize
     pulses.partition_point(|pulse| pulse.fall < time)
 }
 
-/// Whether a pulse rises when a recorded one does, or rises when one falls and falls when one
-/// rises, as a gap does that is turned over (`Original::holds`). `place` is looked at first, and
-/// the search of a rise moves it on. The two other searches begin at the new place and leave it.
+/// Whether a pulse is an anchor. It is if it rises when a recorded one does, or if it rises when
+/// one falls and falls when one rises: so a gap becomes a pulse if a recording is turned over.
+/// `place` is looked at first, and the search of a rise moves it on (`has_rise`). The two other
+/// searches begin at the new place and leave it.
 pub fn is_anchor(recorded: &[Pulse], pulse: Pulse, place: &mut usize) -> bool
     requires rising { IsNonDecreasingBy (λ (p : SomePulse). p.rise) recorded.now }
     requires falling { IsNonDecreasingBy (λ (p : SomePulse). p.fall) recorded.now }
@@ -86,8 +88,8 @@ pub fn is_anchor(recorded: &[Pulse], pulse: Pulse, place: &mut usize) -> bool
         || has_fall(recorded, pulse.rise, *place) && is_rise(recorded, pulse.fall, *place)
 }
 
-/// Whether one of some pulses rises at a time. `place` is looked at first, and stays as it is: `at`
-/// is a copy of it for `has_rise`, which would move it on.
+/// Whether one of some pulses rises at a time. `place` is looked at first. It stays as it is, as
+/// `has_rise` moves on only the copy `at`.
 fn is_rise(recorded: &[Pulse], time: u64, place: usize) -> bool
     requires { IsNonDecreasingBy (λ (p : SomePulse). p.rise) recorded.now }
     ensures { result ≡ is_rise recorded.now time }

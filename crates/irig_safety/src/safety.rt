@@ -1,28 +1,33 @@
 //! Whether frames are safe, and why they are not. A frame reads well if nothing is wrong in it.
 //! `old` is the frames that read well at first (the former ones) and `new` those that do now, both
 //! in the order of their rises. A frame leads to a later one if the later one's time is whole frame
-//! periods later and it rises that long after, nearly. A frame is borne out if the old ones next to
-//! it have its time there. A former frame is passed if a new frame that was looked at begins when
-//! it does. The faults: `Lost` if no new frame begins when a former one does, `Changed` if one does
-//! that is not it and does not mend it, `Unsupported` if a new one is not borne out. A new frame
-//! mends a former one (`mends`) if that was wrong and the new one is right, by the frames next to
-//! it or by `others`: other recordings, and odd pulses. In clauses `behind` is the frame before a
-//! place, `rest` any new frames after one, and `found` or `why`, an `Option`, their fault, if any,
-//! by the former from a place on (`JudgedAt`, `Finds`).
+//! periods later and it rises that long after, nearly. A frame is borne out if the former ones next
+//! to it have its time there. A new frame mends a former one (`mends`) if that was wrong and the
+//! new one is right, by the frames next to it or by `others`: other recordings, and odd pulses,
+//! which are not as wide as the others of their class.
+//!
+//! The new frames are judged in order. A former frame is passed if a new frame that was judged
+//! begins when it does; `kept` counts these. The faults: `Lost` if no new frame begins when a
+//! former one does, `Changed` if one does that is not it and does not mend it, `Unsupported` if a
+//! new one that begins elsewhere is not borne out, `Alone` if there is no former one and the new
+//! ones do not bear each other out.
+//!
+//! In clauses `behind` is the frame before a place, `rest` any new frames after one, and `found` or
+//! `why`, an `Option`, their fault, if any, by the former from a place on (`JudgedAt`).
 
 ghost use Rattle.std.specs.Prelude.{◌≡◌, ◌↔◌, ◌-◌, ◌≤◌, ◌+◌, ◌∷◌, List, IsTrue, None, Option, Some};
 ghost use Rattle.std.specs.Prelude.{Err, IfErr, IfOk, Ok, OnErr, OnOk, drop, if◌then◌else◌, length};
 ghost use Rattle.std.specs.Prelude.{slice_get};
 ghost use Rattle.irig_safety.specs.Faults.{FaultFrom, IsFault, JudgedAt};
-ghost use Rattle.irig_safety.specs.Safety.{AreOfThemselves, IsSafe, IsSafeFrom, LeadOn};
-ghost use Rattle.irig_safety.specs.Safety.{Stays, behind};
+ghost use Rattle.irig_safety.specs.Safety.{AreOfThemselves, IsSafe, IsSafeFrom, LeadOn, Stays};
+ghost use Rattle.irig_safety.specs.Safety.{behind};
 ghost use Rattle.irig_safety.specs.declared.fault.Fault.{Fault as SomeFault};
 ghost use Rattle.irig_safety.specs.{Witnesses.is_borne, declared.shown.Shown.Shown as ShownFrame};
 
 use crate::bearing::leads;
 use crate::fault::Fault;
 use crate::mended::mends;
-use crate::near::{frame_at, frame_behind, near};
+use crate::near::{frame_at, frame_before, near_between};
 use crate::shown::{Shown, is_same};
 use crate::terms::Others;
 use crate::witnesses::{Witnesses, is_borne};
@@ -73,7 +78,8 @@ fn lead_on(format: Format, frames: &[Shown]) -> bool
 }
 
 /// Whether each new frame is a former one, mends one, or is borne out (`passed`), and each former
-/// one is passed (`kept` counts them). If not, the first fault: `Lost` if at the end one is left.
+/// one is passed. If not, the first fault; `Lost` if all new ones are in order and a former one is
+/// left.
 fn check_from(format: Format, others: &Others, old: &[Shown], new: &[Shown]) -> Result<(), Fault>
     ensures safe { OnOk result (IsSafeFrom format others.now None None old.now new.now) }
     ensures fault { IfErr result (FaultFrom format others.now None None old.now new.now) }
@@ -91,11 +97,11 @@ fn check_from(format: Format, others: &Others, old: &[Shown], new: &[Shown]) -> 
     }
 }
 
-/// Judges one more new frame, `frame`. `kept` is how many former ones are passed before it. `Ok` is
-/// how many are after it, and `Err` why it is not safe. If the next former frame begins later, or
-/// none is left, the new one is between former ones or after them: `come` judges it. If the next
-/// one begins earlier, no new frame begins when it does: it is `Lost`. If both begin at the same
-/// time, one more is passed if the former one stays (`stays`), and else it is `Changed`.
+/// Judges one more new frame, `frame`. `kept` is how many former ones are passed so far, `Ok` is
+/// how many are with `frame`, and `Err` is why it is not safe. If the next former frame begins
+/// later, or none is left, `frame` is between former ones or after them (`passed_between`). If the
+/// next one begins earlier, no new frame begins when it does: it is `Lost`. If both begin at the
+/// same time, one more is passed if the former one stays (`stays`), and else it is `Changed`.
 fn passed(
     format: Format,
     others: &Others,
@@ -112,10 +118,10 @@ fn passed(
         JudgedAt format others.now old.now kept (frame.now ∷ rest) (Some why)) }
 {
     let Some(former) = frame_at(old, kept) else {
-        return come(format, old, kept, frame);
+        return passed_between(format, old, kept, frame);
     };
     if frame.rise < former.rise {
-        return come(format, old, kept, frame);
+        return passed_between(format, old, kept, frame);
     }
     if former.rise < frame.rise {
         return Err(Fault::Lost(former));
@@ -127,23 +133,24 @@ fn passed(
     }
 }
 
-/// Judges a new frame that begins when no former one does. `kept` former ones are passed, before
-/// and after it: so `Ok` is `kept`. `Unsupported` if it is not borne out (`is_borne`).
-fn come(format: Format, old: &[Shown], kept: usize, frame: &Shown) -> Result<usize, Fault>
+/// Judges a new frame that begins when no former one does: after `kept` former ones and before the
+/// others. None is passed by it, so `Ok` is `kept`. `Unsupported` if it is not borne out by the
+/// former ones next to it (`is_borne`).
+fn passed_between(format: Format, old: &[Shown], kept: usize, frame: &Shown) -> Result<usize, Fault>
     requires { kept ≤ length old.now }
     ensures { result ≡ if is_borne format (behind (kept - 1) old.now) (behind kept old.now)
         (slice_get old.now kept) (slice_get old.now (kept + 1)) frame.now
         then Ok kept else Err (Fault.Unsupported frame.now) }
 {
-    if is_borne(format, &near(old, kept), frame) {
+    if is_borne(format, &near_between(old, kept), frame) {
         Ok(kept)
     } else {
         Err(Fault::Unsupported(*frame))
     }
 }
 
-/// Whether a former frame stays: `frame`, which begins when the former frame at `place` of `old`
-/// does, has the same fields as that one (`former`), or mends it (`mends`, by those next to it).
+/// Whether the former frame at `place` of `old` (`former`) stays. `frame` begins when it does, and
+/// either is the same in all fields or mends it (`mends`), by the former ones next to it.
 fn stays(
     format: Format,
     others: &Others,
@@ -160,8 +167,8 @@ fn stays(
         return true;
     }
     let near = Witnesses {
-        before2: frame_behind(old, place.saturating_sub(1)),
-        before: frame_behind(old, place),
+        before2: frame_before(old, place.saturating_sub(1)),
+        before: frame_before(old, place),
         after: frame_at(old, place + 1),
         after2: frame_at(old, place + 2),
     };

@@ -5,8 +5,8 @@
 
 ghost use Rattle.std.specs.Prelude.{◌≡◌, ◌<◌, ◌≤◌, ◌+◌, ◌/◌, ◌^◌, IsTrue, false};
 ghost use Rattle.irig_codes.specs.Width.{class_of};
-ghost use Rattle.irig_safety.specs.Widths.{is_alike, is_odd, is_outside, is_same_class, margin_of};
-ghost use Rattle.irig_safety.specs.Widths.{spread_of, width_in, width_or, with_width};
+ghost use Rattle.irig_safety.specs.Widths.{is_odd, is_other_of_class, is_outside, is_same_class};
+ghost use Rattle.irig_safety.specs.Widths.{margin_of, spread_of, width_in, width_or, with_width};
 
 use irig_codes::{Element, Format, class};
 use irig_recording::Pulse;
@@ -21,12 +21,12 @@ pub struct Spread {
 
 /// Whether the pulse of an element is odd: at least five others of its frame have its class, and
 /// its width is farther outside the range of theirs than the margin (`is_outside`). False if fewer
-/// have its class, or it has none. If another one is like it (`is_like_one`) it is not odd, and no
-/// range is counted, which saves time.
+/// have its class, or it has none. If another one is like it (`is_like_another`) it is not odd, and
+/// no range is counted, which saves time.
 pub fn is_odd(format: Format, pulses: &[Pulse], marker: usize, element: usize) -> bool
     ensures { result ≡ is_odd format pulses.now marker element }
 {
-    if is_like_one(format, pulses, marker, element) {
+    if is_like_another(format, pulses, marker, element) {
         return false;
     }
     let spread = spread_of(format, pulses, marker, element);
@@ -34,9 +34,9 @@ pub fn is_odd(format: Format, pulses: &[Pulse], marker: usize, element: usize) -
 }
 
 /// Whether the pulse of an element is like another one of its frame (`is_like`): then it is not
-/// odd. Nearly all are, and the search for one is short. False says nothing: then `is_odd` looks at
-/// the range.
-fn is_like_one(format: Format, pulses: &[Pulse], marker: usize, element: usize) -> bool
+/// odd. Nearly all are, and the search for one is short. False does not mean that it is odd: then
+/// `is_odd` looks at the range.
+fn is_like_another(format: Format, pulses: &[Pulse], marker: usize, element: usize) -> bool
     ensures { IsTrue result → is_odd format pulses.now marker element ≡ false }
 {
     for other in 0..100 {
@@ -47,9 +47,10 @@ fn is_like_one(format: Format, pulses: &[Pulse], marker: usize, element: usize) 
     false
 }
 
-/// Whether the pulse of the element `other`, another one than `element`, has the class of that of
-/// `element`, and its width to a hundredth of the interval. Then the pulse of `element` is not odd:
-/// `other` is in the range of the others, and the margin is a hundredth of the interval or more.
+/// Whether the pulse of the element `other` has the class of that of `element`
+/// (`is_other_of_class`), and its width to a hundredth of the interval. Then the pulse of `element`
+/// is not odd: `other` is in the range of the others, and the margin is a hundredth of the interval
+/// or more.
 fn is_like(format: Format, pulses: &[Pulse], marker: usize, element: usize, other: usize) -> bool
     requires { other < 100 }
     ensures { IsTrue result → is_odd format pulses.now marker element ≡ false }
@@ -58,7 +59,8 @@ fn is_like(format: Format, pulses: &[Pulse], marker: usize, element: usize, othe
         width_in(pulses, marker, element),
         width_in(pulses, marker, other),
     );
-    is_close(format.interval(), one, two) && is_alike(format, pulses, marker, element, other)
+    is_close(format.interval(), one, two)
+        && is_other_of_class(format, pulses, marker, element, other)
 }
 
 /// Whether two widths differ by a hundredth of the interval at most. It does not matter which one
@@ -93,7 +95,7 @@ fn margin_of(interval: u64, spread: Spread) -> u128
 }
 
 /// The spread of the widths of those pulses of a frame that have the class of `element`, without
-/// its own (`is_alike`). All 0 if there are none, or its width is bad.
+/// its own (`is_other_of_class`). All 0 if there are none, or its width is bad.
 fn spread_of(format: Format, pulses: &[Pulse], marker: usize, element: usize) -> Spread
     ensures { result ≡ spread_of format pulses.now marker element 100 }
 {
@@ -103,7 +105,7 @@ fn spread_of(format: Format, pulses: &[Pulse], marker: usize, element: usize) ->
         most: 0,
     };
     for other in 0..100 {
-        if is_alike(format, pulses, marker, element, other) {
+        if is_other_of_class(format, pulses, marker, element, other) {
             spread = with_width(width_in(pulses, marker, other), spread);
         }
     }
@@ -133,8 +135,14 @@ fn with_width(width: u64, spread: Spread) -> Spread
 
 /// Whether the pulse of the element `other` is not that of `element`, and has its class. False if
 /// one of them has no class, as one that is not there.
-fn is_alike(format: Format, pulses: &[Pulse], marker: usize, element: usize, other: usize) -> bool
-    ensures { result ≡ is_alike format pulses.now marker element other }
+fn is_other_of_class(
+    format: Format,
+    pulses: &[Pulse],
+    marker: usize,
+    element: usize,
+    other: usize,
+) -> bool
+    ensures { result ≡ is_other_of_class format pulses.now marker element other }
 {
     let width = width_in(pulses, marker, element);
     other != element

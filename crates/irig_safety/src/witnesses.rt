@@ -2,17 +2,17 @@
 //! the later one's time is whole frame periods later and it rises that long after, to half an
 //! interval and a thousandth of the distance. It contradicts a later one (not `allows`) if they are
 //! near enough for their distance to say how many periods it is, and their times say another
-//! number. The clock of two frames is how long a period takes by their distance and times. They
-//! stray by how much their distance is off from the nominal one.
+//! number. Two frames stray by how much their distance is off from the nominal one. A frame is in
+//! time by a clock if it begins when it should by it, to half an interval. The clock of two frames
+//! is how long a period takes by their distance and times.
 
 ghost use Rattle.std.specs.Prelude.{◌≡◌, Some};
-ghost use Rattle.irig_safety.specs.OwnClock.{is_own};
 ghost use Rattle.irig_safety.specs.Witnesses.{allows_from, allows_to, bears, is_borne, is_led};
-ghost use Rattle.irig_safety.specs.Witnesses.{may_stand};
+ghost use Rattle.irig_safety.specs.Witnesses.{sides_suffice};
 
 use crate::bearing::{allows, is_within, leads};
 use crate::heard::heard;
-use crate::own_clock::is_by_own_clock;
+use crate::own_clock::is_on_own_clock;
 use crate::shown::Shown;
 use crate::timed::is_timed;
 use irig_codes::Format;
@@ -26,21 +26,22 @@ pub struct Witnesses {
     pub after2: Option<Shown>,
 }
 
-/// Whether `before` leads to `frame`, or `frame` leads to `after`. If both are there, this step is
-/// also compared with the distance of the two (`is_led_by`). False if neither is there.
+/// Whether `before` leads to `frame`, or `frame` leads to `after`. If both are there, this also has
+/// to fit the distance of the two (`is_led_by`). False if neither is there.
 fn is_led(format: Format, before: Option<Shown>, after: Option<Shown>, frame: &Shown) -> bool
     ensures { result ≡ is_led format before after frame.now }
 {
     match (before, after) {
         (None, None) => false,
-        (Some(a), None) => leads(format, &a, frame),
-        (None, Some(b)) => leads(format, frame, &b),
-        (Some(a), Some(b)) => is_led_by(format, &a, &b, frame),
+        (Some(before), None) => leads(format, &before, frame),
+        (None, Some(after)) => leads(format, frame, &after),
+        (Some(before), Some(after)) => is_led_by(format, &before, &after, frame),
     }
 }
 
-/// Whether `before` leads to `frame`, or `frame` leads to `after`, and strays by at most half an
-/// interval more than `before` and `after`, unless these do not fit each other (`is_within`).
+/// Whether one of two holds: `before` leads to `frame`, or `frame` leads to `after`. These two must
+/// also stray by at most half an interval more than `before` and `after` do (`is_within`), unless
+/// the distance of `before` and `after` does not fit their times.
 fn is_led_by(format: Format, before: &Shown, after: &Shown, frame: &Shown) -> bool
     ensures { result ≡ is_led format (Some before.now) (Some after.now) frame.now }
 {
@@ -48,7 +49,7 @@ fn is_led_by(format: Format, before: &Shown, after: &Shown, frame: &Shown) -> bo
         || leads(format, frame, after) && is_within(format, before, after, frame, after)
 }
 
-/// Whether the frame before a frame does not contradict it (`allows`). True if there is none.
+/// False if the frame before `frame` contradicts it (`allows`). Else true, also if there is none.
 pub fn allows_from(format: Format, before: Option<Shown>, frame: &Shown) -> bool
     ensures { result ≡ allows_from format before frame.now }
 {
@@ -58,7 +59,7 @@ pub fn allows_from(format: Format, before: Option<Shown>, frame: &Shown) -> bool
     }
 }
 
-/// Whether a frame does not contradict the frame after it (`allows`). True if there is none.
+/// False if `frame` contradicts the frame after it (`allows`). Else true, also if there is none.
 pub fn allows_to(format: Format, frame: &Shown, after: Option<Shown>) -> bool
     ensures { result ≡ allows_to format frame.now after }
 {
@@ -68,41 +69,30 @@ pub fn allows_to(format: Format, frame: &Shown, after: Option<Shown>) -> bool
     }
 }
 
-/// Whether a frame is in time by the recording's own clock: that of the frames on both sides, if
-/// those next to them bear it out (`is_by_own_clock`). False if a side has no frame.
-pub fn is_own(format: Format, near: &Witnesses, frame: &Shown) -> bool
-    ensures { result
-        ≡ is_own format near.now.before2 near.now.before near.now.after near.now.after2 frame.now }
-{
-    match (near.before, near.after) {
-        (Some(before), Some(after)) => {
-            is_by_own_clock(format, near.before2, &before, &after, near.after2, frame)
-        }
-        _ => false,
-    }
-}
-
-/// Whether a frame can be borne out: it has no inserted second 60, or frames are on both sides. By
-/// one side alone, second 0 of the next minute (from before) or 59 (from after) fits just as well.
-fn may_stand(near: &Witnesses, frame: &Shown) -> bool
-    ensures { result ≡ may_stand near.now.before near.now.after frame.now }
+/// Whether the sides of `frame` that have frames are enough to bear it out. One side is, but not
+/// for an inserted second 60: that needs both. By one side alone, second 0 of the next minute (from
+/// before) or 59 (from after) fits just as well.
+fn sides_suffice(near: &Witnesses, frame: &Shown) -> bool
+    ensures { result ≡ sides_suffice near.now.before near.now.after frame.now }
 {
     frame.fields.seconds <= 59 || near.before.is_some() && near.after.is_some()
 }
 
-/// Whether the frames next to a frame bear out its time: it is led (`is_led`) or in time by their
-/// clock (`is_timed`), and none contradicts it; or the recording's own clock has it there
-/// (`is_own`). In either case an inserted second 60 needs frames on both sides.
+/// Whether the frames next to a frame bear out its time, on enough sides (`sides_suffice`). They do
+/// in one of two ways. Either one leads to it or it leads to one (`is_led`), or it is in time by
+/// their clock (`is_timed`), and the nearest ones do not contradict it. Or it is in time by the
+/// recording's own clock, that of the frames on both sides (`is_on_own_clock`).
 fn bears(format: Format, near: &Witnesses, frame: &Shown) -> bool
     ensures { result ≡ bears format near.now frame.now }
 {
     ((is_led(format, near.before, near.after, frame) || is_timed(format, near, frame))
         && (allows_from(format, near.before, frame) && allows_to(format, frame, near.after))
-        || is_own(format, near, frame))
-        && may_stand(near, frame)
+        || is_on_own_clock(format, near, frame))
+        && sides_suffice(near, frame)
 }
 
-/// Whether the frames next to a frame that are heard (`heard`) bear out its time (`bears`).
+/// Whether the frames next to a frame bear out its time (`bears`), of those that are heard: not one
+/// that both its neighbours contradict, and none if the only two contradict each other (`heard`).
 pub fn is_borne(format: Format, near: &Witnesses, frame: &Shown) -> bool
     ensures { result
         ≡ is_borne format near.now.before2 near.now.before near.now.after near.now.after2 frame.now }

@@ -11,10 +11,10 @@ loop-place-init c = back_none c.args.format c.args.frames.now _ c.new-kept.ensur
 pub loop-place-preserved : goal.loop-place-preserved
 loop-place-preserved c = elim c.if-is_backed.branch [
   | then-is_backed+in_ok-push w ↦ back_more c.args.format c.args.frames.now c.loop-place.kept.items _ c.loop-place.place _ _ _
-      (slice_get-get_or c.args.frames.now c.loop-place.place _ c.loop-place-test.true) c.frame_behind.ensures c.frame_at.ensures
+      (slice_get-get_or c.args.frames.now c.loop-place.place _ c.loop-place-test.true) c.frame_before.ensures c.frame_at.ensures
       (sym c.is_backed.ensures ∙ w.if-is_backed.true) (ap (λ v. v.items) w.kept-is ∙ w.in_ok-push.ensures.items) c.loop-place.invariant
   | else-is_backed w ↦ back_same c.args.format c.args.frames.now c.loop-place.kept.items _ c.loop-place.place _ _ _
-      (slice_get-get_or c.args.frames.now c.loop-place.place _ c.loop-place-test.true) c.frame_behind.ensures c.frame_at.ensures
+      (slice_get-get_or c.args.frames.now c.loop-place.place _ c.loop-place-test.true) c.frame_before.ensures c.frame_at.ensures
       (sym c.is_backed.ensures ∙ w.if-is_backed.false) (ap (λ v. v.items) w.kept-is) c.loop-place.invariant
 ]
 

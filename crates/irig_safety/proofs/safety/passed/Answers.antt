@@ -4,39 +4,39 @@ use Rattle.irig_safety.proofs.SafetyLemmas.{at_lost, at_stay, comes_on, come_wit
 use Rattle.irig_safety.proofs.safety.passed.Goals as goal
 
 pub returns-in_default-clause-within : goal.returns-in_default-clause-within
-returns-in_default-clause-within c = come_within c.args.old.now c.args.kept _ c.args.frame.now c.come.result c.requires c.come.ensures
+returns-in_default-clause-within c = come_within c.args.old.now c.args.kept _ c.args.frame.now c.passed_between.result c.requires c.passed_between.ensures
 
 pub returns-in_default-clause-safe : goal.returns-in_default-clause-safe
 returns-in_default-clause-safe c = λ rest found.
     let none : slice_get c.args.old.now c.args.kept ≡ None = sym c.frame_at.ensures ∙ c.in_default.is in
-    passes_ok c.args.format c.args.others.now c.args.old.now c.args.kept c.args.frame.now c.come.result rest found
-    (comes_on c.args.format c.args.others.now c.args.old.now c.args.kept c.args.frame.now c.come.result rest (none_before c.args.old.now c.args.kept c.args.frame.now none) _ refl c.come.ensures)
+    passes_ok c.args.format c.args.others.now c.args.old.now c.args.kept c.args.frame.now c.passed_between.result rest found
+    (comes_on c.args.format c.args.others.now c.args.old.now c.args.kept c.args.frame.now c.passed_between.result rest (none_before c.args.old.now c.args.kept c.args.frame.now none) _ refl c.passed_between.ensures)
 
 pub returns-in_default-clause-fault : goal.returns-in_default-clause-fault
 returns-in_default-clause-fault c = λ rest.
     let none : slice_get c.args.old.now c.args.kept ≡ None = sym c.frame_at.ensures ∙ c.in_default.is in
-    passes_err c.args.format c.args.others.now c.args.old.now c.args.kept c.args.frame.now c.come.result rest
-    (comes_on c.args.format c.args.others.now c.args.old.now c.args.kept c.args.frame.now c.come.result rest (none_before c.args.old.now c.args.kept c.args.frame.now none) _ refl c.come.ensures)
+    passes_err c.args.format c.args.others.now c.args.old.now c.args.kept c.args.frame.now c.passed_between.result rest
+    (comes_on c.args.format c.args.others.now c.args.old.now c.args.kept c.args.frame.now c.passed_between.result rest (none_before c.args.old.now c.args.kept c.args.frame.now none) _ refl c.passed_between.ensures)
 
 pub returns-then-frame-former-clause-within : goal.returns-then-frame-former-clause-within
 returns-then-frame-former-clause-within c =
-    come_within c.args.old.now c.args.kept _ c.args.frame.now c.come-then-frame-former.result c.requires c.come-then-frame-former.ensures
+    come_within c.args.old.now c.args.kept _ c.args.frame.now c.passed_between-then-frame-former.result c.requires c.passed_between-then-frame-former.ensures
 
 pub returns-then-frame-former-clause-safe : goal.returns-then-frame-former-clause-safe
 returns-then-frame-former-clause-safe c = λ rest found.
     let here : slice_get c.args.old.now c.args.kept ≡ Some c.in-Some.former = sym c.frame_at.ensures ∙ c.in-Some.is in
     let less : c.args.frame.now.rise < c.in-Some.former.rise = omega (arith, c.if-frame-former.true) in
-    passes_ok c.args.format c.args.others.now c.args.old.now c.args.kept c.args.frame.now c.come-then-frame-former.result rest found
-    (comes_on c.args.format c.args.others.now c.args.old.now c.args.kept c.args.frame.now c.come-then-frame-former.result rest
-    (some_before c.args.old.now c.args.kept c.args.frame.now c.in-Some.former here less) _ refl c.come-then-frame-former.ensures)
+    passes_ok c.args.format c.args.others.now c.args.old.now c.args.kept c.args.frame.now c.passed_between-then-frame-former.result rest found
+    (comes_on c.args.format c.args.others.now c.args.old.now c.args.kept c.args.frame.now c.passed_between-then-frame-former.result rest
+    (some_before c.args.old.now c.args.kept c.args.frame.now c.in-Some.former here less) _ refl c.passed_between-then-frame-former.ensures)
 
 pub returns-then-frame-former-clause-fault : goal.returns-then-frame-former-clause-fault
 returns-then-frame-former-clause-fault c = λ rest.
     let here : slice_get c.args.old.now c.args.kept ≡ Some c.in-Some.former = sym c.frame_at.ensures ∙ c.in-Some.is in
     let less : c.args.frame.now.rise < c.in-Some.former.rise = omega (arith, c.if-frame-former.true) in
-    passes_err c.args.format c.args.others.now c.args.old.now c.args.kept c.args.frame.now c.come-then-frame-former.result rest
-    (comes_on c.args.format c.args.others.now c.args.old.now c.args.kept c.args.frame.now c.come-then-frame-former.result rest
-    (some_before c.args.old.now c.args.kept c.args.frame.now c.in-Some.former here less) _ refl c.come-then-frame-former.ensures)
+    passes_err c.args.format c.args.others.now c.args.old.now c.args.kept c.args.frame.now c.passed_between-then-frame-former.result rest
+    (comes_on c.args.format c.args.others.now c.args.old.now c.args.kept c.args.frame.now c.passed_between-then-frame-former.result rest
+    (some_before c.args.old.now c.args.kept c.args.frame.now c.in-Some.former here less) _ refl c.passed_between-then-frame-former.ensures)
 
 pub returns-then-former-frame-clause-fault : goal.returns-then-former-frame-clause-fault
 returns-then-former-frame-clause-fault c = λ rest.

@@ -16,4 +16,4 @@ returns-then-is_close c = λ t.
     ≤ width_in c.args.pulses.now c.args.marker c.args.other + interval_of c.args.format.kind / 100 = omega (arith, first, part, one, two) in
     let above : width_in c.args.pulses.now c.args.marker c.args.other
     ≤ width_in c.args.pulses.now c.args.marker c.args.element + interval_of c.args.format.kind / 100 = omega (arith, second, part, one, two) in
-    like_not_odd c.args.format c.args.pulses.now c.args.marker c.args.element c.args.other c.requires (sym c.is_alike.ensures ∙ t) below above
+    like_not_odd c.args.format c.args.pulses.now c.args.marker c.args.element c.args.other c.requires (sym c.is_other_of_class.ensures ∙ t) below above
