@@ -7,11 +7,11 @@ use Rattle.irig_safety.specs.declared.shown.Shown.{Shown}
 
 -- The time of the frame between two others was wrong: both contradict it, and they bear out what it
 -- is now.
-abbrev pub is_mended : FormatView → Option Shown → Option Shown → Shown → Option Shown
+abbrev pub is_mended_between : FormatView → Option Shown → Option Shown → Shown → Option Shown
     → Option Shown → Shown → Bool
-is_mended f a2 (Some a) o (Some b) b2 n =
+is_mended_between f a2 (Some a) o (Some b) b2 n =
     not (allows f a o) && not (allows f o b) && is_borne f a2 (Some a) (Some b) b2 n
-is_mended f a2 a o b b2 n = false
+is_mended_between f a2 a o b b2 n = false
 
 -- a frame before it is there and contradicts it, or one after it
 abbrev pub contradicts_from : FormatView → Option Shown → Shown → Bool
@@ -43,7 +43,7 @@ is_mended_at_end f others a2 a o b b2 n =
 abbrev pub is_time_mended : FormatView → OthersView → Option Shown → Option Shown → Shown
     → Option Shown → Option Shown → Shown → Bool
 is_time_mended f others a2 a o b b2 n =
-    is_mended f a2 a o b b2 n || is_mended_at_end f others a2 a o b b2 n
+    is_mended_between f a2 a o b b2 n || is_mended_at_end f others a2 a o b b2 n
 
 -- its time is mended, or its control functions alone are
 abbrev pub Mends : FormatView → OthersView → Option Shown → Option Shown → Shown → Option Shown

@@ -21,11 +21,11 @@ use crate::turning::{Sides, changes_evenly, clock_scale, period_after, period_be
 use crate::witnesses::Witnesses;
 use irig_codes::Format;
 
-/// What `bend` divides by. The clock changes by `clock_difference` / `clock_scale` from the middle
-/// of the two before to the middle of the two after. `all` is twice the frame periods between these
-/// middles. The factor 10,000 is 100 twice, as `bend` has its elements in `since` and `until`, 100
-/// to a period. So half of the change in one frame period is `clock_difference` / (`clock_scale` *
-/// `all`).
+/// What `bend` divides by. From the middle of the two before to the middle of the two after, the
+/// frame period changes by `clock_difference` / `clock_scale`. `all` is twice the frame periods
+/// between these middles, so half of the change in one period is `clock_difference` /
+/// (`clock_scale` * `all`). `bend` multiplies two counts of elements, 100 to a period each: so
+/// 10,000.
 fn bend_divisor(format: Format, sides: &Sides) -> u128
     requires before { periods format sides.now.before2 sides.now.before ≤ 500 }
     requires across { periods format sides.now.before sides.now.after ≤ 500 }
@@ -50,11 +50,11 @@ fn bend(format: Format, sides: &Sides, since: u128, until: u128) -> u128
     requires steps { (since ≤ 2 ^ 17) × (until ≤ 2 ^ 17) }
     ensures { result ≡ bend format sides.now since until }
 {
-    let whole = bend_divisor(format, sides);
-    if whole == 0 {
+    let divisor = bend_divisor(format, sides);
+    if divisor == 0 {
         0
     } else {
-        clock_difference(format, sides) * (since * until) / whole
+        clock_difference(format, sides) * (since * until) / divisor
     }
 }
 

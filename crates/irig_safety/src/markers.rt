@@ -29,7 +29,7 @@ fn elements(frames: u128) -> u128
 /// Whether the distance of `one` and `other` says how many elements it is: they agree (`agrees`),
 /// or `frame` is in time by the recording's own clock (`is_on_own_clock`). One of the two is
 /// `frame`, and the other is next to it; `one` is the earlier. False if they are more than 500
-/// frame periods apart: up to there no number of a line is too large for its type.
+/// frame periods apart, which keeps the steps of an anchor small.
 fn is_counted(format: Format, near: &Witnesses, frame: &Shown, one: &Shown, other: &Shown) -> bool
     ensures value { result ≡ is_counted format near.now frame.now one.now other.now }
     ensures few { IsTrue result → periods format one.now other.now ≤ 500 }

@@ -8,8 +8,9 @@
 //! (`is_borne`).
 
 ghost use Rattle.std.specs.Prelude.{◌≡◌, ◌↔◌, IsTrue};
-ghost use Rattle.irig_safety.specs.Mended.{Mends, contradicts_from, contradicts_to, is_mended};
-ghost use Rattle.irig_safety.specs.Mended.{is_mended_at_end, is_refuted, is_time_mended};
+ghost use Rattle.irig_safety.specs.Mended.{Mends, contradicts_from, contradicts_to};
+ghost use Rattle.irig_safety.specs.Mended.{is_mended_at_end, is_mended_between, is_refuted};
+ghost use Rattle.irig_safety.specs.Mended.{is_time_mended};
 
 use crate::bearing::allows;
 use crate::mended_functions::is_control_mended;
@@ -39,8 +40,8 @@ pub fn mends(
 }
 
 /// Whether the time of a frame was wrong and is mended. For one between two others the frames next
-/// to it decide alone (`is_mended`). For the first or the last one another recording has to confirm
-/// what they say (`is_mended_at_end`).
+/// to it decide alone (`is_mended_between`). For the first or the last one another recording has to
+/// confirm what they say (`is_mended_at_end`).
 fn is_time_mended(
     format: Format,
     others: &Others,
@@ -51,14 +52,15 @@ fn is_time_mended(
     ensures { result ≡ is_time_mended format others.now near.now.before2 near.now.before former.now
         near.now.after near.now.after2 frame.now }
 {
-    is_mended(format, near, former, frame) || is_mended_at_end(format, others, near, former, frame)
+    is_mended_between(format, near, former, frame)
+        || is_mended_at_end(format, others, near, former, frame)
 }
 
 /// Whether the time of a frame between two others was wrong and is mended: the nearest one on each
 /// side contradicts what it was (`former`), and the frames next to it bear out what it is now
 /// (`frame`). False if one side has no frame: such a one is left to `is_mended_at_end`.
-fn is_mended(format: Format, near: &Witnesses, former: &Shown, frame: &Shown) -> bool
-    ensures { result ≡ is_mended format near.now.before2 near.now.before former.now
+fn is_mended_between(format: Format, near: &Witnesses, former: &Shown, frame: &Shown) -> bool
+    ensures { result ≡ is_mended_between format near.now.before2 near.now.before former.now
         near.now.after near.now.after2 frame.now }
 {
     match (near.before, near.after) {

@@ -21,11 +21,11 @@ pub fn moved_in(alloc: Global, old: &[Shown], new: &[Shown]) -> Result<Vec<Shown
     ensures { IfOk result (λ moved. moved.items ≡ moved_in old.now new.now) }
 {
     let mut moved = Vec::new(alloc);
-    let mut passed = 0;
+    let mut from = 0;
     for frame in old {
-        let place = place_of(frame, new, passed);
+        let place = place_of(frame, new, from);
         moved.push(moved_to(frame, frame_at(new, place)))?;
-        passed = rest_of(new, place, passed);
+        from = search_from(new, place, from);
     }
     Ok(moved)
 }
@@ -59,13 +59,13 @@ fn moved_to(frame: &Shown, at: Option<Shown>) -> Shown
     }
 }
 
-/// Where the next search begins. If the last one found a frame, `place` is where that is, and the
-/// next begins after it. If it found none, `place` is the length of the list, and the next begins
-/// where the last one did, at `passed`.
-fn rest_of(new: &[Shown], place: usize, passed: usize) -> usize
-    requires { (place ≤ length new.now) × (passed ≤ length new.now) }
+/// The place at which the next search begins. The last one began at `from`. If it found a frame,
+/// `place` is where that is, and the next begins after it. If it found none, `place` is the length
+/// of the list, and the next begins at `from` again.
+fn search_from(new: &[Shown], place: usize, from: usize) -> usize
+    requires { (place ≤ length new.now) × (from ≤ length new.now) }
     ensures within { result ≤ length new.now }
-    ensures rest { drop result new.now ≡ rest_of (drop place new.now) (drop passed new.now) }
+    ensures rest { drop result new.now ≡ rest_of (drop place new.now) (drop from new.now) }
 {
-    if place < new.len() { place + 1 } else { passed }
+    if place < new.len() { place + 1 } else { from }
 }

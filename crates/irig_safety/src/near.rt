@@ -47,8 +47,8 @@ pub fn near_between(old: &[Shown], place: usize) -> Witnesses
 }
 
 /// The frames of `frames` next to a frame: the two before `place`, and the two from `next` on.
-/// `next` is `place` for a frame that is between two of them (`near_between`), and `place` + 1 for
-/// one that is in place of the one at `place`, which then is not next to it.
+/// `next` is `place` for a frame that is between two of them (`near_between`). It is `place` + 1
+/// for one that replaces the one at `place`, which then is not next to it.
 pub fn near_in(frames: &[Shown], place: usize, next: usize) -> Witnesses
     requires { (place ≤ length frames.now) × (next ≤ length frames.now) }
     ensures { result ≡ near_in frames.now place next }

@@ -150,8 +150,8 @@ impl Original {
 
     /// Whether `pulse` is an anchor: its place was recorded, so other places are measured from it.
     /// False for `None`. There are two kinds. One rises when a pulse of the recording does; its
-    /// fall does not matter. The other rises when one falls and falls when one rises: so a gap
-    /// becomes a pulse if a recording is turned over. `place`, from 0, is the pulse of the
+    /// fall does not matter. The other rises when one falls and falls when one rises, as a gap does
+    /// that became a pulse when the recording was turned over. `place`, from 0, is the pulse of the
     /// recording that is looked at first, to save a search. It becomes the next one to look at: the
     /// answer does not depend on it.
     pub fn holds(&self, pulse: Option<Pulse>, place: &mut usize) -> bool
@@ -164,16 +164,17 @@ impl Original {
     }
 
     /// Whether `pulse`, which may be an edited one, is as recorded: a recorded pulse of the same
-    /// class rises within a tenth of an interval of it. Two bad widths count as one class.
+    /// class rises within a tenth of an interval of it. Two bad widths count as one class. `false`
+    /// says that not any class will do (`has_alike`).
     pub fn has(&self, format: Format, pulse: Pulse) -> bool
         ensures { IsTrue result ↔ IsRecorded format self.now.pulses pulse }
     {
         has_alike(format, false, self.pulses.as_slice(), pulse)
     }
 
-    /// Whether a recorded pulse that has a class, any one, rises within half an interval of
-    /// `pulse`: up to there it is nearest to the place of the same element. False if all that rise
-    /// there have bad widths.
+    /// Whether a recorded pulse that has a class rises within half an interval of `pulse`: up to
+    /// there it is nearest to the place of the same element. False if all that rise there have bad
+    /// widths. `true` says that any class will do (`has_alike`).
     pub fn has_any(&self, format: Format, pulse: Pulse) -> bool
         ensures { IsTrue result ↔ IsNear format true self.now.pulses pulse }
     {

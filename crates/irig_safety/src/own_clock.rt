@@ -35,12 +35,12 @@ fn is_near_nominal(format: Format, one: &Shown, other: &Shown) -> bool
 }
 
 /// Whether `from` and `to` show the clock that `one` and `other` show: by that clock `to` begins
-/// when it should after `from`, to half an interval (`is_in_time`). False if one of the clocks is
-/// off by more than 8 in 100, or `one` and `other` do not agree (`shows_any_clock`). False also if
-/// `from` and `to` are more than a hundred times as far apart as `one` and `other`. The rises of
-/// these are off by a tenth of an interval each at most, which makes 20 intervals over a hundred
-/// times their distance. That is less than half a frame, so up to there the clock says how many
-/// frames apart `from` and `to` are.
+/// when it should after `from`, to half an interval (`is_in_time`). False if one of the two clocks
+/// is off by more than 8 in 100, or `one` and `other` do not agree (`shows_any_clock`,
+/// `is_near_nominal`). False also if `from` and `to` are more than a hundred times as far apart as
+/// `one` and `other`. The rises of these are off by a tenth of an interval each at most, which
+/// makes 20 intervals over a hundred times their distance. That is less than half a frame, so up to
+/// there the clock says how many frames apart `from` and `to` are.
 fn is_same_clock(format: Format, one: &Shown, other: &Shown, from: &Shown, to: &Shown) -> bool
     ensures { result ≡ is_same_clock format one.now other.now from.now to.now }
 {
@@ -102,9 +102,9 @@ fn is_between_clocks(interval: u64, one: u128, other: u128, micros: u128) -> boo
         && (least <= one || least <= other)
 }
 
-/// Whether the clock wanders: the distance of `before` and `after` is between what the clock
-/// of the two frames before and that of the two after say (`is_wandering_by`). False if `before2`
-/// or `after2` is not there.
+/// Whether the clock wanders: the distance of `before` and `after` is between what the clock of the
+/// two frames before and that of the two after say (`is_wandering_by`). False if `before2` or
+/// `after2` is not there.
 fn is_wandering(
     format: Format,
     before2: Option<Shown>,

@@ -75,10 +75,10 @@ fn first_fall(pulses: &[Pulse], time: u64, place: usize) -> usize
     pulses.partition_point(|pulse| pulse.fall < time)
 }
 
-/// Whether a pulse is an anchor. It is if it rises when a recorded one does, or if it rises when
-/// one falls and falls when one rises: so a gap becomes a pulse if a recording is turned over.
-/// `place` is looked at first, and the search of a rise moves it on (`has_rise`). The two other
-/// searches begin at the new place and leave it.
+/// Whether a pulse is an anchor. It is if it rises when a recorded one does. It also is if it rises
+/// when one falls and falls when one rises, as a gap does that became a pulse when the recording
+/// was turned over (high for low). `place` is looked at first, and the search of a rise moves it on
+/// (`has_rise`). The two other searches begin at the new place and leave it.
 pub fn is_anchor(recorded: &[Pulse], pulse: Pulse, place: &mut usize) -> bool
     requires rising { IsNonDecreasingBy (λ (p : SomePulse). p.rise) recorded.now }
     requires falling { IsNonDecreasingBy (λ (p : SomePulse). p.fall) recorded.now }

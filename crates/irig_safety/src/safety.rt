@@ -87,7 +87,7 @@ fn check_from(format: Format, others: &Others, old: &[Shown], new: &[Shown]) -> 
     let mut kept = 0;
     for frame in new {
         match passed(format, others, old, kept, frame) {
-            Ok(place) => kept = place,
+            Ok(count) => kept = count,
             Err(why) => return Err(why),
         }
     }

@@ -98,8 +98,8 @@ fn is_timed_between(
 /// sides as in `is_timed_between`, else by the clock of the two on the side that has any. False if
 /// there are fewer than two.
 pub fn is_timed(format: Format, near: &Witnesses, frame: &Shown) -> bool
-    ensures { result
-        ≡ is_timed format near.now.before2 near.now.before near.now.after near.now.after2 frame.now }
+    ensures { result ≡ is_timed format near.now.before2 near.now.before near.now.after
+        near.now.after2 frame.now }
 {
     match (near.before, near.after) {
         (Some(before), Some(after)) => is_timed_between(format, near, &before, &after, frame),

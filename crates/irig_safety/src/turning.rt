@@ -83,11 +83,11 @@ fn is_mean(format: Format, sides: &Sides) -> bool
     requires after { periods format sides.now.after sides.now.after2 ≤ 500 }
     ensures { result ≡ is_mean format sides.now }
 {
-    let seen = clock_scale(format, sides);
+    let scale = clock_scale(format, sides);
     let both = period_before(format, sides) + period_after(format, sides);
-    let found = 2 * (seen * distance(&sides.before, &sides.after));
+    let found = 2 * (scale * distance(&sides.before, &sides.after));
     let wanted = periods(format, &sides.before, &sides.after) * both;
-    apart(found, wanted) <= seen * u128::from(format.interval())
+    apart(found, wanted) <= scale * u128::from(format.interval())
 }
 
 /// Whether the clock changes evenly from that of the two before to that of the two after

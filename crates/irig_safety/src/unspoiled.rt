@@ -25,7 +25,7 @@ pub fn check_unspoiled(last: &[Shown], new: &[Shown]) -> Result<(), Fault>
     let mut found = 0;
     for frame in new {
         match found_after(last, found, frame) {
-            Ok(place) => found = place,
+            Ok(count) => found = count,
             Err(why) => return Err(why),
         }
     }

@@ -39,9 +39,9 @@ fn is_led(format: Format, before: Option<Shown>, after: Option<Shown>, frame: &S
     }
 }
 
-/// Whether one of two holds: `before` leads to `frame`, or `frame` leads to `after`. These two must
-/// also stray by at most half an interval more than `before` and `after` do (`is_within`), unless
-/// the distance of `before` and `after` does not fit their times.
+/// Whether `before` leads to `frame`, or `frame` leads to `after`. The two of this step must also
+/// stray by at most half an interval more than `before` and `after` do, unless the distance of
+/// `before` and `after` does not fit their times (`is_within`).
 fn is_led_by(format: Format, before: &Shown, after: &Shown, frame: &Shown) -> bool
     ensures { result ≡ is_led format (Some before.now) (Some after.now) frame.now }
 {
@@ -78,10 +78,10 @@ fn sides_suffice(near: &Witnesses, frame: &Shown) -> bool
     frame.fields.seconds <= 59 || near.before.is_some() && near.after.is_some()
 }
 
-/// Whether the frames next to a frame bear out its time, on enough sides (`sides_suffice`). They do
-/// in one of two ways. Either one leads to it or it leads to one (`is_led`), or it is in time by
-/// their clock (`is_timed`), and the nearest ones do not contradict it. Or it is in time by the
-/// recording's own clock, that of the frames on both sides (`is_on_own_clock`).
+/// Whether the frames next to a frame bear out its time. It needs enough sides (`sides_suffice`),
+/// and one of two. Either the recording's own clock has it there: that of the frames on both sides
+/// (`is_on_own_clock`). Or the nearest ones do not contradict it, and one leads to it or it to one
+/// (`is_led`), or it is in time by a clock of theirs (`is_timed`).
 fn bears(format: Format, near: &Witnesses, frame: &Shown) -> bool
     ensures { result ≡ bears format near.now frame.now }
 {
@@ -91,11 +91,12 @@ fn bears(format: Format, near: &Witnesses, frame: &Shown) -> bool
         && sides_suffice(near, frame)
 }
 
-/// Whether the frames next to a frame bear out its time (`bears`), of those that are heard: not one
-/// that both its neighbours contradict, and none if the only two contradict each other (`heard`).
+/// Whether those of the frames next to a frame that are heard bear out its time (`bears`). A frame
+/// that both its neighbours contradict may not be heard, and if the only two that there are
+/// contradict each other, none is (`heard`).
 pub fn is_borne(format: Format, near: &Witnesses, frame: &Shown) -> bool
-    ensures { result
-        ≡ is_borne format near.now.before2 near.now.before near.now.after near.now.after2 frame.now }
+    ensures { result ≡ is_borne format near.now.before2 near.now.before near.now.after
+        near.now.after2 frame.now }
 {
     bears(format, &heard(format, near), frame)
 }
