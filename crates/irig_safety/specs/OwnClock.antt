@@ -12,11 +12,15 @@ abbrev pub is_near_nominal : FormatView → Shown → Shown → Bool
 is_near_nominal f x y =
     is_later f x y && nat_le (25 * stray f x y) (2 * (periods f x y * frame_period_of f.kind))
 
--- x and y show the clock that p and q show, to half an interval. They are no more than a hundred
--- times as far from each other, so that this clock says how many frame periods they are apart
+-- x and y are no more than a hundred times as far from each other as p and q, so that the clock of p and
+-- q says how many frame periods they are apart
+abbrev pub is_in_reach : FormatView → Shown → Shown → Shown → Shown → Bool
+is_in_reach f p q x y = nat_le (periods f x y) (100 * periods f p q)
+
+-- x and y show the clock that p and q show, to half an interval, and are in reach of it
 abbrev pub is_same_clock : FormatView → Shown → Shown → Shown → Shown → Bool
 is_same_clock f p q x y =
-    shows_any_clock f p q && is_near_nominal f x y && nat_le (periods f x y) (100 * periods f p q)
+    shows_any_clock f p q && is_near_nominal f x y && is_in_reach f p q x y
     && is_in_time f p q x y
 
 -- the frames on both sides show the clock of the two before, or of the two after
@@ -46,7 +50,7 @@ is_wandering f None a b b2 = false
 is_wandering f (Some a2) a b None = false
 is_wandering f (Some a2) a b (Some b2) =
     shows_any_clock f a2 a && shows_any_clock f b b2 && is_near_nominal f a b
-    && nat_le (periods f a b) (100 * periods f a2 a)
+    && is_in_reach f a2 a a b
     && is_between_clocks (interval_of f.kind) (micros_by_clock f a2 a (periods f a b))
     (micros_by_clock f b b2 (periods f a b)) (distance a b)
 

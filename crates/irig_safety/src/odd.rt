@@ -35,18 +35,24 @@ pub fn odd_of(
     let mut odd = Vec::new(alloc);
     for function in 0..functions(format) {
         let element = function_element(format, function);
-        let so = is_odd(format, pulses, marker, element);
-        put_if(&mut odd, so, frame, function)?;
+        let is_odd_pulse = is_odd(format, pulses, marker, element);
+        add_if(&mut odd, is_odd_pulse, frame, function)?;
     }
     Ok(odd)
 }
 
-/// Adds a control function of a frame to `odd`, if `so` is true: the caller found that its pulse is
-/// odd. Else nothing changes. `Err` means that memory ran out.
-fn put_if(odd: &mut Vec<Odd>, so: bool, frame: &Shown, function: u32) -> Result<(), AllocError>
-    ensures { OnOk result (odd.new.items ≡ odd.old.items ++ odd_if so frame.now function) }
+/// Adds a control function of a frame to `odd` if its pulse is odd (`is_odd_pulse`). Else nothing
+/// changes. `Err` means that memory ran out.
+fn add_if(
+    odd: &mut Vec<Odd>,
+    is_odd_pulse: bool,
+    frame: &Shown,
+    function: u32,
+) -> Result<(), AllocError>
+    ensures { OnOk result
+        (odd.new.items ≡ odd.old.items ++ odd_if is_odd_pulse frame.now function) }
 {
-    if so {
+    if is_odd_pulse {
         odd.push(Odd {
             frame: *frame,
             function,

@@ -25,32 +25,32 @@ pub fn is_told(others: &[Shown], frame: &Shown, function: u32) -> bool
 }
 
 /// How many of `others` have the time of `frame`, and a control function (`function`) as `frame`
-/// has it if `so` is true, or otherwise if `so` is false (`is_vote`). One with another time counts
-/// for neither.
-fn votes(others: &[Shown], frame: &Shown, function: u32, so: bool) -> usize
+/// has it, or with `same_value` false, otherwise (`is_vote`). One with another time counts for
+/// neither.
+fn votes(others: &[Shown], frame: &Shown, function: u32, same_value: bool) -> usize
     requires { function < 64 }
-    ensures { result ≡ votes so function others.now frame.now }
+    ensures { result ≡ votes same_value function others.now frame.now }
 {
     let mut many = 0;
     for other in others {
-        if is_vote(other, frame, function, so) {
+        if is_vote(other, frame, function, same_value) {
             many += 1;
         }
     }
     many
 }
 
-/// Whether `other` has the time of `frame`, and a control function (`function`) as `frame` has it
-/// if `so` is true, or otherwise if `so` is false. With another time the answer is false for both.
-fn is_vote(other: &Shown, frame: &Shown, function: u32, so: bool) -> bool
+/// Whether `other` has the time of `frame`, and a control function (`function`) as `frame` has it,
+/// or with `same_value` false, otherwise. With another time the answer is false for both.
+fn is_vote(other: &Shown, frame: &Shown, function: u32, same_value: bool) -> bool
     requires { function < 64 }
-    ensures { result ≡ is_vote so function other.now frame.now }
+    ensures { result ≡ is_vote same_value function other.now frame.now }
 {
     if !is_of_time(&other.fields, &frame.fields) {
         return false;
     }
     let same = function_of(other, function) == function_of(frame, function);
-    if so { same } else { !same }
+    if same_value { same } else { !same }
 }
 
 /// Whether one of the frames of other recordings (`others`) has the time of `frame` (`is_of_time`).

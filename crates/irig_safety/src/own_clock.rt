@@ -13,8 +13,8 @@
 
 ghost use Rattle.std.specs.Prelude.{◌≡◌, ◌<◌, ◌^◌, Some};
 ghost use Rattle.irig_safety.specs.OwnClock.{is_between_clocks, is_by_own_clock, is_near_nominal};
-ghost use Rattle.irig_safety.specs.OwnClock.{is_on_own_clock, is_same_clock, is_wandering};
-ghost use Rattle.irig_safety.specs.OwnClock.{keeps_clock_after, keeps_clock_before};
+ghost use Rattle.irig_safety.specs.OwnClock.{is_in_reach, is_on_own_clock, is_same_clock};
+ghost use Rattle.irig_safety.specs.OwnClock.{is_wandering, keeps_clock_after, keeps_clock_before};
 ghost use Rattle.irig_safety.specs.OwnClock.{micros_by_clock};
 
 use crate::bearing::{apart, distance, stray};
@@ -34,19 +34,26 @@ fn is_near_nominal(format: Format, one: &Shown, other: &Shown) -> bool
     is_later(format, one, other) && 25 * stray(format, one, other) <= 2 * whole
 }
 
+/// Whether `from` and `to` are at most a hundred times as far apart as `one` and `other`, by their
+/// times: so far the clock of `one` and `other` says how many frames apart `from` and `to` are. The
+/// rises of `one` and `other` are off by a tenth of an interval each at most, which makes 20
+/// intervals over a hundred times their distance. That is less than half a frame.
+fn is_in_reach(format: Format, one: &Shown, other: &Shown, from: &Shown, to: &Shown) -> bool
+    ensures { result ≡ is_in_reach format one.now other.now from.now to.now }
+{
+    periods(format, from, to) <= 100 * periods(format, one, other)
+}
+
 /// Whether `from` and `to` show the clock that `one` and `other` show: by that clock `to` begins
 /// when it should after `from`, to half an interval (`is_in_time`). False if one of the two clocks
 /// is off by more than 8 in 100, or `one` and `other` do not agree (`shows_any_clock`,
-/// `is_near_nominal`). False also if `from` and `to` are more than a hundred times as far apart as
-/// `one` and `other`. The rises of these are off by a tenth of an interval each at most, which
-/// makes 20 intervals over a hundred times their distance. That is less than half a frame, so up to
-/// there the clock says how many frames apart `from` and `to` are.
+/// `is_near_nominal`), or if `from` and `to` are too far apart for this clock (`is_in_reach`).
 fn is_same_clock(format: Format, one: &Shown, other: &Shown, from: &Shown, to: &Shown) -> bool
     ensures { result ≡ is_same_clock format one.now other.now from.now to.now }
 {
     shows_any_clock(format, one, other)
         && is_near_nominal(format, from, to)
-        && periods(format, from, to) <= 100 * periods(format, one, other)
+        && is_in_reach(format, one, other, from, to)
         && is_in_time(format, one, other, from, to)
 }
 
@@ -123,8 +130,8 @@ fn is_wandering(
 /// Whether the clock wanders, of four frames that are all there: the distance of `before` and
 /// `after` is between what the clock of the two before and that of the two after say
 /// (`is_between_clocks`). False if one of the three clocks is off by more than 8 in 100
-/// (`shows_any_clock`, `is_near_nominal`), or if `before` and `after` are more than a hundred times
-/// as far apart as the two before, for the reason at `is_same_clock`.
+/// (`shows_any_clock`, `is_near_nominal`), or if `before` and `after` are too far apart for the
+/// clock of the two before (`is_in_reach`).
 fn is_wandering_by(
     format: Format,
     before2: &Shown,
@@ -139,7 +146,7 @@ fn is_wandering_by(
     shows_any_clock(format, before2, before)
         && shows_any_clock(format, after, after2)
         && is_near_nominal(format, before, after)
-        && many <= 100 * periods(format, before2, before)
+        && is_in_reach(format, before2, before, before, after)
         && is_between_clocks(
             format.interval(),
             micros_by_clock(format, before2, before, many),

@@ -6,7 +6,7 @@ use Rattle.irig_safety.proofs.odd.odd_of.Goals as goal
 pub loop-function-preserved : goal.loop-function-preserved
 loop-function-preserved c =
     odd_more c.args.format c.args.pulses.now c.args.marker c.args.frame.now c.loop-function.function _ c.loop-function.odd.items _ _ c.loop-function.invariant
-    c.function_element-element.ensures c.is_odd-so.ensures c.in_ok-put_if.ensures
+    c.function_element-element.ensures c.is_odd-is_odd_pulse.ensures c.in_ok-add_if.ensures
 
 pub returns : goal.returns
 returns c =
