@@ -43,6 +43,6 @@ last_if b a next = if (b.recording.micros == a.recording.micros) && is_none next
 abbrev pub lines_text : List Sides → List Pulse → Option Counts → List ℕ
 lines_text cs ps last = joined (parts_of cs ps) ++ last_left last
 
--- the comment with the lengths, unless it was written, and the lines left
+-- the note with the lengths, unless it was written, and the lines left
 abbrev pub text_left : Bool → ℕ → ℕ → List ℕ → List ℕ
-text_left is_told b a left = (if is_told then [] else length_note b a) ++ left
+text_left is_noted b a left = (if is_noted then [] else length_note b a) ++ left

@@ -1,8 +1,15 @@
-//! The patch between two recordings with comments, as a text in parts. A stretch is where the two
-//! differ. The place of a frame is when its marker rises, in microseconds. If the lengths of the
-//! two differ, a note before all lines has both: it is a comment, too. A block is where parts are
-//! collected until it has enough bytes: at least as many, as the line that is added last is whole.
-//! What fails, fails only if memory runs out.
+//! The patch between two recordings with comments on frames, as a text in parts.
+//!
+//! The patch is what `irig_difference` writes. First comes the note, if the lengths of the two
+//! recordings differ: a line with both, as `# length 1000 3000`. Then each line inverts the level
+//! in one stretch, which is where the two differ.
+//!
+//! A comment, in this file, is a line that is added to the patch: on the frames of one place if
+//! they differ, or the last line, with the numbers of frames. The place of a frame is when its
+//! marker rises, in microseconds; the marker is the pulse with which it begins.
+//!
+//! A block is where lines are collected until it has enough bytes: at least as many, as the line
+//! that is added last is whole. What fails, fails only if memory runs out.
 
 ghost use Rattle.std.specs.Prelude.{◌≡◌, ◌↔◌, ◌≤◌, ◌<◌, ◌++◌, [], true, false, IfOk, OnOk};
 ghost use Rattle.std.specs.Prelude.{vec_len};
@@ -18,13 +25,13 @@ use irig_text::Text;
 use std::alloc::AllocError;
 use std::marker::Model;
 
-/// The patch between two recordings, as lines of the editor's language, with comments on the frames
-/// that differ. A comment comes before the line of the first stretch that ends at or after the
-/// place of its frame, or after all of these if none does. The last line has the numbers of frames.
+/// The patch between two recordings, with comments on the frames that differ. A comment comes
+/// before the line of the first stretch that ends at or after the place of its frame, or after all
+/// of these if none does. The last line has the numbers of frames.
 #[derive(Drop)]
 pub struct CommentedPatch<'a> {
-    // Whether the note with the two lengths was written, if there is one.
-    is_told: bool,
+    // Whether the note was written, if there is one.
+    is_noted: bool,
     // The lengths of the two recordings, in microseconds.
     before: u64,
     after: u64,
@@ -37,7 +44,7 @@ impl<'a> Model for CommentedPatch<'a> {
 
     ghost Value = { List ℕ };
 
-    ghost view = { λ p. text_left p.is_told p.before p.after p.left };
+    ghost view = { λ p. text_left p.is_noted p.before p.after p.left };
 }
 
 impl<'a> CommentedPatch<'a> {
@@ -46,10 +53,11 @@ impl<'a> CommentedPatch<'a> {
     pub fn between(before: &'a Framed, after: &'a Framed) -> CommentedPatch<'a>
         requires { before.now.format ≡ after.now.format }
         ensures text { result ≡ commented_text before.now after.now }
-        // Without the comments it is the patch.
+        // Without the comments it is the patch, with its note.
         ensures plain { lines (commented_parts before.now after.now)
             ≡ patch_text before.now.recording after.now.recording }
         // The comments are those on the frames that differ, in their order, and the last line.
+        // The note is none of these.
         ensures frames { comments (commented_parts before.now after.now)
             ≡ comments (notes (changes before.now after.now)) ++ last_text before.now after.now }
         ensures comments { AreComments (commented_parts before.now after.now) }
@@ -60,7 +68,7 @@ impl<'a> CommentedPatch<'a> {
         // order, and the proof needs that.
         let _counts = (before.len(), after.len());
         CommentedPatch {
-            is_told: false,
+            is_noted: false,
             before: before.recording().length(),
             after: after.recording().length(),
             left: LinesLeft::between(before, after),
@@ -71,13 +79,13 @@ impl<'a> CommentedPatch<'a> {
 impl Text for CommentedPatch<'_> {
     ghost rest = { λ p. p };
 
-    // Writes the note with the two lengths first, unless it was written before; `put_note` writes
-    // nothing if they are the same. Then it writes lines until the block has `enough` bytes. True
-    // only if no line is left; false if the block is full, whether or not a line is left.
+    // Writes the note first, unless it was written before; `put_note` writes nothing if the lengths
+    // are the same. Then it writes lines until the block has `enough` bytes. True only if no line
+    // is left; false if the block is full, whether or not a line is left.
     fn fill(&mut self, block: &mut Vec<u8>, enough: usize) -> Result<bool, AllocError> {
-        if !self.is_told {
+        if !self.is_noted {
             put_note(block, self.before, self.after)?;
-            self.is_told = true;
+            self.is_noted = true;
         }
         put_lines(block, &mut self.left, enough)
     }

@@ -45,9 +45,9 @@ impl Counts {
         counts
     }
 
-    /// Counts the frames of one place, which differ: made, lost or changed. One side is there at
-    /// least, so the case without both does not come. `room`: two recordings have far fewer places
-    /// than 2^32, so no sum overflows.
+    /// Adds one to `made`, `lost` or `changed`, for a place at which the two sides differ. One side
+    /// is there at least, so the case without both does not come. `room`: two recordings have far
+    /// fewer places than 2^32, so no sum overflows.
     fn add(&mut self, sides: &Sides)
         requires room { (self.old.made < 2 ^ 32) × (self.old.lost < 2 ^ 32)
             × (self.old.changed < 2 ^ 32) }
@@ -70,8 +70,9 @@ impl Counts {
 }
 
 /// Writes the last line, with the numbers of frames, as in
-/// `# frames: 9 fine before, 8 fine after, 0 made, 1 lost, 2 changed`. Each text but the first is
-/// that of the number before it. It fails only if memory runs out.
+/// `# frames: 9 fine before, 8 fine after, 0 made, 1 lost, 2 changed`. A text comes after its
+/// number there, so each call below writes the text of the number before it, and then the next
+/// number. It fails only if memory runs out.
 pub(crate) fn put_counts(block: &mut Vec<u8>, counts: &Counts) -> Result<(), AllocError>
     ensures { OnOk result (block.new.items ≡ block.old.items ++ counts_text counts.now) }
 {

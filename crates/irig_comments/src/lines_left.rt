@@ -1,7 +1,8 @@
 //! The lines of a patch with comments that are still to come. A patch is a script that makes one
 //! recording of another. A stretch is a time in which their levels differ, from `rise` to `fall` in
-//! microseconds: a line inverts the level there. A change is a frame that differs, by its place,
-//! which is when its marker rises. The last line has the numbers of frames.
+//! microseconds: a line inverts the level there. The place of a frame is when its marker rises; the
+//! marker is the pulse with which it begins. A change is a place at which the frames of the two
+//! differ, and has a comment. The last line has the numbers of frames.
 
 ghost use Rattle.std.specs.Prelude.{◌≡◌, ◌<◌, ◌++◌, [], true, false, IfOk, OnOk};
 ghost use Rattle.std.specs.Prelude.{vec_len};
@@ -19,12 +20,13 @@ use irig_difference::{Differences, Pulse, put_line};
 use std::alloc::AllocError;
 use std::marker::Model;
 
-/// The comments on frames and the lines of stretches that are still to come, and the last line.
+/// The lines that are still to come: comments on changes, lines of stretches, and the last line.
 #[derive(Drop)]
 pub struct LinesLeft<'a> {
-    // What comes next, and what comes after it.
+    // The next change, and those after it.
     change: Option<Sides>,
     changes: Changes<'a>,
+    // The next stretch, and those after it.
     stretch: Option<Pulse>,
     stretches: Differences<'a>,
     // The last line, unless it was written, or the recordings are the same.
@@ -42,8 +44,9 @@ impl<'a> Model for LinesLeft<'a> {
 }
 
 impl<'a> LinesLeft<'a> {
-    /// All lines of the patch that makes the recording `after` of `before`, but that with the
-    /// lengths, which is written before these. If the recordings are the same, there is no line.
+    /// All lines of the patch that makes the recording `after` of `before`, but not that with the
+    /// two lengths, which the caller writes before these. If the recordings are the same, there is
+    /// no line.
     pub fn between(before: &'a Framed, after: &'a Framed) -> LinesLeft<'a>
         ensures { result ≡ lines_text (changes before.now after.now)
             (stretches_between before.now.recording after.now.recording)
@@ -57,21 +60,21 @@ impl<'a> LinesLeft<'a> {
             changes,
             stretch,
             stretches,
-            last: last_of(before, after, &stretch),
+            last: last_numbers(before, after, &stretch),
         }
     }
 
-    /// Writes the next line, if one is left: a comment on frames, the line of a stretch, or at the
-    /// end the last line. Returns `true` if no line is left after it, or none was left before;
-    /// after a comment or a stretch it is `false`, as the last line is still to come. It fails only
-    /// if memory runs out.
+    /// Writes the next line, if one is left: the comment on a change, the line of a stretch, or at
+    /// the end the last line. Returns whether none is left then: `true` after the last line, also
+    /// if it was written before; `false` after any other, as the last line is still to come. It
+    /// fails only if memory runs out.
     pub fn put_next(&mut self, block: &mut Vec<u8>) -> Result<bool, AllocError>
         ensures bytes { OnOk result (block.new.items ++ self.new ≡ block.old.items ++ self.old) }
         ensures end { IfOk result (λ ended. ended ≡ true → self.new ≡ []) }
         ensures more { IfOk result (λ ended. ended ≡ false
             → vec_len block.old < vec_len block.new) }
     {
-        if let Some(change) = first_change(&self.change, &self.stretch) {
+        if let Some(change) = change_if_first(&self.change, &self.stretch) {
             put_comment(block, &change)?;
             self.change = self.changes.next();
             return Ok(false);
@@ -85,10 +88,10 @@ impl<'a> LinesLeft<'a> {
     }
 }
 
-/// The next change, if its comment comes next: no stretch is left, or the next one ends at or after
-/// the place of the frame. `None` if no change is left, or the stretch comes first: it ends before
-/// the place of the frame.
-fn first_change(change: &Option<Sides>, stretch: &Option<Pulse>) -> Option<Sides>
+/// The next change, if its comment comes before the line of the next stretch: no stretch is left,
+/// or it ends at or after the place of the change. `None` if no change is left, or the stretch
+/// comes first: it ends before that place.
+fn change_if_first(change: &Option<Sides>, stretch: &Option<Pulse>) -> Option<Sides>
     ensures { result ≡ first_change change.now stretch.now }
 {
     match (change, stretch) {
@@ -104,10 +107,10 @@ fn first_change(change: &Option<Sides>, stretch: &Option<Pulse>) -> Option<Sides
     }
 }
 
-/// The numbers of the last line; `None` if the recordings are the same, since nothing is written
-/// then: their lengths are equal, and there is no stretch. `stretch` is the first stretch, if there
-/// is one.
-fn last_of(before: &Framed, after: &Framed, stretch: &Option<Pulse>) -> Option<Counts>
+/// The numbers of the last line. `None` if the recordings are the same, since nothing is written
+/// then: their lengths are equal, and there is no stretch. `stretch` is the first one, if there is
+/// any.
+fn last_numbers(before: &Framed, after: &Framed, stretch: &Option<Pulse>) -> Option<Counts>
     ensures { result ≡ last_if before.now after.now stretch.now }
 {
     if before.recording().length() == after.recording().length() && stretch.is_none() {
@@ -117,8 +120,9 @@ fn last_of(before: &Framed, after: &Framed, stretch: &Option<Pulse>) -> Option<C
     }
 }
 
-/// Writes the last line, if there is one and it was not written; then `last` is `None`. Returns
-/// `true`: none is left. It fails only if memory runs out.
+/// Writes the last line, and makes `last` `None`; nothing if it is `None` already, as the line was
+/// written, or there is none. Always returns `true`: no line is left. It fails only if memory runs
+/// out.
 fn put_last(block: &mut Vec<u8>, last: &mut Option<Counts>) -> Result<bool, AllocError>
     ensures bytes { OnOk result
         (block.new.items ++ last_left last.new ≡ block.old.items ++ last_left last.old) }

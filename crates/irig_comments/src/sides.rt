@@ -48,17 +48,18 @@ impl Sides {
     }
 }
 
-/// Whether the same is reported of two frames. `are_same` compares; this adds to its contract that
-/// the two are equal then.
+/// Whether the same is reported of two frames. `is_same_by_parts` compares; this one only adds to
+/// the contract that the two reports are equal if so, and only then (`exact`).
 fn is_same(one: &Verdict, other: &Verdict) -> bool
     ensures value { result ≡ same_verdict one.now other.now }
     ensures exact { IsTrue result ↔ (one.now ≡ other.now) }
 {
-    are_same(one, other)
+    is_same_by_parts(one, other)
 }
 
-/// Whether two reports are equal, part by part; a broken frame and one that is read are not.
-fn are_same(one: &Verdict, other: &Verdict) -> bool
+/// Whether two reports are equal, part by part. Those of a broken frame and of one that is read are
+/// not.
+fn is_same_by_parts(one: &Verdict, other: &Verdict) -> bool
     ensures { result ≡ same_verdict one.now other.now }
 {
     match (one, other) {

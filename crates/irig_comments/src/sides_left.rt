@@ -45,10 +45,9 @@ impl<'a> SidesLeft<'a> {
         }
     }
 
-    /// The frames at the next place: those of both recordings if they begin at one microsecond,
-    /// else the earlier one alone. Both lists are in the order of their rises. `None` if none is
-    /// left. If only one list has a frame left, or both begin at one microsecond, the last line
-    /// returns both as they are; else the earlier one is returned at once.
+    /// The frames at the next place, which are past then: those of both recordings if both begin at
+    /// one microsecond, else the earlier one alone. Both lists are in the order of their places.
+    /// `None` if none is left.
     pub fn next(&mut self) -> Option<Sides>
         ensures { MatchOption result ((self.old ≡ []) × (self.new ≡ []))
             (λ s. self.old ≡ s ∷ self.new) }
@@ -57,9 +56,11 @@ impl<'a> SidesLeft<'a> {
         let after = self.after.shown(self.past_after);
         match (before, after) {
             (None, None) => return None,
+            // Only one recording has a frame left: the last line returns it, with `None`.
             (Some(_), None) => self.past_before += 1,
             (None, Some(_)) => self.past_after += 1,
             (Some(was), Some(now)) => {
+                // The earlier one is returned alone.
                 if now.rise < was.rise {
                     self.past_after += 1;
                     return Some(Sides {
@@ -74,6 +75,7 @@ impl<'a> SidesLeft<'a> {
                         after: None,
                     });
                 }
+                // Both begin at one microsecond: the last line returns both.
                 self.past_after += 1;
             }
         }

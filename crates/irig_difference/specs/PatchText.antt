@@ -23,5 +23,5 @@ patch_text before after =
 
 -- what of a patch is still to come: the comment, unless it was written, and the stretches left
 abbrev pub patch_left : Bool → ℕ → ℕ → List Pulse → List ℕ
-patch_left is_told before after left =
-    (if is_told then [] else length_note before after) ++ script_of left
+patch_left is_noted before after left =
+    (if is_noted then [] else length_note before after) ++ script_of left

@@ -74,10 +74,10 @@ impl<'a> Differences<'a> {
     }
 }
 
-/// Takes the first edge, in microseconds, that only one of two rising lists has, with all edges
-/// before it; `None` if there is none, and both lists are at their end then. An edge that both have
-/// is passed in both: it changes nothing in whether they differ. Pulses that both begin with are
-/// passed first, since that is quicker.
+/// Goes past the next edge that only one of two recordings has, and past all edges before it, and
+/// returns its time in microseconds. `None` if no such edge is left: both are at their end then. An
+/// edge that both have at one time is passed in both, since it does not change whether their levels
+/// differ. Pulses that both begin with are passed first: that is quicker than edge by edge.
 fn next_edge(before: &mut EdgesLeft<'_>, after: &mut EdgesLeft<'_>) -> Option<u64>
     requires before { RisesFrom 0 before.old }
     requires after { RisesFrom 0 after.old }
@@ -91,24 +91,25 @@ fn next_edge(before: &mut EdgesLeft<'_>, after: &mut EdgesLeft<'_>) -> Option<u6
     before.pass_common(after);
     loop {
         match (before.first(), after.first()) {
-            (Some(x), Some(y)) => {
-                if x < y {
+            (Some(was), Some(now)) => {
+                if was < now {
                     before.pass();
-                    return Some(x);
+                    return Some(was);
                 }
                 after.pass();
-                if y < x {
-                    return Some(y);
+                if now < was {
+                    return Some(now);
                 }
+                // Both have this edge: it is passed in both.
                 before.pass();
             }
-            (Some(x), None) => {
+            (Some(was), None) => {
                 before.pass();
-                return Some(x);
+                return Some(was);
             }
-            (None, Some(y)) => {
+            (None, Some(now)) => {
                 after.pass();
-                return Some(y);
+                return Some(now);
             }
             (None, None) => return None,
         }

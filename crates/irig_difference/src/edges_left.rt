@@ -85,27 +85,32 @@ impl<'a> EdgesLeft<'a> {
         if self.is_high || other.is_high {
             return;
         }
-        let count = common(self.pulses, self.past, other.pulses, other.past);
+        let count = count_common(self.pulses, self.past, other.pulses, other.past);
         self.past += count;
         other.past += count;
     }
 }
 
-/// How many pulses of two buffers are the same, one after the other, from the place `i` of the one
-/// and the place `j` of the other on: up to the first that differ, or to the end of a buffer.
-/// Places count from 0. All pulses are left of the buffer's own place, so `gap_at` is how many
-/// there are.
-fn common(before: &Gap<Pulse>, i: usize, after: &Gap<Pulse>, j: usize) -> usize
-    requires before { i ≤ before.now.place }
-    requires after { j ≤ after.now.place }
-    ensures before { i + result ≤ before.now.place }
-    ensures after { j + result ≤ after.now.place }
-    ensures fits { (i + result < 2 ^ 64) × (j + result < 2 ^ 64) }
-    ensures same { take result (drop i before.now.items) ≡ take result (drop j after.now.items) }
+/// How many pulses of two buffers are the same, one after the other, from index `first` of `before`
+/// and index `second` of `after` on, both from 0: up to the first that differ, or to the end of a
+/// buffer. All pulses are left of the buffer's place, so `gap_at` is how many there are.
+fn count_common(before: &Gap<Pulse>, first: usize, after: &Gap<Pulse>, second: usize) -> usize
+    requires before { first ≤ before.now.place }
+    requires after { second ≤ after.now.place }
+    ensures before { first + result ≤ before.now.place }
+    ensures after { second + result ≤ after.now.place }
+    ensures fits { (first + result < 2 ^ 64) × (second + result < 2 ^ 64) }
+    ensures same { take result (drop first before.now.items)
+        ≡ take result (drop second after.now.items) }
 {
-    let most = (before.gap_at() - i).min(after.gap_at() - j);
+    let most = (before.gap_at() - first).min(after.gap_at() - second);
     let mut count = 0;
-    while count < most && is_same(before.get_left(i + count), after.get_left(j + count)) {
+    while count < most
+        && is_same(
+            before.get_left(first + count),
+            after.get_left(second + count),
+        )
+    {
         count += 1;
     }
     count

@@ -1,6 +1,7 @@
 //! The patch between two recordings, as a text in parts. A stretch is a time in which one of the
-//! two is high and the other low. A block is where parts are collected until it has enough bytes:
-//! at least as many, as the line that is added last is whole. What fails, fails only if memory runs
+//! two is high and the other low. The note is the first line, a comment with the two lengths; there
+//! is none if they are the same. A block is where lines are collected until it has enough bytes: at
+//! least as many, as the line that is added last is whole. What fails, fails only if memory runs
 //! out.
 
 ghost use Rattle.std.specs.Prelude.{◌≡◌, ◌↔◌, ◌≤◌, ◌++◌, ◌∷◌, [], true, false, IfOk, OnOk, decimal};
@@ -17,11 +18,11 @@ use std::marker::Model;
 const ROOM: usize = 21;
 
 /// The patch between two recordings, as lines of the editor's language: each inverts the level in
-/// one stretch in which they differ. If their lengths differ, a comment before them has both.
+/// one stretch in which they differ. If their lengths differ, the note before them has both.
 #[derive(Drop)]
 pub struct PatchText<'a> {
-    // Whether the comment with the two lengths was written.
-    is_told: bool,
+    // Whether the note was written, if there is one.
+    is_noted: bool,
     // The two lengths, in microseconds.
     before: u64,
     after: u64,
@@ -34,7 +35,7 @@ impl<'a> Model for PatchText<'a> {
 
     ghost Value = { List ℕ };
 
-    ghost view = { λ p. patch_left p.is_told p.before p.after p.left };
+    ghost view = { λ p. patch_left p.is_noted p.before p.after p.left };
 }
 
 impl<'a> PatchText<'a> {
@@ -46,7 +47,7 @@ impl<'a> PatchText<'a> {
         ensures same { result ≡ [] ↔ before.now ≡ after.now }
     {
         PatchText {
-            is_told: false,
+            is_noted: false,
             before: before.length(),
             after: after.length(),
             left: Differences::between(before, after),
@@ -57,19 +58,19 @@ impl<'a> PatchText<'a> {
 impl Text for PatchText<'_> {
     ghost rest = { λ p. p };
 
-    // Writes the comment with the two lengths first, unless it was written, and then lines until
-    // the block has `enough` bytes. True only if no line is left; false if the block is full,
-    // whether or not a line is left.
+    // Writes the note first, unless it was written before; `put_note` writes nothing if the lengths
+    // are the same. Then it writes lines until the block has `enough` bytes. True only if no line
+    // is left; false if the block is full, whether or not a line is left.
     fn fill(&mut self, block: &mut Vec<u8>, enough: usize) -> Result<bool, AllocError> {
-        if !self.is_told {
+        if !self.is_noted {
             put_note(block, self.before, self.after)?;
-            self.is_told = true;
+            self.is_noted = true;
         }
         put_lines(block, &mut self.left, enough)
     }
 }
 
-/// Writes the comment with two lengths in microseconds, `before` and `after`, as in
+/// Writes the note with two lengths in microseconds, `before` and `after`, as in
 /// `# length 1000 3000`; nothing if they are the same.
 pub fn put_note(block: &mut Vec<u8>, before: u64, after: u64) -> Result<(), AllocError>
     ensures { OnOk result (block.new.items ≡ block.old.items ++ length_note before after) }
@@ -101,13 +102,13 @@ fn put_lines(
     Ok(false)
 }
 
-/// Writes a word and two numbers, `a` and `b`, on a line, as in `invert 1000 3000`.
-pub fn put_line(block: &mut Vec<u8>, word: &[u8], a: u64, b: u64) -> Result<(), AllocError>
-    ensures { OnOk result (block.new.items ≡ block.old.items ++ line_of word.now a b) }
+/// Writes a line: a word and two numbers, as in `invert 1000 3000`.
+pub fn put_line(block: &mut Vec<u8>, word: &[u8], first: u64, second: u64) -> Result<(), AllocError>
+    ensures { OnOk result (block.new.items ≡ block.old.items ++ line_of word.now first second) }
 {
     block.extend_from_slice(word)?;
-    put_number(block, a)?;
-    put_number(block, b)?;
+    put_number(block, first)?;
+    put_number(block, second)?;
     block.extend_from_slice(b"\n")
 }
 
@@ -120,9 +121,9 @@ pub fn put_number(block: &mut Vec<u8>, number: u64) -> Result<(), AllocError>
     block.extend_from_slice(&digits[start..])
 }
 
-/// Writes a space and a number in decimal so that they end where the 21 bytes do. Returns the
-/// index, from 0, of the space: `write_digits` returns that of the first digit, which is 1 or more,
-/// since there are at most 20.
+/// Writes a space and a number in decimal into the last of the 21 bytes of `digits`. Returns the
+/// index, from 0, of the space. `write_digits` returns that of the first digit: it is 1 or more,
+/// since there are at most 20 digits, so the space has room before it.
 fn put_digits(digits: &mut [u8], number: u64) -> usize
     requires { length digits.old ≡ 21 }
     ensures within { result ≤ length digits.new }

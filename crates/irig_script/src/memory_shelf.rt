@@ -73,7 +73,7 @@ impl Shelf for MemoryShelf {
         ensures ok { OnOk result
             (Puts (known_of self.old) (known_of self.new) (T.rest text.old ∷ []) 0) }
         ensures err { OnErr result (Puts (known_of self.old) (known_of self.new) [] 1) }
-        ensures told { self.old.fail ≡ Some (next_put self.old) → IsErr result }
+        ensures fails { self.old.fail ≡ Some (next_put self.old) → IsErr result }
         ensures puts { self.new.puts ≡ next_put self.old }
         ensures fail { self.new.fail ≡ self.old.fail }
     {

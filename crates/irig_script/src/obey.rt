@@ -1,5 +1,6 @@
 //! Commands as calls of a session, and the run of a script.
 
+pub mod bytes;
 pub mod calls;
 pub mod dump_run;
 pub mod engine;

@@ -1,11 +1,15 @@
-//! Commands as calls of the session. An address names a pulse; a range names one pulse, or all from
-//! one address to another. `number_at`, `ends` and `time` say which pulses and times are meant, as
-//! the session is before the call. Pulses count from 1 here; the number 0 is that of one that is
-//! not there, and the session refuses it. Times are in microseconds; that of a mark which is not
-//! set is above each length, and is refused, too. A refused edit changes nothing; the reply then
-//! has why, a `Refusal`. An edit can also be refused because memory runs out (`OutOfMemory`). An
-//! edit of pulses also moves the cursor, as the call of the session says. In contracts, `Obeys`
-//! says that the session may give this reply to a command, and what it has then.
+//! Commands as calls of the session.
+//!
+//! An address names a pulse; a range names one pulse, or all from one address to another.
+//! `number_at`, `ends` and `time` say which pulses and times are meant, as the session is before
+//! the call. Pulses count from 1 here. The number 0 is that of a pulse that is not there, and the
+//! session refuses it. Times are in microseconds. The time of a mark that is not set is above each
+//! length, and is refused, too.
+//!
+//! The reply to an edit is `Silent`, or `Refused` with the reason; a refused edit changes nothing.
+//! Each edit can also be refused because memory runs out (`OutOfMemory`), which is not said again
+//! below. An edit of pulses also moves the cursor, as the call of the session says. In contracts,
+//! `Obeys` says that the session may give this reply to a command, and what it has then.
 
 ghost use Rattle.std.specs.Prelude.{◌≡◌};
 ghost use Rattle.irig_lines.specs.declared.command.Command.{Command};
@@ -47,11 +51,11 @@ pub fn show(session: &mut Session, address: Address) -> Reply
 pub fn list(session: &Session, range: Range) -> Reply
     ensures { Obeys (Command.List range) session.now result session.now }
 {
-    let (i, j) = ends(session, &range);
-    if i == 0 || i > j || j > session.len() {
+    let (first, last) = ends(session, &range);
+    if first == 0 || first > last || last > session.len() {
         Reply::Refused(Refusal::NoPulse)
     } else {
-        Reply::Listed(i - 1, j - i + 1)
+        Reply::Listed(first - 1, last - first + 1)
     }
 }
 
@@ -60,8 +64,8 @@ pub fn list(session: &Session, range: Range) -> Reply
 pub fn delete(session: &mut Session, range: Range) -> Reply
     ensures { Obeys (Command.Delete range) session.old result session.new }
 {
-    let (i, j) = ends(session, &range);
-    reply_to(session.delete(i, j))
+    let (first, last) = ends(session, &range);
+    reply_to(session.delete(first, last))
 }
 
 /// Moves the pulses of a range by `by` microseconds: later, or earlier if `by` is below zero.
@@ -70,17 +74,18 @@ pub fn delete(session: &mut Session, range: Range) -> Reply
 pub fn shift(session: &mut Session, range: Range, by: i64) -> Reply
     ensures { Obeys (Command.Shift range by) session.old result session.new }
 {
-    let (i, j) = ends(session, &range);
-    reply_to(session.shift(i, j, by))
+    let (first, last) = ends(session, &range);
+    reply_to(session.shift(first, last, by))
 }
 
-/// Makes one pulse of those of a range; of one address, that pulse and the next are joined
-/// (`join_ends`). Refused if one is not there, or they are not at least two (`NoPulse`).
+/// Makes one pulse of all pulses of a range. If the range is one address, its pulse and the next
+/// are joined (`join_ends`). Refused if one of them is not there, or the last is not after the
+/// first (`NoPulse`).
 pub fn join(session: &mut Session, range: Range) -> Reply
     ensures { Obeys (Command.Join range) session.old result session.new }
 {
-    let (i, j) = join_ends(session, &range);
-    reply_to(session.join(i, j))
+    let (first, last) = join_ends(session, &range);
+    reply_to(session.join(first, last))
 }
 
 /// Makes two pulses of the one of `address`: the level becomes low inside of it, from the time
@@ -90,9 +95,9 @@ pub fn join(session: &mut Session, range: Range) -> Reply
 pub fn split(session: &mut Session, address: Address, from: Time, to: Time) -> Reply
     ensures { Obeys (Command.Split address from to) session.old result session.new }
 {
-    let i = number_at(session, &address);
-    let (a, b) = (time(session, &from), time(session, &to));
-    reply_to(session.split(i, a, b))
+    let number = number_at(session, &address);
+    let (from, to) = (time(session, &from), time(session, &to));
+    reply_to(session.split(number, from, to))
 }
 
 /// Gives a pulse the nominal width of `element`: its rise stays, and its fall moves. Refused if the
@@ -101,8 +106,8 @@ pub fn split(session: &mut Session, address: Address, from: Time, to: Time) -> R
 pub fn force(session: &mut Session, address: Address, element: Element) -> Reply
     ensures { Obeys (Command.Force address element) session.old result session.new }
 {
-    let i = number_at(session, &address);
-    reply_to(session.force(i, element))
+    let number = number_at(session, &address);
+    reply_to(session.force(number, element))
 }
 
 /// Inserts a pulse from one time to another. Refused if the times are not in order or beyond the
@@ -111,8 +116,8 @@ pub fn force(session: &mut Session, address: Address, element: Element) -> Reply
 pub fn insert(session: &mut Session, from: Time, to: Time) -> Reply
     ensures { Obeys (Command.Insert from to) session.old result session.new }
 {
-    let (a, b) = (time(session, &from), time(session, &to));
-    reply_to(session.insert(a, b))
+    let (from, to) = (time(session, &from), time(session, &to));
+    reply_to(session.insert(from, to))
 }
 
 /// Inverts the level from one time to another. Refused if the times are not in order or beyond the
@@ -120,8 +125,8 @@ pub fn insert(session: &mut Session, from: Time, to: Time) -> Reply
 pub fn invert(session: &mut Session, from: Time, to: Time) -> Reply
     ensures { Obeys (Command.Invert from to) session.old result session.new }
 {
-    let (a, b) = (time(session, &from), time(session, &to));
-    reply_to(session.invert(a, b))
+    let (from, to) = (time(session, &from), time(session, &to));
+    reply_to(session.invert(from, to))
 }
 
 /// Generates `frames` frames from the time `start` on, in place of the pulses that rise there. The

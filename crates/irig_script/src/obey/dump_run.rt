@@ -17,7 +17,8 @@ ghost use Rattle.irig_vcd.specs.declared.fault.VcdFault.TheVariants.{OutOfMemory
 ghost use Rattle.irig_vcd.specs.{Answer.bytes_of, Answer.name_of, Dump.changes_before};
 ghost use Rattle.irig_vcd.specs.{Level.HasEdge, Parts.dump_parts, declared.fault.VcdFault.VcdFault};
 ghost use Rattle.irig_script.specs.declared.obey.dump_run.DumpRunFault.TheVariants.{Dump, Run};
-ghost use Rattle.irig_script.specs.{Obey.Desk.desk_at, Obey.DumpRun.RunsOnDump, Obey.Reading.ReadsTo};
+ghost use Rattle.irig_script.specs.{Obey.Desk.desk_at, Obey.DumpRun.RunsOnDump};
+ghost use Rattle.irig_script.specs.Obey.Reading.{ReadsTo};
 
 use crate::obey::engine;
 use crate::obey::status::{RunFault, Status};
@@ -75,14 +76,15 @@ pub fn run_on_dump<R: Read, W: Write, N: Witness, S: Shelf>(
     }
 }
 
-/// Obeys a script on the session of a recording and the text of the journal, if there is one, as
-/// `irig_vcd` reads both from a dump: it does what `run_on_dump` does with the bytes of that dump.
-/// Frames are read in `format`, unless there is a journal with another. A journal that is wrong is
-/// a fault of the dump, `Dump`. So is `OutOfMemory` (`memory`): without a journal memory can run
-/// out for the session; with one only while the lines of its steps are read, or after the form of
-/// all its lines, the format, the cursor and the marks are found right. Nothing is read of the
-/// script, printed or written then, so `label` and `since` hold of a shelf that has not changed.
-/// The text is dropped before the script is read.
+/// Obeys a script on the session of a recording and the text of its journal, if it has one: the two
+/// parts that `irig_vcd` reads from a dump. It does what `run_on_dump` does with the bytes of that
+/// dump. Frames are read in `format`, unless the journal has another. The text is dropped before
+/// the script is read.
+///
+/// A journal that is wrong is a fault of the dump (`Dump`), and so is that memory ran out for the
+/// session. Nothing is read of the script, printed or written then. `memory` says that with a
+/// journal memory runs out only while the lines of its steps are read, or after the form of all its
+/// lines, the format, the cursor and the marks are found right.
 pub fn run_on_parts<R: Read, W: Write, N: Witness, S: Shelf>(
     alloc: Global,
     recording: Recording,
@@ -131,7 +133,8 @@ fn run_opened<R: Read, W: Write, N: Witness, S: Shelf>(
     as_run(engine::run(&mut session, script, screen, shelf))
 }
 
-/// How a run on a dump ended, by how the run of the script ended: a fault becomes one of the run.
+/// How a run on a dump ended, by how the run of the script ended: the status is the same, and a
+/// fault becomes one of the run (`Run`).
 fn as_run(ended: Result<Status, RunFault>) -> Result<Status, DumpRunFault>
     ensures { MatchResult ended (λ status. result ≡ Ok status) (λ fault. result ≡ Err (Run fault)) }
 {

@@ -1,39 +1,35 @@
-//! The run of a script. `line` is the bytes of a line that have come so far, and `status` says
-//! whether a line was refused. The screen is the output with the witness that watches it, and the
-//! shelf is where the lines `write` and `save` write. A witness is shown the output and the shelf
-//! after each line was obeyed, before its answer is printed. `PrintFault` says that a write of the
-//! output failed. In a contract, `Holds text` says that the bytes `text` of a line have come; a
-//! desk is what is known of the screen and the shelf; `Obeyed` says what the bytes of a script did,
-//! and `BrokeIn` that they were obeyed up to an answer that was not printed whole. The label of a
-//! shelf sets it apart from others, so `label` says that it is still the same shelf; `since` is
-//! what the shelf promises of each later state, whatever is written to it in between. `ReadsTo`
-//! says that at most 2^44 bytes of the script were read (2^32 reads of 4,096), and that only the
-//! last 4,096 of these can have the line that ends it.
+//! The run of a script: it is read in parts, and the bytes of each part are obeyed (`obey_bytes`).
+//!
+//! `line` has the bytes that came of a line whose newline has not come yet, and `status` says
+//! whether a line was refused so far. The screen is the output with the witness that watches it,
+//! and the shelf is where the lines `write` and `save` write. A witness is shown the output and the
+//! shelf after each line was obeyed, before its answer is printed.
+//!
+//! In a contract, `Holds text` says that `line` has the bytes `text`, and a desk is what is known
+//! of the screen and the shelf. `EndsAs` says what a run did, by how it ended. `IsUnderway` says
+//! that some reads were made and all that they gave was obeyed; `GoesOn` says it with one read
+//! more, or that the run has ended. `ReadsTo` says that at most 2^44 bytes of the script were read
+//! (2^32 reads of 4,096), and that only the last 4,096 of these can have the line that ends it. The
+//! label of a shelf sets it apart from others, so `label` says that it is still the same shelf;
+//! `since` is what the shelf promises of each later state, whatever is written to it in between.
 //!
 //! Where `match` or `let Ok(..) else` returns an error, `?` would do the same; the proof of it
 //! takes longer.
 
-ghost use Rattle.std.specs.Prelude.{◌≡◌, ◌<◌, ◌≤◌, ◌^◌, ◌++◌, ◌∷◌, [], ℕ, List, Option, IfOk};
-ghost use Rattle.std.specs.Prelude.{IfErr, OnErr, length, take};
+ghost use Rattle.std.specs.Prelude.{◌≡◌, ◌<◌, ◌≤◌, ◌^◌, ℕ, List, Option, IfErr, length, take};
 ghost use Rattle.std.specs.{Io.ReadsAtMost, Io.KnownBytes.ReadConsumes};
 ghost use Rattle.irig_script.specs.declared.obey.status.RunFault.TheVariants.{ReadFailed};
-ghost use Rattle.irig_script.specs.Print.Printed.{answer_with, reply_text};
-ghost use Rattle.irig_script.specs.Obey.Desk.{Desk, desk_at, status_after};
-ghost use Rattle.irig_script.specs.Obey.Progress.{BrokeIn, Holds, Obeyed};
+ghost use Rattle.irig_script.specs.Obey.Desk.{Desk, desk_at};
+ghost use Rattle.irig_script.specs.Obey.Progress.{Holds};
 ghost use Rattle.irig_script.specs.Obey.Reads.{GoesOn, IsUnderway, with_end};
 ghost use Rattle.irig_script.specs.{Obey.Ending.EndsAs, Obey.Reading.ReadsTo, Obey.Machine.Machine};
-ghost use Rattle.irig_script.specs.Print.Screen.{sight};
-ghost use Rattle.irig_print.specs.Front.{Prints};
-ghost use Rattle.irig_text.specs.Shelved.{GrowsBy};
 
+use crate::obey::bytes::obey_bytes;
 use crate::obey::line::Line;
-use crate::obey::obeying::obey_line;
 use crate::obey::status::{RunFault, Status};
-use crate::print::reply::Reply;
 use crate::print::screen::Screen;
 use crate::print::witness::Witness;
 use irig_edit::Session;
-use irig_print::PrintFault;
 use irig_text::Shelf;
 use std::io::{Read, Write};
 
@@ -43,10 +39,9 @@ const READ_LIMIT: usize = 4096;
 /// The most reads of a script, so that each run ends: an input could go on for ever.
 const READS_LIMIT: u64 = 4_294_967_296;
 
-/// Obeys a script to its end, or to its line `quit`, and returns whether a line was refused. Each
-/// line is answered before the next is read. An error is that a read failed (`ReadFailed`), that a
-/// write of the output failed (`PrintFailed`), or that 2^32 reads did not end the script
-/// (`TooManyReads`).
+/// Obeys a script to its end, or to its line `quit`, and returns whether a line was refused. A line
+/// is answered before the next is obeyed. The errors: a read failed (`ReadFailed`), a write of the
+/// output failed (`PrintFailed`), or 2^32 reads did not end the script (`TooManyReads`).
 pub fn run<R: Read, W: Write, N: Witness, S: Shelf>(
     session: &mut Session,
     script: &mut R,
@@ -64,7 +59,7 @@ pub fn run<R: Read, W: Write, N: Witness, S: Shelf>(
     let mut buffer = [0; READ_LIMIT];
     let mut status = Status::AllAccepted;
     for reads in 0..READS_LIMIT {
-        match obey_read(
+        match read_and_obey(
             script,
             &mut buffer,
             &mut line,
@@ -81,13 +76,15 @@ pub fn run<R: Read, W: Write, N: Witness, S: Shelf>(
     Err(RunFault::TooManyReads)
 }
 
-/// Reads a part of a script and obeys it. Returns whether the script has ended: there was nothing
-/// left to read, or a line was `quit`. At the end the last line may lack its newline, and is
-/// obeyed, too. A line that has not ended waits in `line`; `buffer` is room for the bytes of the
-/// read. `ReadFailed` if the read fails, and `PrintFailed` if an answer cannot be printed. In the
-/// contract, `reads` is how many reads were made before; `start`, `from` and `first` are script,
-/// desk and session as the run began.
-fn obey_read<R: Read, W: Write, N: Witness, S: Shelf>(
+/// Makes one read of a script and obeys the bytes that it gives. Returns whether the script has
+/// ended: nothing was left to read, or a line was `quit`. If nothing was left, a last line that
+/// lacks its newline is obeyed, too. A line that has not ended waits in `line`; `buffer` is room
+/// for the bytes of the read. `ReadFailed` if the read fails, and `PrintFailed` if an answer cannot
+/// be printed whole.
+///
+/// In the contract, `reads` is how many reads were made before; `start`, `from` and `first` are
+/// script, desk and session as the run began.
+fn read_and_obey<R: Read, W: Write, N: Witness, S: Shelf>(
     script: &mut R,
     buffer: &mut [u8; READ_LIMIT],
     line: &mut Line,
@@ -107,18 +104,19 @@ fn obey_read<R: Read, W: Write, N: Witness, S: Shelf>(
     let Ok(count) = read_part(script, buffer) else {
         return Err(RunFault::ReadFailed);
     };
-    let bytes = with_end(buffer, count, line);
-    let Ok(ended) = obey_part(line, bytes, session, screen, shelf, status) else {
+    let bytes = bytes_to_obey(buffer, count, line);
+    let Ok(ended) = obey_bytes(line, bytes, session, screen, shelf, status) else {
         return Err(RunFault::PrintFailed);
     };
     if count == 0 {
+        // Nothing was left to read.
         return Ok(true);
     }
     Ok(ended)
 }
 
-/// One read of a script into the buffer. Returns how many bytes it gave, 0 if the script has ended.
-/// Each error of the system is `ReadFailed`.
+/// Makes one read of a script into the buffer. Returns how many bytes it gave, 0 if nothing is left
+/// to read. Each error of the read is `ReadFailed`.
 fn read_part<R: Read>(script: &mut R, buffer: &mut [u8; READ_LIMIT]) -> Result<usize, RunFault>
     ensures bound { ReadsAtMost result buffer.new }
     ensures bytes { ReadConsumes (R.remaining script.old) (R.remaining script.new) result
@@ -132,8 +130,8 @@ fn read_part<R: Read>(script: &mut R, buffer: &mut [u8; READ_LIMIT]) -> Result<u
 }
 
 /// The bytes to obey after a read of `count` bytes: those that it gave. If it gave none, the script
-/// ends: then a newline, if `line` has bytes of a last line that lacks one; else no byte.
-fn with_end<'a>(buffer: &'a [u8; READ_LIMIT], count: usize, line: &Line) -> &'a [u8]
+/// ends: a newline then, if `line` has bytes of a last line that lacks one, else no byte.
+fn bytes_to_obey<'a>(buffer: &'a [u8; READ_LIMIT], count: usize, line: &Line) -> &'a [u8]
     requires { count ≤ length buffer.now }
     ensures { (text : List ℕ) → Holds text line.now
         → result.now ≡ with_end text (take count buffer.now) }
@@ -145,95 +143,4 @@ fn with_end<'a>(buffer: &'a [u8; READ_LIMIT], count: usize, line: &Line) -> &'a 
         return b"";
     }
     b"\n"
-}
-
-/// Obeys the bytes that come after a line's front, which `line` has, and returns whether a line in
-/// them is `quit`, which ends the script. Bytes after it are passed over. If there is none, the
-/// front of a line that has not ended waits in `line`. `Err` if an answer is not printed whole;
-/// bytes after its line are not obeyed.
-fn obey_part<W: Write, N: Witness, S: Shelf>(
-    line: &mut Line,
-    bytes: &[u8],
-    session: &mut Session,
-    screen: &mut Screen<W, N>,
-    shelf: &mut S,
-    status: &mut Status,
-) -> Result<bool, PrintFault>
-    ensures ok { IfOk result (λ ended. (text : List ℕ) → Holds text line.old → Obeyed ended
-        (desk_at screen.old (S.known shelf.old))
-        (desk_at screen.new (S.known shelf.new))
-        status.old status.new session.old session.new (text ++ bytes.now) line.new) }
-    ensures err { OnErr result ((text : List ℕ) → Holds text line.old → BrokeIn
-        (desk_at screen.old (S.known shelf.old))
-        (desk_at screen.new (S.known shelf.new))
-        session.old session.new (text ++ bytes.now)) }
-    ensures since { S.since shelf.old shelf.new }
-{
-    for byte in bytes {
-        match obey_byte(line, *byte, session, screen, shelf, status) {
-            Ok(true) => return Ok(true),
-            Ok(false) => {}
-            Err(fault) => return Err(fault),
-        }
-    }
-    Ok(false)
-}
-
-/// Obeys a byte that comes after the front of a line: a newline ends the line, which is obeyed and
-/// answered; any other byte is added to it. Returns whether the script ends with this line: only
-/// `quit` ends it, and `obey_line` has no reply (`None`) to that. `false` after any other line, and
-/// for a byte that is no newline. After an answer `line` is empty. `Err` if the answer is not
-/// printed whole.
-fn obey_byte<W: Write, N: Witness, S: Shelf>(
-    line: &mut Line,
-    byte: u8,
-    session: &mut Session,
-    screen: &mut Screen<W, N>,
-    shelf: &mut S,
-    status: &mut Status,
-) -> Result<bool, PrintFault>
-    ensures ok { IfOk result (λ ended. (text : List ℕ) → Holds text line.old → Obeyed ended
-        (desk_at screen.old (S.known shelf.old))
-        (desk_at screen.new (S.known shelf.new))
-        status.old status.new session.old session.new (text ++ byte ∷ []) line.new) }
-    ensures err { OnErr result ((text : List ℕ) → Holds text line.old → BrokeIn
-        (desk_at screen.old (S.known shelf.old))
-        (desk_at screen.new (S.known shelf.new))
-        session.old session.new (text ++ byte ∷ [])) }
-    ensures since { S.since shelf.old shelf.new }
-{
-    if byte != b'\n' {
-        line.push(byte);
-        return Ok(false);
-    }
-    let Some(reply) = obey_line(line, session, shelf) else {
-        return Ok(true);
-    };
-    let Ok(()) = answer(reply, session, shelf, screen, status) else {
-        return Err(PrintFault);
-    };
-    line.clear();
-    Ok(false)
-}
-
-/// Notes a refusal in the status, shows output and shelf to the witness, and then prints the reply.
-/// So the witness sees that what a line wrote is there before its answer goes out. `Err` if the
-/// reply is not printed whole.
-fn answer<W: Write, N: Witness, S: Shelf>(
-    reply: Reply,
-    session: &Session,
-    shelf: &S,
-    screen: &mut Screen<W, N>,
-    status: &mut Status,
-) -> Result<(), PrintFault>
-    ensures text { Prints screen.old.out screen.new.out (reply_text session.now reply) result }
-    ensures seen { GrowsBy screen.old.seen screen.new.seen
-        (sight screen.old.out (S.known shelf.now).texts ∷ []) }
-    ensures status { status.new ≡ status_after status.old (answer_with session.now reply ∷ []) }
-{
-    if reply.is_refusal() {
-        *status = Status::SomeRefused;
-    }
-    screen.show(shelf);
-    screen.print(reply, session)
 }

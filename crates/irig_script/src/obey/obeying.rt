@@ -77,7 +77,7 @@ pub fn obey(command: Command, session: &mut Session) -> Reply
         Purpose::Edit => edit(command, session),
         Purpose::Mark => set_mark(command, session),
         Purpose::Format => choose_format(command, session),
-        Purpose::Question => answer(command, session),
+        Purpose::Question => answer_question(command, session),
         Purpose::Steps => change_steps(command, session),
         Purpose::Nothing | Purpose::Text | Purpose::End => Reply::Silent,
     }
@@ -132,7 +132,7 @@ fn choose_format(command: Command, session: &mut Session) -> Reply
 
 /// Answers a question: the reply says what is to be listed, or, for `show` and `list`, that a pulse
 /// is not there. `show`, which names a pulse, moves the cursor to it.
-fn answer(command: Command, session: &mut Session) -> Reply
+fn answer_question(command: Command, session: &mut Session) -> Reply
     requires { purpose_of command ≡ Purpose.Question }
     ensures answer { Obeys command session.old result session.new }
     ensures quiet { IsQuiet result }

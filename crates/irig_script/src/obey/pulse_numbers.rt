@@ -39,12 +39,12 @@ fn base(session: &Session, base: &Base) -> Option<u64>
     }
 }
 
-/// The number of a pulse, `number + by + offset`; 0 if that is below 0. `number` is that of an
-/// address's base, `offset` is the address's, and `by` is how many pulses after the address's own
-/// one the caller means. The answer has 128 bits, so that the sum of these 64-bit numbers fits. In
-/// the contract, `ahead` is an offset above 0 and `back` the size of one below 0; the other one is
-/// 0.
-fn counted(number: u64, by: u64, offset: i64) -> u128
+/// The number of a pulse: `number`, that of an address's base, and `by` and `offset` added to it; 0
+/// if the sum is below 0. `offset` is that of the address. `by` is how far after the address's own
+/// pulse the one meant is: 0, or 1 for the pulse after it. The answer has 128 bits, so that the sum
+/// of these 64-bit numbers fits. In the contract, `ahead` is an offset above 0 and `back` the size
+/// of one below 0; the other one is 0.
+fn number_from(number: u64, by: u64, offset: i64) -> u128
     ensures { result ≡ number + by + ahead offset - back offset }
 {
     let sum = u128::from(number) + u128::from(by);
@@ -56,16 +56,16 @@ fn counted(number: u64, by: u64, offset: i64) -> u128
     }
 }
 
-/// The pulse that is `by` pulses after the one of an address, from 1; 0 if the address names a mark
-/// that is not set, or the track has no pulse of that number. The one of the address does not have
-/// to be there: pulse 1 is 1 after number 0.
+/// The number, from 1, of the pulse that is `by` pulses after the one of an address; 0 if the
+/// address names a mark that is not set, or the track has no pulse of that number. The pulse of the
+/// address itself does not have to be there: if its number is 0, the one after it is pulse 1.
 fn pulse_at(session: &Session, by: u64, address: &Address) -> usize
     ensures { result ≡ pulse_at by address.now (present_in session.now) }
 {
     let Some(number) = base(session, &address.base) else {
         return 0;
     };
-    let number = counted(number, by, address.offset);
+    let number = number_from(number, by, address.offset);
     if number <= session.len() as u128 {
         number as usize
     } else {
@@ -73,16 +73,17 @@ fn pulse_at(session: &Session, by: u64, address: &Address) -> usize
     }
 }
 
-/// The pulse of an address, from 1; 0 if the track has no such pulse, or the address names a mark
-/// that is not set.
+/// The number of the pulse of an address, from 1; 0 if the track has no such pulse, or the address
+/// names a mark that is not set.
 pub fn number_at(session: &Session, address: &Address) -> usize
     ensures { result ≡ number_at address.now (present_in session.now) }
 {
     pulse_at(session, 0, address)
 }
 
-/// The first and the last pulse of a range, from 1; 0 for one that is not there. Of one address
-/// both are its pulse. Whether the first is before the last is not tested here.
+/// The numbers of the first and the last pulse of a range, from 1; 0 for one that is not there. If
+/// the range is one address, both are its pulse. Whether the first is before the last is not tested
+/// here.
 pub fn ends(session: &Session, range: &Range) -> (usize, usize)
     ensures { result ≡ (
       first_of range.now (present_in session.now),
@@ -98,8 +99,9 @@ pub fn ends(session: &Session, range: &Range) -> (usize, usize)
     }
 }
 
-/// The first and the last pulse that the command `join` makes one of, from 1; 0 for one that is not
-/// there. One address means its pulse and the next; two addresses mean what `ends` says.
+/// The numbers of the first and the last of the pulses that the command `join` makes one pulse of,
+/// from 1; 0 for one that is not there. One address means its pulse and the next; two addresses
+/// mean what `ends` says.
 pub fn join_ends(session: &Session, range: &Range) -> (usize, usize)
     ensures { result ≡ (
       first_of range.now (present_in session.now),

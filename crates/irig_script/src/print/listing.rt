@@ -33,9 +33,10 @@ pub fn print_frames<W: Write>(session: &Session, out: &mut W) -> Result<(), Prin
     block.flush(out)
 }
 
-/// Makes the row the line of the frame with a number, from 1: its number, that of the pulse with
-/// which it begins, from 1, the rise of this pulse in microseconds, and what it says. `frame` gives
-/// its record, with that pulse from 1.
+/// Makes the row the line of one frame, by its number, from 1. The line has this number, the number
+/// of the pulse with which the frame begins, from 1, when this pulse rises, in microseconds, and
+/// the verdict: what the frame says, or where it is broken. In the record that `session.frame`
+/// gives, the pulse (`marker`) counts from 1, too.
 fn put_record(row: &mut Row, session: &Session, number: usize)
     requires { (1 ≤ number) × (number ≤ length (frames_of session.now.state)) }
     ensures { (r : Record) → slice_get (frames_of session.now.state) (number - 1) ≡ Some r

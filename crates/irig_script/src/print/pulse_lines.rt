@@ -12,17 +12,18 @@ use irig_edit::Session;
 use irig_print::{LINE_ROOM, PrintFault, put_all, write_pulse};
 use std::io::Write;
 
-/// A listing of this many lines at most goes out by a small block, 1,008 bytes, which is just below
-/// 1 KiB: a block is cleared first, so a short listing has a short one.
+/// The most lines of a listing that has a short block. A block is filled with zeros before it is
+/// used, so a short listing should not take a long one. 14 lines take 1,008 bytes, just below 1
+/// KiB.
 const FEW: usize = 14;
 
-/// The bytes of a block of a longer listing: 227 lines have room in it.
+/// The bytes of the block of a longer listing, which has room for 227 lines.
 const BLOCK: usize = 16384;
 
 /// Prints a line for each of `count` pulses after the first `before`, as far as the track has them.
-/// There are three blocks: for one line, for `FEW` lines, and `BLOCK` (`print_many`). It uses the
-/// shortest that has room for all lines, so that they go out by one write; if none has, the
-/// longest, which goes out more than once.
+/// There are blocks of three lengths: for one line, for `FEW` lines, and of `BLOCK` bytes
+/// (`print_many`). It uses the shortest that has room for all lines, which go out by one write
+/// then. If none has, it uses the longest, again and again.
 pub fn print_pulses<W: Write>(
     session: &Session,
     before: usize,

@@ -55,7 +55,7 @@ impl Reply {
 
 /// Prints what a reply asks for, by what the session has now: nothing for `Silent`, else a line or
 /// a listing. A line goes out by one write, if the output takes it, and a listing in blocks of
-/// lines. The line of a refusal is that of `refused_line`.
+/// lines. The line of a refusal is that of `refusal_line`.
 pub fn print<W: Write>(reply: Reply, session: &Session, out: &mut W) -> Result<(), PrintFault>
     ensures { Prints (W.contents out.old) (W.contents out.new)
         (reply_text session.now reply) result }
@@ -68,26 +68,26 @@ pub fn print<W: Write>(reply: Reply, session: &Session, out: &mut W) -> Result<(
         Reply::Marks => print_marks(session, out),
         Reply::Info => print_info(session, out),
         // All other replies are refusals.
-        _ => put_all(out, refused_line(reply)),
+        _ => put_all(out, refusal_line(reply)),
     }
 }
 
 /// The line that says why a line of the script is refused. The caller has a reply that is a
 /// refusal, so the last case is `WriteFailed`. The line is the same whatever the session has (`m`).
-fn refused_line(reply: Reply) -> &'static [u8]
+fn refusal_line(reply: Reply) -> &'static [u8]
     requires { is_refusal reply ≡ true }
     ensures { (m : Machine) → result.now ≡ reply_text m reply }
 {
     match reply {
-        Reply::Refused(why) => refusal_line(why),
+        Reply::Refused(why) => session_refusal_line(why),
         Reply::BadLine => b"? S1 BadLine\n",
         Reply::LineTooLong => b"? S2 LineTooLong\n",
         _ => b"? S3 WriteFailed\n",
     }
 }
 
-/// The line that says why a command is refused.
-fn refusal_line(why: Refusal) -> &'static [u8]
+/// The line that says why the session refuses a command.
+fn session_refusal_line(why: Refusal) -> &'static [u8]
     ensures { result.now ≡ refusal_text why }
 {
     match why {

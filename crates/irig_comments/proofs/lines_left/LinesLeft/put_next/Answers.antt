@@ -14,7 +14,7 @@ returns-in-Some-clause-bytes c =
     let new = c.put_comment.new.block.items in
     let next = next_change c.next-self-inside.result c.self.inside.changes c.next-self-inside.new.self c.next-self-inside.ensures in
     let first = first_note c.self.inside.change c.self.inside.changes c.self.inside.stretch c.self.inside.stretches c.in-Some.change
-    (sym c.first_change.ensures ∙ c.in-Some.is) in
+    (sym c.change_if_first.ensures ∙ c.in-Some.is) in
     ap (λ (cs : List Sides). new ++ lines_text cs stretches c.self.inside.last) next
     ∙ after_line old new (comment_text c.in-Some.change) (joined (parts_of c.self.inside.changes stretches)) last c.in_ok-put_comment.ensures
     ∙ ap (λ (l : List ℕ). old ++ (l ++ last)) (sym first) ∙ ap (λ (l : List ℕ). old ++ l) c.self.view_is

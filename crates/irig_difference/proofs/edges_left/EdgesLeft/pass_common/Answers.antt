@@ -13,12 +13,12 @@ parted i n ps = edges_left-dropped n (drop i ps)
 
 pub returns : goal.returns
 returns c =
-    let n = c.common-count.result in
+    let n = c.count_common-count.result in
     let ps = c.self.inside.pulses.now.items in let qs = c.other.inside.pulses.now.items in
     let i = c.self.inside.past in let j = c.other.inside.past in
     rw (c.if-self.false, c.if-other.false) (record {
       common = edges_of (take n (drop i ps));
       first = sym c.self.view_is ∙ ap (edges_left (drop i ps)) c.if-self.false ∙ parted i n ps;
       second = sym c.other.view_is ∙ ap (edges_left (drop j qs)) c.if-other.false ∙ parted j n qs
-          ∙ ap (λ (l : List Pulse). edges_of l ++ edges_left (drop (j + n) qs) false) (sym c.common-count.ensures.same);
+          ∙ ap (λ (l : List Pulse). edges_of l ++ edges_left (drop (j + n) qs) false) (sym c.count_common-count.ensures.same);
     })

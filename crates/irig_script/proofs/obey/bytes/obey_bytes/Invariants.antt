@@ -1,6 +1,6 @@
 use Rattle.std.proofs.Common.{List, ℕ, take, false, ◌++◌}
 use Rattle.irig_script.specs.{Obey.Desk.desk_at, Obey.Progress.Holds, Obey.Progress.Obeyed}
-use Rattle.irig_script.proofs.obey.engine.obey_part.Given as goal
+use Rattle.irig_script.proofs.obey.bytes.obey_bytes.Given as goal
 
 abbrev pub invariant-loop-byte : goal.invariant-loop-byte
 invariant-loop-byte g l = record {

@@ -2,7 +2,7 @@ use Rattle.std.proofs.Common.{refl, ◌++◌, ◌∷◌, []}
 use Rattle.irig_script.proofs.ObeyLemmas.Desks.{tells_one, tells_front}
 use Rattle.irig_script.proofs.ObeyLemmas.Lines.{obeyed_none, obeyed_line, obeyed_end, broke_line}
 use Rattle.irig_script.specs.Print.Printed.{answer_with}
-use Rattle.irig_script.proofs.obey.engine.obey_byte.Goals as goal
+use Rattle.irig_script.proofs.obey.bytes.obey_byte.Goals as goal
 
 pub returns-then-byte-ne10-clause-ok : goal.returns-then-byte-ne10-clause-ok
 returns-then-byte-ne10-clause-ok g c = λ text h. obeyed_none _ _ (text ++ c.args.byte ∷ []) _ _ (c.push.ensures text h)

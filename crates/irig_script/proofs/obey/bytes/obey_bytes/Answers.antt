@@ -1,7 +1,7 @@
 use Rattle.std.proofs.Common.{◌+◌, ◌++◌, ◌∷◌, [], take, drop, get_or, true, false}
 use Rattle.std.proofs.lemmas.List.{append-nil, take_all}
 use Rattle.irig_script.proofs.ObeyLemmas.Lines.{obeyed_none, obeyed_more, obeyed_rest, broke_more, broke_rest, next_text, whole_text}
-use Rattle.irig_script.proofs.obey.engine.obey_part.Goals as goal
+use Rattle.irig_script.proofs.obey.bytes.obey_bytes.Goals as goal
 
 pub loop-byte-init : goal.loop-byte-init
 loop-byte-init g c = record {

@@ -1,6 +1,6 @@
 use Rattle.std.proofs.Common.{◌<◌, take, length, arith, length-take, sym, ◌∙◌}
 use Rattle.irig_script.proofs.ObeyLemmas.Reads.{end_none, end_read, end_some}
-use Rattle.irig_script.proofs.obey.engine.with_end.Goals as goal
+use Rattle.irig_script.proofs.obey.engine.bytes_to_obey.Goals as goal
 
 pub returns-then-count-ne0 : goal.returns-then-count-ne0
 returns-then-count-ne0 c = λ text h.
