@@ -91,26 +91,22 @@ impl<'a> EdgesLeft<'a> {
     }
 }
 
-/// How many pulses of two buffers are the same, one after the other, from index `first` of `before`
-/// and index `second` of `after` on, both from 0: up to the first that differ, or to the end of a
-/// buffer. All pulses are left of the buffer's place, so `gap_at` is how many there are.
-fn count_common(before: &Gap<Pulse>, first: usize, after: &Gap<Pulse>, second: usize) -> usize
-    requires before { first ≤ before.now.place }
-    requires after { second ≤ after.now.place }
-    ensures before { first + result ≤ before.now.place }
-    ensures after { second + result ≤ after.now.place }
-    ensures fits { (first + result < 2 ^ 64) × (second + result < 2 ^ 64) }
-    ensures same { take result (drop first before.now.items)
-        ≡ take result (drop second after.now.items) }
+/// How many pulses of two buffers are the same, one after the other: from the one after the first
+/// `past` of `before`, and the one after the first `other` of `after`, up to the first that differ,
+/// or to the end of a buffer. All pulses are left of the buffer's place, so `gap_at` is how many
+/// there are.
+fn count_common(before: &Gap<Pulse>, past: usize, after: &Gap<Pulse>, other: usize) -> usize
+    requires before { past ≤ before.now.place }
+    requires after { other ≤ after.now.place }
+    ensures before { past + result ≤ before.now.place }
+    ensures after { other + result ≤ after.now.place }
+    ensures fits { (past + result < 2 ^ 64) × (other + result < 2 ^ 64) }
+    ensures same { take result (drop past before.now.items)
+        ≡ take result (drop other after.now.items) }
 {
-    let most = (before.gap_at() - first).min(after.gap_at() - second);
+    let most = (before.gap_at() - past).min(after.gap_at() - other);
     let mut count = 0;
-    while count < most
-        && is_same(
-            before.get_left(first + count),
-            after.get_left(second + count),
-        )
-    {
+    while count < most && is_same(before.get_left(past + count), after.get_left(other + count)) {
         count += 1;
     }
     count
