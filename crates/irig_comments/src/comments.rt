@@ -1,6 +1,8 @@
-//! The comment on the frames at one place. A place is when a frame's marker rises, in microseconds.
-//! Its two sides are the frame before there and the frame after, as far as they are there. What
-//! fails, fails only if memory runs out.
+//! The comment on the frames at one place. A place is when a frame's marker rises, in microseconds;
+//! the marker is the pulse with which it begins. Two recordings are compared, one before and one
+//! after a change. The two sides of a place are the frame that each of them has there, if it has
+//! one: the old frame is that of the recording before, the new one that of the recording after.
+//! What fails, fails only if memory runs out.
 
 ghost use Rattle.std.specs.Prelude.{◌≡◌, ◌++◌, OnOk};
 ghost use Rattle.irig_comments.specs.Comments.{after_text, before_text, comment_text, whole_text};
@@ -11,9 +13,9 @@ use irig_difference::put_number;
 use irig_print::put_verdict_text;
 use std::alloc::AllocError;
 
-/// Writes the comment on the frames at one place: a number sign, the frame before, `, then ` and
-/// the frame after, as in `# frame 2 at 2000000: broken 19 class, then none`. It fails only if
-/// memory runs out.
+/// Writes the comment on the frames at one place: a number sign, the old frame, `, then ` and the
+/// new frame, as in `# frame 2 at 2000000: broken 19 class, then none`. It fails only if memory
+/// runs out.
 pub(crate) fn put_comment(block: &mut Vec<u8>, sides: &Sides) -> Result<(), AllocError>
     ensures { OnOk result (block.new.items ≡ block.old.items ++ comment_text sides.now) }
 {
@@ -24,7 +26,7 @@ pub(crate) fn put_comment(block: &mut Vec<u8>, sides: &Sides) -> Result<(), Allo
     block.extend_from_slice(b"\n")
 }
 
-/// Writes the frame before, as `put_whole` does, or `no frame` if there is none.
+/// Writes the old frame, as `put_whole` does, or `no frame` if there is none.
 fn put_before(block: &mut Vec<u8>, before: &Option<Shown>) -> Result<(), AllocError>
     ensures { OnOk result (block.new.items ≡ block.old.items ++ before_text before.now) }
 {
@@ -34,9 +36,9 @@ fn put_before(block: &mut Vec<u8>, before: &Option<Shown>) -> Result<(), AllocEr
     }
 }
 
-/// Writes the frame after, or `none` if there is none. If there is a frame before, it is at the
-/// same place and was written whole, so only what is reported of the frame after is written; else
-/// all of it.
+/// Writes the new frame, or `none` if there is none. If there is an old frame, it was written whole
+/// and is at the same place, so only what is reported of the new frame is written; else all of it,
+/// as `put_whole` does.
 fn put_after(
     block: &mut Vec<u8>,
     before: &Option<Shown>,

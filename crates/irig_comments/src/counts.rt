@@ -1,6 +1,7 @@
-//! How many frames are fine, with nothing wrong in them, and how many came, went and changed. The
-//! place of a frame is when its marker rises, in microseconds. The sides of a place are the frame
-//! before there and the frame after.
+//! How many frames of two recordings are fine, with nothing wrong in them, and how many came, went
+//! and changed from the recording before to the recording after. The place of a frame is when its
+//! marker rises, in microseconds. The two sides of a place are the frame that each recording has
+//! there, if it has one.
 
 ghost use Rattle.std.specs.Prelude.{◌≡◌, ◌<◌, ◌+◌, ◌++◌, ◌^◌, OnOk, cond, codes, decimal};
 ghost use Rattle.irig_comments.specs.Counts.{counts_between, counts_text, is_alone, is_both};

@@ -1,7 +1,8 @@
 //! The frames of two recordings by their places, one place after the other. The place of a frame is
-//! when its marker rises, in microseconds. Its two sides are the frame before there and the frame
-//! after, as far as they are there. In contracts, `shown_frames` are the frames of a recording, as
-//! lines show them. `sides_of` puts those of two recordings together, by their places.
+//! when its marker rises, in microseconds. The two sides of a place are the frame that each of the
+//! recordings, `before` and `after`, has there, if it has one. In contracts, `shown_frames` are the
+//! frames of a recording, as lines show them. `sides_of` puts those of two recordings together, by
+//! their places.
 
 ghost use Rattle.std.specs.Prelude.{◌≡◌, [], ◌∷◌, MatchOption, filter, length, ◌<◌, ◌^◌};
 ghost use Rattle.irig_comments.specs.Framed.{shown_frames};
@@ -16,7 +17,7 @@ use std::marker::Model;
 pub struct SidesLeft<'a> {
     before: &'a Framed,
     after: &'a Framed,
-    // How many frames are past, before and after.
+    // How many frames are past, of `before` and of `after`.
     past_before: usize,
     past_after: usize,
 }
