@@ -3,11 +3,12 @@
 //! A marker is the pulse with which a frame begins: a position identifier in step after another
 //! one. Pulses count from 0. A place is the number of a pulse; a marker after place k is pulse k +
 //! 1, and pulse k is the position identifier before it. So the last place with a pulse after it is
-//! the number of pulses less 2. A record has a marker and the verdict on its frame. Records are in
-//! a gap buffer, in rising order: `put` inserts left of the gap. Those right of it count their
-//! markers from the back of `pulses`, which is how many pulses the track had. In contracts,
-//! `EndsUpTo` says that the last of some records is of a marker up to a pulse, and `BeginsAfter`
-//! that the first is of a later one; both hold if there is no record.
+//! the number of pulses less 2. A record has a marker and the verdict on its frame; to retell it is
+//! to check the frame again and to write the new verdict. Records are in a gap buffer, in rising
+//! order: `put` inserts left of the gap. Those right of it count their markers from the back of
+//! `pulses`, which is how many pulses the track had. In contracts, `EndsUpTo` says that the last of
+//! some records is of a marker up to a pulse, and `BeginsAfter` that the first is of a later one;
+//! both hold if there is no record.
 //!
 //! A lens shows the pulses of a track and counts each look at one; `looks` gets the same count. A
 //! place takes at most 2 looks to find a marker after it, and 99 to check the frame. As the checks
@@ -119,14 +120,14 @@ pub fn refill(
     fill(records, lens, looks, format, from, to).unwrap();
 }
 
-/// Checks the last frame before an edit again, if it can reach into the edit: the pulses after
-/// pulse `from` have changed. It is the frame of the last marker up to `from`, since the check of
-/// each earlier frame ends at the next marker at the latest. If this marker is 99 pulses or more
-/// before `from`, its frame ends by then and stays; the contract asks that its record is right in
-/// this case. Nothing is checked if no marker is up to `from`.
+/// Retells the record of the last frame that begins before an edit, if the frame can reach into it.
+/// Only pulses after pulse `from` have changed. The frame is that of the last marker up to `from`;
+/// each earlier one ends at the next marker at the latest. If this marker is 99 pulses or more
+/// before `from`, the frame ends by then: nothing is done, and the contract asks that the record is
+/// right. Nothing is done either if no marker is up to `from`.
 ///
-/// Returns whether the next record, which is not changed here, is of a marker up to the pulse
-/// `last`: then the caller removes at least this one, and seeks again. `false` if there is none.
+/// Returns whether the record after that one is of a marker up to pulse `last`, the first after the
+/// edit by its old number: then the caller removes that record. `false` if there is none.
 pub fn retell_up_to(
     records: &mut Gap<Stored>,
     pulses: usize,
@@ -151,16 +152,16 @@ pub fn retell_up_to(
     let _count = records.len();
     let count = count_up_to(records, pulses, from);
     let more = is_up_to(records, pulses, count, last);
-    // If `from` is below 99 this is 0, and no marker is pulse 0.
+    // 99 pulses before `from`; 0 if there are fewer, and pulse 0 is no marker.
     let settled = from.saturating_sub(ELEMENTS - 1);
     retell(records, pulses, count, lens, looks, format, settled);
     more
 }
 
-/// Checks the frame of the last of the first `count` markers again, and writes its new record.
-/// Nothing is done if `count` is 0, or if that marker is a pulse up to `settled`: its frame ends
-/// before what has changed, and its record is right as it is. The look at the marker itself is
-/// counted here, and `verdict` counts those at the pulses after it.
+/// Retells the last of the first `count` records: checks its frame again and writes the verdict.
+/// Nothing is done if `count` is 0, or if its marker is a pulse up to `settled`: the frame ends
+/// before what has changed then. The look at the marker itself is counted here, and `verdict`
+/// counts those at the pulses after it.
 fn retell(
     records: &mut Gap<Stored>,
     pulses: usize,
@@ -196,9 +197,9 @@ fn retell(
 }
 
 /// The place before which a repair stops seeking markers: the first pulse after the edit, or the
-/// last pulse of the track if that comes first; 0 if no pulse is left. So the last pulse that can
-/// be a new marker is the first one after the edit. Each later pulse and the one before it are as
-/// they were. `few` gives the caller's proof the limit of a track.
+/// last pulse of the track if that comes first; 0 if no pulse is left. The marker sought is the
+/// pulse after a place, so the last one sought is the first pulse after the edit. Each later pulse
+/// and the one before it are as they were. `few` gives the caller's proof the limit of a track.
 pub fn last_place(lens: &Lens<'_>, edit: Span) -> usize
     requires { edit.at + edit.new ≤ length lens.now.track.pulses }
     ensures least { result ≡ min (length lens.now.track.pulses - 1) (edit.at + edit.new) }

@@ -91,10 +91,11 @@ impl<R: Reversible> Journal<R> {
 
     /// Makes one group of the newest `count` steps of the past; an undo of the group leads to
     /// `cursor`. The past must have `count` steps, and no group may be open. `state` is the present
-    /// one, read for the proof alone. If `count` is 0, a group without changes is added: only that
-    /// takes memory. The only error is `OutOfMemory`, so it comes only then; no step changes.
-    /// `irig_edit` calls this as it opens a saved session, after it has made the changes of a saved
-    /// group one by one.
+    /// one, read for the proof alone. `irig_edit` calls this as it opens a saved session, after it
+    /// has made the changes of a saved group one by one.
+    ///
+    /// If `count` is 0, a group without changes is added: only that takes memory. So `OutOfMemory`,
+    /// the only error, comes only then, and no step changes.
     pub fn gather(&mut self, state: &R, count: usize, cursor: usize) -> Result<(), JournalFault>
         requires within { count ≤ length (past_of R.delta self.old) }
         requires no_group { self.old.floor ≡ None }
@@ -165,9 +166,9 @@ impl<R: Reversible> Journal<R> {
 }
 
 /// Makes one step of all steps of the past's list after the first `at`, if they are more than one;
-/// one alone stays as it is. The list has at least `at` steps; its first `at` stay. An undo of the
-/// new step leads to the state before the oldest of the joined steps. So the new step gets the
-/// cursor of that oldest one, the entry at index `at`, from 0. This takes no memory.
+/// one alone stays as it is. The list has at least `at` steps; its first `at` stay. The new step
+/// has the cursor of the oldest of the joined ones, the entry at index `at`, from 0, since its undo
+/// leads where theirs end. This takes no memory.
 fn end_beyond(entries: &mut Vec<Entry>, at: usize)
     requires within { at ≤ vec_len entries.old }
     requires few { counts_of entries.old.items < 2 ^ 64 }
@@ -183,8 +184,8 @@ fn end_beyond(entries: &mut Vec<Entry>, at: usize)
 }
 
 /// Undoes the newest steps until `at` are left in the past, which has at least that many; those
-/// undone are in the future then. It takes no memory. The caller sets the cursor itself and clears
-/// the future, so the cursors here mean nothing.
+/// undone are in the future then. It takes no memory. `turn_nearest` wants a cursor, and keeps it
+/// with the step undone; the caller sets the cursor itself and clears the future, so any will do.
 fn turn_beyond<R: Reversible>(
     past: &mut Side<R::Change>,
     future: &mut Side<R::Change>,

@@ -72,11 +72,11 @@ fn reserve_step<C>(past: &mut Side<C>, future: &mut Side<C>) -> Result<(), Alloc
     reserve_one(&mut past.entries, &mut future.entries)
 }
 
-/// Makes a place in `list` for one item more, and places in `other` for all items that `list` has
-/// with that one: `other` will be empty before it gets them. The items of both stay, also after an
-/// error. `reserve` makes places in addition to the items that are there. The subtraction is done
-/// only if `places` is above the capacity of `other`. A capacity is never below the number of
-/// items, so the difference does not saturate.
+/// Makes a place in `list`, a list of the past, for one item more, and as many places in `other`,
+/// the same list of the future, as `list` has items then. The items of `other` are dropped before
+/// it gets any of these, so their places count, too. The items of both stay here, also after an
+/// error. `reserve` counts its places from the items on; as these are never more than the capacity,
+/// the subtraction does not go below 0.
 fn reserve_one<T>(list: &mut Vec<T>, other: &mut Vec<T>) -> Result<(), AllocError>
     ensures list { (list.new.items ≡ list.old.items) × (vec_len list.new ≡ vec_len list.old) }
     ensures other { (other.new.items ≡ other.old.items) × (vec_len other.new ≡ vec_len other.old) }

@@ -37,11 +37,12 @@ impl<R: Reversible> Journal<R> {
         }
     }
 
-    /// Swaps past and future: each step that could be undone can be redone, and each that could be
-    /// redone can be undone. The oldest step becomes the last one to redo; the state stays. The
-    /// opening of a saved journal needs this swap: its steps back are made as edits and undone, so
-    /// they are in the future, and the swap brings them to the past. No group may be open. This
+    /// Swaps past and future; the state stays. Each step that could be undone can be redone then,
+    /// the oldest last, and each that could be redone can be undone. No group may be open. This
     /// takes no memory.
+    ///
+    /// The opening of a saved journal needs it: the steps of the saved past are made as edits and
+    /// undone, so they are in the future, and the swap brings them to the past.
     pub fn turn_round(&mut self)
         requires no_group { self.old.floor ≡ None }
         ensures past { past_of R.delta self.new ≡ future_of R.delta self.old }
