@@ -1,13 +1,16 @@
-//! A script run on a dump. A dump can carry a journal, the history of a session as text; both have
-//! at most 2^28 bytes. The screen is the output with the witness that watches it, and the shelf is
-//! where the lines `write` and `save` write. A witness is shown the output and the shelf after each
-//! line was obeyed, before its answer is printed. An error is a fault of the dump (then no line was
-//! read), or a fault of the run. `Status` says whether a line was refused. In a contract, a desk is
-//! what is known of the screen and the shelf, and `IsOpened` says that a session is the one that a
-//! dump gives. The label of a shelf sets it apart from others, so `label` says that it is still the
-//! same shelf; `since` is what the shelf promises of each later state, whatever is written to it in
-//! between. `ReadsTo` says that at most 2^44 bytes of the script were read (2^32 reads of 4,096),
-//! and that only the last 4,096 of these can have the line that ends it.
+//! A script run on a dump.
+//!
+//! A dump can carry a journal, the history of a session as text; both have at most 2^28 bytes. The
+//! screen is the output with the witness that watches it, and the shelf is where the lines `write`
+//! and `save` write. A witness is shown the output and the shelf after each line was obeyed, before
+//! its answer is printed. `Status` says whether a line was refused. An error is a fault of the dump
+//! (then no line was read), or a fault of the run.
+//!
+//! In a contract, a desk is what is known of the screen and the shelf, and `IsOpened` says that a
+//! session is the one that a dump gives. The label of a shelf sets it apart from others, so `label`
+//! says that it is still the same shelf; `since` is what the shelf promises of each later state,
+//! whatever is written to it in between. `ReadsTo` says that at most 2^44 bytes of the script were
+//! read (2^32 reads of 4,096), and that only the last 4,096 of these can have the line that ends it.
 
 ghost use Rattle.std.specs.Prelude.{◌≡◌, ◌≢◌, ◌⊎◌, ◌≤◌, ◌^◌, ℕ, List, Option, length, Ok, Err};
 ghost use Rattle.std.specs.Prelude.{IfSome, MatchResult};
@@ -44,11 +47,12 @@ pub enum DumpRunFault {
 /// Opens a dump and obeys a script on its session. Returns whether a line was refused, as
 /// `engine::run` does. The wire is chosen by its name; without a name the dump has to have one wire
 /// of one bit. Frames are read in the format, unless the dump has a journal with another. The bytes
-/// of the dump (`source`) are dropped before the script is read. A fault of the dump (`Dump`), also
-/// that memory ran out for it, comes before all lines: nothing is read of the script, printed or
-/// written then. Any later error is one of the run (`Run`). That memory ran out is reported only if
-/// the wire has an edge, or the dump itself can be read (`MayBeShort`): then its session needs
-/// memory.
+/// of the dump (`source`) are dropped before the script is read.
+///
+/// A fault of the dump (`Dump`), also that memory ran out for it, comes before all lines: nothing
+/// is read of the script, printed or written then. Any later error is one of the run (`Run`). That
+/// memory ran out for the dump is reported only if some is needed: the wire has an edge, or the
+/// dump can be read and its session takes memory (`MayBeShort`).
 pub fn run_on_dump<R: Read, W: Write, N: Witness, S: Shelf>(
     alloc: Global,
     source: Vec<u8>,
