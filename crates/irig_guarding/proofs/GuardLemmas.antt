@@ -11,7 +11,7 @@ use Rattle.irig_lines.specs.{Lines.script_lines, declared.command.Command.Comman
 use Rattle.irig_lines.specs.declared.command.Command.TheVariants as command
 use Rattle.irig_script.specs.{Obey.Machine.Machine, Obey.Run.IsObeyed, Obey.Run.IsPlain, Obey.Run.Runs, Obey.Run.unlines}
 use Rattle.irig_script.proofs.{ObeyLemmas.Lines.lines_and, ObeyLemmas.Quits.other_goes_on}
-use Rattle.irig_guarding.specs.{Controls.IsSafeAt, Controls.IsSafeBy, Guarded.IsGuarded, Guarded.IsRemark, Guarded.IsSafeAfter, Guarded.Stands, Guarded.silence, Reading.fine_frames}
+use Rattle.irig_guarding.specs.{Controls.IsSafeAt, Controls.IsSafeBy, Guarded.IsGuarded, Guarded.IsRemark, Guarded.IsSafeAfter, Guarded.Reaches, Guarded.silence, Reading.fine_frames}
 use Rattle.irig_guarding.specs.{Reading.original_of, Repair.Agrees}
 use Rattle.irig_guarding.specs.{Repair.Asks, Repair.IsGroup, Repair.IsPrinted, Repair.ObeyedAll, Repair.texts, Trials.AreRemarksOf, Trials.IsIdle}
 use Rattle.irig_guarding.specs.{Trials.IsRemarkOf, Trials.Prints, Trials.Shows, Trials.Tries, declared.reason.Reason.Reason, declared.line.Line.Line}
@@ -75,7 +75,7 @@ group_obeyed a b first last lines begins ends g = (
 
 -- lines that are kept
 pub stands_more : (first a b : Machine) (old new : List ℕ) (lines : List (List ℕ)) → AllByRecursion IsPlain lines → ObeyedAll a lines b
-    → new ≡ old ++ unlines lines → Stands first old a → Stands first new b
+    → new ≡ old ++ unlines lines → Reaches first old a → Reaches first new b
 stands_more first a b old new lines plain h text s =
     let on = obeyed_again s.left a b lines s.same h in
     record {
@@ -101,7 +101,7 @@ agrees_agrees a b c h k =
 
 -- and lines that are not
 pub stands_remarks : (first a b : Machine) (old new : List ℕ) → ((rs : List (List ℕ)) × AllByRecursion IsRemark rs × (new ≡ old ++ unlines rs))
-    → Agrees b a → Stands first old a → Stands first new b
+    → Agrees b a → Reaches first old a → Reaches first new b
 stands_remarks first a b old new remarks same s =
     let on = stands_more first a a old new remarks.0 (remarks_plain remarks.0 remarks.1) (remarks_obeyed a remarks.0 remarks.1) remarks.2 s in
     record {
@@ -142,7 +142,7 @@ runs_of a b [] h = (refl, h)
 runs_of a b (line ∷ lines) h =
     (h.0, [], (inr (inr (h.1.1.0, (h.1.0, h.1.1.1, h.1.3, refl))), refl), ([], refl, runs_of h.0 b lines h.2))
 
-pub stands_guarded : (terms m : TermsView) (first now : Machine) (script : List ℕ) → m ≡ terms → Stands first script now → IsSafeAfter m first.state now.state
+pub stands_guarded : (terms m : TermsView) (first now : Machine) (script : List ℕ) → m ≡ terms → Reaches first script now → IsSafeAfter m first.state now.state
     → IsGuarded terms first script now
 stands_guarded terms m first now script e s safe =
     let each = obeyed_goes first s.left s.lines s.plain s.obeyed in
@@ -173,7 +173,7 @@ pub safe_then : (first now : State) (known : OriginalView) → known ≡ origina
 safe_then first now known e same h = record { format = same; safe = subst (λ (o : OriginalView). IsSafeBy o now) e h }
 
 -- the head alone was printed
-pub stands_head : (m : Machine) (opened : List Shown) (out : List ℕ) → out ≡ unlines (head_lines opened) → Stands m out m
+pub stands_head : (m : Machine) (opened : List Shown) (out : List ℕ) → out ≡ unlines (head_lines opened) → Reaches m out m
 stands_head m opened out e =
     let remarks = head_remarks opened in
     record {
@@ -226,7 +226,7 @@ shown_remarks lines reason printed h plain =
 
 -- one more repair was tried and printed
 pub stands_tried : (first : Machine) (known : OriginalView) (a b : Machine) (lines : List (List ℕ)) (dropped : Option Reason) (old new : List ℕ)
-    → Tries known a lines dropped b → Shows lines dropped old new → Stands first old a → Stands first new b
+    → Tries known a lines dropped b → Shows lines dropped old new → Reaches first old a → Reaches first new b
 stands_tried first known a b lines None old new h shown s =
     stands_more first a b old new lines (subst (AllByRecursion IsPlain) shown.1 shown.2) h.obeyed
     (shown.3 ∙ ap (λ l. old ++ unlines l) shown.1) s

@@ -38,7 +38,7 @@ pub record IsRemark (line : List ℕ) : Type 0 where
   pub asks : Asks command.Nothing line
 
 -- lines were printed that lead from the session as it was opened to what it is now
-pub record Stands (opened : Machine) (script : List ℕ) (now : Machine) : Type 0 where
+pub record Reaches (opened : Machine) (script : List ℕ) (now : Machine) : Type 0 where
   pub lines : List (List ℕ)
   pub plain : AllByRecursion IsPlain lines
   pub cut : script ≡ unlines lines

@@ -1,8 +1,8 @@
 //! What the lines of a proposed script ask for. `begin` opens a group, `end` ends it, and `abort`
 //! gives it up. A line that is not valid, or has more than 1000 bytes, is none of these, no edit
-//! and no comment. `Asks c line` in a contract: the line is valid, not too long, and asks for the
-//! command `c`. Each question is asked of a line by one function, and by another one of the command
-//! that the line asks for.
+//! and no comment. Each question is asked of a line by one function (`begins`), and of the command
+//! that the line asks for by another one (`is_begin`). In contracts `Asks c line` says that the
+//! line is valid, not too long, and asks for the command `c`.
 
 ghost use Rattle.std.specs.Prelude.{◌≡◌, ◌↔◌, ◌⊎◌, IsTrue, MatchOption};
 ghost use Rattle.irig_guarding.specs.Repair.{Asks, IsRepair, texts};
@@ -38,10 +38,10 @@ fn command_in(line: &[u8]) -> Option<Command>
     }
 }
 
-/// Whether a repair may consist of the command: it edits pulses, or sets or clears a mark, which is
-/// a letter for a time. False for each other command, also for `begin`, `end` and `abort`, for
-/// `undo` and for a comment.
-pub fn is_repair(command: &Command) -> bool
+/// Whether a command is an edit, as a repair has them: it edits pulses, or sets or clears a mark,
+/// which is a letter for a time. False for each other command, also for `begin`, `end` and `abort`,
+/// for `undo` and for a comment.
+pub fn is_edit(command: &Command) -> bool
     ensures { IsTrue result ↔ IsRepair command.now }
 {
     match command.purpose() {
@@ -126,10 +126,10 @@ fn is_nothing(command: &Command) -> bool
     matches!(command, Command::Nothing)
 }
 
-/// Whether lines that are tried together are no repair: exactly one line, which is a comment or
-/// blank. It is printed as it is. A script is cut so that two or more lines are always a group,
-/// from its `begin` on: false for these, whatever they are, and for no line.
-pub fn are_remarks(lines: &[Line]) -> bool
+/// Whether lines that are tried together are one line alone, a comment or a blank one: that is no
+/// repair, and is printed as it is. False for two lines or more, even if all are comments: a script
+/// is cut so that these are a group, from its `begin` on. False for no line.
+pub fn is_lone_comment(lines: &[Line]) -> bool
     ensures { IsTrue result ↔ IsIdle (texts lines.now) }
 {
     match lines {

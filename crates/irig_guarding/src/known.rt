@@ -1,10 +1,11 @@
 //! The former frames whose pulses are known to rise as they did, so that they are not compared
 //! again after each repair. Former frames are those of the recording that read well, with nothing
-//! wrong in them, when it was opened (`opened`). Pulses rise as they did if each is as long after
-//! its frame's marker as in the recording. `known` has for each former frame the marker of the
-//! frame at which its pulses rise as they did, or `None` if that is not known. A marker is the
-//! place of a frame's first pulse, from 0. `AreKnown` in a contract: what `known` says is so for a
-//! recording and some pulses.
+//! wrong in them, when it was opened (`opened`). A marker is the place of a frame's first pulse
+//! among all pulses, from 0. Pulses rise as they did if each is as long after its frame's marker as
+//! in the recording. `known_markers` has one item for each former frame: the marker of the frame of
+//! now at which its pulses are known to rise as they did, or `None` if that is not known. In
+//! contracts `AreKnown` says that this is so for a recording and some pulses, and `Follows` what a
+//! marker becomes by an edit.
 
 ghost use Rattle.std.specs.Prelude.{◌≡◌, List, None, IfOk, IfSome, IsTrue, Some, get_or, length};
 ghost use Rattle.irig_guarding.specs.Known.{AreKnown, Became, Follows};
@@ -18,26 +19,27 @@ use irig_edit::Session;
 use irig_safety::{Original, Shown};
 use std::alloc::{AllocError, Global};
 
-/// A list of `many` times `None`: nothing is known of that many former frames. `Err` means that
-/// memory ran out.
-pub fn unknown(alloc: Global, many: usize) -> Result<Vec<Option<usize>>, AllocError>
+/// The known markers if nothing is known yet: a list of `count` times `None`, one for each former
+/// frame. `Err` means that memory ran out.
+pub fn nothing_known(alloc: Global, count: usize) -> Result<Vec<Option<usize>>, AllocError>
     ensures { (o : OriginalView) (ps : List SomePulse)
         → IfOk result (λ known. AreKnown o ps known.items) }
 {
-    let mut known = Vec::with_capacity(alloc, many)?;
-    for _index in 0..many {
-        known.push(None)?;
+    let mut known_markers = Vec::with_capacity(alloc, count)?;
+    for _index in 0..count {
+        known_markers.push(None)?;
     }
-    Ok(known)
+    Ok(known_markers)
 }
 
-/// Whether it is known that the pulses of the former frame at a place, from 0, rise as they did at
-/// this marker. False if that is not known, though they may do so, and if there is no such place.
-pub fn is_known(known: &[Option<usize>], place: usize, marker: usize) -> bool
-    ensures { IsTrue result → get_or known.now place None ≡ Some marker }
+/// Whether it is known that the pulses of the former frame at a place, from 0, rise as they did, in
+/// the frame of now with this marker. False if that is not known, though they may do so, and if
+/// there is no such place.
+pub fn is_known(known_markers: &[Option<usize>], place: usize, marker: usize) -> bool
+    ensures { IsTrue result → get_or known_markers.now place None ≡ Some marker }
 {
-    if place < known.len() {
-        is_marker(known[place], marker)
+    if place < known_markers.len() {
+        is_marker(known_markers[place], marker)
     } else {
         false
     }
@@ -53,119 +55,143 @@ fn is_marker(known: Option<usize>, marker: usize) -> bool
     }
 }
 
-/// Fills in what is not known yet. Each of `frames`, those that read well now, is compared with the
-/// first former frame that does not begin before it (`place_from`), if nothing is known of that
-/// former frame (`learn_one`). A frame that has moved can be missed so: then its pulses are only
-/// compared again later. Both lists are in rising order, so the place among the former ones only
-/// grows.
-pub fn learn(session: &Session, opened: &Original, frames: &[Seen], known: &mut Vec<Option<usize>>)
-    requires { AreKnown opened.now session.now.state.pulses known.old.items }
-    ensures { AreKnown opened.now session.now.state.pulses known.new.items }
+/// Fills in markers that are not known yet. Each of `frames`, those that read well now, is compared
+/// with the first former frame that does not begin before it (`place_from`), if no marker is known
+/// for that one (`learn_marker`). For a frame that has moved this can be another one than its own.
+/// Then its marker stays unknown, and its pulses are only compared again later. Both lists are in
+/// rising order, so the place among the former frames only grows.
+pub fn learn_markers(
+    session: &Session,
+    opened: &Original,
+    frames: &[Seen],
+    known_markers: &mut Vec<Option<usize>>,
+)
+    requires { AreKnown opened.now session.now.state.pulses known_markers.old.items }
+    ensures { AreKnown opened.now session.now.state.pulses known_markers.new.items }
 {
     let mut place = 0;
     for frame in frames {
         place = place_from(opened.frames(), place, frame.shown.rise);
-        learn_one(session, opened, frame, place, known);
+        learn_marker(session, opened, frame, place, known_markers);
     }
 }
 
-/// The place, from 0, of the first former frame (`old`), from the place `from` on, that does not
-/// begin before `rise`, in microseconds; how many former frames there are, if all those begin
-/// before it. It has no contract: a wrong place would only mean that less is known.
-fn place_from(old: &[Shown], from: usize, rise: u64) -> usize {
-    for place in from..old.len() {
-        if rise <= old[place].rise {
+/// The place, from 0, of the first of the frames `former`, from the place `from` on, that does not
+/// begin before `rise`, in microseconds. If all of them begin before it, the length of the list. It
+/// has no contract: a wrong place would only mean that less is known.
+fn place_from(former: &[Shown], from: usize, rise: u64) -> usize {
+    for place in from..former.len() {
+        if rise <= former[place].rise {
             return place;
         }
     }
-    old.len()
+    former.len()
 }
 
-/// Compares the pulses of a frame with those of the former one at a place, if nothing is known of
-/// the former one. If each pulse rises as long after the frame's marker as in the former frame
-/// after that one's (`keeps_rises`), `known` gets the frame's marker at that place. Else nothing
-/// changes, nor if there is no former frame at the place.
-fn learn_one(
+/// Compares the pulses of a frame with those of the former one at a place, if no marker is known
+/// for the former one. If each pulse rises as long after the frame's marker as in the former frame
+/// after that one's (`keeps_rises`), the frame's marker is known from now on. Else nothing changes,
+/// nor if there is no former frame at the place.
+fn learn_marker(
     session: &Session,
     opened: &Original,
     frame: &Seen,
     place: usize,
-    known: &mut Vec<Option<usize>>,
+    known_markers: &mut Vec<Option<usize>>,
 )
-    requires { AreKnown opened.now session.now.state.pulses known.old.items }
-    ensures { AreKnown opened.now session.now.state.pulses known.new.items }
+    requires { AreKnown opened.now session.now.state.pulses known_markers.old.items }
+    ensures { AreKnown opened.now session.now.state.pulses known_markers.new.items }
 {
-    if place < known.len()
-        && known[place].is_none()
+    if place < known_markers.len()
+        && known_markers[place].is_none()
         && keeps_rises(session, opened, opened.marker(place), frame.marker)
     {
-        known[place] = Some(frame.marker);
+        known_markers[place] = Some(frame.marker);
     }
 }
 
-/// Replaces each marker by what is still known of it after an edit (`followed`). `place` says how
-/// many pulses are before those that the edit changed (`at`), and how many came instead (`come`).
-/// `before` is how many pulses there were before the edit, and `after` how many there are now. If
-/// `place` is `None`, nothing is known any more.
-pub fn follow(known: &mut Vec<Option<usize>>, place: Option<Place>, before: usize, after: usize)
+/// Replaces each marker by what is still known of it after an edit (`still_known`). `changed` is
+/// where the edit changed pulses: how many are before these (`at`), and how many came instead
+/// (`come`). If it is `None`, nothing is known any more. The two counts are how many pulses there
+/// were before the edit, and how many there are now.
+pub fn follow_edit(
+    known_markers: &mut Vec<Option<usize>>,
+    changed: Option<Place>,
+    count_before: usize,
+    count_after: usize,
+)
     ensures { (o : OriginalView) (ps qs : List SomePulse)
-        → IfSome place (λ p. Became p.at p.come ps qs) → length ps ≡ before → length qs ≡ after
-        → AreKnown o ps known.old.items → AreKnown o qs known.new.items }
+        → IfSome changed (λ p. Became p.at p.come ps qs)
+        → length ps ≡ count_before → length qs ≡ count_after
+        → AreKnown o ps known_markers.old.items → AreKnown o qs known_markers.new.items }
 {
-    for index in 0..known.len() {
-        known[index] = followed(known[index], place, before, after);
+    for index in 0..known_markers.len() {
+        known_markers[index] = still_known(
+            known_markers[index],
+            changed,
+            count_before,
+            count_after,
+        );
     }
 }
 
-/// The marker that is known after an edit that changed pulses at `place`, if `known` was the one
-/// before. `None` if `known` or `place` is `None`, or if the edit may have changed pulses of the
-/// frame (`followed_by`). `before` and `after` are how many pulses there were and are.
-fn followed(
+/// What is known after an edit that changed the pulses at `changed`, if the marker `known` was
+/// known before it. `None` if one of these two is `None`, or if the edit may have changed pulses of
+/// the frame (`marker_still_known`).
+fn still_known(
     known: Option<usize>,
-    place: Option<Place>,
-    before: usize,
-    after: usize,
+    changed: Option<Place>,
+    count_before: usize,
+    count_after: usize,
 ) -> Option<usize>
-    ensures none { place ≡ None → result ≡ None }
-    ensures some { IfSome place (λ p. Follows p.at p.come before after known result) }
+    ensures none { changed ≡ None → result ≡ None }
+    ensures some { IfSome changed (λ p. Follows p.at p.come count_before count_after known result) }
 {
-    match (known, place) {
-        (Some(marker), Some(place)) => followed_by(marker, &place, before, after),
+    match (known, changed) {
+        (Some(marker), Some(changed)) => {
+            marker_still_known(marker, &changed, count_before, count_after)
+        }
         _ => None,
     }
 }
 
-/// The marker that is known after the pulses from `place.at` on became `place.come` others. A frame
-/// whose 100 pulses are all before these keeps its marker. If a frame begins after them, its marker
-/// moves by as many places as there are more pulses now, or fewer. For any other frame the answer
-/// is `None`, since its pulses may have changed. `before` and `after` are how many pulses there
-/// were and are, so `before` + `come` - `after` of them went. The second test has each number on
-/// the side on which it is added, so that nothing is below 0. `None` also if `come` is more than a
-/// `u64` holds, since the sums could be too large for their type, or if the marker is too large
-/// (`number`).
-fn followed_by(marker: usize, place: &Place, before: usize, after: usize) -> Option<usize>
-    ensures { Follows place.now.at place.now.come before after (Some marker) result }
+/// The marker of a frame after an edit, if its pulses did not change. The edit made `changed.come`
+/// pulses of some from the place `changed.at` on; how many went follows from the two counts of all
+/// pulses. A frame whose 100 pulses are all before the change keeps its marker. If a frame
+/// begins after the pulses that went, its marker moves by as many places as there are more pulses
+/// now, or fewer. The test of that has each number on the side on which it is added, so that
+/// nothing is below 0. `None` for any other frame, since its pulses may have changed. `None` also
+/// if `come` is more than a `u64` holds, since the sums could be too large for their type, or if
+/// the marker is too large (`as_place`).
+fn marker_still_known(
+    marker: usize,
+    changed: &Place,
+    count_before: usize,
+    count_after: usize,
+) -> Option<usize>
+    ensures { Follows changed.now.at changed.now.come count_before count_after (Some marker)
+        result }
 {
-    if place.at >= 100 && marker <= place.at - 100 {
+    if changed.at >= 100 && marker <= changed.at - 100 {
         return Some(marker);
     }
-    if place.come > u128::from(u64::MAX) {
+    if changed.come > u128::from(u64::MAX) {
         return None;
     }
-    let (marker, before, after) = (marker as u128, before as u128, after as u128);
-    if place.at as u128 + before + place.come <= marker + after {
-        number(marker + after - before)
+    let (marker, before, after) = (marker as u128, count_before as u128, count_after as u128);
+    if changed.at as u128 + before + changed.come <= marker + after {
+        as_place(marker + after - before)
     } else {
         None
     }
 }
 
 /// The value as the place of a pulse; `None` if it is too large for a `usize`.
-fn number(value: u128) -> Option<usize>
+fn as_place(value: u128) -> Option<usize>
     ensures { IfSome result (λ n. n ≡ value) }
 {
     match usize::try_from(value) {
-        Ok(number) => Some(number),
+        Ok(place) => Some(place),
         Err(_) => None,
     }
 }

@@ -1,7 +1,9 @@
 //! The control functions of frames whose pulses are odd: not as wide as the others of their class
-//! in their frame. A frame is even if it has none. `pulses` is all pulses of a recording, and
-//! `seen` its frames that read well, with nothing wrong in them, in rising order. `Err` means in
-//! each function that memory ran out.
+//! in their frame. The class of a pulse is what its width means. A frame is even if none of its
+//! control functions has an odd pulse. `pulses` is all pulses of a recording, and `seen` its frames
+//! that read well, with nothing wrong in them, in rising order. `odd_of` finds what is odd in one
+//! frame; `odd_among` keeps that of all frames, `even_among` the frames in which it finds nothing.
+//! `Err` means in each function that memory ran out.
 
 ghost use Rattle.std.specs.Prelude.{◌≡◌, ◌++◌, IfOk, OnOk};
 ghost use Rattle.std.specs.List.{flat_map};
@@ -15,7 +17,7 @@ use irig_safety::{Odd, Shown, odd_of};
 use std::alloc::{AllocError, Global};
 
 /// The control functions whose pulses are odd, each with its frame, of all frames `seen`, in their
-/// order (`odd_of`).
+/// order (`odd_of`). Empty if all frames are even.
 pub fn odd_among(
     alloc: Global,
     format: Format,
@@ -32,8 +34,7 @@ pub fn odd_among(
     Ok(all)
 }
 
-/// The even frames of a session: those that read well and have no control function whose pulse is
-/// odd.
+/// The even frames of a session, of those that read well, in rising order (`even_among`).
 pub fn even_frames(alloc: Global, session: &Session) -> Result<Vec<Shown>, AllocError>
     ensures { IfOk result (λ even. even.items ≡ even_frames session.now.state) }
 {
@@ -43,8 +44,7 @@ pub fn even_frames(alloc: Global, session: &Session) -> Result<Vec<Shown>, Alloc
     even_among(alloc, format, pulses.as_slice(), seen.as_slice())
 }
 
-/// The even ones of the frames `seen`, in their order: those that have no control function whose
-/// pulse is odd, so `odd_of` finds none.
+/// The even ones of the frames `seen`, in their order: those in which `odd_of` finds nothing.
 fn even_among(
     alloc: Global,
     format: Format,
@@ -56,17 +56,16 @@ fn even_among(
     let mut even = Vec::new(alloc);
     for frame in seen {
         let odd = odd_of(alloc, format, pulses, frame.marker, &frame.shown)?;
-        put_if(&mut even, odd.as_slice().is_empty(), frame.shown)?;
+        put_if_even(&mut even, odd.as_slice().is_empty(), frame.shown)?;
     }
     Ok(even)
 }
 
-/// Adds a frame to `even` if `so`: the caller found no control function of it whose pulse is odd.
-/// Else nothing is added.
-fn put_if(even: &mut Vec<Shown>, so: bool, frame: Shown) -> Result<(), AllocError>
-    ensures { OnOk result (even.new.items ≡ even.old.items ++ even_if so frame) }
+/// Adds a frame to `even` if it is even, as the caller found (`is_even`). Else nothing is added.
+fn put_if_even(even: &mut Vec<Shown>, is_even: bool, frame: Shown) -> Result<(), AllocError>
+    ensures { OnOk result (even.new.items ≡ even.old.items ++ even_if is_even frame) }
 {
-    if so {
+    if is_even {
         even.push(frame)?;
     }
     Ok(())

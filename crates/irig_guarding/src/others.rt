@@ -1,13 +1,14 @@
-//! The frames of another recording of the same code that read well: nothing is wrong in them. They
-//! say something of this one if a frame next to them agrees with them, so that damage did not make
-//! them alone: the two are near enough for their distance to say how many frame periods it is, and
-//! their times are as many apart. A journal is the history of a session, which a dump can have. A
-//! pulse is odd if it is not as wide as the others of its class in its frame, and a frame is even
-//! if no pulse of a control function in it is odd. In contracts `dump_parts` is what the bytes of a
-//! dump say of a wire, `Adds` that the frames of it that say something were added, and `IsUnadded`
-//! that it was not opened for this fault, or memory ran out.
+//! The frames of another recording of the same code that say something of this one. They have to
+//! read well, with nothing wrong in them, and to be backed: a frame next to them agrees with them,
+//! so that damage did not make them alone. Two frames agree if they are near enough for their
+//! distance to say how many frame periods it is, and their times are as many apart. A journal is
+//! the history of a session, which a dump can have. A pulse is odd if it is not as wide as the
+//! others of its class in its frame, and a frame is even if no pulse of a control function in it is
+//! odd. In contracts `dump_parts` is what the bytes of a dump say of a wire, `Adds` that the frames
+//! of it that say something were added, and `IsUnadded` that it was not opened for this fault, or
+//! memory ran out.
 
-ghost use Rattle.std.specs.Prelude.{◌≡◌, ◌≤◌, ◌^◌, ◌++◌, ℕ, Err, List, Option, length, Ok, IfErr};
+ghost use Rattle.std.specs.Prelude.{◌≡◌, ◌≤◌, ◌^◌, ℕ, Err, List, Option, length, Ok, IfErr};
 ghost use Rattle.std.specs.Prelude.{IfSome, OnOk};
 ghost use Rattle.irig_edit.specs.Opened.Openings.{MayBeShort};
 ghost use Rattle.irig_guarding.specs.{Others.Adds, Others.IsUnadded};
@@ -26,7 +27,7 @@ use irig_recording::Recording;
 use irig_safety::{Terms, backed};
 use std::alloc::{AllocError, Global};
 
-/// Adds to `terms` the frames of another recording that say something of this one (`add_shown`).
+/// Adds to `terms` the frames of another recording that say something of this one (`add_backed`).
 /// `recording` and `journal`, the text of its journal if it has one, are what was read of its dump.
 /// A dump has at most 2^28 bytes, so its journal has no more. `format` is that in which frames are
 /// read. `Dump` if it cannot be opened as a session, `OutOfMemory` if memory runs out after that.
@@ -53,17 +54,16 @@ pub fn add_frames(
         Ok(session) => session,
         Err(fault) => return Err(GuardFault::Dump(fault)),
     };
-    match add_shown(alloc, &session, format, terms) {
+    match add_backed(alloc, &session, format, terms) {
         Ok(()) => Ok(()),
         Err(_) => Err(GuardFault::OutOfMemory),
     }
 }
 
-/// Adds to `terms` two lists of frames of a session that say something of another recording
-/// (`backed`). One is picked from all that read well, the other from its even ones alone: so an
-/// even frame is in the second list only if the even one before or after it agrees with it. `Err`
-/// means that memory ran out.
-fn add_shown(
+/// Adds to `terms` two lists of the frames of a session that are backed (`backed`). The first is
+/// picked from all that read well. The second is picked from the even ones alone, so there an even
+/// frame has to be backed by the even one before or after it. `Err` means that memory ran out.
+fn add_backed(
     alloc: Global,
     session: &Session,
     format: Format,
@@ -73,8 +73,8 @@ fn add_shown(
         (backed format (even_frames session.now.state)) terms.old) }
 {
     let fine = fine_frames(alloc, session)?;
-    let shown = backed(alloc, format, fine.as_slice())?;
+    let backed_fine = backed(alloc, format, fine.as_slice())?;
     let even = even_frames(alloc, session)?;
-    let level = backed(alloc, format, even.as_slice())?;
-    terms.add(shown.as_slice(), level.as_slice())
+    let backed_even = backed(alloc, format, even.as_slice())?;
+    terms.add(backed_fine.as_slice(), backed_even.as_slice())
 }

@@ -1,12 +1,12 @@
-//! The script that is printed: what is kept, and the rest as comments. All is added to `out`. A
-//! frame reads well if nothing is wrong in it. Each function fails only if memory runs out: then a
-//! part can be in `out`. In contracts `unlines` is lines, each with a newline (10) after it,
-//! `IsRemark` that a line is a comment or blank, and `IsRemarkOf` that it is what is printed of
-//! another line.
+//! The script that is printed: the lines that are kept, and the rest as comments. All is added to
+//! `out`. A frame reads well if nothing is wrong in it. Each function fails only if memory runs
+//! out: then a part can be in `out`. In contracts `unlines` is lines, each with a newline (10)
+//! after it, `IsRemark` that a line is a comment or blank, `IsRemarkOf` that it is what is printed
+//! of another line, and `Shows` that all this was printed of a repair.
 
-ghost use Rattle.std.specs.Prelude.{◌≡◌, ◌++◌, ◌∷◌, [], ℕ, List, OnOk};
+ghost use Rattle.std.specs.Prelude.{◌≡◌, ◌++◌, ◌∷◌, [], ℕ, List, OnOk, Some};
 ghost use Rattle.std.specs.List.{AllByRecursion};
-ghost use Rattle.irig_guarding.specs.Trials.{AreRemarksOf, IsRemarkOf};
+ghost use Rattle.irig_guarding.specs.Trials.{AreRemarksOf, IsRemarkOf, Shows};
 ghost use Rattle.irig_guarding.specs.{Guarded.IsRemark, Reasons.head_lines, Repair.Asks};
 ghost use Rattle.irig_guarding.specs.Repair.{texts};
 ghost use Rattle.irig_lines.specs.declared.command.Command.TheVariants as command;
@@ -14,11 +14,13 @@ ghost use Rattle.irig_script.specs.Obey.Run.{IsPlain, unlines};
 
 use crate::commands::is_comment;
 use crate::line::Line;
+use crate::reason::Reason;
+use crate::reason_text::put_reason;
 use irig_safety::Shown;
 use std::alloc::AllocError;
 
-/// How many bytes of a line a comment keeps: with the number sign it is less than the 1000 that a
-/// line of a script may have.
+/// How many bytes of a line a comment keeps. With the number sign and the space it is less than the
+/// 1000 bytes that a line of a script may have; the number itself is a choice.
 const KEPT: usize = 900;
 
 /// Prints a line, and a newline after it.
@@ -30,12 +32,12 @@ fn put_line(out: &mut Vec<u8>, line: &[u8]) -> Result<(), AllocError>
     Ok(())
 }
 
-/// Adds the line that there is nothing to go by, if no frame of the recording reads well: `opened`
-/// is the frames of the recording that do, as it was opened. If there are some, it adds nothing.
-pub fn put_head(out: &mut Vec<u8>, opened: &[Shown]) -> Result<(), AllocError>
-    ensures { OnOk result (out.new.items ≡ out.old.items ++ unlines (head_lines opened.now)) }
+/// Prints the comment that there is nothing to go by, if no frame of the recording reads well:
+/// `fine` is those that do, as it was opened. If there are some, nothing is printed.
+pub fn put_head(out: &mut Vec<u8>, fine: &[Shown]) -> Result<(), AllocError>
+    ensures { OnOk result (out.new.items ≡ out.old.items ++ unlines (head_lines fine.now)) }
 {
-    if opened.is_empty() {
+    if fine.is_empty() {
         put_line(
             out,
             b"# nothing to go by: no frame of the recording is fine",
@@ -47,7 +49,7 @@ pub fn put_head(out: &mut Vec<u8>, opened: &[Shown]) -> Result<(), AllocError>
 
 /// Prints lines as they are, each with a newline after it. None of them has a newline in it: that
 /// is so of each `Line`, and `plain` says it.
-pub fn put_lines(out: &mut Vec<u8>, lines: &[Line]) -> Result<(), AllocError>
+fn put_lines(out: &mut Vec<u8>, lines: &[Line]) -> Result<(), AllocError>
     ensures text { OnOk result (out.new.items ≡ out.old.items ++ unlines (texts lines.now)) }
     ensures plain { AllByRecursion IsPlain (texts lines.now) }
 {
@@ -57,24 +59,26 @@ pub fn put_lines(out: &mut Vec<u8>, lines: &[Line]) -> Result<(), AllocError>
     Ok(())
 }
 
-/// Prints a line as a comment, and a newline. A comment or blank line is printed as it is. Of any
-/// other line a number sign, a space and its first 900 bytes are printed (`put_front`).
-fn put_remark(out: &mut Vec<u8>, line: &Line) -> Result<(), AllocError>
-    ensures { OnOk result ((remark : List ℕ) × IsRemark remark × IsRemarkOf line.now.bytes.items remark
+/// Prints a line as a comment, and a newline. A comment or blank line is printed as it is, any
+/// other line after a number sign, and cut (`put_as_comment`).
+fn put_comment(out: &mut Vec<u8>, line: &Line) -> Result<(), AllocError>
+    ensures { OnOk result ((remark : List ℕ) × IsRemark remark
+        × IsRemarkOf line.now.bytes.items remark
         × (out.new.items ≡ out.old.items ++ (remark ++ 10 ∷ []))) }
 {
     if is_comment(line) {
         put_line(out, line.bytes.as_slice())
     } else {
-        put_front(out, line)
+        put_as_comment(out, line)
     }
 }
 
 /// Prints a number sign, a space, the first 900 bytes of a line (all, if it has fewer) and a
-/// newline. The line is no comment: `put_remark` prints those.
-fn put_front(out: &mut Vec<u8>, line: &Line) -> Result<(), AllocError>
+/// newline. The line is no comment, nor blank: `put_comment` prints those.
+fn put_as_comment(out: &mut Vec<u8>, line: &Line) -> Result<(), AllocError>
     requires { Asks command.Nothing line.now.bytes.items → ⊥ }
-    ensures { OnOk result ((remark : List ℕ) × IsRemark remark × IsRemarkOf line.now.bytes.items remark
+    ensures { OnOk result ((remark : List ℕ) × IsRemark remark
+        × IsRemarkOf line.now.bytes.items remark
         × (out.new.items ≡ out.old.items ++ (remark ++ 10 ∷ []))) }
 {
     let bytes = line.bytes.as_slice();
@@ -82,14 +86,37 @@ fn put_front(out: &mut Vec<u8>, line: &Line) -> Result<(), AllocError>
     put_line(out, &bytes[..bytes.len().min(KEPT)])
 }
 
-/// Prints lines as comments, each as `put_remark` does.
-pub fn put_remarks(out: &mut Vec<u8>, lines: &[Line]) -> Result<(), AllocError>
+/// Prints lines as comments, each as `put_comment` does.
+fn put_comments(out: &mut Vec<u8>, lines: &[Line]) -> Result<(), AllocError>
     ensures { OnOk result ((remarks : List (List ℕ)) × AllByRecursion IsRemark remarks
         × AreRemarksOf (texts lines.now) remarks
         × (out.new.items ≡ out.old.items ++ unlines remarks)) }
 {
     for line in lines {
-        put_remark(out, line)?;
+        put_comment(out, line)?;
     }
     Ok(())
+}
+
+/// Prints a repair: its lines as they are if it was kept, else as `put_dropped` does. `dropped` is
+/// why it was dropped, `None` if it was kept.
+pub fn put_repair(
+    out: &mut Vec<u8>,
+    repair: &[Line],
+    dropped: Option<Reason>,
+) -> Result<(), AllocError>
+    ensures { OnOk result (Shows (texts repair.now) dropped out.old.items out.new.items) }
+{
+    match dropped {
+        None => put_lines(out, repair),
+        Some(reason) => put_dropped(out, repair, reason),
+    }
+}
+
+/// Prints a repair that was dropped: the reason as a comment, and after that its lines as comments.
+fn put_dropped(out: &mut Vec<u8>, repair: &[Line], reason: Reason) -> Result<(), AllocError>
+    ensures { OnOk result (Shows (texts repair.now) (Some reason) out.old.items out.new.items) }
+{
+    put_reason(out, reason)?;
+    put_comments(out, repair)
 }

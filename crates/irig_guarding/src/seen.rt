@@ -1,28 +1,28 @@
-//! The frames of a session that read well, with their markers: they are read, and nothing is wrong
-//! in them. A marker is the pulse with which a frame begins. A function with a `Result` fails only
-//! if memory runs out.
+//! The frames of a session that read well: they are read, and nothing is wrong in them. `Shown` of
+//! irig_safety is what such a frame shows: its rise, in microseconds, and its fields. `Seen` is the
+//! same with the frame's marker, the pulse with which it begins. A function with a `Result` fails
+//! only if memory runs out.
 
 ghost use Rattle.std.specs.Prelude.{◌≡◌, ◌≤◌, ◌-◌, ◌++◌, length, map, slice_get, Some, IfOk, IsTrue};
 ghost use Rattle.std.specs.Prelude.{OnOk};
 ghost use Rattle.irig_index.specs.declared.record.Record.{Record};
 ghost use Rattle.irig_edit.specs.State.State.{frames_of};
-ghost use Rattle.irig_guarding.specs.Reading.{Lists, fine_frames, seen_at, seen_by, seen_frames};
+ghost use Rattle.irig_guarding.specs.Reading.{Lists, seen_at, seen_by, seen_frames};
 
 use irig_codes::Note;
 use irig_edit::{Session, Verdict};
 use irig_safety::{Shown, frame_at, is_same};
 use std::alloc::{AllocError, Global};
 
-/// A frame that reads well, with its rise and its fields, and the place of its marker among the
-/// pulses, from 0.
+/// A frame that reads well: what it shows, and the place of its marker among the pulses, from 0.
 #[derive(Clone, Copy)]
 pub struct Seen {
     pub shown: Shown,
     pub marker: usize,
 }
 
-/// The frames of a session that read well, in rising order: with their markers, and what they show
-/// alone.
+/// The frames of a session that read well, in rising order, twice: with their markers (`seen`), and
+/// what they show alone (`shown`), for functions that need no markers.
 #[derive(Drop)]
 pub struct Frames {
     pub seen: Vec<Seen>,
@@ -34,7 +34,7 @@ pub fn list_frames(alloc: Global, session: &Session) -> Result<Frames, AllocErro
     ensures { IfOk result (λ frames. Lists session.now.state frames) }
 {
     let seen = seen_frames(alloc, session)?;
-    let shown = shown_of(alloc, session, seen.as_slice())?;
+    let shown = shown_among(alloc, seen.as_slice())?;
     Ok(Frames { seen, shown })
 }
 
@@ -49,16 +49,6 @@ pub fn seen_frames(alloc: Global, session: &Session) -> Result<Vec<Seen>, AllocE
     Ok(seen)
 }
 
-/// What the frames of a session show that read well, without their markers (`shown_among`). `seen`
-/// is these frames; the session is for the contract alone.
-pub fn shown_of(alloc: Global, session: &Session, seen: &[Seen]) -> Result<Vec<Shown>, AllocError>
-    requires { seen.now ≡ seen_frames session.now.state }
-    ensures { IfOk result (λ shown. shown.items ≡ fine_frames session.now.state) }
-{
-    let shown = shown_among(alloc, seen)?;
-    Ok(shown)
-}
-
 /// What some frames show, in their order, without their markers.
 fn shown_among(alloc: Global, seen: &[Seen]) -> Result<Vec<Shown>, AllocError>
     ensures { IfOk result (λ shown. shown.items ≡ map (λ y. y.shown) seen.now) }
@@ -71,13 +61,13 @@ fn shown_among(alloc: Global, seen: &[Seen]) -> Result<Vec<Shown>, AllocError>
 }
 
 /// Whether `frame` has the same fields and the same rise as the frame at a place, from 0, of the
-/// list `old` (`is_same`). False if the list has none there. The contract says only what true
-/// means: after false callers look further.
-pub fn is_as_before(old: &[Shown], place: usize, frame: &Seen) -> bool
-    ensures { IsTrue result → slice_get old.now place ≡ Some frame.now.shown }
+/// list `former`, earlier frames (`is_same`). False if the list has none there. The contract says
+/// only what true means: after false callers look further.
+pub fn is_as_before(former: &[Shown], place: usize, frame: &Seen) -> bool
+    ensures { IsTrue result → slice_get former.now place ≡ Some frame.now.shown }
 {
-    match frame_at(old, place) {
-        Some(former) => is_same(&former, &frame.shown),
+    match frame_at(former, place) {
+        Some(before) => is_same(&before, &frame.shown),
         None => false,
     }
 }

@@ -7,4 +7,4 @@ pub loop-frame-preserved : goal.loop-frame-preserved
 loop-frame-preserved c =
     even_more c.args.format c.args.pulses.now c.args.seen.now c.loop-frame.frame-index _ c.loop-frame.even.items _ _ _
     (slice_get-get_or c.args.seen.now c.loop-frame.frame-index _ c.loop-frame-test.true) c.loop-frame.invariant
-    c.in_ok-put_if.ensures c.is_empty.ensures (c.as_slice.ensures.value ∙ c.in_ok-odd.ensures)
+    c.in_ok-put_if_even.ensures c.is_empty.ensures (c.as_slice.ensures.value ∙ c.in_ok-odd.ensures)

@@ -4,5 +4,5 @@ use Rattle.irig_guarding.proofs.pulses.keeps_rises.Given as goal
 
 abbrev pub invariant-loop-element : goal.invariant-loop-element
 invariant-loop-element l = (j : ℕ) → j < l.element
-    → rise_in l.opened.pulses l.former j - rise_in l.opened.pulses l.former 0
+    → rise_in l.opened.pulses l.former_marker j - rise_in l.opened.pulses l.former_marker 0
     ≡ rise_in l.session.state.pulses l.marker j - rise_in l.session.state.pulses l.marker 0

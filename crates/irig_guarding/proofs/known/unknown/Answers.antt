@@ -1,5 +1,0 @@
-use Rattle.irig_guarding.proofs.KnownLemmas.{none_known, none_more}
-use Rattle.irig_guarding.proofs.known.unknown.Goals as goal
-
-pub returns : goal.returns
-returns c = λ o ps. none_known o ps _ c.loop-index.invariant

@@ -1,0 +1,30 @@
+//! How a proposed script is cut into repairs. A repair is a line, or a group: the lines from a
+//! `begin` to the first `end` or `abort` after it. `texts` in a contract is the bytes of lines.
+
+ghost use Rattle.std.specs.Prelude.{◌<◌, ◌≤◌, ◌-◌, drop, length, take};
+ghost use Rattle.irig_guarding.specs.{Repair.texts, Trials.IsCutBefore};
+
+use crate::commands::{begins, closes};
+use crate::line::Line;
+
+/// The place, from 0, after the last line of the repair that begins at the place `at`. If the line
+/// there is a `begin`, the repair is a group: up to the first line that closes it (`closes`), or
+/// all lines that are left if none does. Any other line is a repair of its own. `IsCutBefore` says
+/// that of the lines of the repair and of those after it.
+pub fn repair_end(lines: &[Line], at: usize) -> usize
+    requires { at < length lines.now }
+    ensures more { at < result }
+    ensures within { result ≤ length lines.now }
+    ensures cut { IsCutBefore (texts (take (result - at) (drop at lines.now)))
+        (texts (drop result lines.now)) }
+{
+    if !begins(&lines[at]) {
+        return at + 1;
+    }
+    for place in at + 1..lines.len() {
+        if closes(&lines[place]) {
+            return place + 1;
+        }
+    }
+    lines.len()
+}
