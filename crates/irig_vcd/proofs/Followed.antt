@@ -4,7 +4,7 @@ use Rattle.std.proofs.Common.{append_assoc}
 use Rattle.std.specs.List.{AllByRecursion}
 use Rattle.irig_vcd.specs.Level.{Change, change, differs, edges_below, level_before}
 use Rattle.irig_vcd.specs.{Code.Along.HasRisen, Code.Along.LiesOn, Code.Trace.EdgeBefore, Code.Trace.Follows, Code.Trace.IsKept, Code.Trace.Traces, Code.Trace.placed}
-use Rattle.irig_vcd.specs.{Extent.most_pulses, Window.moved, Window.within, declared.trace.Stretch.Stretch, declared.trace.Trace.Trace, declared.window.Window.Window}
+use Rattle.irig_vcd.specs.{Extent.most_pulses, Window.moved, Window.within, declared.stretch.Stretch.Stretch, declared.trace.Trace.Trace, declared.window.Window.Window}
 use Rattle.irig_recording.specs.Edges.{edges_kept}
 use Rattle.irig_vcd.proofs.EarlyEdges.{edge_before, high_before}
 use Rattle.irig_vcd.proofs.Levels.{advanced, all_later, all_push, changed, take-nil}

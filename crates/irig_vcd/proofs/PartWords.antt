@@ -3,7 +3,7 @@ use Rattle.std.proofs.Common.{◌≡◌, ◌<◌, ◌≤◌, ◌+◌, ◌-◌, �
 use Rattle.std.proofs.Common.{arith}
 use Rattle.std.proofs.Math.Seq.{take-suc}
 use Rattle.irig_vcd.specs.Words.{Word, is_space, words_from, before_space, kind_of_byte}
-use Rattle.irig_vcd.specs.{Code.Joins.ends_inside, Code.Part.moved, Code.Part.words_at}
+use Rattle.irig_vcd.specs.{Code.Joins.ends_inside, Code.Part.moved_word, Code.Part.words_at}
 use Rattle.irig_vcd.proofs.Joins.{ends_inside-space}
 
 -- after white space no word goes on
@@ -14,13 +14,13 @@ outside_at s (suc n) within h =
     let space : is_space (get_or s n 0) ≡ true = rw (← e) (h (omega arith)) in
     rw (take-suc s n 0 (omega arith)) (ends_inside-space (take n s) (get_or s n 0) false space)
 
-moved_step : (space inside : Bool) (base : ℕ) (w : Word) (x y xs ys : List Word) → x ≡ map (moved base) xs → y ≡ map (moved base) ys
-    → cond space x (cond inside y (moved base w ∷ y)) ≡ map (moved base) (cond space xs (cond inside ys (w ∷ ys)))
+moved_step : (space inside : Bool) (base : ℕ) (w : Word) (x y xs ys : List Word) → x ≡ map (moved_word base) xs → y ≡ map (moved_word base) ys
+    → cond space x (cond inside y (moved_word base w ∷ y)) ≡ map (moved_word base) (cond space xs (cond inside ys (w ∷ ys)))
 moved_step true inside base w x y xs ys h k = h
 moved_step false true base w x y xs ys h k = k
-moved_step false false base w x y xs ys h k = ap (λ (l : List Word). moved base w ∷ l) k
+moved_step false false base w x y xs ys h k = ap (λ (l : List Word). moved_word base w ∷ l) k
 
-moved_words : (base at : ℕ) (inside : Bool) (bs : List ℕ) → words_from (base + at) inside bs ≡ map (moved base) (words_from at inside bs)
+moved_words : (base at : ℕ) (inside : Bool) (bs : List ℕ) → words_from (base + at) inside bs ≡ map (moved_word base) (words_from at inside bs)
 moved_words base at inside [] = refl
 moved_words base at inside (b ∷ bs) =
     let e : base + at + 1 ≡ base + (at + 1) = omega arith in

@@ -7,7 +7,7 @@ use Rattle.irig_vcd.specs.Code.Along.{TakesEdge, at_micros}
 use Rattle.irig_vcd.specs.Words.{Word, words_from, before_space, is_space, is_code, kind_of_byte, hash, scalar, rest_of}
 use Rattle.irig_vcd.specs.{Answer.◌>>=◌, Code.Part.moved, Code.Scanned.IsTraced, Code.Scanned.Passes, Code.Time.units_of, Code.Time.IsTime, Code.Trace.Follows, Code.Trace.Traces}
 use Rattle.irig_vcd.specs.{Digits.is_digit, Digits.number_from, Level.Change, Level.change, Scan.Scan, Scan.closed, Scan.given, Scan.scan_words}
-use Rattle.irig_vcd.specs.{Extent.most_pulses, Times.micros_of, declared.pulses.Edge.Edge, declared.time.Clock.Clock, declared.trace.Trace.Trace}
+use Rattle.irig_vcd.specs.{Extent.most_pulses, Times.micros_of, declared.edge.Edge.Edge, declared.time.Clock.Clock, declared.trace.Trace.Trace}
 use Rattle.irig_recording.specs.Edges.{edges_kept}
 use Rattle.irig_vcd.proofs.TimeLemmas.{units_cut, shown_time, fine_time, rest_low, later_read}
 use Rattle.irig_vcd.proofs.{Clocks.micros_fine, CodeRuns.bit_level, CodeRuns.bit_word, DigitRuns.hash_word, Levels.advanced, Levels.changed, Levels.kept_more}

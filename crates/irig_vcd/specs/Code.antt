@@ -6,6 +6,7 @@ pub mod Section
 pub mod Decimal
 pub mod Variable
 pub mod Timescale
+pub mod Choice
 pub mod Header
 pub mod Time
 pub mod Event

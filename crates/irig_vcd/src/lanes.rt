@@ -10,7 +10,7 @@ ghost use Rattle.std.specs.Prelude.{◌≡◌, ◌≤◌, ◌<◌, ◌+◌, ◌-
 ghost use Rattle.std.specs.Prelude.{replicate, slice_index};
 ghost use Rattle.std.specs.Int.Digits.{number_from_digits, AllBelowBase};
 ghost use Rattle.std.specs.Simd.Lanes.{mask_l};
-ghost use Rattle.irig_vcd.specs.{Code.Lanes.joined, Code.Lanes.shows_none, Code.Spelled.Spells};
+ghost use Rattle.irig_vcd.specs.{Code.Lanes.pairs_joined, Code.Lanes.shows_none, Code.Spelled.Spells};
 
 use std::simd::prelude::*;
 
@@ -26,7 +26,7 @@ const KEEP: [u8; 32] = [
 fn twos(digits: u8x16) -> u16x8
     requires digits { AllBelowBase 10 digits }
     requires long { length digits ≡ 16 }
-    ensures { result ≡ joined 10 digits }
+    ensures { result ≡ pairs_joined 10 digits }
 {
     (u16x8::from_le_bytes(digits) * u16x8::splat(2561)) >> u16x8::splat(8)
 }
@@ -37,7 +37,7 @@ fn twos(digits: u8x16) -> u16x8
 fn fours(twos: u16x8) -> u32x4
     requires digits { AllBelowBase 100 twos }
     requires long { length twos ≡ 8 }
-    ensures { result ≡ joined 100 twos }
+    ensures { result ≡ pairs_joined 100 twos }
 {
     (u32x4::from_le_bytes(twos.to_le_bytes()) * u32x4::splat(6553601)) >> u32x4::splat(16)
 }
@@ -56,7 +56,7 @@ fn eight(pair: u64) -> u64
 fn eights(fours: u32x4) -> [u64; 2]
     requires digits { AllBelowBase 10000 fours }
     requires long { length fours ≡ 4 }
-    ensures { result ≡ joined 10000 fours }
+    ensures { result ≡ pairs_joined 10000 fours }
 {
     let pairs = u64x2::from_le_bytes(fours.to_le_bytes()).to_array();
     [eight(pairs[0]), eight(pairs[1])]

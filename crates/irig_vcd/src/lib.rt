@@ -3,15 +3,19 @@
 
 mod apart;
 mod changes;
+mod choice;
 mod decimal;
 mod dump_reader;
+mod edge;
 mod event;
 mod extent;
 mod fault;
 mod header;
 mod journals;
 mod lanes;
+mod last_part;
 mod law;
+mod next_part;
 mod part;
 mod pending;
 mod progress;
@@ -21,11 +25,14 @@ mod reading;
 mod section;
 mod short;
 mod short_way;
+mod stages;
+mod stretch;
 mod time;
 mod timescale;
 mod token;
 mod trace;
 mod unit;
+mod values;
 mod variable;
 mod window;
 

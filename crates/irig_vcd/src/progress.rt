@@ -1,41 +1,40 @@
 //! How far a dump that comes in parts is read.
 //!
-//! A fault of the declarations may be there only because the dump is cut: so each of them is an
-//! inner error, `Ok(Err(..))`, which more of the dump may mend. An outer error, `Err(..)`, is a
-//! fault whatever comes, or that memory ran out; the caller gives up all of it then. The
-//! declarations are whole if the section that ends them is there.
+//! Bytes of the dump are held until enough of them are there, then read, and let go. The
+//! declarations come first; what is after them are the changes. The declarations are read as a
+//! whole: as long as the end of them is not there, all bytes stay held, and there is no unit yet.
+//! Then each reading goes on where the last one ended.
 //!
 //! In contracts, `HasReadWords` says that the declarations and the words after them are read, and
-//! `Stage` the same, or that nothing is read as there is no unit yet. `StopsAt` and `StopsIn` say
-//! that an error is the first fault after the declarations, or that memory ran out. `IsReady` and
-//! `IsOn` say that the clock fits the unit, or any unit as long as there is none. `short`: a dump
-//! in parts has at most 2^48 bytes, so no place overflows.
+//! `Stage` the same, or that nothing is read as there is no unit yet. `StopsAt` says that an error
+//! is the first fault after the declarations, or that memory ran out. `IsReady` and `IsOn` say that
+//! the clock fits the unit, or any unit as long as there is none. `short`: a dump in parts has at
+//! most 2^48 bytes, so no place overflows.
 //!
 //! Where `match` hands an error on, `?` would do the same; the proof of it takes longer.
 
-ghost use Rattle.std.specs.Prelude.{◌≡◌, ◌≤◌, ◌<◌, ◌+◌, ◌*◌, ◌++◌, ◌^◌, [], ℕ, List, Option, Some};
-ghost use Rattle.std.specs.Prelude.{None, Ok, Err, IfOk, IfErr, OnErr, OnOk, false, length, take};
+ghost use Rattle.std.specs.Prelude.{◌≡◌, ◌≤◌, ◌<◌, ◌+◌, ◌*◌, ◌++◌, ◌^◌, List, Some, None, Ok, Err};
+ghost use Rattle.std.specs.Prelude.{IfOk, IfErr, OnErr, OnOk, false, length, take};
 ghost use Rattle.std.specs.Prelude.{drop, vec_capacity, vec_len};
-ghost use Rattle.irig_vcd.specs.Code.DumpReader.{HasReadWords, IsNew, IsReady, Stage, StopsAt};
-ghost use Rattle.irig_vcd.specs.Code.DumpReader.{StopsIn};
+ghost use Rattle.irig_vcd.specs.Code.DumpReader.{HasReadWords, IsReady, Stage, StopsAt};
 ghost use Rattle.irig_vcd.specs.Words.{Word, words_from, words_of};
 ghost use Rattle.irig_vcd.specs.{Answer.bytes_of, Answer.name_of, Code.Gathered.part_at};
 ghost use Rattle.irig_vcd.specs.{Code.Gathered.so_far, Code.Journals.place_view, Code.Reached.IsOn};
 ghost use Rattle.irig_vcd.specs.{Declarations.declarations_of, declared.fault.VcdFault.VcdFault};
 
 use crate::fault::VcdFault;
-use crate::header::{Start, declarations};
 use crate::reading::Reading;
-use crate::token::Tokens;
+use crate::stages::{begin, go_on};
 use crate::unit::Unit;
 use std::alloc::AllocError;
 
-/// What was read of a dump, the bytes of its first journal so far, and the bytes that are held: the
-/// declarations so far, or the last word if no white space is after it.
+/// What was read of a dump, and the bytes that are held.
 ///
-/// `wire` is the name that was asked for. `unit` and `code` are what the declarations say; there is
-/// no unit until they are whole. `gone` counts the bytes that were read and are no longer held.
-/// `wanted` is how many bytes are to be held before they are read.
+/// `wire` is the name of the wire that was asked for. `unit` and `code` are what the declarations
+/// say; there is no unit until they are read. `reading` is what was read after them. `gone` counts
+/// the bytes that were read and are no longer held. `held` are the bytes after those. `wanted` is
+/// how many have to be held before they are read. `journal` are the bytes of the first journal, the
+/// comment that begins with `irig-journal-1`, among those that are gone.
 #[derive(Drop)]
 pub struct Progress {
     pub wire: Option<Vec<u8>>,
@@ -49,11 +48,15 @@ pub struct Progress {
 }
 
 impl Progress {
-    /// Reads the bytes that are held, up to the place `whole`, from 0, and returns the unit of the
-    /// dump. If there is no unit yet, it begins with the declarations (`begin`), else it continues
-    /// after what was read (`go_on`). The bytes stay held. The inner error is any fault of the
-    /// declarations: nothing is read then, since more of the dump may mend it or bring another
-    /// fault. The outer error is a fault whatever comes, or that memory ran out.
+    /// Reads the first `whole` of the bytes that are held, which stay held. If there is no unit
+    /// yet, they begin with the declarations (`begin`); else they are changes (`go_on`). One of
+    /// three answers:
+    ///
+    /// - `Ok(Ok(unit))`: they are read, and this is the unit of the dump's times;
+    /// - `Ok(Err(fault))`: there is no unit yet, the declarations have this fault, and nothing is
+    ///   read. With more bytes of the dump there may be another fault, or none;
+    /// - `Err(fault)`: a fault of the changes, which stays whatever comes, or memory ran out. The
+    ///   caller gives up.
     pub fn read_to(&mut self, whole: usize) -> Result<Result<Unit, VcdFault>, VcdFault>
         requires within { whole ≤ vec_len self.old.held }
         requires ready { IsReady self.old.unit self.old.reading }
@@ -97,7 +100,7 @@ impl Progress {
             }
             None => {
                 let part = &self.held[..whole];
-                let wire = name(&self.wire);
+                let wire = name_slice(&self.wire);
                 match begin(wire, &mut self.code, &mut self.reading, part) {
                     Ok(Ok(unit)) => {
                         self.unit = Some(unit);
@@ -109,10 +112,10 @@ impl Progress {
         }
     }
 
-    /// Adds to `journal` the bytes of the first journal among those that are held, up to the place
-    /// `whole`, from 0. These were read, and not yet gathered. Without a journal there nothing
-    /// changes. It fails only if memory runs out. `so_far` is the place of that journal in the
-    /// dump, and `within` what of it is held here.
+    /// Adds to `journal` the bytes of the first journal that are among the first `whole` bytes that
+    /// are held. Those were read just now (`read_to`), and are not let go yet. `so_far` gives the
+    /// place of the first journal in the dump, and `within` cuts it to these bytes. If there is no
+    /// journal, nothing changes. It fails only if memory runs out.
     pub fn gather(&mut self, whole: usize) -> Result<(), AllocError>
         requires within { whole ≤ vec_len self.old.held }
         requires short { self.old.gone + vec_len self.old.held ≤ 2 ^ 48 }
@@ -144,9 +147,9 @@ impl Progress {
         }
     }
 
-    /// Lets the first `count` of the held bytes go, which are read. `wanted` is then twice as many
-    /// bytes as stay: the reader waits for these, so that little is read again, however small the
-    /// parts are.
+    /// Lets the first `count` of the held bytes go: they were read. Sets `wanted` to twice as many
+    /// bytes as stay held. What stays is read again with the next bytes: so it is read only when
+    /// there are twice as many, however small the parts are.
     pub fn let_go(&mut self, count: usize)
         requires within { count ≤ vec_len self.old.held }
         requires short { self.old.gone + vec_len self.old.held ≤ 2 ^ 48 }
@@ -165,9 +168,9 @@ impl Progress {
     }
 }
 
-/// The name of the wire that was asked for, borrowed from where it is kept. `None` if none was
-/// asked for.
-fn name(wire: &Option<Vec<u8>>) -> Option<&[u8]>
+/// The name of the wire that was asked for, as a slice of the `Vec` that keeps it. `None` if none
+/// was asked for.
+fn name_slice(wire: &Option<Vec<u8>>) -> Option<&[u8]>
     ensures { name_of result ≡ bytes_of wire.now }
 {
     match wire {
@@ -176,7 +179,8 @@ fn name(wire: &Option<Vec<u8>>) -> Option<&[u8]>
     }
 }
 
-/// Drops the first `count` bytes; there are at least that many. The others move to the front.
+/// Removes the first `count` bytes, of which there are at least that many. The others move to the
+/// front.
 fn drop_front(bytes: &mut Vec<u8>, count: usize)
     requires { count ≤ vec_len bytes.old }
     ensures { bytes.new.items ≡ drop count bytes.old.items }
@@ -184,67 +188,4 @@ fn drop_front(bytes: &mut Vec<u8>, count: usize)
     let left = bytes.len() - count;
     bytes.copy_within(count.., 0);
     bytes.truncate(left);
-}
-
-/// Reads the declarations and what is after them in a part, the front of the dump: nothing was read
-/// before (`new`). Adds the code of the wire to `code`, which is empty, and returns the unit. The
-/// inner error is any fault of the declarations: nothing is read then, since more of the dump may
-/// mend it or bring another fault. The outer error is a fault whatever comes, or that memory ran
-/// out.
-fn begin(
-    wire: Option<&[u8]>,
-    code: &mut Vec<u8>,
-    reading: &mut Reading,
-    part: &[u8],
-) -> Result<Result<Unit, VcdFault>, VcdFault>
-    requires new { (unit : ℕ) → IsOn unit reading.old.trace reading.old.clock }
-    ensures read { IfOk result (λ read. IfOk read (λ unit. code.old.items ≡ [] → IsNew reading.old
-        → HasReadWords (name_of wire.entry) (words_of part.now) unit code.new.items
-        reading.new)) }
-    ensures extent { reading.new.trace.extent ≡ reading.old.trace.extent }
-    ensures time { IfOk result (λ read. IfOk read
-        (λ unit. IsOn unit reading.new.trace reading.new.clock)) }
-    ensures early { IfOk result (λ read. IfErr read (λ e.
-        (declarations_of (name_of wire.entry) (words_of part.now) ≡ Err e)
-        × (code.new ≡ code.old) × (reading.new ≡ reading.old))) }
-    ensures heading { (e : VcdFault)
-        → declarations_of (name_of wire.entry) (words_of part.now) ≡ Err e
-        → result ≡ Ok (Err e) }
-    ensures fault { IfErr result (λ e. IsNew reading.old
-        → StopsAt None code.old (name_of wire.entry) (words_of part.now) e) }
-{
-    let mut tokens = Tokens::new(part);
-    match declarations(&mut tokens, wire) {
-        Err(fault) => Ok(Err(fault)),
-        Ok(start) => {
-            reading.read(&mut tokens, start.unit, start.code)?;
-            code.extend_from_slice(start.code)?;
-            Ok(Ok(start.unit))
-        }
-    }
-}
-
-/// Reads a part that is after the declarations into `reading`. It comes after `gone` bytes of the
-/// dump, and ends where a word ends. An error is a fault whatever comes, or that memory ran out.
-fn go_on(
-    unit: Unit,
-    code: &[u8],
-    reading: &mut Reading,
-    part: &[u8],
-    gone: usize,
-) -> Result<(), VcdFault>
-    requires time { IsOn unit reading.old.trace reading.old.clock }
-    requires short { gone + length part.now ≤ 2 ^ 48 }
-    ensures extent { reading.new.trace.extent ≡ reading.old.trace.extent }
-    ensures time { OnOk result (IsOn unit reading.new.trace reading.new.clock) }
-    ensures read { OnOk result ((wire : Option (List ℕ)) (words : List Word)
-        → HasReadWords wire words unit code.now reading.old
-        → HasReadWords wire (words ++ words_from gone false part.now) unit code.now
-        reading.new) }
-    ensures fault { IfErr result (λ e. (wire : Option (List ℕ)) (words : List Word)
-        → HasReadWords wire words unit code.now reading.old
-        → StopsIn wire (words ++ words_from gone false part.now) e) }
-{
-    let mut tokens = Tokens::after(part, gone);
-    reading.read(&mut tokens, unit, code)
 }

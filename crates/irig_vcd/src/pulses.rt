@@ -1,11 +1,14 @@
-//! Pulses that are read in one step: a rise and a fall, each a time line and a level line, as
-//! `#120` and `1!`.
+//! Pulses that are read in one step: a rise and a fall, each the line of a time and the line of a
+//! level, as `#120` and `1!`.
 //!
-//! `code` is that of the wire that is read, a printable byte. `unit` is that of the dump's times: a
-//! microsecond or less. A clock is a time of the dump, cut in two: `whole` is in microseconds, and
-//! `rest` is what is left, in units. A stretch goes up to its `limit` in microseconds: its edges
-//! are kept, or none is in the window that is read. `tokens.at` is the place of the next byte;
-//! places are those of bytes in `source`, from 0.
+//! `code` is the byte by which the changes name the wire, here `!`. `unit` is that of the dump's
+//! times: a microsecond or less. A clock is a time of the dump, cut in two: `whole` is in
+//! microseconds, and `rest` is what is left, in units. `tokens.at` is the place of the next byte in
+//! the text `source`; places count from 0.
+//!
+//! The trace follows the level of the wire and keeps its edges. It gave the stretch, which goes up
+//! to its `limit`, a microsecond of the dump: on it the trace takes whole pulses. If `is_kept` is
+//! true, their edges are in the window that is read and are kept; if not, none of them is.
 //!
 //! In contracts, a scan `s` is what the words so far say. `IsTraced` says that clock and trace have
 //! its time and its changes, `Passes` that the tokens that are left lead on from there to the same
@@ -14,84 +17,30 @@
 //!
 //! Where `let .. else` hands `None` on, `?` would do the same; the proof of it takes longer.
 
-ghost use Rattle.std.specs.Prelude.{◌≡◌, ◌≤◌, ◌<◌, ◌+◌, ◌^◌, ◌∷◌, [], true, false, length};
-ghost use Rattle.std.specs.Prelude.{slice_index, IfSome, IfOk, OnErr};
+ghost use Rattle.std.specs.Prelude.{◌≡◌, ◌≤◌, ◌<◌, ◌+◌, ◌∷◌, [], true, false, length};
+ghost use Rattle.std.specs.Prelude.{IfSome, IfOk, OnErr};
 ghost use Rattle.irig_vcd.specs.Code.Along.{LiesOn, TakesEdge, at_micros};
 ghost use Rattle.irig_vcd.specs.Code.Scanned.{IsTraced, Passes};
 ghost use Rattle.irig_vcd.specs.{Scan.Scan, Scan.closed, Code.Time.IsTime, Words.is_code};
 
-use crate::lanes::lanes_end;
-use crate::time::{Clock, cut};
+use crate::edge::{Edge, edge_at};
+use crate::stretch::Stretch;
+use crate::time::Clock;
 use crate::token::Tokens;
-use crate::trace::{Stretch, Trace};
+use crate::trace::Trace;
 use crate::unit::Unit;
 use std::alloc::AllocError;
 
-/// If fewer bytes than these are left in the text, the slower way reads them. Two edges have at
-/// most 40: each a `#`, 15 digits, a newline, a value, a code and a newline. The rest is room to
-/// read sixteen bytes at once.
+/// If fewer bytes than these are left in the text, the slower way reads them. The two edges of a
+/// pulse have at most 40, each a `#`, 15 digits, a newline, a value, a code and a newline; the rest
+/// is room, since `edge_at` reads up to 32 bytes from an edge on.
 const LONGEST_PULSE: usize = 64;
-
-/// A time line and a level line: the time, and the place after both lines, in bytes from 0.
-#[derive(Clone, Copy)]
-pub struct Edge {
-    pub time: Clock,
-    pub end: usize,
-}
-
-/// Whether a newline, this value, this code and a newline are at the place `at`: the end of a time
-/// line, and a level line. The four bytes are compared as one number, which is fast.
-#[inline(always)]
-fn is_line(source: &[u8], at: usize, value: u8, code: u8) -> bool
-    requires { at + 4 ≤ length source.now }
-    ensures { result ≡ true
-        → (slice_index source.now at ≡ 10)
-        × (slice_index source.now (at + 1) ≡ value)
-        × (slice_index source.now (at + 2) ≡ code)
-        × (slice_index source.now (at + 3) ≡ 10) }
-{
-    let stands = u32::from_le_bytes([source[at], source[at + 1], source[at + 2], source[at + 3]]);
-    let line = u32::from_le_bytes([b'\n', value, code, b'\n']);
-    stands == line
-}
-
-/// The edge at a place, in bytes from 0: the line of a time, and the line that gives this code this
-/// level (`high`). `None` if something else is there, also a time without digits or with more than
-/// 15: `lanes_end` then ends where it began.
-///
-/// The unit says how many of the last digits are below a microsecond: they are the clock's `rest`,
-/// the others its `whole`. The place is 16 or more, since `lanes_end` also reads bytes before it.
-/// An edge has at most 20 bytes, so the 32 from the place on (`room`) are enough.
-#[inline(always)]
-fn edge_at(source: &[u8], at: usize, high: bool, code: u8, unit: Unit) -> Option<Edge>
-    requires back { 16 ≤ at }
-    requires room { at + 32 ≤ length source.now }
-    requires dark { is_code (code ∷ []) ≡ true }
-    ensures { IfSome result (λ e. TakesEdge source.now at high code unit e) }
-{
-    if source[at] != b'#' {
-        return None;
-    }
-    let (end, number) = lanes_end(source, at + 1);
-    if end == at + 1 {
-        return None;
-    }
-    let value = if high { b'1' } else { b'0' };
-    if !is_line(source, end, value, code) {
-        return None;
-    }
-    let (whole, rest) = cut(unit.digits_below(), number);
-    Some(Edge {
-        time: Clock { whole, rest },
-        end: end + 4,
-    })
-}
 
 /// The pulse at the place `at`: its rise and its fall. `None` if these two edges are not there
 /// (`edge_at`), if the rise is not in a later microsecond than `after`, if the fall is not in a
-/// later one than the rise, or if the fall is after `limit`. `after` and `limit` are microseconds
-/// of the dump. `edge_at` needs 16 bytes before each edge, and 32 from it on: the 64 from `at` on
-/// suffice.
+/// later one than the rise, or if the fall is after `limit`; at `limit` it may be. `after` and
+/// `limit` are microseconds of the dump. `edge_at` needs 16 bytes before each edge (`back`), and 32
+/// from it on: the 64 from `at` on suffice for both (`room`).
 #[inline(always)]
 fn pulse_at(
     source: &[u8],
@@ -122,13 +71,82 @@ fn pulse_at(
     Some((rise, fall))
 }
 
-/// Takes the pulses here, after the time `from`, into the trace, and returns the time of the last
-/// fall, or `from` if none is taken. It stops at what is no pulse, at an edge that is not in a
-/// later microsecond than the one before it, at a fall after the limit of the stretch, if fewer
-/// than 64 bytes are left, and if no more edges can be kept. `pulse_at` reads up to sixteen bytes
-/// before a place, so nothing is taken in the first sixteen. It fails only if memory runs out.
+/// Takes the pulses that come next into the trace, and returns the time of the last fall, or `from`
+/// if none is taken. `from` is the time before them; `take_in_unit` says where it stops. A unit of
+/// a microsecond (9) or a nanosecond (6) is passed on as a constant: then the compiler knows by
+/// which number the times are cut, which is faster. It fails only if memory runs out. Never
+/// inlined, for speed: so its state stays in registers of the machine.
+#[inline(never)]
+pub fn take_pulses(
+    tokens: &mut Tokens,
+    code: u8,
+    unit: Unit,
+    from: Clock,
+    trace: &mut Trace,
+    stretch: Stretch,
+) -> Result<Clock, AllocError>
+    requires unit { unit ≤ 9 }
+    requires dark { is_code (code ∷ []) ≡ true }
+    requires here { LiesOn stretch trace.old }
+    requires late { trace.old.time ≤ from.whole }
+    requires time { IsTime unit from }
+    ensures passes { IfOk result (λ now. (s : Scan) → s.opened ≡ closed
+        → IsTraced unit s trace.old from
+        → Passes (code ∷ []) unit s tokens.old trace.new now tokens.new) }
+    ensures fewer { length tokens.new ≤ length tokens.old }
+    ensures extent { trace.new.extent ≡ trace.old.extent }
+    ensures kept { OnErr result (stretch.is_kept ≡ true) }
+{
+    if unit.is_microsecond() {
+        let whole = take_in_micros(tokens, code, from.whole, trace, stretch)?;
+        return Ok(Clock { whole, rest: 0 });
+    }
+    if unit.is_nanosecond() {
+        return take_in_unit(tokens, code, Unit::new(6), from, trace, stretch);
+    }
+    take_in_unit(tokens, code, unit, from, trace, stretch)
+}
+
+/// What `take_pulses` does if the unit is the microsecond: `from` and the result are whole
+/// microseconds, since such a time has no rest. Never inlined, as `take_pulses`.
+#[inline(never)]
+fn take_in_micros(
+    tokens: &mut Tokens,
+    code: u8,
+    from: u64,
+    trace: &mut Trace,
+    stretch: Stretch,
+) -> Result<u64, AllocError>
+    requires dark { is_code (code ∷ []) ≡ true }
+    requires here { LiesOn stretch trace.old }
+    requires late { trace.old.time ≤ from }
+    ensures passes { IfOk result (λ time. (s : Scan) → s.opened ≡ closed
+        → IsTraced 9 s trace.old (at_micros from)
+        → Passes (code ∷ []) 9 s tokens.old trace.new (at_micros time) tokens.new) }
+    ensures fewer { length tokens.new ≤ length tokens.old }
+    ensures extent { trace.new.extent ≡ trace.old.extent }
+    ensures kept { OnErr result (stretch.is_kept ≡ true) }
+{
+    let from = Clock {
+        whole: from,
+        rest: 0,
+    };
+    let clock = take_in_unit(tokens, code, Unit::new(9), from, trace, stretch)?;
+    Ok(clock.whole)
+}
+
+/// What `take_pulses` does, with any unit of at most a microsecond: the loop over the pulses. It
+/// stops at the first place where
+///
+/// - no pulse is (`pulse_at`), or an edge is in no later microsecond than the one before it;
+/// - the fall is after the limit of the stretch;
+/// - fewer than 64 bytes are left (`LONGEST_PULSE`);
+/// - edges are kept, and the trace has no room for two more.
+///
+/// `pulse_at` also reads the 16 bytes before a place, so in the first 16 nothing is taken. What is
+/// not taken here is read in the slower way.
 #[inline(always)]
-fn pulses_in(
+fn take_in_unit(
     tokens: &mut Tokens,
     code: u8,
     unit: Unit,
@@ -168,70 +186,4 @@ fn pulses_in(
     }
     tokens.at = at;
     Ok(clock)
-}
-
-/// Takes the pulses here as `pulses_in` does, of a dump whose unit is the microsecond: after the
-/// time `from`, into the trace. Returns the time of the last fall, or `from` if none is taken; both
-/// are in microseconds. It fails only if memory runs out. A function of its own for speed: its
-/// state stays in registers of the machine.
-#[inline(never)]
-fn pulses_in_micros(
-    tokens: &mut Tokens,
-    code: u8,
-    from: u64,
-    trace: &mut Trace,
-    stretch: Stretch,
-) -> Result<u64, AllocError>
-    requires dark { is_code (code ∷ []) ≡ true }
-    requires here { LiesOn stretch trace.old }
-    requires late { trace.old.time ≤ from }
-    ensures passes { IfOk result (λ time. (s : Scan) → s.opened ≡ closed
-        → IsTraced 9 s trace.old (at_micros from)
-        → Passes (code ∷ []) 9 s tokens.old trace.new (at_micros time) tokens.new) }
-    ensures fewer { length tokens.new ≤ length tokens.old }
-    ensures extent { trace.new.extent ≡ trace.old.extent }
-    ensures kept { OnErr result (stretch.is_kept ≡ true) }
-{
-    let from = Clock {
-        whole: from,
-        rest: 0,
-    };
-    let clock = pulses_in(tokens, code, Unit::new(9), from, trace, stretch)?;
-    Ok(clock.whole)
-}
-
-/// Takes the pulses here, after the time `from`, into the trace, and returns the time of the last
-/// fall, or `from` if none is taken (`pulses_in` says when it stops). A unit of a microsecond (9)
-/// or a nanosecond (6) is passed on as a constant: then the compiler knows by which number the
-/// times are cut, which is faster. It fails only if memory runs out. A function of its own for
-/// speed, as `pulses_in_micros` is.
-#[inline(never)]
-pub fn pulses(
-    tokens: &mut Tokens,
-    code: u8,
-    unit: Unit,
-    from: Clock,
-    trace: &mut Trace,
-    stretch: Stretch,
-) -> Result<Clock, AllocError>
-    requires unit { unit ≤ 9 }
-    requires dark { is_code (code ∷ []) ≡ true }
-    requires here { LiesOn stretch trace.old }
-    requires late { trace.old.time ≤ from.whole }
-    requires time { IsTime unit from }
-    ensures passes { IfOk result (λ now. (s : Scan) → s.opened ≡ closed
-        → IsTraced unit s trace.old from
-        → Passes (code ∷ []) unit s tokens.old trace.new now tokens.new) }
-    ensures fewer { length tokens.new ≤ length tokens.old }
-    ensures extent { trace.new.extent ≡ trace.old.extent }
-    ensures kept { OnErr result (stretch.is_kept ≡ true) }
-{
-    if unit.is_microsecond() {
-        let whole = pulses_in_micros(tokens, code, from.whole, trace, stretch)?;
-        return Ok(Clock { whole, rest: 0 });
-    }
-    if unit.is_nanosecond() {
-        return pulses_in(tokens, code, Unit::new(6), from, trace, stretch);
-    }
-    pulses_in(tokens, code, unit, from, trace, stretch)
 }

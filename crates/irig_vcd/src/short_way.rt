@@ -1,11 +1,13 @@
-//! The tokens of a wire's changes that are taken in one step.
+//! The short way: tokens of a wire's changes that are read in one step, which is fast.
 //!
-//! A token is a word of the dump, a run of bytes without white space. A clock is a time of the
-//! dump, in its unit. The trace follows the level of the wire and keeps its edges. A code, by which
-//! the changes name a wire, is plain if it has 1 to 18 printable bytes. `is_quick` says that whole
-//! pulses are taken in one step. A stretch of the trace is how far that may go. All else is left to
-//! the way for any token, which is slower. `tokens` holds the tokens that are left: what is taken
-//! is removed from it.
+//! A token is a word of the dump, a run of bytes without white space. The short way takes a time, a
+//! value of one bit and a whole pulse, as most dumps write them. All else is left to the way for
+//! any token, which is slower (`take` of `changes`). `tokens` holds the tokens that are left: what
+//! is taken is removed from it.
+//!
+//! `code` is that of the wire that is read; it is plain if it has 1 to 18 printable bytes. A clock
+//! is a time of the dump, in its unit. The trace follows the level of the wire and keeps its edges;
+//! a stretch of it says how far whole pulses may be taken, and whether their edges are kept.
 //!
 //! In contracts, `end` is where all words of the changes lead: what they say, and their first fault
 //! or none. `Leads` says that the tokens that are left lead there; `Scans` and `Puts` that they
@@ -24,7 +26,7 @@ ghost use Rattle.irig_vcd.specs.{declared.journals.Journals.Journals};
 ghost use Rattle.irig_vcd.specs.{declared.pending.Pending.Pending};
 
 use crate::fault::VcdFault;
-use crate::pulses::pulses;
+use crate::pulses::take_pulses;
 use crate::short::{LONGEST_CODE, Short};
 use crate::time::{Clock, micros, number_time};
 use crate::token::Tokens;
@@ -33,7 +35,8 @@ use crate::unit::Unit;
 use crate::variable::is_code;
 use std::alloc::AllocError;
 
-/// Whether a code has 1 to 18 printable bytes, from `!` to `~`.
+/// Whether a code is plain: it has 1 to 18 printable bytes, from `!` to `~`. Then the short way
+/// takes values on it.
 pub fn is_plain(code: &[u8]) -> bool
     ensures some { result ≡ true → 0 < length code.now }
     ensures few { result ≡ true → length code.now ≤ 18 }
@@ -42,8 +45,8 @@ pub fn is_plain(code: &[u8]) -> bool
     !code.is_empty() && code.len() <= LONGEST_CODE && is_code(code)
 }
 
-/// Whether whole pulses may be taken in one step: if the unit is a microsecond or less, and the
-/// code is plain and of one byte. `is_plain` is what the function of this name says of the code.
+/// Whether the short way takes whole pulses: the unit is a microsecond or less, and the code is
+/// plain and of one byte. `is_plain` is what the function of this name says of the code.
 pub fn is_quick(is_plain: bool, unit: Unit, code: &[u8]) -> bool
     ensures plain { result ≡ true → is_plain ≡ true }
     ensures unit { result ≡ true → unit ≤ 9 }
@@ -52,11 +55,12 @@ pub fn is_quick(is_plain: bool, unit: Unit, code: &[u8]) -> bool
     is_plain && unit.divides_microsecond() && code.len() == 1
 }
 
-/// Takes the tokens here that are taken in one step, up to the first that is not, and returns the
-/// time after them. `from` is the time before them. A time sets the clock; a value on the code goes
-/// into the trace, with the pulses after it; a value on another code (`Apart`) is only passed. An
-/// error is `Backward` or `TimeTooLarge` for a time before the last or too late, or `OutOfMemory`.
-/// `is_plain` and `is_quick` are what the functions of these names say: the caller asks them once.
+/// Takes the tokens that come next, as long as the short way takes them, and returns the time after
+/// them; `from` is the time before them. A time sets the clock; a value on the code goes into the
+/// trace, with the pulses after it (`take_bit`); a value on another code (`Apart`) is passed over.
+/// At any other token (`Other`) it stops. An error is `Backward` for a time before the last one,
+/// `TimeTooLarge` for one above 2^40 microseconds, or `OutOfMemory`. `is_plain` and `is_quick` are
+/// what the functions of these names say: the caller asks them once.
 #[inline(always)]
 pub fn follow_short(
     is_plain: bool,
@@ -99,7 +103,8 @@ pub fn follow_short(
     }
 }
 
-/// Whether a number sign, with which a time begins, is at a place; false at the end of the text.
+/// Whether a number sign (`#`), with which a time begins, is at a place, from 0; false at the end
+/// of the text.
 #[inline(always)]
 fn has_sign(source: &[u8], at: usize) -> bool
     ensures { result ≡ true ↔ (at < length source.now) × (slice_index source.now at ≡ 35) }
@@ -107,12 +112,12 @@ fn has_sign(source: &[u8], at: usize) -> bool
     at < source.len() && source[at] == b'#'
 }
 
-/// Takes the whole pulses that come next, each in one step (`pulses`), and returns the time after
-/// them, or `clock` if it takes none. It takes none if `is_quick` is false; if the level is not
-/// low; if no number sign is next, with which the time of a pulse begins; or if the trace has no
-/// stretch. The next change then goes the usual way. It fails only if memory runs out.
+/// Takes the whole pulses that come next (`take_pulses`), and returns the time of the last fall, or
+/// `clock` if it takes none. It takes none if `is_quick` is false; if the level is high; if no
+/// number sign is next, with which the time of a pulse begins; or if the trace has no stretch. It
+/// fails only if memory runs out.
 #[inline(always)]
-fn ahead(
+fn take_ahead(
     is_quick: bool,
     tokens: &mut Tokens,
     unit: Unit,
@@ -137,15 +142,15 @@ fn ahead(
         let Some(stretch) = trace.stretch() else {
             return Ok(clock);
         };
-        let now = pulses(tokens, code[0], unit, clock, trace, stretch)?;
+        let now = take_pulses(tokens, code[0], unit, clock, trace, stretch)?;
         return Ok(now);
     }
     Ok(clock)
 }
 
-/// Takes a value on the code, which was read in one step: the trace gets its level (`high`) at the
-/// time `clock`. Then takes the pulses after it (`ahead`), and returns the time of the last fall,
-/// or `clock` if none is taken. It fails only if memory runs out.
+/// Takes a value on the code, which was read just now: the trace gets its level (`high`) at the
+/// time `clock`. Then takes the pulses after it (`take_ahead`), and returns the time of the last
+/// fall, or `clock` if none is taken. It fails only if memory runs out.
 #[inline(always)]
 fn take_bit(
     high: bool,
@@ -171,7 +176,7 @@ fn take_bit(
     ensures extent { trace.new.extent ≡ trace.old.extent }
 {
     match trace.put(micros(unit, clock), high) {
-        Ok(()) => ahead(is_quick, tokens, unit, code, clock, trace),
+        Ok(()) => take_ahead(is_quick, tokens, unit, code, clock, trace),
         Err(fault) => Err(fault),
     }
 }

@@ -3,8 +3,8 @@ use Rattle.std.specs.Prelude.{◌≡◌, ◌≤◌, ◌<◌, ◌+◌, ◌-◌, �
 use Rattle.std.specs.Prelude.{drop, if◌then◌else◌}
 use Rattle.irig_vcd.specs.Words.{Word, words_from, rest_of, hash, scalar}
 use Rattle.irig_vcd.specs.{Digits.is_number, Digits.number_from, declared.trace.Trace.Trace}
-use Rattle.irig_vcd.specs.{Code.Time.units_of, declared.pulses.Edge.Edge, declared.time.Clock.Clock}
-use Rattle.irig_vcd.specs.{Extent.most_pulses, Window.moved, declared.trace.Stretch.Stretch}
+use Rattle.irig_vcd.specs.{Code.Time.units_of, declared.edge.Edge.Edge, declared.time.Clock.Clock}
+use Rattle.irig_vcd.specs.{Extent.most_pulses, Window.moved, declared.stretch.Stretch.Stretch}
 use Rattle.irig_recording.specs.Recording.{is_even_long}
 
 -- a time in whole microseconds

@@ -2,10 +2,10 @@
 use Rattle.std.specs.Prelude.{◌%◌, ◌+◌, ◌*◌, ℕ, Bool, List, [], ◌∷◌, nat_le}
 
 -- two digits a number, the first one counting most
-abbrev pub joined : ℕ → List ℕ → List ℕ
-joined base [] = []
-joined base (a ∷ []) = []
-joined base (a ∷ b ∷ digits) = (base * a + b) ∷ joined base digits
+abbrev pub pairs_joined : ℕ → List ℕ → List ℕ
+pairs_joined base [] = []
+pairs_joined base (a ∷ []) = []
+pairs_joined base (a ∷ b ∷ digits) = (base * a + b) ∷ pairs_joined base digits
 
 -- a byte shows no digit, as it is taken from that of 0
 abbrev pub shows_none : ℕ → Bool

@@ -4,7 +4,7 @@ use Rattle.irig_vcd.specs.{Answer.◌>>=◌, Code.Section.section_words, Scales.
 use Rattle.irig_vcd.specs.{declared.fault.VcdFault.VcdFault, declared.timescale.Joined.Joined}
 
 -- a text holds all of what was joined, or says that it is too long
-pub record Holds (all : List ℕ) (text : Joined) : Type 0 where
+pub record HoldsText (all : List ℕ) (text : Joined) : Type 0 where
   pub within : text.len ≤ 5
   pub room : length text.bytes ≡ 5
   pub same : text.fits ≡ true → take text.len text.bytes ≡ all

@@ -3,7 +3,7 @@ use Rattle.std.specs.Prelude.{◌≡◌, ◌≤◌, ◌<◌, ℕ, Bool, true, Li
 use Rattle.std.specs.List.{AllByRecursion}
 use Rattle.irig_vcd.specs.{Level.Change, Level.change, Level.level_by_changes, Level.level_before}
 use Rattle.irig_vcd.specs.{Level.edges_below, Level.edges_up_to, declared.fault.VcdFault.VcdFault}
-use Rattle.irig_vcd.specs.{Answer.IsFaultOf, declared.changes.Body.Body, declared.trace.Trace.Trace}
+use Rattle.irig_vcd.specs.{Answer.IsFaultOf, declared.reading.Body.Body, declared.trace.Trace.Trace}
 use Rattle.irig_vcd.specs.{Extent.most_pulses, Window.moved, Window.within}
 use Rattle.irig_vcd.specs.declared.extent.Extent.{Extent}
 use Rattle.irig_recording.specs.Edges.{edges_kept}

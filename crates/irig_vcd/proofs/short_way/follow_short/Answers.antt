@@ -1,11 +1,11 @@
 use Rattle.std.proofs.Common.{◌≡◌, ◌∙◌, ◌≤◌, Bool, ℕ, List, inl, inr, Ok, Err, length, ap, sym, arith}
-use Rattle.irig_vcd.specs.{Code.Short.Takes, Code.Time.units_of, Times.time_of, Words.Word, Words.rest_of, declared.short.Short.Short}
+use Rattle.irig_vcd.specs.{Code.Short.TakesShort, Code.Time.units_of, Times.time_of, Words.Word, Words.rest_of, declared.short.Short.Short}
 use Rattle.irig_vcd.specs.declared.short.Short.TheVariants as short
 use Rattle.irig_vcd.proofs.ScanSteps.{leads_apart, leads_as, leads_time, on_later}
 use Rattle.irig_vcd.proofs.short_way.follow_short.Goals as goal
 
 -- no word is added
-fewer_left : (old new : List Word) (code : List ℕ) (plain : Bool) (s : Short) → Takes old new code plain s → length new ≤ length old
+fewer_left : (old new : List Word) (code : List ℕ) (plain : Bool) (s : Short) → TakesShort old new code plain s → length new ≤ length old
 fewer_left old new code plain (short.Time n) h = omega (arith, ap length h.left)
 fewer_left old new code plain (short.Bit high) h = omega (arith, ap length h.1.left)
 fewer_left old new code plain short.Apart (inl h) = omega (arith, ap length h.left)

@@ -13,12 +13,13 @@ returns-in-Ok-clause-time c =
     let put = c.in-Ok.ensures in
     let on = on_put c.args.unit c.args.trace.now c.put.new.self c.args.clock c.micros.result c.args.high c.requires.time
     c.micros.ensures.value put.time put.ok in
-    on_passed c.ahead.result c.args.code.now c.args.unit c.put.new.self c.ahead.new.trace c.args.clock c.args.tokens.now c.ahead.new.tokens on
-    c.ahead.ensures.passes
+    on_passed c.take_ahead.result c.args.code.now c.args.unit c.put.new.self c.take_ahead.new.trace c.args.clock c.args.tokens.now c.take_ahead.new.tokens on
+    c.take_ahead.ensures.passes
 
 pub returns-in-Ok-clause-scans : goal.returns-in-Ok-clause-scans
 returns-in-Ok-clause-scans c = λ words end j p takes l.
     let put = c.in-Ok.ensures in
-    puts_passed c.ahead.result c.args.code.now c.args.unit end c.put.new.self c.ahead.new.trace c.args.clock j p c.args.tokens.now c.ahead.new.tokens
-    c.ahead.ensures.passes c.ahead.ensures.memory (put_bit c.args.code.now c.args.unit end c.args.trace.now c.put.new.self c.args.clock j p
+    puts_passed c.take_ahead.result c.args.code.now c.args.unit end c.put.new.self c.take_ahead.new.trace c.args.clock j p
+    c.args.tokens.now c.take_ahead.new.tokens
+    c.take_ahead.ensures.passes c.take_ahead.ensures.memory (put_bit c.args.code.now c.args.unit end c.args.trace.now c.put.new.self c.args.clock j p
     words c.args.tokens.now c.args.high c.micros.result c.requires.some takes c.micros.ensures.value put.time put.ok l)

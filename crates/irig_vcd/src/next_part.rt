@@ -1,0 +1,88 @@
+//! The next part of a dump that comes in parts: it is held, and read when enough bytes are held.
+//!
+//! `progress` is what was read so far, and the bytes that are held. Its `wanted` says how many have
+//! to be held before they are read: so the same bytes are not read again for each small part. The
+//! declarations come first in a dump, and are read as a whole.
+//!
+//! In contracts, `HasRead` says which bytes of the dump came so far, `IsReader` that clock and
+//! counts are within their bounds, and `extent_parts` is what the dump says: a result, or a fault.
+//!
+//! Where `match` hands an error on, `?` would do the same; the proof of it takes longer.
+
+ghost use Rattle.std.specs.Prelude.{◌≡◌, ◌≤◌, ◌<◌, ◌+◌, ◌*◌, ◌++◌, ◌^◌, ◌⊎◌, ℕ, List, Option, Err};
+ghost use Rattle.std.specs.Prelude.{IfErr, OnOk, length, vec_capacity, vec_len};
+ghost use Rattle.irig_vcd.specs.Answer.{IsFaultOf};
+ghost use Rattle.irig_vcd.specs.Code.DumpReader.{HasRead, IsReader, bytes_read};
+ghost use Rattle.irig_vcd.specs.Code.NextPart.{HasReadEnough, IsReadUp, TakesMemory};
+ghost use Rattle.irig_vcd.specs.declared.fault.VcdFault.TheVariants.{OutOfMemory};
+ghost use Rattle.irig_vcd.specs.{Window.extent_parts};
+
+use crate::fault::VcdFault;
+use crate::part::whole_len;
+use crate::progress::Progress;
+
+/// Holds the next part of the dump. If `wanted` bytes or more are held then, they are read
+/// (`read_held`); else it fails only if memory runs out. `short`: with this part the dump has at
+/// most 2^48 bytes so far, which `has_room` of the reader tests.
+pub fn put_part(progress: &mut Progress, part: &[u8]) -> Result<(), VcdFault>
+    requires reader { IsReader progress.old }
+    requires short { bytes_read progress.old + length part.now ≤ 2 ^ 48 }
+    ensures reader { OnOk result (IsReader progress.new) }
+    ensures read { OnOk result ((wire : Option (List ℕ)) (bytes : List ℕ)
+        → HasRead wire bytes progress.old → HasRead wire (bytes ++ part.now) progress.new) }
+    ensures length { OnOk result
+        (bytes_read progress.new ≡ bytes_read progress.old + length part.now) }
+    ensures fault { IfErr result (λ e. (wire : Option (List ℕ)) (bytes more : List ℕ)
+        → HasRead wire bytes progress.old
+        → IsFaultOf e (extent_parts progress.old.reading.trace.extent wire
+        ((bytes ++ part.now) ++ more))) }
+    ensures memory { result ≡ Err OutOfMemory
+        → (wire : Option (List ℕ)) (bytes : List ℕ) → HasRead wire bytes progress.old
+        → (vec_capacity progress.old.held < vec_len progress.old.held + length part.now)
+        ⊎ TakesMemory wire progress.old.unit progress.old.code progress.old.journal
+        (bytes ++ part.now) }
+    ensures enough { OnOk result (HasReadEnough progress.old.wanted progress.new) }
+    ensures extent { progress.new.reading.trace.extent ≡ progress.old.reading.trace.extent }
+{
+    progress.held.extend_from_slice(part)?;
+    if progress.held.len() < progress.wanted {
+        return Ok(());
+    }
+    read_held(progress)
+}
+
+/// Reads the bytes that are held, but for a last word that may go on in the next part
+/// (`whole_len`). `Ok(Ok(_))` of `read_to`: they are read. What of them is of the first journal is
+/// kept (`gather`), and they are let go. `Ok(Err(_))`: nothing is read, as the declarations have a
+/// fault, which may be there only because they are cut. All bytes stay held, and `let_go(0)` sets
+/// `wanted` to twice as many. `Err`: a fault of the changes, or memory ran out.
+fn read_held(progress: &mut Progress) -> Result<(), VcdFault>
+    requires reader { IsReader progress.old }
+    ensures reader { OnOk result (IsReader progress.new) }
+    ensures read { OnOk result ((wire : Option (List ℕ)) (bytes : List ℕ)
+        → HasRead wire bytes progress.old → HasRead wire bytes progress.new) }
+    ensures length { OnOk result (bytes_read progress.new ≡ bytes_read progress.old) }
+    ensures held { OnOk result (IsReadUp progress.new.unit progress.new) }
+    ensures extent { progress.new.reading.trace.extent ≡ progress.old.reading.trace.extent }
+    ensures wanted { OnOk result (progress.new.wanted ≡ 2 * vec_len progress.new.held) }
+    ensures fault { IfErr result (λ e. (wire : Option (List ℕ)) (bytes more : List ℕ)
+        → HasRead wire bytes progress.old
+        → IsFaultOf e (extent_parts progress.old.reading.trace.extent wire (bytes ++ more))) }
+    ensures memory { result ≡ Err OutOfMemory
+        → (wire : Option (List ℕ)) (bytes : List ℕ) → HasRead wire bytes progress.old
+        → TakesMemory wire progress.old.unit progress.old.code progress.old.journal bytes }
+{
+    let whole = whole_len(progress.held.as_slice());
+    match progress.read_to(whole) {
+        Ok(Ok(_)) => {
+            progress.gather(whole)?;
+            progress.let_go(whole);
+            Ok(())
+        }
+        Ok(Err(_)) => {
+            progress.let_go(0);
+            Ok(())
+        }
+        Err(fault) => Err(fault),
+    }
+}
