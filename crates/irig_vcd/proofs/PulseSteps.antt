@@ -5,7 +5,7 @@ use Rattle.std.specs.List.{list_all}
 use Rattle.std.proofs.lemmas.List.{length-append}
 use Rattle.irig_vcd.specs.Code.Along.{TakesEdge, at_micros}
 use Rattle.irig_vcd.specs.Words.{Word, words_from, before_space, is_space, is_code, kind_of_byte, hash, scalar, rest_of}
-use Rattle.irig_vcd.specs.{Answer.◌>>=◌, Code.Part.moved, Code.Scanned.IsTraced, Code.Scanned.Passes, Code.Time.units_of, Code.Time.IsTime, Code.Trace.Follows, Code.Trace.Traces}
+use Rattle.irig_vcd.specs.{Answer.◌>>=◌, Code.Part.moved_word, Code.Scanned.IsTraced, Code.Scanned.Passes, Code.Time.units_of, Code.Time.IsTime, Code.Trace.Follows, Code.Trace.Traces}
 use Rattle.irig_vcd.specs.{Digits.is_digit, Digits.number_from, Level.Change, Level.change, Scan.Scan, Scan.closed, Scan.given, Scan.scan_words}
 use Rattle.irig_vcd.specs.{Extent.most_pulses, Times.micros_of, declared.edge.Edge.Edge, declared.time.Clock.Clock, declared.trace.Trace.Trace}
 use Rattle.irig_recording.specs.Edges.{edges_kept}
@@ -38,7 +38,7 @@ pulse_put cs old new extent rise fall was fallen room first second added time be
 
 -- the words of a text at a place, at their places in the dump
 abbrev pub words_here : ℕ → List ℕ → ℕ → List Word
-words_here base s at = map (moved base) (words_from at false (drop at s))
+words_here base s at = map (moved_word base) (words_from at false (drop at s))
 
 -- an edge is two words
 on_edge : (base code unit : ℕ) (last : Clock) (s : List ℕ) (at : ℕ) (high : Bool) (e : Edge) (from : Scan)
@@ -50,22 +50,22 @@ on_edge : (base code unit : ℕ) (last : Clock) (s : List ℕ) (at : ℕ) (high 
 on_edge base code unit last s at high e from fine k was is none lt top =
     let ws = words_here base s e.end in
     let now = units_of unit e.time in
-    let sign = moved base k.sign in
-    let level = moved base k.level in
+    let sign = moved_word base k.sign in
+    let level = moved_word base k.level in
     let mid : Scan = record from { last = now } in
     let time = fine_time unit e.time fine top k.rest in
     let read = later_read unit last e.time (rest_of k.sign.bytes) (base + k.sign.offset) (shown_time unit (rest_of k.sign.bytes) e.time top k.rest k.digits k.value) was time lt in
     let one = own (code ∷ []) unit from sign hash none k.is_hash ∙ rw (sym is, read) refl in
     let two = own (code ∷ []) unit mid level scalar none k.is_scalar
     ∙ ap (λ r. r >>= λ l. Ok (given unit mid l)) (bit_level high (code ∷ []) level (omega arith) k.bytes) in
-    ap (λ (l : List Word). scan_words (code ∷ []) unit from (map (moved base) l)) k.left
+    ap (λ (l : List Word). scan_words (code ∷ []) unit from (map (moved_word base) l)) k.left
     ∙ (one_word (code ∷ []) unit from mid sign (level ∷ ws) one ∙ (one_word (code ∷ []) unit mid (given unit mid (Some high)) level ws two
     ∙ ap (λ t. scan_words (code ∷ []) unit (record from { last = now; changes = from.changes ++ change t high ∷ []; opened = closed }) ws)
     (micros_fine unit e.time fine time)))
 
 pub fewer_left : (base : ℕ) (s : List ℕ) (at : ℕ) (high : Bool) (code unit : ℕ) (e : Edge) → TakesEdge s at high code unit e
     → length (words_here base s e.end) ≤ length (words_here base s at)
-fewer_left base s at high code unit e k = let long = ap (λ (l : List Word). length (map (moved base) l)) k.left in omega (arith, long)
+fewer_left base s at high code unit e k = let long = ap (λ (l : List Word). length (map (moved_word base) l)) k.left in omega (arith, long)
 
 -- reading continues by a pulse
 pub passes_pulse : (base code unit : ℕ) (from : Clock) (old new : Trace) (s : List ℕ) (at : ℕ) (rise fall : Edge) (was : Scan)

@@ -31,7 +31,7 @@ use crate::unit::Unit;
 /// - `Ok(Err(fault))`: the declarations have this fault. Nothing is read, since the cause may be
 ///   that the dump is cut here: with more bytes there may be another fault, or none;
 /// - `Err(fault)`: a fault of the changes, which stays whatever comes, or memory ran out.
-fn begin(
+pub fn begin(
     wire: Option<&[u8]>,
     code: &mut Vec<u8>,
     reading: &mut Reading,
@@ -67,7 +67,7 @@ fn begin(
 /// Reads a part that is after the declarations: its changes go into `reading`. `gone` bytes of the
 /// dump are before it. An error is a fault of the changes, which stays whatever comes, or that
 /// memory ran out.
-fn go_on(
+pub fn go_on(
     unit: Unit,
     code: &[u8],
     reading: &mut Reading,
