@@ -2,10 +2,13 @@
 //!
 //! A dump names each wire by a code, a short text after each value. `code` is that of the wire that
 //! is read; a value on another code, one "apart", says nothing of it. `source` is text of the dump;
-//! places are those of bytes in it, from 0. `false` or `None` says only that nothing is taken here:
-//! the way for any token, which is slower, then reads what is there. In contracts, `words_from` are
-//! the words of bytes that begin at a place: `false` says that the byte before is not of a word,
-//! `true` that its word goes on there. `Takes..` says which word was taken of them.
+//! places are those of bytes in it, from 0. A byte is dark if it is above 32, a space: white space
+//! is never dark, and all bytes of words are dark but for a few that are rare. What is not taken
+//! here (`false` or `None`) is read by the way for any token, which is slower.
+//!
+//! In contracts, `words_from` are the words of bytes that begin at a place: `false` says that the
+//! byte before is not of a word, `true` that its word goes on there. `Takes..` says which word was
+//! taken of them.
 
 ghost use Rattle.std.specs.Prelude.{◌≡◌, ◌≤◌, ◌<◌, ◌+◌, ◌∷◌, ◌↔◌, [], true, false, length, drop};
 ghost use Rattle.std.specs.Prelude.{◌⊎◌, ℕ, map, slice_index, IfSome};
@@ -15,7 +18,7 @@ ghost use Rattle.irig_vcd.specs.{Code.Lanes.is_low, Words.words_from, Words.kind
 
 use std::simd::prelude::*;
 
-/// Whether a code is this byte alone.
+/// Whether a code has one byte, and it is this one.
 #[inline(always)]
 fn is_byte(code: &[u8], byte: u8) -> bool
     ensures { (result ≡ true) ↔ (code.now ≡ byte ∷ []) }
@@ -46,8 +49,9 @@ fn is_apart(source: &[u8], start: usize, code: &[u8]) -> bool
     source[start + 2] == b'\n'
 }
 
-/// Bit k is set if byte k of the 16 is at most 32, a space. All white space is at most 32, and so
-/// are a few other bytes, which are rare: a value with one of those is left to the slower way.
+/// A number of 16 bits: bit k is set if byte k of the 16 is not dark, that is, at most 32. Besides
+/// white space that may be a byte of a word, which is rare; the value is then left to the slower
+/// way.
 #[inline(always)]
 fn spaces(bytes: u8x16) -> u64
     ensures { result ≡ mask_l (map is_low bytes) }
@@ -55,9 +59,9 @@ fn spaces(bytes: u8x16) -> u64
     bytes.simd_le(u8x16::splat(b' ')).to_bitmask()
 }
 
-/// How many bytes from the place `from` on are above 32, a space, up to the first that is not: 0 to
-/// 15; or 16 if all 16 bytes that are compared at once are above it. The caller has tested that the
-/// text has 16 bytes from there on.
+/// How many bytes from the place `from` on are dark, up to the first that is not: 0 to 15; or 16 if
+/// all of the 16 bytes are, which are compared at once. The caller has tested that the text has 16
+/// bytes from there on.
 #[inline(always)]
 fn dark_count(source: &[u8], from: usize) -> usize
     requires { from + 16 ≤ length source.now }
@@ -72,10 +76,10 @@ fn dark_count(source: &[u8], from: usize) -> usize
     found.trailing_zeros() as usize
 }
 
-/// The place of the first byte from `from` on that is at most 32, a space; the byte before `from`
-/// is of a word. 16 bytes are compared at a time, so if fewer are left it may stop earlier, still
-/// in the word: the caller looks whether a space is there. A function of its own so that the loop
-/// over the tokens, which reaches it seldom, keeps its values in registers.
+/// The place of the first byte from `from` on that is not dark: the end of a word of which the byte
+/// before `from` is. 16 bytes are compared at a time. If fewer are left it stops there, still in
+/// the word: so the caller looks whether a space is at the place. Never inlined, for speed: the
+/// loop over the tokens, which seldom comes here, so keeps its values in registers.
 #[inline(never)]
 fn dark_end(source: &[u8], from: usize) -> usize
     requires { from ≤ length source.now }
@@ -104,10 +108,10 @@ fn begins_value(byte: u8) -> bool
     matches!(byte, b'b' | b'B' | b'r' | b'R' | b's' | b'S')
 }
 
-/// The place after a vector, a real or a text that begins at `start`, with its code and a newline.
-/// After the value come one space, a code of one byte above 32 that is not the wire's, and the
-/// newline. The bytes of the value are not looked at: on another code they may be any. `None` if
-/// something else is there, or if too few bytes are left: then `dark_end` may stop in the value.
+/// The place after a vector, a real or a text on another code than the wire's, which begins at
+/// `start`: after its value, one space, a code of one dark byte, and a newline. The bytes of the
+/// value are not looked at: on another code they may be any. `None` if something else is there, or
+/// if too few bytes are left: then `dark_end` may stop in the value.
 #[inline(always)]
 fn value_apart(source: &[u8], start: usize, code: &[u8]) -> Option<usize>
     requires { start < length source.now }

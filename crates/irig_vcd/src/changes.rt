@@ -28,7 +28,7 @@ use crate::fault::VcdFault;
 use crate::journals::Journals;
 use crate::pending::Pending;
 use crate::short_way::{follow_short, is_plain, is_quick};
-use crate::time::{Clock, micros, time};
+use crate::time::{Clock, micros, time_of_digits};
 use crate::token::{Kind, Token, Tokens};
 use crate::trace::Trace;
 use crate::unit::Unit;
@@ -91,10 +91,10 @@ fn resume(
 }
 
 /// Reads the tokens that are left, and returns the time after them; `from` is the time before them.
-/// In turns: all that can be taken fast (`follow_short`), then one token of any kind (`take`),
-/// until no token is left. `is_plain` says that values on the code can be taken fast: it has 1 to
-/// 18 printable bytes. `is_quick` says that whole pulses can: the code has one such byte, and the
-/// unit is a microsecond or less.
+/// In turns: all that can be taken fast (`follow_short`), then one token of any kind
+/// (`take_token`), until no token is left. `is_plain` says that values on the code can be taken
+/// fast: it has 1 to 18 printable bytes. `is_quick` says that whole pulses can: the code has one
+/// such byte, and the unit is a microsecond or less.
 #[inline(always)]
 fn follow_on(
     tokens: &mut Tokens,
@@ -124,7 +124,7 @@ fn follow_on(
         let Some(token) = tokens.next() else {
             return Ok(clock);
         };
-        match take(token, tokens, unit, code, clock, trace, journals, pending) {
+        match take_token(token, tokens, unit, code, clock, trace, journals, pending) {
             Ok(now) => clock = now,
             Err(fault) => return Err(fault),
         }
@@ -132,13 +132,13 @@ fn follow_on(
 }
 
 /// Takes what belongs to `token`, which is of any kind and was taken just now, and returns the time
-/// after it; `clock` is the time before it. A `#` with digits sets the time (`time`). Any other
-/// token leaves it as it is: `take_level` also takes the code of a value, or the rest of a comment,
-/// from `tokens`. If the wire gets a level by that, it goes into the trace at the time `clock`. An
-/// error is one of these two functions, or that memory ran out. Never inlined, for speed: so the
-/// loop of `follow_short` keeps its values in registers.
+/// after it; `clock` is the time before it. A `#` with digits sets the time (`time_of_digits`). Any
+/// other token leaves it as it is: `take_level` also takes the code of a value, or the rest of a
+/// comment, from `tokens`. If the wire gets a level by that, it goes into the trace at the time
+/// `clock`. An error is one of these two functions, or that memory ran out. Never inlined, for
+/// speed: so the loop of `follow_short` keeps its values in registers.
 #[inline(never)]
-fn take(
+fn take_token(
     token: Token<'_>,
     tokens: &mut Tokens,
     unit: Unit,
@@ -159,7 +159,7 @@ fn take(
     ensures extent { trace.new.extent ≡ trace.old.extent }
 {
     if is_hash(token.kind) {
-        return time(unit, clock, digits_of(token.slice), token.offset);
+        return time_of_digits(unit, clock, digits_of(token.slice), token.offset);
     }
     if let Some(high) = take_level(code, token, tokens, journals, pending)? {
         trace.put(micros(unit, clock), high)?;

@@ -41,9 +41,9 @@ fn is_line(source: &[u8], at: usize, value: u8, code: u8) -> bool
 /// place where it began.
 ///
 /// The time is cut in two: the unit says how many of its last digits are below a microsecond. They
-/// are the clock's `rest`, the others its `whole`. `lanes_end` also reads the 16 bytes before the
-/// digits (`back`). An edge has at most 20 bytes, a `#`, 15 digits and the four of `is_line`; after
-/// the `#` `lanes_end` reads 16, so the 32 from the place on (`room`) are enough.
+/// are the clock's `rest`, the others its `whole`. `lanes_end` reads up to 16 bytes before the
+/// digits, too (`back`), and 16 from the first digit on. An edge has at most 20 bytes, a `#`, 15
+/// digits and the four of `is_line`: so the 32 from the place on (`room`) are enough for both.
 #[inline(always)]
 pub fn edge_at(source: &[u8], at: usize, high: bool, code: u8, unit: Unit) -> Option<Edge>
     requires back { 16 ≤ at }

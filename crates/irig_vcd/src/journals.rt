@@ -1,10 +1,14 @@
 //! The journals of a dump, by their places.
 //!
-//! A journal is a comment whose first word is `irig-journal-1`. `Pending` says what is open after
-//! the last token: `Comment` is a comment without its first word, `Rest` one with it, and where it
-//! begins if it is a journal. A comment ends with the word `$end`. In contracts, `Holds all` says
-//! that the places are those of the journals in the list `all`. A scan `s` is what the words so far
-//! say; journals and pending are those of a scan before a call (`Keeps`) and after it (`Reaches`).
+//! A comment is the word `$comment`, other words, and `$end`. It is a journal if its first word
+//! after `$comment` is `irig-journal-1`; the text of a journal goes from that word up to its
+//! `$end`. A dump may have one. `Pending` says what is open after the last token that was read:
+//! `Comment` is a comment without its first word, `Rest(start)` one with it: if it is a journal,
+//! `start` is where that word begins. Places are in bytes of the dump, from 0.
+//!
+//! In contracts, `Holds all` says that the places are those of the journals in the list `all`. A
+//! scan `s` is what the words so far say; journals and pending are those of a scan before a call
+//! (`Keeps`) and after it (`Reaches`).
 
 ghost use Rattle.std.specs.Prelude.{◌≡◌, ◌≤◌, ◌++◌, ◌∷◌, [], ℕ, List, None, Some, IfErr, IfOk};
 ghost use Rattle.std.specs.Prelude.{IfSome, codes, length, map, vec_len};
@@ -22,7 +26,7 @@ use crate::pending::Pending;
 use crate::section::{end_at, is_end};
 use crate::token::{Token, Tokens};
 
-/// Where a text begins and where it ends, in bytes of the dump, from 0.
+/// Where a text begins and where it ends: bytes from `start` up to and without `end`.
 #[derive(Clone, Copy)]
 pub struct Place {
     pub start: usize,
@@ -30,9 +34,9 @@ pub struct Place {
 }
 
 impl Place {
-    /// The bytes of this place that are in `part`, a part of the dump with `gone` bytes of the dump
-    /// before it. The place can begin before the part or end after it: then it is cut. The result
-    /// is empty if none of it is in the part.
+    /// The bytes of this place that are in `part`, which comes after the first `gone` bytes of the
+    /// dump. The place may begin before the part or end after it. The result is empty if none of it
+    /// is in the part.
     pub fn within<'a>(self, part: &'a [u8], gone: usize) -> &'a [u8]
         ensures bytes { result.now ≡ part_at (Some (self.start, self.end)) gone part.now }
         ensures short { length result.now ≤ length part.now }
@@ -43,7 +47,8 @@ impl Place {
     }
 }
 
-/// The journals so far: the place of the first, and whether there are more.
+/// The journals that have ended so far: the place of the first, and whether there are more
+/// (`many`).
 #[derive(Clone, Copy)]
 pub struct Journals {
     first: Option<Place>,
@@ -61,8 +66,8 @@ impl Journals {
         }
     }
 
-    /// Notes one more journal, in the order of the dump. Only the place of the first is kept; of
-    /// the others only that there are some (`many`).
+    /// Notes one more journal, which comes after the others in the dump. Of the first its place is
+    /// kept, of any other only that there is one (`many`).
     fn put(&mut self, place: Place)
         ensures { (all : List Comment) (c : Comment)
             → place.start ≡ c.first.offset → place.end ≡ c.end
@@ -74,12 +79,13 @@ impl Journals {
         }
     }
 
-    /// Goes past the `$end` of a comment whose first word was read, and notes the comment (`put`)
-    /// if it is a journal. `journal` is where its first word begins, in bytes of the dump from 0,
-    /// or `None` if it is no journal. Returns what is open then: `Nothing`; or the comment, with
-    /// the same `journal`, if its `$end` is not among the tokens.
+    /// Takes the rest of a comment whose first word was read, up to its `$end`, and notes the
+    /// comment if it is a journal (`put`). `journal` is where its first word begins, or `None` if
+    /// it is no journal. Returns what is open then: `Nothing`; or, if the `$end` is not among the
+    /// tokens, all are taken and the comment stays open, with the same `journal`.
     pub fn take_rest(&mut self, journal: Option<usize>, tokens: &mut Tokens) -> Pending
-        ensures read { (code : List ℕ) (unit : ℕ) (s : Scan) → Keeps s self.old (pending.Rest journal)
+        ensures read { (code : List ℕ) (unit : ℕ) (s : Scan)
+            → Keeps s self.old (pending.Rest journal)
             → Reaches code unit s tokens.old None tokens.new self.new result }
         ensures fewer { length tokens.new ≤ length tokens.old }
     {
@@ -93,9 +99,10 @@ impl Journals {
         Pending::Nothing
     }
 
-    /// Passes a comment, from its first word on, and notes it if it is a journal. A comment may
-    /// also have no word before its `$end`. Returns what is open then: `Nothing`; or the comment,
-    /// without or with its first word, if the tokens end before its `$end`.
+    /// Takes a comment whose `$comment` was read, up to its `$end`, and notes it if it is a
+    /// journal. It may have no word before its `$end`: then it is no journal. Returns what is open
+    /// then: `Nothing`; or, if the tokens end before, the comment, without its first word or with
+    /// it.
     pub fn take_comment(&mut self, tokens: &mut Tokens) -> Pending
         ensures read { (code : List ℕ) (unit : ℕ) (s : Scan) → Keeps s self.old pending.Comment
             → Reaches code unit s tokens.old None tokens.new self.new result }
@@ -110,9 +117,9 @@ impl Journals {
         self.take_rest(journal_at(first), tokens)
     }
 
-    /// The place of the first journal so far. If it is still open, as `pending` says, its place
-    /// goes up to `top`, the end of what was read, in bytes of the dump from 0. `None` if no
-    /// journal was read, and none is open.
+    /// The place of the first journal in what was read so far, the first `top` bytes of the dump.
+    /// If no journal has ended but one is open, as `pending` says, its place goes up to `top`.
+    /// `None` if there is neither.
     pub fn so_far(self, pending: Pending, top: usize) -> Option<Place>
         ensures { place_view result ≡ so_far (place_view self.first) pending top }
     {
@@ -125,11 +132,11 @@ impl Journals {
         }
     }
 
-    /// The text of the one journal: `bytes`, which the caller gathered of the first journal part by
-    /// part. `None` if there is no journal; then `bytes` are dropped. `BadJournal(1)` if there is a
-    /// second one: its number is a line of the journal, here the first. It is for a dump in parts,
-    /// and `text` for one that is in memory.
-    pub fn one(self, bytes: Vec<u8>) -> Result<Option<Vec<u8>>, VcdFault>
+    /// The text of the one journal of a dump that came in parts: `bytes`, which the caller gathered
+    /// of the first journal part by part; or `None` if there is no journal. `BadJournal(1)` if
+    /// there is a second one: the number is that of a line of the journal, here the first. `text`
+    /// does the same for a dump that is in memory.
+    pub fn gathered_text(self, bytes: Vec<u8>) -> Result<Option<Vec<u8>>, VcdFault>
         ensures one { (all : List Comment) (dump : List ℕ) → Holds all self
             → IfSome self.first (λ p. text_at dump (Some p) ≡ Some bytes.items)
             → Gives bytes_of result (one_journal (map (text_of dump) all)) }
@@ -146,9 +153,10 @@ impl Journals {
         }
     }
 
-    /// The text of the one journal, from its first word up to its `$end`; `None` if there is no
-    /// journal. `BadJournal(1)` if there is a second one. `source` is the whole dump in which the
-    /// places were noted, so they are within it (`LiesIn`).
+    /// The text of the one journal of a dump that is in memory, `source`; or `None` if there is no
+    /// journal. `BadJournal(1)` if there is a second one: the number is that of a line of the
+    /// journal, here the first. The places were noted in this dump, so they are within it
+    /// (`LiesIn`).
     pub fn text<'a>(self, source: &'a [u8]) -> Result<Option<&'a [u8]>, VcdFault>
         requires within { LiesIn source.now self }
         ensures one { (all : List Comment) → Holds all self
@@ -167,8 +175,8 @@ impl Journals {
     }
 }
 
-/// Where a journal begins, in bytes of the dump from 0, if this first word of a comment makes it a
-/// journal; `None` for any other comment.
+/// Where a comment with this first word begins as a journal: the place of the word. `None` if the
+/// comment is no journal.
 fn journal_at(first: Token<'_>) -> Option<usize>
     ensures { Begins result (word_of first.entry) }
 {

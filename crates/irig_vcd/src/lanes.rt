@@ -1,10 +1,13 @@
-//! Digits, sixteen at a time, each as its value, 0 to 9. A lane is one number of a vector, here one
-//! of sixteen bytes that are taken at once. Places are those of bytes in `source`, from 0.
+//! Decimal digits that are read sixteen at a time: how many bytes show digits, and which number
+//! they spell. Places are those of bytes in `source`, from 0.
+//!
+//! A lane is one number of a vector of equal numbers, here at first one of sixteen bytes. A digit
+//! is its value, 0 to 9, not the byte that shows it in a text. The first digit is in the lowest
+//! byte.
 //!
 //! Two neighbours a and b are one word a + 2^k b of 2k bits. That times base * 2^k + 1 is a + 2^k
 //! (base * a + b): what is above 2k bits is lost. The shift by k leaves base * a + b. So digits
-//! become numbers of two, four and eight digits, with the bases 10, 100 and 10000. The first of
-//! sixteen digits is in the lowest byte.
+//! become numbers of two, four and eight digits, with the bases 10, 100 and 10000.
 
 ghost use Rattle.std.specs.Prelude.{◌≡◌, ◌≤◌, ◌<◌, ◌+◌, ◌-◌, ◌*◌, ◌^◌, ◌++◌, ℕ, length, drop, map};
 ghost use Rattle.std.specs.Prelude.{replicate, slice_index};
@@ -14,7 +17,8 @@ ghost use Rattle.irig_vcd.specs.{Code.Lanes.pairs_joined, Code.Lanes.shows_none,
 
 use std::simd::prelude::*;
 
-/// Sixteen bytes that clear a lane by `&`, and sixteen that leave it as it is.
+/// Sixteen bytes that clear a lane by `&`, and sixteen that leave it as it is: from byte `count` on
+/// they keep the last `count` of sixteen lanes (`last_lanes`).
 const KEEP: [u8; 32] = [
     0, 0, 0, 0, 0, 0, 0, 0, 0, 0, 0, 0, 0, 0, 0, 0, 255, 255, 255, 255, 255, 255, 255, 255, 255,
     255, 255, 255, 255, 255, 255, 255,
@@ -42,8 +46,8 @@ fn fours(twos: u16x8) -> u32x4
     (u32x4::from_le_bytes(twos.to_le_bytes()) * u32x4::splat(6553601)) >> u32x4::splat(16)
 }
 
-/// The number of eight digits that two numbers of four digits make. Both are in one word, the first
-/// in the lower half. 42949672960001 is 10000 * 2^32 + 1.
+/// The number of eight digits that two numbers of four digits make. Both are in one word of 64
+/// bits, `pair`, the first in the lower half. 42949672960001 is 10000 * 2^32 + 1.
 #[inline(always)]
 fn eight(pair: u64) -> u64
     ensures { (a b : ℕ) → pair ≡ a + 2 ^ 32 * b → a < 10000 → b < 10000 → result ≡ 10000 * a + b }
@@ -62,8 +66,8 @@ fn eights(fours: u32x4) -> [u64; 2]
     [eight(pairs[0]), eight(pairs[1])]
 }
 
-/// The number that sixteen digits spell, the first of them the highest. A digit is its value, 0 to
-/// 9, not its byte in a text.
+/// The number that sixteen digits spell, the first of them the highest. It is the number of the
+/// first eight, times 10^8, and that of the last eight.
 #[inline(always)]
 pub fn sixteen(digits: u8x16) -> u64
     requires digits { AllBelowBase 10 digits }
@@ -74,8 +78,8 @@ pub fn sixteen(digits: u8x16) -> u64
     parts[0] * 100_000_000 + parts[1]
 }
 
-/// Bit k is set if byte k, of a text, shows no digit, `0` to `9`. A byte below `0` wraps around to
-/// a number above 9.
+/// A number of 16 bits: bit k is set if byte k of the 16, which are of a text, shows no digit, `0`
+/// to `9`. A byte below `0` wraps around to a number above 9.
 #[inline(always)]
 fn no_digits(bytes: u8x16) -> u64
     ensures { result ≡ mask_l (map shows_none bytes) }
@@ -85,8 +89,8 @@ fn no_digits(bytes: u8x16) -> u64
         .to_bitmask()
 }
 
-/// The last `count` of sixteen lanes as they are, and 0 in the lanes before: sixteen bytes of
-/// `KEEP` from `count` on begin with 16 - `count` zeros.
+/// The last `count` of sixteen lanes as they are, and 0 in the lanes before: the sixteen bytes of
+/// `KEEP` from `count` on are 0 in the first 16 - `count`, and 255 in the others.
 #[inline(always)]
 fn last_lanes(lanes: u8x16, count: usize) -> u8x16
     requires { count ≤ 16 }
@@ -95,9 +99,9 @@ fn last_lanes(lanes: u8x16, count: usize) -> u8x16
     lanes & u8x16::from_slice(&KEEP[count..])
 }
 
-/// How many bytes from a place on show digits, up to the first that shows none: 0 to 15. Also 0 if
-/// all sixteen do: the number may then go on, and the caller reads it in another way. The text has
-/// sixteen bytes from there on.
+/// How many bytes from the place `from` on show digits, up to the first that shows none: 0 to 15.
+/// Also 0 if all sixteen do, which are compared at once: there may be more digits then, and the
+/// number is read in another way. The text has sixteen bytes from there on.
 #[inline(always)]
 fn digits_count(source: &[u8], from: usize) -> usize
     requires { from + 16 ≤ length source.now }
@@ -112,12 +116,12 @@ fn digits_count(source: &[u8], from: usize) -> usize
     found.trailing_zeros() as usize
 }
 
-/// Where the digits from a place on end, and the number that they spell; the place itself and 0 if
-/// there are no digits, or more than 15.
+/// Where the digits from the place `from` on end, and the number that they spell. If there are no
+/// digits, or more than 15, it is the place itself, and 0.
 ///
 /// It reads the sixteen bytes from the place on, to count the digits, and then the sixteen bytes
-/// before the end of the digits, so that these are the last lanes. So the place has to be 16 or
-/// more. The lanes before the digits become 0, which changes no number.
+/// before the end of the digits, so that these are the last lanes; the lanes before them become 0.
+/// So there have to be 16 bytes before the place (`back`) and 16 from it on (`room`).
 #[inline(always)]
 pub fn lanes_end(source: &[u8], from: usize) -> (usize, u64)
     requires back { 16 ≤ from }

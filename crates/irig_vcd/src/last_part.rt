@@ -23,7 +23,7 @@ ghost use Rattle.irig_vcd.specs.{Level.HasEdge, Window.extent_parts, Words.words
 
 use crate::fault::VcdFault;
 use crate::progress::Progress;
-use crate::reader::kept;
+use crate::reader::recording_of;
 use crate::reading::{Body, Reading};
 use crate::unit::Unit;
 use irig_recording::LongRecording;
@@ -64,7 +64,8 @@ pub fn read_rest(progress: &mut Progress) -> Result<Unit, VcdFault>
 
 /// What a dump says of which all was read: the recording, and the text of its journal, which is
 /// `journal`; or `None` if it has none. The faults, in this order: something is open at the end
-/// (`Reading::finish`), there are too many edges (`kept`), or there is a second journal (`one`).
+/// (`Reading::finish`), there are too many edges (`recording_of`), or there is a second journal
+/// (`gathered_text`).
 pub fn finish(
     reading: Reading,
     journal: Vec<u8>,
@@ -91,11 +92,11 @@ pub fn finish(
         edges,
         journals,
     } = reading.finish(unit)?;
-    let recording = match kept(end, edges, most) {
+    let recording = match recording_of(end, edges, most) {
         Ok(recording) => recording,
         Err(fault) => return Err(fault),
     };
-    match journals.one(journal) {
+    match journals.gathered_text(journal) {
         Ok(journal) => Ok((recording, journal)),
         Err(fault) => Err(fault),
     }

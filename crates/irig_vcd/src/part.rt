@@ -7,8 +7,9 @@ ghost use Rattle.irig_vcd.specs.{Code.Joins.ends_inside, Words.is_space};
 
 use crate::token::is_space;
 
-/// How many bytes there are up to and with the last white space; 0 if there is none. No word is cut
-/// there, so these bytes can be read before the next part has come.
+/// How many bytes there are up to and with the last white space; 0 if there is none. What is after
+/// them may be the front of a word that goes on in the next part. No word is cut between, so these
+/// bytes can be read before that part has come.
 pub fn whole_len(bytes: &[u8]) -> usize
     ensures within { result ≤ length bytes.now }
     ensures outside { ends_inside false (take result bytes.now) ≡ false }

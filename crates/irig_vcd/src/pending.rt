@@ -24,8 +24,8 @@ pub enum Pending {
     Rest(Option<usize>),
 }
 
-/// Whether a dump may end here: nothing may be open. The error is `BadToken` at an open value, and
-/// `Unclosed` for an open comment.
+/// An error unless the dump may end here, with nothing open: `BadToken` at the place of an open
+/// value, `Unclosed` for an open comment.
 pub fn closed(pending: Pending) -> Result<(), VcdFault>
     ensures { (now : Open) → Means pending now → IsClosed result (left_open now) }
 {

@@ -91,9 +91,9 @@ impl Reading {
 
     /// What was read, if nothing comes after it. The length (`end`) is the last time of the dump.
     /// With a window it is the length of the window, or less if the dump ends before the window
-    /// does. There can be one edge more than may be kept, for which the caller tests (`kept`).
-    /// `BadToken` if a value without its code is open, `Unclosed` if a comment is (`closed`); else
-    /// only memory can run out.
+    /// does. There can be one edge more than may be kept, for which the caller tests
+    /// (`recording_of`). `BadToken` if a value without its code is open, `Unclosed` if a comment is
+    /// (`closed`); else only memory can run out.
     pub fn finish(self, unit: Unit) -> Result<Body, VcdFault>
         requires time { IsOn unit self.trace self.clock }
         ensures exact { (s : Scan) → StandsAt unit s self

@@ -2,8 +2,8 @@
 //!
 //! A token is a word of the dump, a run of bytes without white space. The short way takes a time, a
 //! value of one bit and a whole pulse, as most dumps write them. All else is left to the way for
-//! any token, which is slower (`take` of `changes`). `tokens` holds the tokens that are left: what
-//! is taken is removed from it.
+//! any token, which is slower (`take_token` of `changes`). `tokens` holds the tokens that are left:
+//! what is taken is removed from it.
 //!
 //! `code` is that of the wire that is read; it is plain if it has 1 to 18 printable bytes. A clock
 //! is a time of the dump, in its unit. The trace follows the level of the wire and keeps its edges;
@@ -28,7 +28,7 @@ ghost use Rattle.irig_vcd.specs.{declared.pending.Pending.Pending};
 use crate::fault::VcdFault;
 use crate::pulses::take_pulses;
 use crate::short::{LONGEST_CODE, Short};
-use crate::time::{Clock, micros, number_time};
+use crate::time::{Clock, micros, time_of_number};
 use crate::token::Tokens;
 use crate::trace::Trace;
 use crate::unit::Unit;
@@ -89,7 +89,7 @@ pub fn follow_short(
     let mut clock = from;
     'tokens: loop {
         match tokens.next_short(code, is_plain) {
-            Short::Time(number) => match number_time(unit, clock, number.value, number.offset) {
+            Short::Time(number) => match time_of_number(unit, clock, number.value, number.offset) {
                 Ok(now) => clock = now,
                 Err(fault) => return Err(fault),
             },

@@ -24,9 +24,9 @@ use std::alloc::AllocError;
 
 /// What becomes of the edges from the trace's time on, up to and with the microsecond `limit`.
 ///
-/// If `is_kept` is true, all of them are in the window: each is kept at its time less `from`, where
-/// the window begins, as long as there are no more edges than `most` pulses have, and one. If it is
-/// false, none of them is in the window, and none is kept.
+/// If `is_kept` is true, all of them are in the window. Each is kept at its time less `from`, where
+/// the window begins; of all edges of the dump the first 2 * `most` + 1 are kept. If it is false,
+/// none of them is in the window, and none is kept.
 #[derive(Clone, Copy)]
 pub struct Stretch {
     pub from: u64,

@@ -1,8 +1,8 @@
 //! The unit of time of a dump.
 //!
-//! A time is a number of units. Its whole part counts microseconds, or units if these are longer:
-//! `factor` is how many microseconds 1 of the whole part is. The rest are the units below one
-//! microsecond.
+//! A time is a number of units, cut in two. If the unit is shorter than a microsecond, its whole
+//! part counts microseconds, and its rest the units that are left. Else its whole part counts
+//! units.
 
 ghost use Rattle.std.specs.Prelude.{◌≡◌, ◌≤◌, ◌-◌, ◌==◌, nat_le};
 ghost use Rattle.irig_vcd.specs.Code.Time.{factor_of, limit_of};
@@ -60,8 +60,8 @@ impl Unit {
         self.exponent <= 9
     }
 
-    /// How many of the last digits of a number of units are below one microsecond: 0 if the unit is
-    /// a microsecond or longer, 9 for femtoseconds.
+    /// How many of the last decimal digits of a number of units are the rest of the time, below one
+    /// microsecond: 0 if the unit is a microsecond or longer, 9 for femtoseconds.
     #[inline(always)]
     pub fn digits_below(self) -> u8
         ensures value { result ≡ 9 - self }
@@ -70,8 +70,8 @@ impl Unit {
         9u8.saturating_sub(self.exponent)
     }
 
-    /// The largest whole part of a time that is within 2^40 microseconds (`LENGTH_LIMIT`): 2^40
-    /// over `factor`, rounded down.
+    /// The largest whole part of a time that is at most 2^40 microseconds (`LENGTH_LIMIT`): 2^40
+    /// divided by `factor`, rounded down.
     #[tactic(auto, unfolding(crate::specs::Code::Time::limit_of))]
     pub fn limit(self) -> u64
         ensures { result ≡ limit_of self }
@@ -89,8 +89,8 @@ impl Unit {
         }
     }
 
-    /// How many microseconds 1 of the whole part of a time is: a power of ten if the unit is longer
-    /// than a microsecond, else 1.
+    /// How many microseconds 1 of the whole part of a time is: as many as the unit has if it is
+    /// longer than a microsecond, else 1.
     #[tactic(auto, unfolding(crate::specs::Code::Time::factor_of))]
     pub fn factor(self) -> u64
         ensures { result ≡ factor_of self }

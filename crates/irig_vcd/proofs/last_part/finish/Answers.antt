@@ -4,11 +4,11 @@ use Rattle.irig_vcd.specs.declared.fault.VcdFault.TheVariants.{OutOfMemory}
 use Rattle.irig_vcd.specs.{Code.DumpReader.HasReadWords, Code.Gathered.gathered, Code.Journals.Holds, Code.Journals.text_at, Dump.recorded_up_to, Extent.most_pulses, Dump.scan_of, Window.extent_dump, Window.within}
 use Rattle.irig_vcd.specs.{Dump.scanned, Journals.Comment, Level.HasEdge, Words.words_of, declared.journals.Journals.Journals}
 use Rattle.irig_vcd.proofs.{PartSteps.before_scanned, PartSteps.dump_kept, PartSteps.end_fault, PartSteps.told_in, WholeDump.fails_now, WholeDump.many_journals_in}
-use Rattle.irig_vcd.proofs.{WholeDump.no_dump_in, WholeDump.with_journal_in, Gathered.whole_gathered, last_part.finish.Goals.After-one}
+use Rattle.irig_vcd.proofs.{WholeDump.no_dump_in, WholeDump.with_journal_in, Gathered.whole_gathered, last_part.finish.Goals.After-gathered_text}
 use Rattle.irig_vcd.proofs.last_part.finish.Goals as goal
 
 -- what the dump is, its journals, and the bytes of the first one
-read_up : (c : After-one) (wire : Option (List ℕ)) (bytes code : List ℕ) → HasReadWords wire (words_of bytes) c.args.unit code c.args.reading
+read_up : (c : After-gathered_text) (wire : Option (List ℕ)) (bytes code : List ℕ) → HasReadWords wire (words_of bytes) c.args.unit code c.args.reading
     → c.args.journal.items ≡ gathered c.args.reading bytes
     → (extent_dump c.args.reading.trace.extent wire bytes ≡ Ok c.in-Ok.recording) × Holds (scanned (scan_of wire bytes)).journals c.in_ok-end.field-0.journals
     × IfSome c.in_ok-end.field-0.journals.first (λ p. text_at bytes (Some p) ≡ Some c.args.journal.items)
@@ -36,8 +36,8 @@ returns-in_err-end-clause-memory c = λ memory wire bytes code h.
     let is : c.in_err-end.field-0.0 ≡ OutOfMemory = cc (rw (p.1, p.2) at memory) in
     subst HasEdge (sym (before_scanned wire bytes c.args.unit code (h.0, None) h.1)) (c.in_err-end.ensures.memory (ap Err is) h.0 h.2)
 
-pub kept-requires-clause-kept : goal.kept-requires-clause-kept
-kept-requires-clause-kept c = rw c.most_pulses-most.ensures.value c.in_ok-end.ensures.kept
+pub recording_of-requires-clause-kept : goal.recording_of-requires-clause-kept
+recording_of-requires-clause-kept c = rw c.most_pulses-most.ensures.value c.in_ok-end.ensures.kept
 
 pub returns-in-Err-clause-fault : goal.returns-in-Err-clause-fault
 returns-in-Err-clause-fault c = λ wire bytes code h gathers.
@@ -47,14 +47,14 @@ returns-in-Err-clause-fault c = λ wire bytes code h gathers.
     ∙ (ap (recorded_up_to (most_pulses v) (within v.window k.0)) (sym k.3) ∙ (rw c.most_pulses-most.ensures.value at (c.in-Err.ensures.exact
     (within v.window k.0))) k.4)))
 
-pub returns-in-Ok-one-clause-read : goal.returns-in-Ok-one-clause-read
-returns-in-Ok-one-clause-read c = λ wire bytes code h gathers.
-    let known = read_up (goal.at.returns-in-Ok-one-clause-read c).After-one wire bytes code h gathers in
-    with_journal_in c.args.reading.trace.extent wire bytes c.in-Ok.recording _ known.0 (c.in-Ok-one.ensures.one (scanned
+pub returns-in-Ok-gathered_text-clause-read : goal.returns-in-Ok-gathered_text-clause-read
+returns-in-Ok-gathered_text-clause-read c = λ wire bytes code h gathers.
+    let known = read_up (goal.at.returns-in-Ok-gathered_text-clause-read c).After-gathered_text wire bytes code h gathers in
+    with_journal_in c.args.reading.trace.extent wire bytes c.in-Ok.recording _ known.0 (c.in-Ok-gathered_text.ensures.one (scanned
     (scan_of wire bytes)).journals bytes known.1 known.2)
 
-pub returns-in-Err-one-clause-fault : goal.returns-in-Err-one-clause-fault
-returns-in-Err-one-clause-fault c = λ wire bytes code h gathers.
-    let known = read_up (goal.at.returns-in-Err-one-clause-fault c).After-one wire bytes code h gathers in
-    fails_now c.in-Err-one.fault _ (many_journals_in c.args.reading.trace.extent wire bytes c.in-Ok.recording c.in-Err-one.fault known.0
-    (c.in-Err-one.ensures.one (scanned (scan_of wire bytes)).journals bytes known.1 known.2))
+pub returns-in-Err-gathered_text-clause-fault : goal.returns-in-Err-gathered_text-clause-fault
+returns-in-Err-gathered_text-clause-fault c = λ wire bytes code h gathers.
+    let known = read_up (goal.at.returns-in-Err-gathered_text-clause-fault c).After-gathered_text wire bytes code h gathers in
+    fails_now c.in-Err-gathered_text.fault _ (many_journals_in c.args.reading.trace.extent wire bytes c.in-Ok.recording c.in-Err-gathered_text.fault known.0
+    (c.in-Err-gathered_text.ensures.one (scanned (scan_of wire bytes)).journals bytes known.1 known.2))

@@ -2,7 +2,7 @@ use Rattle.std.proofs.Common.{◌∙◌, ◌*◌, ◌^◌, ◌≤◌, length, Ok
 use Rattle.irig_recording.specs.Recording.{IsLongRecording, RecordingView, recording_view}
 use Rattle.irig_recording.proofs.RecordingLemmas.{not_full}
 use Rattle.irig_vcd.proofs.WholeDump.{few_edges, few_enough, is_lawful}
-use Rattle.irig_vcd.proofs.reader.kept.Goals as goal
+use Rattle.irig_vcd.proofs.reader.recording_of.Goals as goal
 
 pub into_pulses-requires : goal.into_pulses-requires
 into_pulses-requires c =

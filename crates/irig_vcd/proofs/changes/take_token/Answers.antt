@@ -2,18 +2,19 @@ use Rattle.std.proofs.Common.{◌≡◌, ◌∙◌, ◌∷◌, Option, Bool, Non
 use Rattle.std.proofs.lemmas.Result.{err_from_is_err_and}
 use Rattle.irig_vcd.specs.{Code.Event.is_hash, Code.Scanned.Reaches, Code.Token.word_of, Times.micros_of}
 use Rattle.irig_vcd.proofs.ScanSteps.{at_word, fails_in, hash_kind, leads_level, leads_none, leads_short, leads_time, on_put, on_read}
-use Rattle.irig_vcd.proofs.changes.take.Goals as goal
+use Rattle.irig_vcd.proofs.changes.take_token.Goals as goal
 
 pub returns-then-is_hash-clause-time : goal.returns-then-is_hash-clause-time
 returns-then-is_hash-clause-time c =
-    on_read c.time.result c.args.unit c.args.trace.now c.args.clock c.requires.time c.time.ensures.time c.time.ensures.forward
+    on_read c.time_of_digits.result c.args.unit c.args.trace.now c.args.clock c.requires.time c.time_of_digits.ensures.time c.time_of_digits.ensures.forward
 
 pub returns-then-is_hash-clause-scans : goal.returns-then-is_hash-clause-scans
 returns-then-is_hash-clause-scans c =
     let w = word_of c.args.token in
     let sets : is_hash w.kind ≡ true = search rules in
-    λ end l. leads_time c.time.result c.args.code.now c.args.unit end c.args.trace.now c.args.clock c.args.journals.now c.args.pending.now w
-    c.args.tokens.now (hash_kind w.kind sets) (rw (← c.digits_of.ensures) c.time.ensures.exact) c.time.ensures.time c.time.ensures.forward l
+    λ end l. leads_time c.time_of_digits.result c.args.code.now c.args.unit end c.args.trace.now c.args.clock c.args.journals.now c.args.pending.now w
+    c.args.tokens.now (hash_kind w.kind sets) (rw (← c.digits_of.ensures) c.time_of_digits.ensures.exact)
+    c.time_of_digits.ensures.time c.time_of_digits.ensures.forward l
 
 pub returns-in_err-high-clause-scans : goal.returns-in_err-high-clause-scans
 returns-in_err-high-clause-scans c =
