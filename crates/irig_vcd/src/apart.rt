@@ -6,9 +6,9 @@
 //! is never dark, and all bytes of words are dark but for a few that are rare. What is not taken
 //! here (`false` or `None`) is read by the way for any token, which is slower.
 //!
-//! In contracts, `words_from` are the words of bytes that begin at a place: `false` says that the
-//! byte before is not of a word, `true` that its word goes on there. `Takes..` says which word was
-//! taken of them.
+//! In contracts, `is_low` says that a byte is not dark. `words_from` are the words of bytes that
+//! begin at a place: `false` says that the byte before is not of a word, `true` that its word goes
+//! on there. `Takes..` says which word was taken of them.
 
 ghost use Rattle.std.specs.Prelude.{◌≡◌, ◌≤◌, ◌<◌, ◌+◌, ◌∷◌, ◌↔◌, [], true, false, length, drop};
 ghost use Rattle.std.specs.Prelude.{◌⊎◌, ℕ, map, slice_index, IfSome};

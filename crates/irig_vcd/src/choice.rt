@@ -60,7 +60,11 @@ pub fn with_variable<'a>(
         → KeepsChoices (name_of wire.entry) (vs ++ variable_view variable.entry ∷ []) result }
 {
     Choices {
-        by_reference: put_if(has_reference(variable, wire), choices.by_reference, variable),
+        by_reference: put_if(
+            has_reference(variable, wire),
+            choices.by_reference,
+            variable,
+        ),
         by_code: put_if(has_code(variable, wire), choices.by_code, variable),
     }
 }

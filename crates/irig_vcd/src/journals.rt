@@ -3,8 +3,9 @@
 //! A comment is the word `$comment`, other words, and `$end`. It is a journal if its first word
 //! after `$comment` is `irig-journal-1`; the text of a journal goes from that word up to its
 //! `$end`. A dump may have one. `Pending` says what is open after the last token that was read:
-//! `Comment` is a comment without its first word, `Rest(start)` one with it: if it is a journal,
-//! `start` is where that word begins. Places are in bytes of the dump, from 0.
+//! `Comment` is a comment without its first word, `Rest(journal)` one with it; `journal` is where
+//! that word begins, or `None` if the comment is no journal. Places are in bytes of the dump, from
+//! 0.
 //!
 //! In contracts, `Holds all` says that the places are those of the journals in the list `all`. A
 //! scan `s` is what the words so far say; journals and pending are those of a scan before a call

@@ -7,7 +7,9 @@
 //!
 //! Two neighbours a and b are one word a + 2^k b of 2k bits. That times base * 2^k + 1 is a + 2^k
 //! (base * a + b): what is above 2k bits is lost. The shift by k leaves base * a + b. So digits
-//! become numbers of two, four and eight digits, with the bases 10, 100 and 10000.
+//! become numbers of two, four and eight digits, with the bases 10, 100 and 10000. In contracts,
+//! `pairs_joined base` are these numbers, base * a + b, of each two neighbours of a list, and
+//! `Spells` says that the digits from a place on end there and spell that number.
 
 ghost use Rattle.std.specs.Prelude.{◌≡◌, ◌≤◌, ◌<◌, ◌+◌, ◌-◌, ◌*◌, ◌^◌, ◌++◌, ℕ, length, drop, map};
 ghost use Rattle.std.specs.Prelude.{replicate, slice_index};

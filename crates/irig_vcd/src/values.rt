@@ -33,8 +33,8 @@ pub fn scalar(code: &[u8], token: Token<'_>) -> Result<Option<bool>, VcdFault>
     }
 }
 
-/// The level that a bit has: `1` is high, and 0, `x` and `z`, also as capitals, are low. `BadToken`
-/// at `offset`, the place of the token, if it is any other byte. It is never `None`.
+/// The level of a bit: `1` is high; 0, `x` and `z`, also as capitals, are low. `BadToken` at
+/// `offset`, the place of its token, if it is any other byte. It is never `None`.
 fn bit(offset: usize, byte: u8) -> Result<Option<bool>, VcdFault>
     ensures { Gives (λ level. level) result (value_level offset byte) }
 {
