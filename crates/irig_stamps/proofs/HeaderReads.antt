@@ -6,7 +6,7 @@ use Rattle.std.specs.Io.KnownBytes.{Consumes, IsAtEnd, Keeps}
 use Rattle.irig_stamps.specs.HeaderSteps.{HasRead, HasStopped, Reading}
 use Rattle.irig_stamps.specs.Named.{newlines}
 use Rattle.irig_stamps.specs.declared.fault.RunFault.TheVariants.{LongHeader, OutOfMemory, ReadFailed}
-use Rattle.irig_stamps.specs.{declared.finding.Header.Header, declared.settings.Settings.Settings}
+use Rattle.irig_stamps.specs.{declared.header.Header.Header, declared.settings.Settings.Settings}
 use Rattle.irig_stamps.proofs.Places.{newlines-append, newlines-bound}
 
 module _ (s : Settings) where

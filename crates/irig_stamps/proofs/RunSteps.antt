@@ -10,7 +10,7 @@ use Rattle.irig_track.specs.Looks.{counted}
 use Rattle.irig_stamps.specs.Steps.{GoesOn, PrintsAll, Stops, Takes, TakesAs, TakesUpTo, Underway}
 use Rattle.irig_stamps.specs.declared.fault.RunFault.TheVariants.{PrintFailed, ReadFailed, TooLong, OutOfMemory}
 use Rattle.irig_stamps.specs.{Front.AppendsFront, Runs.Broke, Runs.IsCause, Runs.Ran, Runs.Stamped, Runs.ending_of, declared.fault.RunFault.RunFault}
-use Rattle.irig_stamps.specs.{declared.fault.TakeFault.TakeFault, declared.lines.Lines.Lines, declared.settings.Settings.Settings}
+use Rattle.irig_stamps.specs.{declared.fault.TakeFault.TakeFault, declared.progress.Progress.Progress, declared.settings.Settings.Settings}
 use Rattle.irig_stamps.specs.declared.fault.TakeFault.TheVariants as take
 use Rattle.irig_stamps.proofs.Endings.{ending-none, ending-rest}
 
@@ -64,7 +64,7 @@ module _ (f : FormatView) (ps : List Pulse) (s : Settings) where
   }
 
   -- the line after what was taken is too long
-  pub too-long : (start a b from to end : Option (List ℕ)) (part text : List ℕ) (was is : Lines)
+  pub too-long : (start a b from to end : Option (List ℕ)) (part text : List ℕ) (was is : Progress)
       (h : Underway f ps s start a from to was.line.items was.count was.all) → Consumes a b part
       → (long : TakesUpTo f ps s part [] text was is) → Appends to end text → Broke f ps s start b from end (TooLong (counted is.count 1))
   too-long start a b from to end part text was is h read long printed =
@@ -89,7 +89,7 @@ module _ (f : FormatView) (ps : List Pulse) (s : Settings) where
       }
 
   -- why a run was broken off in which some bytes were not taken
-  pub not-taken : (start a b from to end : Option (List ℕ)) (part old text : List ℕ) (was is : Lines) (fault : TakeFault) (why : RunFault) → old ≡ []
+  pub not-taken : (start a b from to end : Option (List ℕ)) (part old text : List ℕ) (was is : Progress) (fault : TakeFault) (why : RunFault) → old ≡ []
       → Underway f ps s start a from to was.line.items was.count was.all → Consumes a b part
       → TakesAs f ps s part old text was is (Err fault) → Stops to end text is.count fault why → Broke f ps s start b from end why
   not-taken start a b from to end part old text was is take.OutOfMemory why none h read taken stops =
@@ -117,7 +117,7 @@ module _ (f : FormatView) (ps : List Pulse) (s : Settings) where
   }
 
   -- all bytes were taken, and what comes out for them was printed or not
-  pub all-taken : (start a b from to end : Option (List ℕ)) (part old text : List ℕ) (was is : Lines) (result : Result Bool RunFault) → old ≡ []
+  pub all-taken : (start a b from to end : Option (List ℕ)) (part old text : List ℕ) (was is : Progress) (result : Result Bool RunFault) → old ≡ []
       → IfOk result (λ e. e ≡ false)
       → Underway f ps s start a from to was.line.items was.count was.all → Consumes a b part
       → Takes f ps s part old text was is → PrintsAll to end text result → GoesOn f ps s start b from end is result
@@ -149,7 +149,7 @@ module _ (f : FormatView) (ps : List Pulse) (s : Settings) where
   }
 
   -- the end of a line that no newline ends
-  pub ended-line : (start b from to end : Option (List ℕ)) (old text : List ℕ) (was is : Lines) (result : Result Bool RunFault) → old ≡ []
+  pub ended-line : (start b from to end : Option (List ℕ)) (old text : List ℕ) (was is : Progress) (result : Result Bool RunFault) → old ≡ []
       → was.line.items ≢ [] → is.line.items ≡ [] → IfOk result (λ e. e ≡ true)
       → Underway f ps s start b from to was.line.items was.count was.all → IsAtEnd b
       → Takes f ps s (10 ∷ []) old text was is → PrintsAll to end text result → GoesOn f ps s start b from end is result

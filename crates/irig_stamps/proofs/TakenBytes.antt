@@ -7,7 +7,7 @@ use Rattle.irig_codes.specs.Format.{FormatView}
 use Rattle.irig_recording.specs.declared.pulse.Pulse.{Pulse}
 use Rattle.irig_track.specs.Looks.{counted}
 use Rattle.irig_stamps.specs.{Runs.Stamped, Runs.is_plain, Stamps.IsOut, Stamps.header_word, Stamps.is_numbered, Steps.PushesAs, Steps.Takes, Steps.TakesAs}
-use Rattle.irig_stamps.specs.{declared.fault.TakeFault.TakeFault, declared.lines.Lines.Lines, declared.settings.Settings.Settings}
+use Rattle.irig_stamps.specs.{declared.fault.TakeFault.TakeFault, declared.progress.Progress.Progress, declared.settings.Settings.Settings}
 use Rattle.irig_stamps.specs.declared.fault.TakeFault.TheVariants as take_fault
 use Rattle.irig_stamps.proofs.StampedLines.{stamped-line, stamped-part}
 
@@ -34,7 +34,7 @@ module _ (f : FormatView) (ps : List Pulse) (s : Settings) where
       subst (λ x. Stamped f ps s bytes text x count' all') (sym r) (subst (λ x. Stamped f ps s bytes text rest x all') (sym c)
       (subst (λ x. Stamped f ps s bytes text rest count x) (sym a) h))
 
-  pub pushed : (byte : ℕ) (text : List ℕ) (was is : Lines) (result : Result (Unit {0}) TakeFault) → byte ≢ 10 → PushesAs byte was is result
+  pub pushed : (byte : ℕ) (text : List ℕ) (was is : Progress) (result : Result (Unit {0}) TakeFault) → byte ≢ 10 → PushesAs byte was is result
       → TakesAs f ps s (byte ∷ []) text text was is result
   pushed byte text was is (Ok done) plain h = λ bytes before k.
       same-state _ _ _ _ _ _ _ _ h.0 h.1.0 h.1.1
@@ -52,7 +52,7 @@ module _ (f : FormatView) (ps : List Pulse) (s : Settings) where
   }
   pushed byte text was is (Err take_fault.OutOfMemory) plain h = tt
 
-  pub line-taken : (was : Lines) (old new out rest' : List ℕ) (numbered : Bool) (count' : ℕ) (all' : Bool) → s.header < 2 ^ 64
+  pub line-taken : (was : Progress) (old new out rest' : List ℕ) (numbered : Bool) (count' : ℕ) (all' : Bool) → s.header < 2 ^ 64
       → IsOut f ps s (header_word s was.count) was.line.items out → new ≡ old ++ out → numbered ≡ is_numbered s was.count was.line.items
       → rest' ≡ [] → count' ≡ counted was.count 1 → all' ≡ (was.all && numbered)
       → (bytes before : List ℕ) → Stamped f ps s bytes (before ++ old) was.line.items was.count was.all
@@ -61,14 +61,14 @@ module _ (f : FormatView) (ps : List Pulse) (s : Settings) where
       subst (λ t. Stamped f ps s (bytes ++ 10 ∷ []) t rest' count' all') (append_assoc before old out ∙ ap (λ t. before ++ t) (sym text))
       (same-state _ _ _ _ _ _ _ _ r c a (stamped-line f ps s bytes (before ++ old) was.line.items out was.count was.all numbered small h k e))
 
-  pub takes-both : (front part old mid new : List ℕ) (was at is : Lines) → Takes f ps s front old mid was at → Takes f ps s part mid new at is
+  pub takes-both : (front part old mid new : List ℕ) (was at is : Progress) → Takes f ps s front old mid was at → Takes f ps s part mid new at is
       → Takes f ps s (front ++ part) old new was is
   takes-both front part old mid new was at is first second = λ bytes before h.
       subst (λ t. Stamped f ps s t (before ++ new) is.line.items is.count is.all) (append_assoc bytes front part)
       (second (bytes ++ front) before (first bytes before h))
 
   -- a byte that was not taken after those that were
-  pub not-all : (part front others old mid new : List ℕ) (byte : ℕ) (was at is : Lines) (fault : TakeFault) → part ≡ front ++ byte ∷ others
+  pub not-all : (part front others old mid new : List ℕ) (byte : ℕ) (was at is : Progress) (fault : TakeFault) → part ≡ front ++ byte ∷ others
       → Takes f ps s front old mid was at → TakesAs f ps s (byte ∷ []) mid new at is (Err fault) → TakesAs f ps s part old new was is (Err fault)
   not-all part front others old mid new byte was at is take_fault.OutOfMemory cut first h = tt
   not-all part front others old mid new byte was at is take_fault.TooLong cut first h = record {
@@ -82,7 +82,7 @@ module _ (f : FormatView) (ps : List Pulse) (s : Settings) where
     taken = takes-both front h.front old mid new was at is first h.taken;
   }
 
-  pub taken-more : (part : List ℕ) (i : ℕ) (old mid new : List ℕ) (was at is : Lines) → i < length part → Takes f ps s (take i part) old mid was at
+  pub taken-more : (part : List ℕ) (i : ℕ) (old mid new : List ℕ) (was at is : Progress) → i < length part → Takes f ps s (take i part) old mid was at
       → Takes f ps s (get_or part i 0 ∷ []) mid new at is → Takes f ps s (take (i + 1) part) old new was is
   taken-more part i old mid new was at is less first second =
       subst (λ (l : List ℕ). Takes f ps s l old new was is) (take-more part i less)

@@ -2,8 +2,8 @@
 use Rattle.std.specs.Prelude.{◌==◌, ℕ, zero, suc, Bool, not, ◌&&◌, ◌||◌, nat_le, List, [], ◌∷◌}
 use Rattle.std.specs.Prelude.{Option, Some, None, if◌then◌else◌}
 use Rattle.irig_stamps.specs.declared.cutting.Until.{Until}
-use Rattle.irig_stamps.specs.declared.cutting.Until.TheVariants.{Blank, Text, Other, Comma}
-use Rattle.irig_stamps.specs.declared.cutting.Until.TheVariants.{Weight}
+use Rattle.irig_stamps.specs.declared.cutting.Until.TheVariants.{Blank, NonBlank, NonDigit, Byte}
+use Rattle.irig_stamps.specs.declared.cutting.Until.TheVariants.{NonZero}
 
 -- the white space of a line: space, tab and carriage return
 abbrev pub is_space : ℕ → Bool
@@ -16,10 +16,10 @@ is_digit b = nat_le 48 b && nat_le b 57
 -- a text is cut before such a byte
 abbrev pub is_at : Until → ℕ → Bool
 is_at Blank b = is_space b
-is_at Text b = not (is_space b)
-is_at Other b = not (is_digit b)
-is_at (Comma c) b = b == c
-is_at Weight b = not (b == 48)
+is_at NonBlank b = not (is_space b)
+is_at NonDigit b = not (is_digit b)
+is_at (Byte c) b = b == c
+is_at NonZero b = not (b == 48)
 
 -- what is before the first such byte
 abbrev pub before : Until → List ℕ → List ℕ
@@ -38,18 +38,18 @@ rest_of (b ∷ bs) = bs
 
 -- column k of a line, from 0, if white space parts them
 abbrev pub word_at : ℕ → List ℕ → List ℕ
-word_at zero text = before Blank (onward Text text)
-word_at (suc k) text = word_at k (onward Blank (onward Text text))
+word_at zero text = before Blank (onward NonBlank text)
+word_at (suc k) text = word_at k (onward Blank (onward NonBlank text))
 
 -- column k, from 0, if a byte parts them
 abbrev pub part_at : ℕ → ℕ → List ℕ → List ℕ
-part_at c zero text = before (Comma c) text
-part_at c (suc k) text = part_at c k (rest_of (onward (Comma c) text))
+part_at c zero text = before (Byte c) text
+part_at c (suc k) text = part_at c k (rest_of (onward (Byte c) text))
 
 -- what is after the first column
 abbrev pub passed : Option ℕ → List ℕ → List ℕ
-passed None text = onward Blank (onward Text text)
-passed (Some c) text = rest_of (onward (Comma c) text)
+passed None text = onward Blank (onward NonBlank text)
+passed (Some c) text = rest_of (onward (Byte c) text)
 
 -- column k of a line, from 0; no byte if it is not there
 abbrev pub column_of : Option ℕ → ℕ → List ℕ → List ℕ

@@ -1,12 +1,12 @@
 -- The exponent of a number in a column. This project's own.
 use Rattle.std.specs.Prelude.{◌==◌, ℕ, ◌+◌, ◌||◌, Bool, true, false, List, [], ◌∷◌, Option, Some, None}
 use Rattle.std.specs.Prelude.{if◌then◌else◌}
-use Rattle.irig_stamps.specs.declared.cutting.Until.TheVariants.{Text, Other}
+use Rattle.irig_stamps.specs.declared.cutting.Until.TheVariants.{NonBlank, NonDigit}
 use Rattle.irig_stamps.specs.{Columns.before, Columns.onward, Points.digits_after, Points.rounded}
 
 -- a value, if only white space is left
 abbrev pub if_blank : List ℕ → ℕ → Option ℕ
-if_blank text v = blank (onward Text text) v where
+if_blank text v = blank (onward NonBlank text) v where
   blank : List ℕ → ℕ → Option ℕ
   blank [] v = Some v
   blank (b ∷ bs) v = None
@@ -23,9 +23,10 @@ powered up true n whole fraction (d ∷ ds) rest =
 abbrev pub after_e : Bool → ℕ → List ℕ → List ℕ → List ℕ → Option ℕ
 after_e up n whole fraction [] = None
 after_e up n whole fraction (b ∷ bs) =
-    if b == 45 then powered up true n whole fraction (before Other bs) (onward Other bs)
-    else (if b == 43 then powered up false n whole fraction (before Other bs) (onward Other bs)
-    else powered up false n whole fraction (before Other (b ∷ bs)) (onward Other (b ∷ bs)))
+    if b == 45 then powered up true n whole fraction (before NonDigit bs) (onward NonDigit bs)
+    else (if b == 43
+    then powered up false n whole fraction (before NonDigit bs) (onward NonDigit bs)
+    else powered up false n whole fraction (before NonDigit (b ∷ bs)) (onward NonDigit (b ∷ bs)))
 
 -- the number with these digits before its point and after it, and what is after them
 abbrev pub with_exponent : Bool → ℕ → List ℕ → List ℕ → List ℕ → Option ℕ

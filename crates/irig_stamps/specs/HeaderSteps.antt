@@ -5,7 +5,7 @@ use Rattle.std.specs.Io.KnownBytes.{Consumes, IsAtEnd}
 use Rattle.irig_stamps.specs.Named.{AreTwo, Finds, IsOnly, newlines}
 use Rattle.irig_stamps.specs.declared.fault.RunFault.TheVariants.{TwoColumns}
 use Rattle.irig_stamps.specs.{declared.fault.RunFault.RunFault, declared.settings.Settings.Settings}
-use Rattle.irig_stamps.specs.declared.finding.Header.{Header}
+use Rattle.irig_stamps.specs.declared.header.Header.{Header}
 
 -- these bytes were read, and the header is not whole yet
 pub record Reading (s : Settings) (lines left : Option (List ℕ)) (header : Header) : Type 0 where

@@ -4,7 +4,7 @@ pub mod Exponents
 pub mod Numbers
 pub mod Dates
 pub mod Texts
-pub mod Told
+pub mod StampTexts
 pub mod Stamps
 pub mod Reasons
 pub mod Runs

@@ -3,7 +3,7 @@ use Rattle.std.specs.Prelude.{◌≡◌, ◌≢◌, ◌⊎◌, ◌==◌, ◌≤�
 use Rattle.std.specs.Prelude.{if◌then◌else◌, List, [], ◌∷◌, length, drop, nat_eq, Option, Result, Ok, Err}
 use Rattle.std.specs.List.{starts_with}
 use Rattle.std.specs.Io.KnownBytes.{Consumes, IsAtEnd}
-use Rattle.irig_stamps.specs.declared.cutting.Until.TheVariants.{Text}
+use Rattle.irig_stamps.specs.declared.cutting.Until.TheVariants.{NonBlank}
 use Rattle.irig_stamps.specs.declared.fault.RunFault.TheVariants.{LongHeader, NoColumn, NoHeader}
 use Rattle.irig_stamps.specs.declared.fault.RunFault.TheVariants.{OutOfMemory, ReadFailed}
 use Rattle.irig_stamps.specs.declared.fault.RunFault.TheVariants.{TooManyReads, TwoColumns}
@@ -12,8 +12,8 @@ use Rattle.irig_stamps.specs.{declared.fault.RunFault.RunFault, declared.setting
 
 -- a text is a name with white space round it
 abbrev pub is_named : List ℕ → List ℕ → Bool
-is_named name text = starts_with nat_eq (onward Text text) name
-    && (length (onward Text (drop (length name) (onward Text text))) == 0)
+is_named name text = starts_with nat_eq (onward NonBlank text) name
+    && (length (onward NonBlank (drop (length name) (onward NonBlank text))) == 0)
 
 -- whether column k of a line, from 0, has the name
 abbrev pub has_name : Option ℕ → List ℕ → List ℕ → ℕ → Bool

@@ -1,7 +1,7 @@
 -- The decimal number in a column. This project's own.
 use Rattle.std.specs.Prelude.{◌==◌, ℕ, ◌^◌, Bool, true, false, List, [], ◌∷◌, min}
 use Rattle.std.specs.Prelude.{Option, Some, None, if◌then◌else◌}
-use Rattle.irig_stamps.specs.declared.cutting.Until.TheVariants.{Text, Other}
+use Rattle.irig_stamps.specs.declared.cutting.Until.TheVariants.{NonBlank, NonDigit}
 use Rattle.irig_stamps.specs.{Columns.before, Columns.onward, declared.picos.Picos.Picos}
 use Rattle.irig_stamps.specs.{Exponents.with_exponent, Points.digits_after, Points.rounded}
 
@@ -9,7 +9,7 @@ use Rattle.irig_stamps.specs.{Exponents.with_exponent, Points.digits_after, Poin
 abbrev pub with_fraction : Bool → ℕ → List ℕ → List ℕ → Option ℕ
 with_fraction up n whole [] = Some (rounded up n 0 whole [])
 with_fraction up n whole (b ∷ bs) =
-    if b == 46 then fraction (before Other bs) (onward Other bs)
+    if b == 46 then fraction (before NonDigit bs) (onward NonDigit bs)
     else with_exponent up n whole [] (b ∷ bs)
   where
     fraction : List ℕ → List ℕ → Option ℕ
@@ -18,7 +18,7 @@ with_fraction up n whole (b ∷ bs) =
 
 -- the number without a sign
 abbrev pub size_in : Bool → ℕ → List ℕ → Option ℕ
-size_in up n text = size (before Other text) (onward Other text) where
+size_in up n text = size (before NonDigit text) (onward NonDigit text) where
   size : List ℕ → List ℕ → Option ℕ
   size [] rest = None
   size (d ∷ ds) rest = with_fraction up n (d ∷ ds) rest
@@ -42,7 +42,7 @@ signed n (b ∷ bs) =
 -- the number in a column, if it is one: maybe a sign, digits, maybe a point and digits, and maybe an
 -- exponent, with white space round them; in units of which 10^n make one of the column, rounded down
 abbrev pub number_in : ℕ → List ℕ → Option Picos
-number_in n text = signed n (onward Text text)
+number_in n text = signed n (onward NonBlank text)
 
 -- up to a most
 abbrev pub capped : Picos → Picos
@@ -50,7 +50,7 @@ capped p = record p { size = min p.size (2 ^ 120) }
 
 -- the whole number that a text is, if it has only digits
 abbrev pub whole_in : List ℕ → Option ℕ
-whole_in text = whole (before Other text) (onward Other text) where
+whole_in text = whole (before NonDigit text) (onward NonDigit text) where
   whole : List ℕ → List ℕ → Option ℕ
   whole [] rest = None
   whole (d ∷ ds) [] = Some (digits_after 0 (d ∷ ds))

@@ -1,7 +1,7 @@
 -- The point of a decimal number, moved. This project's own.
 use Rattle.std.specs.Prelude.{ℕ, zero, suc, ◌+◌, ◌-◌, ◌*◌, ◌++◌, ◌&&◌, Bool, true, false}
 use Rattle.std.specs.Prelude.{List, [], ◌∷◌, length, drop, if◌then◌else◌}
-use Rattle.irig_stamps.specs.declared.cutting.Until.TheVariants.{Weight}
+use Rattle.irig_stamps.specs.declared.cutting.Until.TheVariants.{NonZero}
 use Rattle.irig_stamps.specs.Columns.{onward}
 
 -- the number that digits make, after a number v
@@ -25,7 +25,7 @@ scaled right left whole fraction = digits_after 0 (padded (kept right left whole
 
 -- whether some digit is not zero
 abbrev pub has_weight : List ℕ → Bool
-has_weight ds = some (onward Weight ds) where
+has_weight ds = some (onward NonZero ds) where
   some : List ℕ → Bool
   some [] = false
   some (d ∷ ds) = true

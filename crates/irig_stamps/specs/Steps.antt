@@ -8,12 +8,12 @@ use Rattle.irig_track.specs.Looks.{counted}
 use Rattle.irig_stamps.specs.declared.fault.RunFault.TheVariants.{PrintFailed, TooLong, OutOfMemory}
 use Rattle.irig_stamps.specs.{Front.AppendsFront, Runs.Broke, Runs.Ran, Runs.Stamped}
 use Rattle.irig_stamps.specs.{declared.fault.RunFault.RunFault, declared.fault.TakeFault.TakeFault}
-use Rattle.irig_stamps.specs.{declared.lines.Lines.Lines, declared.settings.Settings.Settings}
+use Rattle.irig_stamps.specs.{declared.progress.Progress.Progress, declared.settings.Settings.Settings}
 use Rattle.irig_stamps.specs.declared.fault.TakeFault.TheVariants as take
 
 -- after these bytes more, what was stamped before is stamped with what comes out for them
-abbrev pub Takes : FormatView → List Pulse → Settings → List ℕ → List ℕ → List ℕ → Lines → Lines
-    → Type 0
+abbrev pub Takes : FormatView → List Pulse → Settings → List ℕ → List ℕ → List ℕ → Progress
+    → Progress → Type 0
 Takes f ps s part old new was is =
     (bytes : List ℕ) (done : List ℕ)
     → Stamped f ps s bytes (done ++ old) was.line.items was.count was.all
@@ -21,7 +21,7 @@ Takes f ps s part old new was is =
 
 -- the bytes were taken up to one that makes a line too long
 pub record TakesUpTo (f : FormatView) (ps : List Pulse) (s : Settings) (part old new : List ℕ)
-    (was is : Lines) : Type 0 where
+    (was is : Progress) : Type 0 where
   pub front : List ℕ
   pub byte : ℕ
   pub others : List ℕ
@@ -31,14 +31,14 @@ pub record TakesUpTo (f : FormatView) (ps : List Pulse) (s : Settings) (part old
   pub taken : Takes f ps s front old new was is
 
 -- the same if all of the bytes were taken, or some line was not
-abbrev pub TakesAs : FormatView → List Pulse → Settings → List ℕ → List ℕ → List ℕ → Lines → Lines
-    → Result (Unit {0}) TakeFault → Type 0
+abbrev pub TakesAs : FormatView → List Pulse → Settings → List ℕ → List ℕ → List ℕ → Progress
+    → Progress → Result (Unit {0}) TakeFault → Type 0
 TakesAs f ps s part old new was is (Ok done) = Takes f ps s part old new was is
 TakesAs f ps s part old new was is (Err take.TooLong) = TakesUpTo f ps s part old new was is
 TakesAs f ps s part old new was is (Err take.OutOfMemory) = Unit {0}
 
 -- a byte was added to the line so far; or nothing changed, because it makes the line too long
-abbrev pub PushesAs : ℕ → Lines → Lines → Result (Unit {0}) TakeFault → Type 0
+abbrev pub PushesAs : ℕ → Progress → Progress → Result (Unit {0}) TakeFault → Type 0
 PushesAs byte was is (Ok done) =
     (is.line.items ≡ was.line.items ++ byte ∷ []) × ((is.count ≡ was.count) × (is.all ≡ was.all))
 PushesAs byte was is (Err take.TooLong) = (is.line.items ≡ was.line.items)
@@ -56,7 +56,7 @@ pub record Underway (f : FormatView) (ps : List Pulse) (s : Settings)
 
 -- after one more read: it was the last, or the run goes on
 abbrev pub GoesOn : FormatView → List Pulse → Settings → Option (List ℕ) → Option (List ℕ)
-    → Option (List ℕ) → Option (List ℕ) → Lines → Result Bool RunFault → Type 0
+    → Option (List ℕ) → Option (List ℕ) → Progress → Result Bool RunFault → Type 0
 GoesOn f ps s lines left from to state (Ok true) = Ran f ps s lines left from to state.all
 GoesOn f ps s lines left from to state (Ok false) =
     Underway f ps s lines left from to state.line.items state.count state.all

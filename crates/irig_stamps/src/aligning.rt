@@ -1,10 +1,12 @@
-//! Lines that are aligned with a recording of an IRIG time code. The recorder's time of a line is
-//! the number in one of its columns: when the line was recorded, by a clock of its own. `format` is
-//! the code of the recording. A frame is believed if another one near it supports its time, or with
-//! `settings.alone` if it has a time at all: moments have their times from believed frames alone. A
-//! `Lens` shows the pulses of a recording as those of a track, which is all its pulses in order,
-//! and a `FrameLens` its frames. `settings` say how lines are read and printed; their bounds keep
-//! each year in four digits, and each sum in its type. A `RunFault` says why this was broken off.
+//! Lines are aligned with a recording of an IRIG time code. The recorder's time of a line is the
+//! number in one of its columns: when the line was recorded, by a clock of its own. Each line is
+//! printed with its stamp before it: the time of year that the recording has at the line's
+//! recorder's time, or a word if it has none. `format` is the code of the recording. A frame is
+//! believed if another one near it supports its time, or with `settings.alone` if it has a time at
+//! all; only believed frames give times. A `Lens` shows the pulses of a recording as a track, which
+//! is all its pulses in order, and a `FrameLens` its frames. The bounds of `settings` keep each
+//! year in four digits, and each sum in its type. A `RunFault` says why the run over the lines was
+//! broken off.
 
 ghost use Rattle.std.specs.Prelude.{◌≡◌, ◌≤◌, ◌<◌, ◌^◌, ℕ, List, Option, IfOk, IfSome};
 ghost use Rattle.std.specs.Io.KnownBytes.{Consumes};
@@ -14,7 +16,7 @@ ghost use Rattle.irig_stamps.specs.{Runs.Ends, TrackSettings.with_track};
 
 use crate::fault::RunFault;
 use crate::finding::find;
-use crate::first_day::{doubted, first_day};
+use crate::first_day::{count_doubted, first_day};
 use crate::knowledge::known_of;
 use crate::outcome::{Outcome, Standing};
 use crate::running::run;
@@ -27,14 +29,12 @@ use irig_track::Lens;
 use std::alloc::Global;
 use std::io::{Read, Write};
 
-/// Reads lines to their end and prints each with its time before it: the time of year that a
-/// recording has at the line's recorder's time. Returns whether the column of each line has a
-/// number, lines of the header not counted (`numbered`); and of the frames that have a time,
-/// whether one is believed, and how many are not (`standing`). The column is `settings.column`, or
-/// if `settings.named` is there, the one with that name in the last line of the header; the caller
-/// has seen that there is a header then (`named`). The error is any `RunFault`; those of a header
-/// and its columns come only if a name is looked for. What was printed before an error stays
-/// printed.
+/// Reads lines to their end and prints each with its stamp before it. Returns whether each line
+/// after the header has a number in its column (`numbered`), whether a frame is believed, and how
+/// many frames have a time and are not (`standing`). The column is `settings.column`, or if
+/// `settings.named` is there, the one with that name in the last line of the header; the caller has
+/// seen that there is a header then. The error is any `RunFault`; those of a header and its columns
+/// come only if a name is looked for. What was printed before an error stays printed.
 pub fn align<R: Read, W: Write>(
     alloc: Global,
     recording: LongRecording,
@@ -52,16 +52,15 @@ pub fn align<R: Read, W: Write>(
         (R.remaining lines.new) (W.contents out.old) (W.contents out.new) result }
 {
     let Some(name) = settings.named else {
-        return align_numbered(alloc, &recording, lines, out, format, settings);
+        return align_by_number(alloc, &recording, lines, out, format, settings);
     };
-    align_named(alloc, &recording, lines, out, format, settings, name)
+    align_by_name(alloc, &recording, lines, out, format, settings, name)
 }
 
-/// The case of `align` in which the column is given by its number, from 0 (`settings.column`): it
-/// reads the lines and prints each with its time before it. Results are those of `align`. The error
-/// is any `RunFault` but those of a header and its columns. No byte of the lines was read before,
-/// so `align_track` gets none.
-fn align_numbered<R: Read, W: Write>(
+/// Aligns the lines if their column is given by its number (`settings.column`). Results and errors
+/// are those of `align`, but for the errors of a header and its columns. No byte of the lines was
+/// read before, so `align_track` gets none.
+fn align_by_number<R: Read, W: Write>(
     alloc: Global,
     recording: &LongRecording,
     lines: &mut R,
@@ -81,11 +80,11 @@ fn align_numbered<R: Read, W: Write>(
     align_track(alloc, &mut pulses, b"", lines, out, format, settings)
 }
 
-/// Reads the lines and prints each with its time before it, if the column is the one with this name
-/// in the last line of the header. The results are those of `align`. What `find` read of the lines
-/// to find the column (`before`) is handed on, since it cannot be read again. If `find` fails, as
-/// if no column has the name or two have it, its error is returned, and nothing is printed.
-fn align_named<R: Read, W: Write>(
+/// Aligns the lines if their column is given by its name in the last line of the header. Results
+/// and errors are those of `align`. `find` reads the header and finds the column. What it read
+/// (`before`) is handed on, since it cannot be read again. If it fails, as if no column has the
+/// name or two have it, its error is returned, and nothing is printed.
+fn align_by_name<R: Read, W: Write>(
     alloc: Global,
     recording: &LongRecording,
     lines: &mut R,
@@ -116,11 +115,11 @@ fn align_named<R: Read, W: Write>(
     align_track(alloc, &mut pulses, before, lines, out, format, &settings)
 }
 
-/// Reads the lines and prints each with its time before it, by the track that a lens shows. The
-/// bytes `before` were read of the lines already. First it finds the track's frames (`records`),
-/// which of them are believed (`held`), the day of the first of these, how many others have a time,
-/// and what is known of the times of pulses. If memory runs out there, nothing is read or printed
-/// here. Then the lines are read and printed (`run`). The results and errors are those of `align`.
+/// Aligns the lines with the track that a lens shows. The bytes `before` were read of the lines
+/// already. First the track is looked at: its frames (`records`), which of them are believed
+/// (`held`), the day of the first of these, how many have a time and are not believed, and what is
+/// known of the times of pulses. If memory runs out there, nothing is read or printed here. Then
+/// `run` reads and prints the lines. Results and errors are those of `align`.
 fn align_track<R: Read, W: Write>(
     alloc: Global,
     pulses: &mut Lens<'_>,
@@ -150,8 +149,8 @@ fn align_track<R: Read, W: Write>(
         return Err(RunFault::OutOfMemory);
     };
     let day = first_day(&mut records, &held, format);
-    let doubted = doubted(&mut records, &held, format);
-    // If no frame is believed, no line has a time, and nothing asks for the day.
+    let doubted = count_doubted(&mut records, &held, format);
+    // If no frame is believed, no line has a time, and the day does not count.
     let settings = Settings {
         first_day: day.unwrap_or(0),
         micros,

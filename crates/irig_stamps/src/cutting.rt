@@ -1,46 +1,47 @@
-//! A text, cut before the first byte of some kind.
+//! A text is cut before the first byte of some kind. So numbers and columns are read: `cut` gives
+//! what was read, and what is left.
 
 ghost use Rattle.std.specs.Prelude.{◌≡◌};
 ghost use Rattle.irig_stamps.specs.Columns.{is_space, is_digit, is_at, before, onward};
 
-/// Before which bytes a text is cut.
+/// The kind of byte that a text is cut before.
 #[derive(Clone, Copy)]
 pub enum Until {
-    /// White space.
+    /// White space: a space, a tab or a carriage return.
     Blank,
-    /// What is no white space.
-    Text,
-    /// What is no decimal digit.
-    Other,
+    /// Any byte that is no white space.
+    NonBlank,
+    /// Any byte that is no decimal digit.
+    NonDigit,
     /// This byte.
-    Comma(u8),
-    /// What is no zero.
-    Weight,
+    Byte(u8),
+    /// Any byte that is not the digit 0.
+    NonZero,
 }
 
 impl Until {
-    /// Whether a byte is of the kind that `self` names: a text is cut before the first such byte.
-    fn is_at(self, byte: u8) -> bool
+    /// Whether a byte is of this kind: `cut` stops at the first one that is.
+    fn stops_at(self, byte: u8) -> bool
         ensures { result ≡ is_at self byte }
     {
         match self {
             Until::Blank => is_space(byte),
-            Until::Text => !is_space(byte),
-            Until::Other => !is_digit(byte),
-            Until::Comma(comma) => byte == comma,
-            Until::Weight => byte != b'0',
+            Until::NonBlank => !is_space(byte),
+            Until::NonDigit => !is_digit(byte),
+            Until::Byte(one) => byte == one,
+            Until::NonZero => byte != b'0',
         }
     }
 }
 
-/// What is before the first byte of a kind, and what is from that byte on. If there is no such
-/// byte: all, and nothing.
+/// Cuts a text before the first byte of a kind: returns what is before that byte, and what is from
+/// it on. If there is no such byte, all is before it, and nothing from it on.
 pub fn cut(text: &[u8], until: Until) -> (&[u8], &[u8])
     ensures before { result.0.now ≡ before until text.now }
     ensures onward { result.1.now ≡ onward until text.now }
 {
     let mut at = 0;
-    while at < text.len() && !until.is_at(text[at]) {
+    while at < text.len() && !until.stops_at(text[at]) {
         at += 1;
     }
     (&text[..at], &text[at..])

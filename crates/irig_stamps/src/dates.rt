@@ -1,5 +1,6 @@
-//! Years and dates of times, by the calendar of jiff. Days of the year, months and days of a month
-//! count from 1. A frame is believed if another one near it supports its time.
+//! The years and dates of times, by the calendar of jiff (Gregorian, to the end of the year 9999).
+//! Days of the year (`days`), months and days of a month count from 1. A frame is believed if
+//! another one near it supports its time. The bounds of `settings` keep each year in four digits.
 
 ghost use Rattle.std.specs.Prelude.{◌≡◌, ◌≤◌, IfSome};
 ghost use Rattle.irig_stamps.specs.Dates.{counted_on, date_from, date_in, year_in};
@@ -8,10 +9,9 @@ use crate::settings::Settings;
 use irig_times::Time;
 use jiff_core::civil::days_in_month;
 
-/// The year of a time. If frames carry one, of two digits, it is in the century of the settings.
-/// Else it is the year of the first believed frame, `settings.year`, or the next one if the day is
-/// before that frame's, `settings.first_day`: a track is taken to be shorter than a year. `None` if
-/// the frames carry none and `settings.year` is `None`. The bounds keep the result in four digits.
+/// The year of a time. If its frame carries a year, of two digits, it is that year of the century
+/// of the settings. Else it is counted by the day (`year_by_day`); `None` if the settings have no
+/// year to count from.
 pub fn year_in(settings: &Settings<'_>, time: &Time) -> Option<u32>
     requires century { settings.now.century ≤ 99 }
     requires year { IfSome settings.now.year (λ y. y ≤ 9998) }
@@ -21,15 +21,15 @@ pub fn year_in(settings: &Settings<'_>, time: &Time) -> Option<u32>
     match time.year {
         // The year of a frame is 0 to 99, so the rest changes nothing: the bound is for the proof.
         Some(year) => Some(100 * settings.century + year % 100),
-        None => counted_on(settings, time.days),
+        None => year_by_day(settings, time.days),
     }
 }
 
-/// The year of a day, from 1, if frames carry no year: that of the first believed frame
-/// (`settings.year`), or the next one if the day is before the day of that frame, since a track is
-/// taken to be shorter than a year. `None` if `settings.year` is not known. That year is at most
-/// 9998, so that the next one has four digits, too.
-fn counted_on(settings: &Settings<'_>, days: u32) -> Option<u32>
+/// The year of a day, if frames carry no year. It is the year of the first believed frame
+/// (`settings.year`), or the next one if the day is before the day of that frame
+/// (`settings.first_day`): a track is taken to be shorter than a year. `None` if `settings.year` is
+/// not known.
+fn year_by_day(settings: &Settings<'_>, days: u32) -> Option<u32>
     requires year { IfSome settings.now.year (λ y. y ≤ 9998) }
     ensures value { result ≡ counted_on settings.now days }
     ensures range { IfSome result (λ y. y ≤ 9999) }
@@ -46,23 +46,22 @@ fn counted_on(settings: &Settings<'_>, days: u32) -> Option<u32>
     }
 }
 
-/// The month and the day in it, both from 1, of a day of a year (`days`, from 1). `None` if the
-/// year is not known or has no such day (`date_from`). The calendar of jiff ends with the year
-/// 9999.
+/// The month and the day in it of a day of a year (`days`). `None` if the year is not known, or has
+/// no such day.
 pub fn date_in(year: Option<u32>, days: u32) -> Option<(u32, u32)>
     requires { IfSome year (λ y. y ≤ 9999) }
     ensures { result ≡ date_in year days }
 {
     match year {
-        Some(year) => date_from(year, days),
+        Some(year) => date_in_known_year(year, days),
         None => None,
     }
 }
 
-/// The month and the day in it, both from 1, of a day (from 1) of a year that is known. `None` if
-/// the year has no such day: 0, or more than its days. The months are passed from the first on, and
-/// `left` is the day as it counts in the month that is looked at.
-fn date_from(year: u32, days: u32) -> Option<(u32, u32)>
+/// The month and the day in it of a day of this year (`days`). `None` if the year has no such day:
+/// 0, or more than its days. The loop passes the months from the first on; `left` is the day as it
+/// counts in the month that is looked at.
+fn date_in_known_year(year: u32, days: u32) -> Option<(u32, u32)>
     requires { year ≤ 9999 }
     ensures { result ≡ date_from year days }
 {

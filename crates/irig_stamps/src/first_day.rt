@@ -1,9 +1,9 @@
-//! The day of the first frame that is believed, and how many frames have a time and are not. Each
-//! record is a frame of the track; its verdict says whether the frame is fine, and what its
-//! elements say. `held` says of each record, at the same place, from 0, whether its frame is
-//! believed: whether another frame near it supports its time, or with `settings.alone`, whether it
-//! has a time at all. `timed` gives the fields of a frame that has a time: it is fine and ends
-//! within its minute.
+//! The day of the first frame that is believed, and how many frames have a time and are not
+//! believed. Each record is a frame of the track; its verdict says whether the frame is fine, and
+//! what its elements say. `held` says of each record, at the same place, from 0, whether its frame
+//! is believed: whether another frame near it supports its time, or with `settings.alone` whether
+//! it has a time at all. `timed` gives the fields of a frame that has a time, else `None`: the
+//! frame is fine and ends within its minute.
 
 ghost use Rattle.std.specs.Prelude.{◌≡◌, ◌≤◌, ◌<◌, Some, slice_get, length};
 ghost use Rattle.irig_index.specs.declared.record.Record.{Record};
@@ -27,8 +27,8 @@ pub fn first_day(records: &mut FrameLens<'_>, held: &[bool], format: Format) -> 
     None
 }
 
-/// Whether the frame of the record at a place, from 0, is believed; `None` if there is no such
-/// record.
+/// Whether the frame of the record at a place, from 0, is believed; `None` if there is no record at
+/// this place, and so nothing in `held`.
 pub fn held_at(held: &[bool], place: usize) -> Option<bool>
     ensures { result ≡ slice_get held.now place }
 {
@@ -39,7 +39,8 @@ pub fn held_at(held: &[bool], place: usize) -> Option<bool>
     }
 }
 
-/// The fields of the frame of the record at a place; `None` if it is not believed, or has no time.
+/// The fields of the frame of the record at a place, from 0; `None` if the frame is not believed,
+/// or has no time.
 fn held_fields(
     records: &mut FrameLens<'_>,
     held: &[bool],
@@ -59,7 +60,7 @@ fn held_fields(
 }
 
 /// How many frames have a time and are not believed.
-pub fn doubted(records: &mut FrameLens<'_>, held: &[bool], format: Format) -> usize
+pub fn count_doubted(records: &mut FrameLens<'_>, held: &[bool], format: Format) -> usize
     ensures count { result ≡ doubted format held.now 0 records.old.records }
     ensures same { records.new.records ≡ records.old.records }
 {
@@ -70,8 +71,8 @@ pub fn doubted(records: &mut FrameLens<'_>, held: &[bool], format: Format) -> us
     count
 }
 
-/// 1 if the frame of the record at a place has a time and is not believed, else 0: what it adds to
-/// the count of `doubted`.
+/// 1 if the frame of the record at a place, from 0, has a time and is not believed, else 0: what it
+/// adds to `count_doubted`.
 fn doubt_of(records: &mut FrameLens<'_>, held: &[bool], format: Format, place: usize) -> usize
     requires { place < length records.old.records }
     ensures doubt { (r : Record) → slice_get records.old.records place ≡ Some r

@@ -1,38 +1,34 @@
-//! The decimal number in a column. The result is the column's number times 10^`places`, as a whole
-//! number. A `Picos` is such a result: its sign, and its size, the number without the sign. A size
-//! is rounded up if `up`, else down. Each function returns `None` if the text is no number, and the
-//! size 2^120 for each greater one, since no recorder's time that far from zero has a time. The
-//! parameters `whole` and `fraction` are digits in ASCII, before the point and after it; the
-//! function `whole` is for another use, numbers without a point. `point_after` gives the size of a
-//! number without an exponent, `to_the_left` and `to_the_right` that of one whose exponent has a
-//! minus or none, and `digits` the value of digits. White space is a space, a tab or a carriage
-//! return. `cut` parts a text before the first byte that is no white space (`Text`), or no digit
-//! (`Other`).
+//! The decimal number in a column, times 10^`places`, as a whole number. A `Picos` is its sign and
+//! its size, which is the number without the sign. A size is rounded up if `up`, else down. A size
+//! above 2^120 counts as 2^120, since no recorder's time that far from zero has a time of year.
+//! `None` means that the text is no number. `integer` and `fraction` are the digits before the
+//! point and after it, in ASCII, and `rest` is the text after what was read so far. `cut` parts a
+//! text before the first byte of a kind. White space is a space, a tab or a carriage return.
 
 ghost use Rattle.std.specs.Prelude.{◌≡◌, ◌^◌, ℕ, List, min, option_map, false, true};
 ghost use Rattle.irig_stamps.specs.Columns.{before, onward};
 ghost use Rattle.irig_stamps.specs.Exponents.{after_e, if_blank, powered, with_exponent};
 ghost use Rattle.irig_stamps.specs.Numbers.{above, below, capped, number_in, signed, size_in};
 ghost use Rattle.irig_stamps.specs.Numbers.{whole_in, with_fraction};
-ghost use Rattle.irig_stamps.specs.declared.cutting.Until.TheVariants.{Other};
+ghost use Rattle.irig_stamps.specs.declared.cutting.Until.TheVariants.{NonDigit};
 
 use crate::cutting::{Until, cut};
 use crate::picos::Picos;
-use crate::point::{digits, point_after, to_the_left, to_the_right};
+use crate::point::{divided_by_power, point_right, times_power, with_digits};
 
 /// The number in a column, if it is one: maybe a sign, digits, maybe a point and digits, and maybe
 /// an exponent, with white space round it; else `None`. A unit of the column is 10^`places`
-/// picoseconds, and the result is in picoseconds, rounded down, also if it is negative. Its size is
-/// 2^120 if it is greater.
+/// picoseconds, and the result is in picoseconds, rounded down, also if it is negative. If its size
+/// is above 2^120, the size is 2^120.
 pub fn number(places: usize, text: &[u8]) -> Option<Picos>
     ensures { result ≡ option_map capped (number_in places text.now) }
 {
-    let (_, text) = cut(text, Until::Text);
+    let (_, text) = cut(text, Until::NonBlank);
     signed(places, text)
 }
 
-/// The number of a text that begins with its sign or its first digit: the white space before it is
-/// passed already. `None` if the text is no number.
+/// The number of a text, maybe with a sign before its first digit. White space before it is passed
+/// already. `None` if the text is no number.
 fn signed(places: usize, text: &[u8]) -> Option<Picos>
     ensures { result ≡ option_map capped (signed places text.now) }
 {
@@ -43,23 +39,23 @@ fn signed(places: usize, text: &[u8]) -> Option<Picos>
     }
 }
 
-/// The number whose minus was before this text. Its size is rounded up, so the number itself is
-/// rounded down.
+/// The number of a text whose minus is passed already. Its size is rounded up, so the number itself
+/// is rounded down.
 fn negative(places: usize, text: &[u8]) -> Option<Picos>
     ensures { result ≡ option_map capped (below (size_in true places text.now)) }
 {
-    below(size_in(true, places, text))
+    below_zero(size_in(true, places, text))
 }
 
-/// The number whose plus was before this text, or that has no sign. It is rounded down.
+/// The number of a text that has no sign, or whose plus is passed already. It is rounded down.
 fn positive(places: usize, text: &[u8]) -> Option<Picos>
     ensures { result ≡ option_map capped (above (size_in false places text.now)) }
 {
-    above(size_in(false, places, text))
+    above_zero(size_in(false, places, text))
 }
 
-/// A number that is `size` above zero; `None` if there is no size, since the text was no number.
-fn above(size: Option<u128>) -> Option<Picos>
+/// The number that is `size` above zero; `None` if there is no size, as the text was no number.
+fn above_zero(size: Option<u128>) -> Option<Picos>
     ensures { result ≡ above size }
 {
     match size {
@@ -71,8 +67,8 @@ fn above(size: Option<u128>) -> Option<Picos>
     }
 }
 
-/// A number that is `size` below zero; `None` if there is no size, since the text was no number.
-fn below(size: Option<u128>) -> Option<Picos>
+/// The number that is `size` below zero; `None` if there is no size, as the text was no number.
+fn below_zero(size: Option<u128>) -> Option<Picos>
     ensures { result ≡ below size }
 {
     match size {
@@ -85,114 +81,116 @@ fn below(size: Option<u128>) -> Option<Picos>
 }
 
 /// The whole number that a text is, if it has only digits and at least one; 2^120 if it is greater.
-/// White space is not passed here: a text with it is no whole number. `digits` gives the value of
-/// digits that come after another value, here 0; it never gives more than 2^120.
+/// `None` for any other text, also for one with white space. `with_digits` gives the value of
+/// digits that come after another value, here 0.
 pub fn whole(text: &[u8]) -> Option<u128>
     ensures { result ≡ option_map (λ v. min v (2 ^ 120)) (whole_in text.now) }
 {
-    let (whole, rest) = cut(text, Until::Other);
-    if whole.is_empty() || !rest.is_empty() {
+    let (number, rest) = cut(text, Until::NonDigit);
+    if number.is_empty() || !rest.is_empty() {
         return None;
     }
-    Some(digits(0, whole))
+    Some(with_digits(0, number))
 }
 
 /// The size of the number that a text without a sign is; `None` if the text does not begin with a
-/// digit, or if `with_fraction` refuses what is after its first digits.
+/// digit, or if something else than `with_fraction` takes is after its first digits.
 fn size_in(up: bool, places: usize, text: &[u8]) -> Option<u128>
     ensures { result ≡ option_map (λ v. min v (2 ^ 120)) (size_in up places text.now) }
 {
-    let (whole, rest) = cut(text, Until::Other);
-    if whole.is_empty() {
+    let (integer, rest) = cut(text, Until::NonDigit);
+    if integer.is_empty() {
         return None;
     }
-    with_fraction(up, places, whole, rest)
+    with_fraction(up, places, integer, rest)
 }
 
-/// The size of a number with the digits `whole` before its point. `rest` is what is after them:
-/// nothing, a point, an exponent or white space; with anything else it is `None` (`with_exponent`).
-/// A point must have a digit after it: without one it is `None`, too.
-fn with_fraction(up: bool, places: usize, whole: &[u8], rest: &[u8]) -> Option<u128>
+/// The size of a number with the digits `integer` before its point. `rest` is what is after them:
+/// nothing, a point with digits after it, an exponent or white space. With anything else it is no
+/// number: `None`, as for a point without a digit after it.
+fn with_fraction(up: bool, places: usize, integer: &[u8], rest: &[u8]) -> Option<u128>
     ensures { result ≡ option_map (λ v. min v (2 ^ 120))
-        (with_fraction up places whole.now rest.now) }
+        (with_fraction up places integer.now rest.now) }
 {
     match rest {
-        [] => Some(point_after(up, places, whole, b"")),
+        [] => Some(point_right(up, places, integer, b"")),
         [b'.', rest @ ..] => {
-            let (fraction, rest) = cut(rest, Until::Other);
+            let (fraction, rest) = cut(rest, Until::NonDigit);
             if fraction.is_empty() {
                 return None;
             }
-            with_exponent(up, places, whole, fraction, rest)
+            with_exponent(up, places, integer, fraction, rest)
         }
-        _ => with_exponent(up, places, whole, b"", rest),
+        _ => with_exponent(up, places, integer, b"", rest),
     }
 }
 
 /// The size of a number with these digits before its point and after it. `rest` is what is after
-/// both: nothing, an exponent or white space. With anything else it is no number: `None`.
+/// both: nothing, an exponent, which begins with an e, or white space. With anything else it is no
+/// number: `None`.
 fn with_exponent(
     up: bool,
     places: usize,
-    whole: &[u8],
+    integer: &[u8],
     fraction: &[u8],
     rest: &[u8],
 ) -> Option<u128>
     ensures { result ≡ option_map (λ v. min v (2 ^ 120))
-        (with_exponent up places whole.now fraction.now rest.now) }
+        (with_exponent up places integer.now fraction.now rest.now) }
 {
     match rest {
-        [] => Some(point_after(up, places, whole, fraction)),
-        [b'e' | b'E', rest @ ..] => after_e(up, places, whole, fraction, rest),
-        _ => if_blank(rest, point_after(up, places, whole, fraction)),
+        [] => Some(point_right(up, places, integer, fraction)),
+        [b'e' | b'E', rest @ ..] => after_e(up, places, integer, fraction, rest),
+        _ => if_blank(rest, point_right(up, places, integer, fraction)),
     }
 }
 
-/// The size of a number with these digits. `rest` is what is after the e of its exponent: maybe a
-/// sign, digits, and maybe white space; else `None` (`powered`). With a minus the point moves to
-/// the left, with a plus or no sign to the right.
-fn after_e(up: bool, places: usize, whole: &[u8], fraction: &[u8], rest: &[u8]) -> Option<u128>
+/// The size of a number with these digits and an exponent. `rest` is what is after its e: maybe a
+/// sign, then digits and maybe white space (`with_power`). With a minus the number is divided by
+/// that power of 10, with a plus or no sign it is multiplied.
+fn after_e(up: bool, places: usize, integer: &[u8], fraction: &[u8], rest: &[u8]) -> Option<u128>
     ensures { result ≡ option_map (λ v. min v (2 ^ 120))
-        (after_e up places whole.now fraction.now rest.now) }
+        (after_e up places integer.now fraction.now rest.now) }
 {
     match rest {
-        [b'-', rest @ ..] => powered(up, true, places, whole, fraction, rest),
-        [b'+', rest @ ..] => powered(up, false, places, whole, fraction, rest),
-        _ => powered(up, false, places, whole, fraction, rest),
+        [b'-', rest @ ..] => with_power(up, true, places, integer, fraction, rest),
+        [b'+', rest @ ..] => with_power(up, false, places, integer, fraction, rest),
+        _ => with_power(up, false, places, integer, fraction, rest),
     }
 }
 
-/// The size of a number with these digits. `rest` begins with the digits of its exponent, which
-/// moves the point to the left if it has a minus (`left`), else to the right. `None` if there is no
-/// digit, or more than white space after them.
-fn powered(
+/// The size of a number with these digits and an exponent, whose sign is passed already. `rest`
+/// begins with the digits of the exponent. The number is divided by that power of 10 if the
+/// exponent has a minus (`left`), else multiplied. `None` if the exponent has no digit, or if more
+/// than white space is after them.
+fn with_power(
     up: bool,
     left: bool,
     places: usize,
-    whole: &[u8],
+    integer: &[u8],
     fraction: &[u8],
     rest: &[u8],
 ) -> Option<u128>
     ensures { result ≡ option_map (λ v. min v (2 ^ 120))
-        (powered up left places whole.now fraction.now (before Other rest.now)
-        (onward Other rest.now)) }
+        (powered up left places integer.now fraction.now (before NonDigit rest.now)
+        (onward NonDigit rest.now)) }
 {
-    let (power, rest) = cut(rest, Until::Other);
+    let (power, rest) = cut(rest, Until::NonDigit);
     if power.is_empty() {
         return None;
     }
-    let power = digits(0, power);
+    let power = with_digits(0, power);
     if left {
-        if_blank(rest, to_the_left(up, places, power, whole, fraction))
+        if_blank(rest, divided_by_power(up, places, power, integer, fraction))
     } else {
-        if_blank(rest, to_the_right(up, places, power, whole, fraction))
+        if_blank(rest, times_power(up, places, power, integer, fraction))
     }
 }
 
-/// A value, if the text that is left is only white space or nothing; else `None`.
+/// The value, if the text that is left is only white space or nothing; else `None`.
 fn if_blank(text: &[u8], value: u128) -> Option<u128>
     ensures { result ≡ if_blank text.now value }
 {
-    let (_, left) = cut(text, Until::Text);
+    let (_, left) = cut(text, Until::NonBlank);
     if left.is_empty() { Some(value) } else { None }
 }

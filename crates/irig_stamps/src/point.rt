@@ -1,8 +1,9 @@
-//! The point of a decimal number, moved. `whole` is the digits before the point and `fraction`
-//! those after it, as ASCII. The result is a whole number: digits after the moved point are
-//! dropped. If `up` and one of them is not 0, the result is one more. `power`, an exponent of 10,
-//! is at most 2^120, which means that or more. `cut` with `Weight` parts digits before the first
-//! that is not 0.
+//! A decimal number whose point is moved. `integer` is the digits before the point and `fraction`
+//! those after it, in ASCII. The result is a whole number: digits after the moved point are
+//! dropped. If `up` and one of these is not 0, the result is one more. A result above 2^120 counts
+//! as 2^120. `power` is an exponent of 10; it is at most 2^120, which stands for any greater one.
+//! `places` is one, too: the number is in units of 10^`places` picoseconds, and the result in
+//! picoseconds.
 
 ghost use Rattle.std.specs.Prelude.{◌≡◌, ◌≤◌, ◌^◌, ◌+◌, ◌*◌, ◌-◌, ◌∷◌, ℕ, suc, List, min};
 ghost use Rattle.std.specs.Prelude.{drop, false, true, ◌&&◌, ◌||◌};
@@ -10,74 +11,82 @@ ghost use Rattle.irig_stamps.specs.Points.{digits_after, has_weight, padded, rou
 
 use crate::cutting::{Until, cut};
 
-/// No greater number is returned: 2^120. Greater ones are all too far from zero to have a time.
+/// The greatest result: 2^120. Greater ones are all too far from zero to have a time.
 const MOST: u128 = 1_329_227_995_784_915_872_903_807_060_280_344_576;
 
-/// The number times 10^(`places` + `power`), rounded as the head says; 2^120 if it is greater.
-pub fn to_the_right(up: bool, places: usize, power: u128, whole: &[u8], fraction: &[u8]) -> u128
+/// The number times 10^(`places` + `power`): the point goes to the right. It is rounded as the head
+/// of this file says.
+pub fn times_power(up: bool, places: usize, power: u128, integer: &[u8], fraction: &[u8]) -> u128
     requires { power ≤ 2 ^ 120 }
     ensures { (e : ℕ) → power ≡ min e (2 ^ 120)
-        → result ≡ min (rounded up (places + e) 0 whole.now fraction.now) (2 ^ 120) }
+        → result ≡ min (rounded up (places + e) 0 integer.now fraction.now) (2 ^ 120) }
 {
     // Moved this far, the last digit of the fraction has 37 zeros after it. So a number with a
     // digit that is not 0 is 10^37 or more, which is greater than 2^120 (1.3 * 10^36). The point is
     // moved no further, so a great power takes no more time.
     let enough = fraction.len() as u128 + 37;
-    point_after(
+    point_right(
         up,
         enough.min(places as u128 + power) as usize,
-        whole,
+        integer,
         fraction,
     )
 }
 
-/// The number times 10^`places`, divided by 10^`power`, and rounded as the head says; 2^120 if it
-/// is greater. If `power` is above `places` the point goes to the left (`point_before`), else to
-/// the right (`point_after`).
-pub fn to_the_left(up: bool, places: usize, power: u128, whole: &[u8], fraction: &[u8]) -> u128
+/// The number times 10^`places`, divided by 10^`power`, and rounded as the head of this file says.
+/// If `power` is above `places` the point goes to the left (`point_left`), else to the right
+/// (`point_right`).
+pub fn divided_by_power(
+    up: bool,
+    places: usize,
+    power: u128,
+    integer: &[u8],
+    fraction: &[u8],
+) -> u128
     requires { power ≤ 2 ^ 120 }
     ensures { (e : ℕ) → power ≡ min e (2 ^ 120)
-        → result ≡ min (rounded up places e whole.now fraction.now) (2 ^ 120) }
+        → result ≡ min (rounded up places e integer.now fraction.now) (2 ^ 120) }
 {
     let places = places as u128;
     if power <= places {
-        point_after(up, (places - power) as usize, whole, fraction)
+        point_right(up, (places - power) as usize, integer, fraction)
     } else {
-        point_before(up, power - places, whole, fraction)
+        point_left(up, power - places, integer, fraction)
     }
 }
 
-/// The number times 10^`right`; 2^120 if it is greater. The point goes to the right: the first
-/// `right` digits of the fraction come before it, with zeros if it has fewer, and the rest after.
-pub fn point_after(up: bool, right: usize, whole: &[u8], fraction: &[u8]) -> u128
-    ensures { result ≡ min (rounded up right 0 whole.now fraction.now) (2 ^ 120) }
+/// The number times 10^`right`. The point goes to the right: the first `right` digits of the
+/// fraction come before it, with zeros if it has fewer. The rest of the fraction only says whether
+/// the result is one more.
+pub fn point_right(up: bool, right: usize, integer: &[u8], fraction: &[u8]) -> u128
+    ensures { result ≡ min (rounded up right 0 integer.now fraction.now) (2 ^ 120) }
 {
-    let value = padded(digits(0, whole), right, fraction);
-    let more = exceeds(up, after(right, fraction), b"");
-    with_one(more, value)
+    let value = padded(with_digits(0, integer), right, fraction);
+    let one_more = rounds_up(up, digits_after_first(right, fraction), b"");
+    with_one(one_more, value)
 }
 
-/// The number divided by 10^`left`; 2^120 if it is greater. The point goes to the left: the last
-/// `left` digits of `whole`, and all of the fraction, come after it. If `whole` has no more digits
-/// than that, none is before it, and the result is 0, or 1 if it is rounded up.
-fn point_before(up: bool, left: u128, whole: &[u8], fraction: &[u8]) -> u128
-    ensures { result ≡ min (rounded up 0 left whole.now fraction.now) (2 ^ 120) }
+/// The number divided by 10^`left`. The point goes to the left: the last `left` digits of
+/// `integer`, and all of the fraction, come after it. If `integer` has no more digits than that,
+/// none is before the point: the result is 0, or 1 if it is rounded up.
+fn point_left(up: bool, left: u128, integer: &[u8], fraction: &[u8]) -> u128
+    ensures { result ≡ min (rounded up 0 left integer.now fraction.now) (2 ^ 120) }
 {
-    let kept = (whole.len() as u128).saturating_sub(left) as usize;
-    let value = digits(0, &whole[..kept]);
-    let more = exceeds(up, after(kept, whole), fraction);
-    with_one(more, value)
+    let kept = (integer.len() as u128).saturating_sub(left) as usize;
+    let value = with_digits(0, &integer[..kept]);
+    let one_more = rounds_up(up, digits_after_first(kept, integer), fraction);
+    with_one(one_more, value)
 }
 
 /// Whether a number is rounded up, if `digits` and then `others` are after its point: if `up` says
 /// so and one of these digits is not 0.
-fn exceeds(up: bool, digits: &[u8], others: &[u8]) -> bool
+fn rounds_up(up: bool, digits: &[u8], others: &[u8]) -> bool
     ensures { result ≡ (up && (has_weight digits.now || has_weight others.now)) }
 {
-    up && (has_weight(digits) || has_weight(others))
+    up && (has_nonzero(digits) || has_nonzero(others))
 }
 
-/// The value plus 1 if `more`, at most 2^120; else the value as it is, which is at most 2^120, too.
+/// The value plus 1 if `more`, but at most 2^120; else the value as it is.
 fn with_one(more: bool, value: u128) -> u128
     requires { value ≤ 2 ^ 120 }
     ensures { result ≡ min (with_one more value) (2 ^ 120) }
@@ -86,24 +95,24 @@ fn with_one(more: bool, value: u128) -> u128
 }
 
 /// The digits after the first `count`; none if there are no more than `count`.
-fn after(count: usize, digits: &[u8]) -> &[u8]
+fn digits_after_first(count: usize, digits: &[u8]) -> &[u8]
     ensures { result.now ≡ drop count digits.now }
 {
     &digits[count.min(digits.len())..]
 }
 
-/// Whether some digit is not zero; `false` if there is no digit.
-fn has_weight(digits: &[u8]) -> bool
+/// Whether some digit is not 0; `false` if there is no digit.
+fn has_nonzero(digits: &[u8]) -> bool
     ensures { result ≡ has_weight digits.now }
 {
-    let (_, left) = cut(digits, Until::Weight);
+    let (_, left) = cut(digits, Until::NonZero);
     !left.is_empty()
 }
 
 /// A value with one more decimal digit, in ASCII, after it: 10 times the value, and the digit. If
 /// that is greater than 2^120, it is 2^120. A value above a tenth of 2^120 is looked at first, so
-/// that nothing overflows. A digit in ASCII is not below `0`, so nothing saturates.
-fn more(value: u128, digit: u8) -> u128
+/// that nothing overflows. A digit in ASCII is not below `0`, so the subtraction does not saturate.
+fn with_digit(value: u128, digit: u8) -> u128
     requires { value ≤ 2 ^ 120 }
     ensures value { result ≡ min (10 * value + (digit - 48)) (2 ^ 120) }
     ensures most { result ≤ 2 ^ 120 }
@@ -115,21 +124,22 @@ fn more(value: u128, digit: u8) -> u128
     }
 }
 
-/// A value with more decimal digits, in ASCII, after it: 7 with `35` is 735. 2^120 if that is
-/// greater. From 0 it is the value of the digits alone.
-pub fn digits(value: u128, digits: &[u8]) -> u128
+/// A value with more decimal digits, in ASCII, after it: 7 with `35` is 735. If that is greater
+/// than 2^120, it is 2^120. With the value 0 it is the value of the digits alone.
+pub fn with_digits(value: u128, digits: &[u8]) -> u128
     requires { value ≤ 2 ^ 120 }
     ensures { result ≡ min (digits_after value digits.now) (2 ^ 120) }
 {
     let mut value = value;
     for digit in digits {
-        value = more(value, *digit);
+        value = with_digit(value, *digit);
     }
     value
 }
 
 /// A value with the first `places` digits of a fraction after it, and zeros for digits that the
-/// fraction does not have: 7 with 3 places of `35` is 7350. 2^120 if that is greater.
+/// fraction does not have: 7 with 3 places of `35` is 7350. If that is greater than 2^120, it is
+/// 2^120.
 fn padded(value: u128, places: usize, fraction: &[u8]) -> u128
     requires { value ≤ 2 ^ 120 }
     ensures { result ≡ min (digits_after value (padded places fraction.now)) (2 ^ 120) }
@@ -137,16 +147,16 @@ fn padded(value: u128, places: usize, fraction: &[u8]) -> u128
     let mut value = value;
     let mut left = fraction;
     for place in 0..places {
-        let (digit, rest) = first(left);
-        value = more(value, digit);
+        let (digit, rest) = first_digit(left);
+        value = with_digit(value, digit);
         left = rest;
     }
     value
 }
 
-/// The first digit of a fraction, in ASCII, and those after it. After the last one come zeros
-/// without end: of an empty fraction it gives 0, and the empty fraction again.
-fn first(fraction: &[u8]) -> (u8, &[u8])
+/// The first digit of a fraction, in ASCII, and the digits after it. After the last digit come
+/// zeros without end: an empty fraction gives 0 and the empty fraction again.
+fn first_digit(fraction: &[u8]) -> (u8, &[u8])
     ensures { (n : ℕ) → padded (suc n) fraction.now ≡ result.0 ∷ padded n result.1.now }
 {
     match fraction {

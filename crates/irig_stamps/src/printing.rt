@@ -1,15 +1,50 @@
-//! What goes out, written whole.
+//! What comes out for the lines is printed: `text` is that of the lines that have ended, so far as
+//! it is not printed yet. A `RunFault` says why the run over the lines is broken off, and a
+//! `TakeFault` why a byte of them was not taken.
 
-ghost use Rattle.irig_stamps.specs.Front.{Prints};
+ghost use Rattle.std.specs.Prelude.{◌≡◌, [], OnOk, IfOk};
+ghost use Rattle.irig_stamps.specs.{Front.Prints, Steps.PrintsAll, Steps.Stops};
 
+use crate::fault::{RunFault, TakeFault};
 use std::io::Write;
+
+/// Prints the text and makes it empty. Returns `ended` as it was given: whether the lines were read
+/// to their end, which the callers hand on. If the output fails it is `PrintFailed`; a front of the
+/// text can be printed then, and the text stays.
+pub fn print<W: Write>(out: &mut W, text: &mut Vec<u8>, ended: bool) -> Result<bool, RunFault>
+    ensures printed { PrintsAll (W.contents out.old) (W.contents out.new) text.old.items result }
+    ensures empty { OnOk result (text.new.items ≡ []) }
+    ensures ended { IfOk result (λ b. b ≡ ended) }
+{
+    let Ok(()) = put_all(out, text) else {
+        return Err(RunFault::PrintFailed);
+    };
+    text.clear();
+    Ok(ended)
+}
+
+/// Why the run is broken off, if a byte of the lines was not taken (`fault`). `count` lines have
+/// ended, so the number of a line that is too long is `count` + 1. The text, of the lines before
+/// it, is printed first; `PrintFailed` if that fails. If memory ran out, nothing is printed, since
+/// the text can end in the middle of a line.
+pub fn stop<W: Write>(out: &mut W, text: &[u8], count: u64, fault: TakeFault) -> RunFault
+    ensures { Stops (W.contents out.old) (W.contents out.new) text.now count fault result }
+{
+    match fault {
+        TakeFault::OutOfMemory => RunFault::OutOfMemory,
+        TakeFault::TooLong => match put_all(out, text) {
+            Ok(()) => RunFault::TooLong(count.saturating_add(1)),
+            Err(_) => RunFault::PrintFailed,
+        },
+    }
+}
 
 /// The output failed.
 #[derive(Clone, Copy)]
 pub struct PrintFault;
 
-/// Writes all of the bytes. A write that fails or takes no byte ends it with an error; a front of
-/// the bytes can be out then.
+/// Writes all of the bytes, by as many writes as it takes. A write that fails or takes no byte ends
+/// it with an error; a front of the bytes can be out then.
 pub fn put_all<W: Write>(out: &mut W, bytes: &[u8]) -> Result<(), PrintFault>
     ensures { Prints (W.contents out.old) (W.contents out.new) bytes.now result }
 {

@@ -1,4 +1,4 @@
-//! How lines are read: in parts.
+//! Lines are read in parts.
 
 ghost use Rattle.std.specs.{Io.ReadsAtMost, Io.KnownBytes.ReadConsumes};
 
@@ -12,8 +12,8 @@ pub const READ_LIMIT: usize = 32_768;
 /// The most reads: 2^32. More are the fault `TooManyReads`, so that the loops over reads end.
 pub const READS_LIMIT: u64 = 4_294_967_296;
 
-/// One read of the lines into the buffer. Returns how many bytes it gave, 0 at the end of the
-/// lines. Each error of the system is `ReadFailed`.
+/// Reads a part of the lines into the buffer, by one read. Returns how many bytes it gave, 0 at the
+/// end of the lines. Each error of the system is `ReadFailed`.
 pub fn read_part<R: Read>(lines: &mut R, buffer: &mut [u8; READ_LIMIT]) -> Result<usize, RunFault>
     ensures bound { ReadsAtMost result buffer.new }
     ensures bytes { ReadConsumes (R.remaining lines.old) (R.remaining lines.new) result buffer.new }

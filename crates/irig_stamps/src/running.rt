@@ -1,21 +1,23 @@
-//! The run over a text of lines: each is printed with the time of a track at its recorder's time,
-//! the number in one of its columns. `state` is how far they were read, and `text` is what comes
-//! out for them and is not printed yet. `pulses` is the track's pulses, and `known` which of them
-//! have a time. `format` is the code of the track, and `settings` say how lines are read and times
-//! are written; their bounds keep years in four digits and sums in their types. A `RunFault` says
-//! why the run is broken off, and a `TakeFault` why bytes are not taken (`take_part`).
+//! The run over the lines: it reads them in parts, and prints each line with its stamp before it.
+//! The stamp is the time of a track at the line's recorder's time, which is the number in one of
+//! its columns, or a word if it has none. `state` is how far the lines were read: the front of the
+//! line that has not ended, how many have ended, and whether each of these has such a number.
+//! `text` is what comes out for the lines that have ended and is not printed yet. `pulses` is the
+//! track's pulses, and `known` which of them have a time. A step (`run_one_read`, `put_part`,
+//! `end_last_line`) returns whether the lines were read to their end. A `RunFault` says why the run
+//! is broken off. The bounds of `settings` keep each year in four digits, and each sum in its type.
 
 ghost use Rattle.std.specs.Prelude.{◌≡◌, ◌≤◌, ◌<◌, ◌^◌, [], ℕ, List, Option, true, false, OnOk, IfOk};
 ghost use Rattle.std.specs.Prelude.{IfSome};
 ghost use Rattle.std.specs.Io.KnownBytes.{Consumes, IsAtEnd};
 ghost use Rattle.irig_stamps.specs.Reasons.{IsKnownOf};
 ghost use Rattle.irig_stamps.specs.Runs.{Ends};
-ghost use Rattle.irig_stamps.specs.Steps.{GoesOn, PrintsAll, Stops, Underway};
+ghost use Rattle.irig_stamps.specs.Steps.{GoesOn, Underway};
 
-use crate::fault::{RunFault, TakeFault};
+use crate::fault::RunFault;
 use crate::knowledge::Known;
-use crate::lines::Lines;
-use crate::printing::put_all;
+use crate::printing::{print, stop};
+use crate::progress::Progress;
 use crate::reading::{READ_LIMIT, READS_LIMIT, read_part};
 use crate::settings::Settings;
 use crate::taking::{end_line, take_part};
@@ -25,8 +27,8 @@ use std::alloc::Global;
 use std::io::{Read, Write};
 
 /// Takes `before`, the bytes of the lines that were read already, reads the rest to its end, and
-/// prints each line with its time before it. Returns whether the column of each line has a number,
-/// but for the header; or why the run is broken off. What was printed until then stays.
+/// prints each line with its stamp before it. Returns whether each line after the header has a
+/// number in its column; or why the run is broken off. What was printed until then stays.
 pub fn run<R: Read, W: Write>(
     alloc: Global,
     before: &[u8],
@@ -46,26 +48,26 @@ pub fn run<R: Read, W: Write>(
         → Ends format pulses.old.track.pulses settings.now start (R.remaining lines.new)
         (W.contents out.old) (W.contents out.new) result }
 {
-    let mut state = Lines::new(alloc);
+    let mut state = Progress::new(alloc);
     let mut text = Vec::new(alloc);
     match put_part(
         out, &mut state, &mut text, pulses, known, format, settings, before,
     ) {
-        // The answer is `false`: more lines can follow.
-        Ok(_) => run_on(
+        // It is `false` here: the lines have not ended.
+        Ok(_) => run_rest(
             lines, out, &mut state, &mut text, pulses, known, format, settings,
         ),
         Err(fault) => Err(fault),
     }
 }
 
-/// Reads the rest of the lines and prints what comes out for it. Returns whether the column of each
-/// line, also of those before, has a number, but for the header (`state.all`). `TooManyReads` if
-/// the lines have not ended after 2^32 reads; other errors are those of `run_read`.
-fn run_on<R: Read, W: Write>(
+/// Reads the rest of the lines and prints what comes out for it. Returns whether each line after
+/// the header has a number in its column, also those before the rest (`state.all`). `TooManyReads`
+/// if the lines have not ended after 2^32 reads; other errors are those of `run_one_read`.
+fn run_rest<R: Read, W: Write>(
     lines: &mut R,
     out: &mut W,
-    state: &mut Lines,
+    state: &mut Progress,
     text: &mut Vec<u8>,
     pulses: &mut Lens<'_>,
     known: &Known,
@@ -86,7 +88,7 @@ fn run_on<R: Read, W: Write>(
 {
     let mut buffer = [0; READ_LIMIT];
     for reads in 0..READS_LIMIT {
-        match run_read(
+        match run_one_read(
             lines,
             out,
             &mut buffer,
@@ -105,14 +107,14 @@ fn run_on<R: Read, W: Write>(
     Err(RunFault::TooManyReads)
 }
 
-/// Reads a part of the lines and prints what comes out for it. Returns `true` if nothing was left
-/// to read: then the last line, if no newline ended it, is ended and printed. Else `false`. An
-/// error is `ReadFailed` if the read fails, else that of `end` or `put_part`.
-fn run_read<R: Read, W: Write>(
+/// Reads a part of the lines and prints what comes out for it. If nothing was left to read, it ends
+/// the last line, and returns `true`; else `false`. `ReadFailed` if the read fails; other errors
+/// are those of `end_last_line` and `put_part`.
+fn run_one_read<R: Read, W: Write>(
     lines: &mut R,
     out: &mut W,
     buffer: &mut [u8; READ_LIMIT],
-    state: &mut Lines,
+    state: &mut Progress,
     text: &mut Vec<u8>,
     pulses: &mut Lens<'_>,
     known: &Known,
@@ -137,7 +139,7 @@ fn run_read<R: Read, W: Write>(
         return Err(RunFault::ReadFailed);
     };
     if count == 0 {
-        return end(out, state, text, pulses, known, format, settings);
+        return end_last_line(out, state, text, pulses, known, format, settings);
     }
     put_part(
         out,
@@ -152,11 +154,11 @@ fn run_read<R: Read, W: Write>(
 }
 
 /// Takes a part of the lines and prints what comes out for it. Returns `false`: more can follow. If
-/// taking it fails, the error is that of `stop`, which prints what came out before a line that is
+/// a byte cannot be taken, the error is that of `stop`, which first prints the text if a line is
 /// too long. `PrintFailed` if the output fails.
 fn put_part<W: Write>(
     out: &mut W,
-    state: &mut Lines,
+    state: &mut Progress,
     text: &mut Vec<u8>,
     pulses: &mut Lens<'_>,
     known: &Known,
@@ -186,10 +188,11 @@ fn put_part<W: Write>(
 }
 
 /// Ends the last line, if bytes came after the last newline, and prints what comes out for it.
-/// Returns `true`: all lines were read; or `OutOfMemory`, or `PrintFailed` if the output fails.
-fn end<W: Write>(
+/// Returns `true`: the lines were read to their end. The error is `OutOfMemory`, or `PrintFailed`
+/// if the output fails.
+fn end_last_line<W: Write>(
     out: &mut W,
-    state: &mut Lines,
+    state: &mut Progress,
     text: &mut Vec<u8>,
     pulses: &mut Lens<'_>,
     known: &Known,
@@ -217,34 +220,5 @@ fn end<W: Write>(
     match end_line(state, text, pulses, known, format, settings) {
         Ok(()) => print(out, text, true),
         Err(_) => Err(RunFault::OutOfMemory),
-    }
-}
-
-/// Prints a text and makes it empty. Returns `ended`; or `PrintFailed`, and then the text stays.
-fn print<W: Write>(out: &mut W, text: &mut Vec<u8>, ended: bool) -> Result<bool, RunFault>
-    ensures printed { PrintsAll (W.contents out.old) (W.contents out.new) text.old.items result }
-    ensures empty { OnOk result (text.new.items ≡ []) }
-    ensures ended { IfOk result (λ b. b ≡ ended) }
-{
-    let Ok(()) = put_all(out, text) else {
-        return Err(RunFault::PrintFailed);
-    };
-    text.clear();
-    Ok(ended)
-}
-
-/// Returns why the run is broken off, for a part that could not be taken. `count` is how many lines
-/// have ended, so a line that is too long is the next one, `count` + 1. After such a line the text
-/// is printed first, what comes out for the lines that have ended; `PrintFailed` if that fails. If
-/// memory ran out, nothing is printed: the text can end in the middle of a line.
-fn stop<W: Write>(out: &mut W, text: &[u8], count: u64, fault: TakeFault) -> RunFault
-    ensures { Stops (W.contents out.old) (W.contents out.new) text.now count fault result }
-{
-    match fault {
-        TakeFault::OutOfMemory => RunFault::OutOfMemory,
-        TakeFault::TooLong => match put_all(out, text) {
-            Ok(()) => RunFault::TooLong(count.saturating_add(1)),
-            Err(_) => RunFault::PrintFailed,
-        },
     }
 }

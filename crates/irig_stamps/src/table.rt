@@ -15,11 +15,11 @@ ghost use Rattle.irig_stamps.specs.Tables.{IsTable, Lists, ListsRecording, answe
 ghost use Rattle.irig_stamps.specs.Tables.{row_text};
 
 use crate::fault::RunFault;
-use crate::first_day::{doubted, first_day, held_at};
+use crate::first_day::{count_doubted, first_day, held_at};
 use crate::outcome::Standing;
 use crate::printing::put_all;
 use crate::settings::Settings;
-use crate::text::{put_number, put_word};
+use crate::text::{put_number, put_time_or_hyphen};
 use irig_codes::Format;
 use irig_index::Index;
 use irig_recording::LongRecording;
@@ -48,9 +48,9 @@ pub fn list<W: Write>(
 }
 
 /// Prints the table of the track that a lens shows, with the results and errors of `list`. First it
-/// finds which frames are believed (`held`), on which day the first of these is, and how many
-/// frames have a time and are not believed. If a frame carries no year, its year depends on that
-/// first day.
+/// finds which frames are believed (`held`), the day of the first of these, and how many frames
+/// have a time and are not believed. The year of a frame that carries none depends on that first
+/// day.
 fn list_track<W: Write>(
     alloc: Global,
     pulses: &mut Lens<'_>,
@@ -72,8 +72,8 @@ fn list_track<W: Write>(
         return Err(RunFault::OutOfMemory);
     };
     let day = first_day(&mut records, &held, format);
-    let doubted = doubted(&mut records, &held, format);
-    // 0 if no frame is believed. No day is before day 0, so each row has the year of the settings.
+    let doubted = count_doubted(&mut records, &held, format);
+    // If no frame is believed it is 0. No day is before day 0, so a row has the settings' year.
     let settings = Settings {
         first_day: day.unwrap_or(0),
         ..*settings
@@ -143,7 +143,7 @@ fn put_frame(
 }
 
 /// Adds the row of a frame, by its start; nothing if there is no start, since the frame has no
-/// time. `held` says whether the frame is believed, as `held_at` gives it.
+/// time. `held` is whether the frame is believed (`held_at`).
 fn put_start(
     text: &mut Vec<u8>,
     settings: &Settings<'_>,
@@ -161,8 +161,8 @@ fn put_start(
 }
 
 /// Adds the row of a frame: the microsecond of the track at which it begins (`rise`), its time, and
-/// the word of `answer`. The three are parted by `settings.comma`, or by a tab if that is `None`.
-/// `held` says whether the frame is believed.
+/// the word of `answer`. Between them is `settings.comma`, or a tab if that is `None`. `held` is
+/// whether the frame is believed.
 fn put_row(
     text: &mut Vec<u8>,
     settings: &Settings<'_>,
@@ -177,16 +177,15 @@ fn put_row(
     let comma = settings.comma.unwrap_or(b'\t');
     put_number(text, start.rise)?;
     text.extend_from_slice(&[comma])?;
-    put_word(text, settings, Some(start.time))?;
+    put_time_or_hyphen(text, settings, Some(start.time))?;
     text.extend_from_slice(&[comma])?;
     text.extend_from_slice(answer(held, start.is_followed))?;
     text.extend_from_slice(b"\n")
 }
 
 /// The last word of a row: `yes` if the frame is believed and the next one follows it one period
-/// later (`is_followed`), `no` if it is believed and the next one does not, and `unsupported` if it
-/// is not believed. `None`, which `held` never is for a record that is there, counts as not
-/// believed.
+/// later (`is_followed`), `no` if it is believed and the next one does not, `unsupported` if it is
+/// not believed. `None` counts as not believed; a record that is there never has it.
 fn answer<'a>(held: Option<bool>, is_followed: bool) -> &'a [u8]
     ensures { result.now ≡ answer_of held is_followed }
 {

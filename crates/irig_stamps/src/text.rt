@@ -16,7 +16,7 @@ use irig_times::Time;
 use std::alloc::AllocError;
 
 /// The most digits of a number of 64 bits.
-const ROOM: usize = 20;
+const MOST_DIGITS: usize = 20;
 
 /// One decimal digit of a number, in ASCII: that of the ones if `unit` is 1, of the tens if it is
 /// 10, and so on.
@@ -27,9 +27,9 @@ fn digit(unit: u64, number: u64) -> u8
     b'0' + (number / unit % 10) as u8
 }
 
-/// Adds a time to a text, in the form of the settings; a hyphen if there is no time, or if the form
-/// is that of a date and the time has no date (`put_time`).
-pub fn put_word(
+/// Adds a time in the form of the settings; a hyphen if it is `None`, or if the form is a date and
+/// the time has none (`put_time`).
+pub fn put_time_or_hyphen(
     text: &mut Vec<u8>,
     settings: &Settings<'_>,
     time: Option<Time>,
@@ -44,8 +44,9 @@ pub fn put_word(
     }
 }
 
-/// Adds a time in the form of the settings. Its year is that of `year_in`: the time's own, or that
-/// of the settings, if one is known. A hyphen if the form is `Calendar` and the time has no date.
+/// Adds a time in the form of the settings, in the year of `year_in`: the time's own year, or one
+/// counted from that of the settings. A hyphen if the form is `Calendar` and the time has no date,
+/// as its year is not known or has no such day.
 fn put_time(text: &mut Vec<u8>, settings: &Settings<'_>, time: &Time) -> Result<(), AllocError>
     requires century { settings.now.century ≤ 99 }
     requires year { IfSome settings.now.year (λ y. y ≤ 9998) }
@@ -71,7 +72,7 @@ fn put_ordinal(text: &mut Vec<u8>, year: Option<u32>, time: &Time) -> Result<(),
 }
 
 /// Adds a year of four digits and a hyphen; nothing if the year is not known. Callers give at most
-/// 9999: of a greater year it would add only the last four digits.
+/// 9999; of a greater year only the last four digits would be added.
 fn put_year(text: &mut Vec<u8>, year: Option<u32>) -> Result<(), AllocError>
     ensures { OnOk result (text.new.items ≡ text.old.items ++ year_text year) }
 {
@@ -87,9 +88,9 @@ fn put_year(text: &mut Vec<u8>, year: Option<u32>) -> Result<(), AllocError>
     }
 }
 
-/// Adds a time as `YYYY-MM-DDThh:mm:ss.ffffff`, or a hyphen if `date_in` finds no date: the year is
-/// not known, or has no such day, as day 366 of a year of 365 days. The bound of the year is that
-/// of `date_in`.
+/// Adds a time as `YYYY-MM-DDThh:mm:ss.ffffff`; a hyphen if it has no date (`date_in`): the year is
+/// not known, or has no such day, as day 366 of a year of 365 days. The year is at most 9999, where
+/// the calendar ends.
 fn put_calendar(text: &mut Vec<u8>, year: Option<u32>, time: &Time) -> Result<(), AllocError>
     requires { IfSome year (λ y. y ≤ 9999) }
     ensures { OnOk result (text.new.items ≡ text.old.items ++ calendar_text year time.now) }
@@ -112,21 +113,21 @@ fn put_seconds(text: &mut Vec<u8>, time: &Time) -> Result<(), AllocError>
     text.extend_from_slice(&fraction(time.micros))
 }
 
-/// The whole seconds since midnight. `micros` counts from the start of the minute, so second 60 is
-/// counted as second 0 of the next minute: at the end of the day as 86,400.
+/// The whole seconds since midnight. `micros` counts from the start of the minute and can have
+/// second 60, which counts as second 0 of the next minute: at the end of the day it gives 86,400.
 fn day_seconds(time: &Time) -> u64
     ensures { result ≡ day_seconds time.now }
 {
     3600 * time.hours as u64 + 60 * time.minutes as u64 + time.micros / 1_000_000
 }
 
-/// Adds a whole number in decimal. Its digits are at the end of `digits`, from the place `start`
-/// on, as `write_digits` says.
+/// Adds a whole number in decimal. `write_digits` writes its digits to the end of `digits`, from
+/// the place `start` on.
 pub fn put_number(text: &mut Vec<u8>, number: u64) -> Result<(), AllocError>
     ensures { OnOk result (text.new.items ≡ text.old.items ++ decimal number) }
 {
-    let mut digits = [0; ROOM];
-    let start = itoa::write_digits(number, &mut digits, ROOM);
+    let mut digits = [0; MOST_DIGITS];
+    let start = itoa::write_digits(number, &mut digits, MOST_DIGITS);
     text.extend_from_slice(&digits[start..])
 }
 

@@ -8,10 +8,10 @@ loop-place-preserved c =
     let n = c.args.places - (c.loop-place.place + 1) in
     let one : c.args.places - c.loop-place.place ≡ suc n = omega (arith, c.loop-place-test.true) in
     record {
-      small = c.more-value.ensures.most;
+      small = c.with_digit-value.ensures.most;
       value = c.loop-place.invariant.value
           ∙ (ap (λ k. min (digits_after c.loop-place.value (padded k c.loop-place.left.now)) (2 ^ 120)) one
-          ∙ (ap (λ xs. min (digits_after c.loop-place.value xs) (2 ^ 120)) (c.first-digit.ensures n)
-          ∙ next-at-most (2 ^ 120) c.loop-place.value c.more-value.result c.first-digit.result.0 (padded n c.first-digit.result.1.now)
-          c.more-value.ensures.value));
+          ∙ (ap (λ xs. min (digits_after c.loop-place.value xs) (2 ^ 120)) (c.first_digit-digit.ensures n)
+          ∙ next-at-most (2 ^ 120) c.loop-place.value c.with_digit-value.result c.first_digit-digit.result.0 (padded n c.first_digit-digit.result.1.now)
+          c.with_digit-value.ensures.value));
     }

@@ -16,10 +16,10 @@ returns-in-Ok g c start read =
     let begin = begun-with f ps s start from _ _ _ c.new-state.ensures.line c.new-state.ensures.count c.new-state.ensures.all in
     let went = c.in-Ok.ensures.step start start (g.R.Read.remaining c.args.lines.now) from begin read in
     let on = subst (λ b. GoesOn f ps s start (g.R.Read.remaining c.args.lines.now) from mid is (Ok b)) c.in-Ok.ensures.more went in
-    let ended = c.run_on.ensures start from (subst (λ (t : TrackView). Underway f t.pulses s start (g.R.Read.remaining c.args.lines.now) from mid
+    let ended = c.run_rest.ensures start from (subst (λ (t : TrackView). Underway f t.pulses s start (g.R.Read.remaining c.args.lines.now) from mid
     is.line.items is.count is.all) (sym c.in-Ok.ensures.pulses) on) in
-    subst (λ (t : TrackView). Ends f t.pulses s start (g.R.Read.remaining c.run_on.new.lines) from (g.W.Write.contents c.run_on.new.out)
-    c.run_on.result) c.in-Ok.ensures.pulses ended
+    subst (λ (t : TrackView). Ends f t.pulses s start (g.R.Read.remaining c.run_rest.new.lines) from (g.W.Write.contents c.run_rest.new.out)
+    c.run_rest.result) c.in-Ok.ensures.pulses ended
 
 pub returns : goal.returns
 returns g c start read =

@@ -5,5 +5,5 @@ use Rattle.irig_stamps.proofs.taking.take_part.Given as goal
 abbrev pub invariant-loop-byte : goal.invariant-loop-byte
 invariant-loop-byte l = record {
   track : l.pulses.track ≡ l.fn.pulses.track;
-  taken : Takes l.format l.fn.pulses.track.pulses l.settings (take l.byte-index l.part) l.fn.text.items l.text.items l.fn.lines l.lines;
+  taken : Takes l.format l.fn.pulses.track.pulses l.settings (take l.byte-index l.part) l.fn.text.items l.text.items l.fn.state l.state;
 }
