@@ -71,7 +71,7 @@ impl Block {
         Ok(())
     }
 
-    /// Holds back a text too, after what is held already. There is room for it.
+    /// Holds back a text, after what is held already. The caller has made room for it.
     fn hold(&mut self, text: &[u8])
         requires { length self.old + length text.now ≤ 8192 }
         ensures { self.new ≡ self.old ++ text.now }

@@ -1,9 +1,9 @@
 //! The line that the command `frames` prints of a record. A record is a frame that was found: its
 //! marker, which is the pulse with which it begins, and what is reported of it. A row is a line of
-//! at most 256 bytes while it is put together. Each function writes at its end. `room` says how
-//! many bytes may be in it before, and `short` how many are added at most. Both count the most
-//! digits that a number may have: 20 of `put_number`, 10 of `put_padded`, 16 of `put_hexadecimal`.
-//! Some leave a few bytes to spare.
+//! at most 256 bytes while it is put together. Each function writes at its end, and in its contract
+//! `room` says how many bytes may be in the row before, `short` how many are added at most. Both
+//! count the most digits that a number may have: 20 of `put_number`, 10 of `put_padded`, 16 of
+//! `put_hexadecimal`. Some leave a few bytes to spare.
 
 ghost use Rattle.std.specs.Prelude.{◌≡◌, ◌≤◌, ◌+◌, ◌++◌, length};
 ghost use Rattle.irig_print.specs.FrameLine.{cause_word, name_word, note_text, time_text};
@@ -94,8 +94,8 @@ fn put_clock(row: &mut Row, fields: &Fields)
     row.put_padded(2, fields.seconds);
 }
 
-/// Writes the day of the year, with three digits, and the time of day, as `061 12:34:56`, or
-/// `061 12:34:56.78` if the format has hundredths.
+/// Writes the day of the year, with three digits, and the time of day, as `061 12:34:56`, or `061
+/// 12:34:56.78` if the format has hundredths.
 pub fn put_time(row: &mut Row, fields: &Fields)
     requires room { length row.old ≤ 80 }
     ensures text { row.new ≡ row.old ++ time_text fields.now }

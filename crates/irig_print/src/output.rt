@@ -1,4 +1,5 @@
-//! What goes out, written whole.
+//! Bytes that are written whole. In the contract, `Prints` says that all of them came to the
+//! output, or after an error a front of them.
 
 ghost use Rattle.irig_print.specs.Front.{Prints};
 

@@ -15,8 +15,9 @@ pub const LINE_ROOM: usize = 72;
 /// Writes the line of a pulse so that it ends at `end`, the index after its last byte, and returns
 /// the index of its first. The line has the pulse's number, from 1, its rise and its fall in
 /// microseconds, and the word of the element that its width means, or `bad`. The line is written
-/// from its end, so that no digits have to be counted. A fall before the rise would be a width of
-/// 0: no recording has one, but the type of a pulse permits it.
+/// from its end, so that no digits have to be counted: each of `word`, `fall`, `rise` is the index
+/// at which that part of the line starts. A fall before the rise would be a width of 0: no
+/// recording has one, but the type of a pulse permits it.
 pub fn write_pulse(bytes: &mut [u8], end: usize, format: Format, number: u64, pulse: Pulse) -> usize
     requires { (72 ≤ end) × (end ≤ length bytes.old) }
     ensures start { (end ≤ result + 72) × (result ≤ length bytes.old) }
@@ -31,10 +32,11 @@ pub fn write_pulse(bytes: &mut [u8], end: usize, format: Format, number: u64, pu
     write_number(bytes, rise, number)
 }
 
-/// Writes the word of a class and a newline so that they end at `end`, and returns where the word
-/// starts. A class is the element that a width means, or `None` if the width is bad. Always all
-/// eight bytes of `letters` are written, which is fast. The word is those from `start` on; the rest
-/// of the line is later written over the bytes before it.
+/// Writes the word of a class and a newline so that they end at `end`, and returns the index at
+/// which the word starts. A class is the element that a width means, or `None` if the width is bad.
+/// `class_word` gives eight bytes, `letters`, and where in them the word starts: it is their end.
+/// All eight are written, which is faster than a part of them. The numbers of the line are later
+/// written over those before the word.
 #[inline(always)]
 fn write_class(bytes: &mut [u8], end: usize, class: Option<Element>) -> usize
     requires { (9 ≤ end) × (end ≤ length bytes.old) }
