@@ -1,7 +1,7 @@
-//! What a command takes, and what it refuses. A `Command` is what `clap` knows of a command line;
-//! one that is an error could not be made, as memory ran out. In a contract, `HasMatchesOf` and
-//! `MayRefuse` say that `clap` may give these matches or this error for the words, `IsMistake` that
-//! an error is no call for help.
+//! What `clap` finds in the words of a command line, and its error for words that are not text. A
+//! `Command` is what `clap` knows of a command line; `Err` instead of one means that memory ran out
+//! for it. In a contract, `HasMatchesOf` and `MayRefuse` say that `clap` may give these matches or
+//! this error for the words, `IsMistake` that an error is no call for help.
 //!
 //! Where `match` hands an error on, `?` would do the same; the proof of it takes longer.
 
@@ -29,31 +29,31 @@ pub fn matches_of<'a>(command: Command<'a>, words: &'a [String]) -> Result<ArgMa
 
 /// The error of `clap`, to be printed, for an argument that is not UTF-8. `command` is the
 /// program's own, which `clap` needs for it. If memory ran out for the command, or runs out here,
-/// the error says that memory ran out.
+/// the error says that memory ran out instead.
 pub fn not_text(command: Result<Command<'_>, AllocError>) -> Error
     ensures { IsMistake result }
 {
-    // `into` makes an error of `clap` of the one that memory ran out.
-    match said_of_bytes(command) {
+    // `into` makes an error of `clap` of the one that says that memory ran out.
+    match not_text_by(command) {
         Ok(error) => error,
         Err(error) => error.into(),
     }
 }
 
-/// The error of `clap` for an argument that is not UTF-8, as `Ok`. `Err` if memory ran out for the
-/// command, or runs out for that error.
-fn said_of_bytes(command: Result<Command<'_>, AllocError>) -> Result<Error, AllocError>
+/// The error for an argument that is not UTF-8 (`not_text_of`), as `Ok`, if there is a command.
+/// `Err` if memory ran out for the command, or runs out for that error.
+fn not_text_by(command: Result<Command<'_>, AllocError>) -> Result<Error, AllocError>
     ensures { IfOk result IsMistake }
 {
     match command {
-        Ok(mut command) => error_of_bytes(&mut command),
+        Ok(mut command) => not_text_of(&mut command),
         Err(error) => Err(error),
     }
 }
 
-/// The error of a command for an argument that is not UTF-8, as `Ok`. It fails only if memory runs
-/// out.
-fn error_of_bytes(command: &mut Command<'_>) -> Result<Error, AllocError>
+/// The error that `clap` makes of a command for an argument that is not UTF-8, as `Ok`. `Err` means
+/// that memory ran out.
+fn not_text_of(command: &mut Command<'_>) -> Result<Error, AllocError>
     ensures { IfOk result IsMistake }
 {
     command.error(

@@ -1,5 +1,6 @@
-//! The format that the options of a command line name: a letter (A, B, E or G) and an expression,
-//! which is a digit that says what the code carries.
+//! The format that the options `--format` and `--expression` name: a letter (A, B, E or G) and a
+//! digit, the coded expression, which says what the code carries. In a contract, `given` is the
+//! bytes of an option's value, if it has one.
 
 ghost use Rattle.std.specs.Prelude.{◌≡◌, IfErr, IfOk};
 ghost use Rattle.irig_words.specs.Formats.{HasFormatFault, IsFormat, digit_named, given, text_or};
@@ -37,7 +38,7 @@ pub fn format_named(letter: Option<&str>, number: Option<&str>) -> Result<Format
     }
 }
 
-/// The bytes of an option's value, or `other` if it is not given.
+/// The bytes of an option's value, or those of `other` if it is not given.
 pub fn text_or<'a>(value: Option<&'a str>, other: &'a str) -> &'a [u8]
     ensures { result.now ≡ text_or value.entry other.entry.now }
 {

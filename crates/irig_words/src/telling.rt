@@ -1,9 +1,9 @@
-//! What a program says of itself, and the statuses with which it ends. `rt` prints on standard
-//! error; if that fails, nothing else can be said, so it is passed over. Status 2 is a mistake in
-//! the command line. In a contract, `contents` is what came to an output; `EndsWith` says that this
-//! is the status and no help was printed, `Helps` that the help was printed, or a front of it if
-//! the output fails, `IsHelp` that an error of `clap` asks for help, and `IsMistake` that it does
-//! not.
+//! What a program says of itself, and the statuses with which it ends. `rt` prints on the standard
+//! error; if that fails, nothing else can be said, so the failure is passed over. Status 2 is a
+//! mistake in the command line. In a contract, `contents` is what came to an output; `EndsWith`
+//! says that this is the status and no help was printed, `Helps` that the help was printed, or a
+//! front of it if the output fails, `IsHelp` that an error of `clap` asks for help, and `IsMistake`
+//! that it does not.
 
 ghost use Rattle.std.specs.Prelude.{◌≡◌};
 ghost use Rattle.std.specs.Process.{exit_status};
@@ -34,8 +34,8 @@ pub struct Program<'a> {
 }
 
 impl<'a> Program<'a> {
-    /// Says on standard error, after the program's name, why it ends with a status, and returns the
-    /// status.
+    /// Says on the standard error, after the program's name, why it ends with a status, and returns
+    /// the status.
     pub fn tell<R: Eprint, T: Display>(&self, rt: &R, status: u8, why: &T) -> ExitCode
         ensures { exit_status result ≡ status }
     {
@@ -44,8 +44,8 @@ impl<'a> Program<'a> {
         ExitCode::from(status)
     }
 
-    /// Says on standard error, after the program's name and the path that it is about, why the
-    /// program ends with a status, and returns the status.
+    /// Says on the standard error, after the program's name and the path of the file that has the
+    /// fault, why the program ends with a status, and returns the status.
     pub fn tell_of<R: Eprint, T: Display>(
         &self,
         rt: &R,
@@ -60,10 +60,10 @@ impl<'a> Program<'a> {
         ExitCode::from(status)
     }
 
-    /// Says why the words of the command line could not be read, and returns the status, 2: one of
-    /// them is not UTF-8, which is `InvalidData`, the system gave none, or memory ran out.
-    /// `command` is the program's own, which `clap` needs for what it says of a word that is not
-    /// UTF-8; it is an error if memory ran out for it.
+    /// Says why the words of the command line could not be had, and returns the status, 2: one of
+    /// them is not UTF-8 (`InvalidData`), the system gave none, or memory ran out. Of a word that
+    /// is not UTF-8 `clap` says it, for which it needs the program's own `command`: that is `Err`
+    /// if memory ran out for it.
     pub fn tell_no_words<R: Eprint>(
         &self,
         rt: &R,
@@ -79,7 +79,7 @@ impl<'a> Program<'a> {
         }
     }
 
-    /// Says why a command line asks for nothing, and returns the status, 2. If the words ask for
+    /// Says why a command line asks for no run, and returns the status, 2. If the words ask for
     /// help, it is printed on `help`, the program's output, and the status is that of `print_help`:
     /// 0, or `self.status` if the output fails.
     pub fn explain<R: Eprint, F: Display, H: Write>(
@@ -92,15 +92,16 @@ impl<'a> Program<'a> {
             (H.contents help.new) (exit_status result) }
     {
         match fault {
-            UsageFault::Words(error) => self.answer(rt, error, help),
+            UsageFault::Words(error) => self.explain_words(rt, error, help),
             UsageFault::Value(fault) => self.tell(rt, 2, fault),
         }
     }
 
-    /// Prints the help on `help`, the program's output, if the words ask for it; else says which
-    /// mistake they have, or that memory ran out, and returns 2. For `clap` all of these are an
-    /// error; `use_stderr` is false of one that asks for help.
-    fn answer<R: Eprint, H: Write>(&self, rt: &R, error: &Error, help: &mut H) -> ExitCode
+    /// Prints the help on `help`, the program's output, if the words ask for it, and returns the
+    /// status of `print_help`; else says which mistake they have, or that memory ran out, and
+    /// returns 2. For `clap` all of these are an error; `use_stderr` is false of one that asks for
+    /// help.
+    fn explain_words<R: Eprint, H: Write>(&self, rt: &R, error: &Error, help: &mut H) -> ExitCode
         ensures mistake { IsMistake error.now → EndsWith 2 (H.contents help.old)
             (H.contents help.new) (exit_status result) }
         ensures help { IsHelp error.now → Helps self.now.help.now self.now.status

@@ -1,11 +1,11 @@
-//! Why a command line asks for nothing.
+//! Why a command line asks for no run of the program.
 
 use clap::Error;
 
-/// Why a command line asks for nothing.
+/// Why a command line asks for no run. `F` is the program's own fault of an option's value.
 #[derive(Drop)]
 pub enum UsageFault<F> {
-    /// The words are not those of the command line, or ask for help; or memory ran out.
+    /// `clap` does not accept the words, or they ask for help; or memory ran out.
     Words(Error),
     /// An option has a value that it cannot have.
     Value(F),

@@ -1,6 +1,7 @@
-//! The window of a dump that the options of a command line name: the part that is read, from the
-//! first microsecond of it to the first one after it. In a text of the help, what is after the last
-//! colon is the value without the option. An argument that is `global` is one of subcommands, too.
+//! The window of a dump that the options `--from` and `--to` name: the part that is read, from the
+//! first microsecond of it (`from`) to the first one after it (`to`). In a text of the help, what
+//! is after the last colon is the value without the option. An argument that is `global` is one of
+//! subcommands, too. In a contract, `given` is the bytes of an option's value, if it has one.
 
 ghost use Rattle.std.specs.Prelude.{◌≡◌, ◌||◌, IfErr, IfOk, None, codes, false, is_some};
 ghost use Rattle.clap.specs.Words.{app_of, rule_of};
@@ -41,7 +42,7 @@ pub fn windowed<'a>(alloc: Global, command: Command<'a>) -> Result<Command<'a>, 
     command.arg(from_arg(alloc))?.arg(to_arg(alloc))
 }
 
-/// The option with the first microsecond of a window.
+/// The option `--from`, with the first microsecond of a window.
 fn from_arg<'a>(alloc: Global) -> Arg<'a>
     ensures rule { rule_of result ≡ option (codes "from") None }
     ensures local { result.global ≡ false }
@@ -49,7 +50,7 @@ fn from_arg<'a>(alloc: Global) -> Arg<'a>
     option_arg(alloc, "from", "TIME", "in microseconds, is the new 0: 0")
 }
 
-/// The option with the first microsecond after a window.
+/// The option `--to`, with the first microsecond after a window.
 fn to_arg<'a>(alloc: Global) -> Arg<'a>
     ensures rule { rule_of result ≡ option (codes "to") None }
     ensures local { result.global ≡ false }
@@ -129,9 +130,9 @@ fn time_named(text: &[u8]) -> Option<u64>
     }
 }
 
-/// The number that digits spell; 2^64 for each greater one, so that no step overflows. `None` if a
-/// byte is no digit. No digits are 0; the caller has tested that some are there. In the contract, 0
-/// is the number before the first digit.
+/// The decimal number that digits spell; 2^64 for each greater one, so that no step overflows.
+/// `None` if a byte is no digit. Without a digit it is 0, but the caller has tested that the text
+/// is not empty. In the contract, 0 is the number before the first digit.
 fn spelt(digits: &[u8]) -> Option<u128>
     ensures { result ≡ spelt 0 digits.now }
 {
