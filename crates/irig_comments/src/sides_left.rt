@@ -48,7 +48,8 @@ impl<'a> SidesLeft<'a> {
 
     /// The frames at the next place, which are past then: those of both recordings if both begin at
     /// one microsecond, else the earlier one alone. Both lists are in the order of their places.
-    /// `None` if none is left.
+    /// `None` if none is left. The last line returns what is left of one recording alone, and two
+    /// frames of one place.
     pub fn next(&mut self) -> Option<Sides>
         ensures { MatchOption result ((self.old ≡ []) × (self.new ≡ []))
             (λ s. self.old ≡ s ∷ self.new) }
@@ -57,11 +58,9 @@ impl<'a> SidesLeft<'a> {
         let after = self.after.shown(self.past_after);
         match (before, after) {
             (None, None) => return None,
-            // Only one recording has a frame left: the last line returns it, with `None`.
             (Some(_), None) => self.past_before += 1,
             (None, Some(_)) => self.past_after += 1,
             (Some(was), Some(now)) => {
-                // The earlier one is returned alone.
                 if now.rise < was.rise {
                     self.past_after += 1;
                     return Some(Sides {
@@ -76,7 +75,6 @@ impl<'a> SidesLeft<'a> {
                         after: None,
                     });
                 }
-                // Both begin at one microsecond: the last line returns both.
                 self.past_after += 1;
             }
         }

@@ -100,7 +100,6 @@ fn next_edge(before: &mut EdgesLeft<'_>, after: &mut EdgesLeft<'_>) -> Option<u6
                 if now < was {
                     return Some(now);
                 }
-                // Both have this edge: it is passed in both.
                 before.pass();
             }
             (Some(was), None) => {

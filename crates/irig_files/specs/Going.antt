@@ -14,32 +14,39 @@ kept_by_more (Synced m ∷ xs) ys none = refl
 kept_by_more (Moved p h ∷ xs) ys none = refl
 kept_by_more (NotMoved p h ∷ xs) ys none = refl
 
-pub writes_more : (xs ys : List Step) → kept_by ys ≡ None → writes_in (xs ++ ys) ≡ writes_in xs ++ writes_in ys
+pub writes_more : (xs ys : List Step) → kept_by ys ≡ None
+    → writes_in (xs ++ ys) ≡ writes_in xs ++ writes_in ys
 writes_more [] ys none = refl
-writes_more (Moved p (Some h) ∷ xs) ys none = λ j. write p h (kept_by_more xs ys none j) ∷ writes_more xs ys none j
+writes_more (Moved p (Some h) ∷ xs) ys none =
+    λ j. write p h (kept_by_more xs ys none j) ∷ writes_more xs ys none j
 writes_more (NotMoved p (Some h) ∷ xs) ys none = λ j. write p h None ∷ writes_more xs ys none j
 writes_more (Moved p None ∷ xs) ys none = writes_more xs ys none
 writes_more (NotMoved p None ∷ xs) ys none = writes_more xs ys none
 writes_more (Synced m ∷ xs) ys none = writes_more xs ys none
 
-begins_more : (xs ys : List Step) → kept_by xs ≡ None → kept_by ys ≡ None → kept_by (xs ++ ys) ≡ None
+begins_more : (xs ys : List Step) → kept_by xs ≡ None → kept_by ys ≡ None
+    → kept_by (xs ++ ys) ≡ None
 begins_more xs ys none_x none_y = kept_by_more xs ys none_y ∙ none_x
 
-left_front : (xs ys : List Write) (place : List ℕ) (c : Option Held) → IsLeftBy xs place c → IsLeftBy (xs ++ ys) place c
+left_front : (xs ys : List Write) (place : List ℕ) (c : Option Held) → IsLeftBy xs place c
+    → IsLeftBy (xs ++ ys) place c
 left_front [] ys place c l = absurd l
 left_front (x ∷ xs) ys place c (inl here) = inl here
 left_front (x ∷ xs) ys place c (inr later) = inr (left_front xs ys place c later)
 
-left_back : (xs ys : List Write) (place : List ℕ) (c : Option Held) → IsLeftBy ys place c → IsLeftBy (xs ++ ys) place c
+left_back : (xs ys : List Write) (place : List ℕ) (c : Option Held) → IsLeftBy ys place c
+    → IsLeftBy (xs ++ ys) place c
 left_back [] ys place c l = l
 left_back (x ∷ xs) ys place c l = inr (left_back xs ys place c l)
 
-at_both : (place : Option (List ℕ)) (xs ys : List Write) → AreAt place xs → AreAt place ys → AreAt place (xs ++ ys)
+at_both : (place : Option (List ℕ)) (xs ys : List Write) → AreAt place xs → AreAt place ys
+    → AreAt place (xs ++ ys)
 at_both place [] ys all more = more
 at_both place (x ∷ xs) ys all more = (all.0, at_both place xs ys all.1 more)
 
 -- nothing was done
-pub goes_nowhere : (at : Disk) (target : Option (List ℕ)) → ((n : List ℕ) (c : Option Held) → at.left_since at.moment n c → MayLeave at n c)
+pub goes_nowhere : (at : Disk) (target : Option (List ℕ))
+    → ((n : List ℕ) (c : Option Held) → at.left_since at.moment n c → MayLeave at n c)
     → Goes at at target
 goes_nowhere at target now = record {
   more = [];
@@ -70,7 +77,8 @@ seen_then a b c target bc ws place x meant first = ⊎_elim
     (bc.seen place meant)
 
 -- what was kept still is
-still_kept : (a b c : Disk) (target : Option (List ℕ)) → Goes a b target → (bc : Goes b c target) → (w : Write) (after : List Write) (at : Option ℕ)
+still_kept : (a b c : Disk) (target : Option (List ℕ)) → Goes a b target → (bc : Goes b c target)
+    → (w : Write) (after : List Write) (at : Option ℕ)
     → IsKeptIfDone a b w after at → IsKeptIfDone a c w (after ++ writes_in bc.more) at
 still_kept a b c target ab bc w after None k = tt
 still_kept a b c target ab bc w after (Some m) k = record {
@@ -79,12 +87,14 @@ still_kept a b c target ab bc w after (Some m) k = record {
   there = bc.there w.place k.there;
   seen = seen_then a b c target bc after w.place (Some w.held) (inl k.there) k.seen;
   left = λ x l. ⊎_elim
-      (λ was. ⊎_elim (λ is. inl is) (λ later. inr (left_front after (writes_in bc.more) w.place x later)) (k.left x was))
+      (λ was. ⊎_elim (λ is. inl is) (λ later. inr
+          (left_front after (writes_in bc.more) w.place x later)) (k.left x was))
       (λ now. inr (left_back after (writes_in bc.more) w.place x now))
       (bc.before m w.place x k.ended (inl k.there) l);
 }
 
-begun_later : (a b c : Disk) → a.moment ≤ b.moment → (w : Write) (after : List Write) (at : Option ℕ) → IsKeptIfDone b c w after at → IsKeptIfDone a c w after at
+begun_later : (a b c : Disk) → a.moment ≤ b.moment → (w : Write) (after : List Write)
+    (at : Option ℕ) → IsKeptIfDone b c w after at → IsKeptIfDone a c w after at
 begun_later a b c le w after None k = tt
 begun_later a b c le w after (Some m) k = record {
   began = omega (arith, le, k.began);
@@ -94,20 +104,27 @@ begun_later a b c le w after (Some m) k = record {
   left = k.left;
 }
 
-each_begun_later : (a b c : Disk) → a.moment ≤ b.moment → (ws : List Write) → EachIsKept b c ws → EachIsKept a c ws
+each_begun_later : (a b c : Disk) → a.moment ≤ b.moment → (ws : List Write) → EachIsKept b c ws
+    → EachIsKept a c ws
 each_begun_later a b c le [] each = tt
-each_begun_later a b c le (w ∷ ws) each = (begun_later a b c le w ws w.kept_at each.0, each_begun_later a b c le ws each.1)
+each_begun_later a b c le (w ∷ ws) each =
+    (begun_later a b c le w ws w.kept_at each.0, each_begun_later a b c le ws each.1)
 
-each_still_kept : (a b c : Disk) (target : Option (List ℕ)) → Goes a b target → (bc : Goes b c target) → a.moment ≤ b.moment → (ws : List Write)
+each_still_kept : (a b c : Disk) (target : Option (List ℕ)) → Goes a b target
+    → (bc : Goes b c target) → a.moment ≤ b.moment → (ws : List Write)
     → EachIsKept a b ws → EachIsKept a c (ws ++ writes_in bc.more)
-each_still_kept a b c target ab bc le [] each = each_begun_later a b c le (writes_in bc.more) bc.kept
+each_still_kept a b c target ab bc le [] each =
+    each_begun_later a b c le (writes_in bc.more) bc.kept
 each_still_kept a b c target ab bc le (w ∷ ws) each =
-    (still_kept a b c target ab bc w ws w.kept_at each.0, each_still_kept a b c target ab bc le ws each.1)
+    (still_kept a b c target ab bc w ws w.kept_at each.0,
+        each_still_kept a b c target ab bc le ws each.1)
 
 -- writes, and then others
-pub goes_on : (a b c : Disk) (target : Option (List ℕ)) → Goes a b target → Goes b c target → Goes a c target
+pub goes_on : (a b c : Disk) (target : Option (List ℕ)) → Goes a b target → Goes b c target
+    → Goes a c target
 goes_on a b c target ab bc =
-    let both : writes_in (ab.more ++ bc.more) ≡ writes_in ab.more ++ writes_in bc.more = writes_more ab.more bc.more bc.begins in
+    let both : writes_in (ab.more ++ bc.more) ≡ writes_in ab.more ++ writes_in bc.more =
+        writes_more ab.more bc.more bc.begins in
     record {
       more = ab.more ++ bc.more;
       grows = bc.grows ∙ ap (λ l. l ++ bc.more) ab.grows ∙ append_assoc a.log ab.more bc.more;
@@ -115,7 +132,8 @@ goes_on a b c target ab bc =
       later = omega (arith, ab.later, bc.later);
       paths = bc.paths ∙ ab.paths;
       there = λ place is. bc.there place (ab.there place is);
-      at_target = subst (AreAt target) (sym both) (at_both target (writes_in ab.more) (writes_in bc.more) ab.at_target bc.at_target);
+      at_target = subst (AreAt target) (sym both)
+          (at_both target (writes_in ab.more) (writes_in bc.more) ab.at_target bc.at_target);
       seen = λ place meant.
           let meant_then : IsMeant b target place =
           ⊎_elim (λ is. inl (ab.there place is)) (λ at. inr at) meant in
@@ -127,25 +145,33 @@ goes_on a b c target ab bc =
           (λ ws. (seen_under c place ≡ seen_under a place) ⊎ IsLeftBy ws place (seen_under c place))
           (sym both) done;
       any_moment = λ place x meant l.
-          let done : MayLeave a place x ⊎ IsLeftBy (writes_in ab.more ++ writes_in bc.more) place x = ⊎_elim
-          (λ mid. ⊎_elim (λ was. inl was) (λ by. inr (left_front (writes_in ab.more) (writes_in bc.more) place x by))
+          let done : MayLeave a place x
+              ⊎ IsLeftBy (writes_in ab.more ++ writes_in bc.more) place x = ⊎_elim
+          (λ mid. ⊎_elim (λ was. inl was) (λ by. inr
+              (left_front (writes_in ab.more) (writes_in bc.more) place x by))
           (ab.any_moment place x meant mid))
           (λ by. inr (left_back (writes_in ab.more) (writes_in bc.more) place x by))
-          (bc.before a.moment place x ab.later (⊎_elim (λ is. inl (ab.there place is)) (λ at. inr at) meant) l) in
+          (bc.before a.moment place x ab.later (⊎_elim (λ is. inl (ab.there place is))
+              (λ at. inr at) meant) l) in
           subst (λ ws. MayLeave a place x ⊎ IsLeftBy ws place x) (sym both) done;
       before = λ t place x le meant l.
-          let meant_then : IsMeant b target place = ⊎_elim (λ is. inl (ab.there place is)) (λ at. inr at) meant in
-          let done : a.left_since t place x ⊎ IsLeftBy (writes_in ab.more ++ writes_in bc.more) place x = ⊎_elim
-          (λ mid. ⊎_elim (λ was. inl was) (λ by. inr (left_front (writes_in ab.more) (writes_in bc.more) place x by))
+          let meant_then : IsMeant b target place =
+              ⊎_elim (λ is. inl (ab.there place is)) (λ at. inr at) meant in
+          let done : a.left_since t place x
+              ⊎ IsLeftBy (writes_in ab.more ++ writes_in bc.more) place x = ⊎_elim
+          (λ mid. ⊎_elim (λ was. inl was) (λ by. inr
+              (left_front (writes_in ab.more) (writes_in bc.more) place x by))
           (ab.before t place x le meant mid))
           (λ by. inr (left_back (writes_in ab.more) (writes_in bc.more) place x by))
           (bc.before t place x (omega (arith, le, ab.later)) meant_then l) in
           subst (λ ws. a.left_since t place x ⊎ IsLeftBy ws place x) (sym both) done;
-      kept = subst (EachIsKept a c) (sym both) (each_still_kept a b c target ab bc ab.later (writes_in ab.more) ab.kept);
+      kept = subst (EachIsKept a c) (sym both)
+          (each_still_kept a b c target ab bc ab.later (writes_in ab.more) ab.kept);
     }
 
 -- to where the path leads each time
-pub goes_by_both : (a b c : Disk) (path path' : List ℕ) → path' ≡ path → Goes a b (a.paths path) → Goes b c (b.paths path') → Goes a c (a.paths path)
+pub goes_by_both : (a b c : Disk) (path path' : List ℕ) → path' ≡ path → Goes a b (a.paths path)
+    → Goes b c (b.paths path') → Goes a c (a.paths path)
 goes_by_both a b c path path' same ab bc =
     let target : b.paths path' ≡ a.paths path = ap b.paths same ∙ ap (λ ps. ps path) ab.paths in
     goes_on a b c (a.paths path) ab (subst (Goes b c) target bc)

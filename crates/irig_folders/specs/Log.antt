@@ -78,7 +78,8 @@ left_in (call ∷ calls) t n c = Left (may_lead_in (call ∷ calls)) (may_hold_i
 abbrev pub steps_in : List Call → List Step
 steps_in [] = []
 steps_in (Rename «from» to ∷ calls) = steps_in calls ++ Moved to.items
-    (elim (leads_in calls «from».items) [ None ↦ None | Some file ↦ Some (holds_in calls file) ]) ∷ []
+    (elim (leads_in calls «from».items) [ None ↦ None | Some file ↦ Some (holds_in calls file) ]) ∷
+        []
 steps_in (SyncNames front ∷ calls) =
     steps_in calls ++ Synced (length (SyncNames front ∷ calls)) ∷ []
 steps_in (Make name mode ∷ calls) = steps_in calls

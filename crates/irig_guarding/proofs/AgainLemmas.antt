@@ -90,7 +90,8 @@ ends_beside future a b h =
         go None e = absurd (cc)
         go (Some o) e = ap (λ (w : Work). w.state) (some_same _ _ _ e refl)
 
-makes_beside : (edit : Edit) (future : List (Step Change)) (looks last : ℕ) (a b : Machine) → Makes edit a Silent b → Makes edit (beside future looks last a) Silent b
+makes_beside : (edit : Edit) (future : List (Step Change)) (looks last : ℕ) (a b : Machine) → Makes edit a Silent b
+    → Makes edit (beside future looks last a) Silent b
 makes_beside edit future looks last a b h =
     (h.0, record { after = h.1.after; cursor = h.1.cursor; fits = h.1.fits; states = h.1.states; steps = h.1.steps })
 

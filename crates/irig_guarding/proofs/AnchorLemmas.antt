@@ -56,10 +56,12 @@ module _ (recorded pulses : List Pulse) (marker : ℕ) where
   pub last_over : (j : ℕ) → is_anchored recorded pulses marker j ≡ false → last_anchor recorded pulses marker (j + 1) ≡ last_anchor recorded pulses marker j
   last_over j off = let one : j + 1 ≡ suc j = omega arith in ap (last_anchor recorded pulses marker) one ∙ (rw off refl)
 
-  pub among_more : (j : ℕ) → is_anchored recorded pulses marker j ≡ true → anchors_among recorded pulses marker (j + 1) ≡ anchors_among recorded pulses marker j + 1
+  pub among_more : (j : ℕ) → is_anchored recorded pulses marker j ≡ true
+      → anchors_among recorded pulses marker (j + 1) ≡ anchors_among recorded pulses marker j + 1
   among_more j on = let one : j + 1 ≡ suc j = omega arith in ap (anchors_among recorded pulses marker) one ∙ (rw on refl)
 
-  pub among_same : (j : ℕ) → is_anchored recorded pulses marker j ≡ false → anchors_among recorded pulses marker (j + 1) ≡ anchors_among recorded pulses marker j
+  pub among_same : (j : ℕ) → is_anchored recorded pulses marker j ≡ false
+      → anchors_among recorded pulses marker (j + 1) ≡ anchors_among recorded pulses marker j
   among_same j off =
       let one : j + 1 ≡ suc j = omega arith in
       let none : anchors_among recorded pulses marker j + 0 ≡ anchors_among recorded pulses marker j = omega arith in

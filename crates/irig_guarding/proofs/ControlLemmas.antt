@@ -67,7 +67,8 @@ as_at o s k x y rest found e same told h =
 not_as : (o : OriginalView) (s : State) (k : ℕ) (x : Shown) (y : Seen) (rest : List Seen) → slice_get o.frames k ≡ Some x → x.rise ≡ y.shown.rise
     → (IsAs o s (behind (k - 1) o.frames) (behind k o.frames) x (drop (k + 1) o.frames) y → ⊥) → ControlsAt o s k (y ∷ rest) (Some (Unrecorded y.shown))
 not_as o s k x y rest e same other =
-    subst (λ (l : List Shown). IsUnborneFrom o s (behind (k - 1) o.frames) (behind k o.frames) l (y ∷ rest) (Unrecorded y.shown)) (sym (drop-item o.frames k x e))
+    subst (λ (l : List Shown). IsUnborneFrom o s (behind (k - 1) o.frames) (behind k o.frames) l (y ∷ rest) (Unrecorded y.shown))
+        (sym (drop-item o.frames k x e))
     (inl (same, inl (other, refl)))
 
 -- one that is passed
@@ -181,7 +182,8 @@ none_left o s a2 a (x ∷ old) = tt
 
 pub judge_end : (o : OriginalView) (s : State) (new : List Seen) (k i : ℕ) → length new ≤ i → JudgesAll o s new k i → AreBorneFrom o s None None o.frames new
 judge_end o s new k i past h =
-    h.1 None (subst (λ (l : List Seen). ControlsAt o s k l None) (sym (drop_all i new past)) (none_left o s (behind (k - 1) o.frames) (behind k o.frames) (drop k o.frames)))
+    h.1 None (subst (λ (l : List Seen). ControlsAt o s k l None) (sym (drop_all i new past))
+        (none_left o s (behind (k - 1) o.frames) (behind k o.frames) (drop k o.frames)))
 
 pub unborne_all : (o : OriginalView) (s : State) (new : List Seen) (why : Fault) → IsUnborneFrom o s None None o.frames new why
     → AreBorneFrom o s None None o.frames new → ⊥
@@ -273,13 +275,16 @@ pub copied_more : (ps xs new : List Pulse) (i last end : ℕ) (y : Pulse) → sl
     → IsCopied ps i xs last end → IsCopied ps (i + 1) new y.rise y.fall
 copied_more ps xs new i last end y here e least most h =
     let within = slice_get_within ps i y here in
-    let more : take (i + 1) ps ≡ take i ps ++ y ∷ [] = take_more ps i y within ∙ ap (λ (p : Pulse). take i ps ++ p ∷ []) (get_or_from_slice_get ps i y y here) in
+    let more : take (i + 1) ps ≡ take i ps ++ y ∷ [] =
+        take_more ps i y within ∙ ap (λ (p : Pulse). take i ps ++ p ∷ []) (get_or_from_slice_get ps i y y here) in
     subst (λ (l : List Pulse). IsCopied ps (i + 1) l y.rise y.fall) (sym e) (record {
       all = ap (λ l. l ++ y ∷ []) h.all ∙ sym more;
       rising = IsNonDecreasingBy-push (λ (p : Pulse). p.rise) xs y h.rising (λ d some. let low = h.last_is d some in omega (arith, low, least));
       falling = IsNonDecreasingBy-push (λ (p : Pulse). p.fall) xs y h.falling (λ d some. let low = h.end_is d some in omega (arith, low, most));
-      end_is = λ d some. let same : (get_or (xs ++ y ∷ []) (length (xs ++ y ∷ []) - 1) d).fall ≡ y.fall = ap (λ (p : Pulse). p.fall) (last_item xs y d) in omega (arith, same);
-      last_is = λ d some. let same : (get_or (xs ++ y ∷ []) (length (xs ++ y ∷ []) - 1) d).rise ≡ y.rise = ap (λ (p : Pulse). p.rise) (last_item xs y d) in omega (arith, same);
+      end_is = λ d some. let same : (get_or (xs ++ y ∷ []) (length (xs ++ y ∷ []) - 1) d).fall
+          ≡ y.fall = ap (λ (p : Pulse). p.fall) (last_item xs y d) in omega (arith, same);
+      last_is = λ d some. let same : (get_or (xs ++ y ∷ []) (length (xs ++ y ∷ []) - 1) d).rise
+          ≡ y.rise = ap (λ (p : Pulse). p.rise) (last_item xs y d) in omega (arith, same);
     })
 
 pub copied_all : (ps xs : List Pulse) (i last end : ℕ) → length ps ≤ i → IsCopied ps i xs last end → xs ≡ ps

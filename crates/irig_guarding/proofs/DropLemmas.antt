@@ -26,7 +26,8 @@ abbrev pub AsksNone : List ℕ → Type 0
 AsksNone line = (asked : Command) → Asks asked line → ⊥
 
 -- what was read of a line is what it asks for
-pub asked_so : (line : List ℕ) (found : Option Command) (c : Command) → MatchOption found (AsksNone line) (λ asked. Asks asked line) → Asks c line → found ≡ Some c
+pub asked_so : (line : List ℕ) (found : Option Command) (c : Command) → MatchOption found (AsksNone line) (λ asked. Asks asked line) → Asks c line
+    → found ≡ Some c
 asked_so line None c h k = absurd (h c k)
 asked_so line (Some d) c h k = ap Some (asks_one line d c h k)
 
@@ -125,7 +126,8 @@ repair_inner : (c : Command) → IsRepair c → IsInner c
 repair_inner command.Nothing is = absurd is
 repair_inner c is = is
 
-pub line_stopped : (opened : OriginalView) (before : List Shown) (a : Machine) (line : List ℕ) (reason : Reason) → StopsAt a line reason → Drops opened before a (line ∷ []) reason
+pub line_stopped : (opened : OriginalView) (before : List Shown) (a : Machine) (line : List ℕ) (reason : Reason) → StopsAt a line reason
+    → Drops opened before a (line ∷ []) reason
 line_stopped opened before a line NoRepair h =
     line_no_repair line (λ none. h (command.Nothing, none, tt)) (λ edit. h (edit.0, edit.1, repair_inner edit.0 edit.2))
 line_stopped opened before a line (Refused why) h = record { front = []; line = line; rest = []; whole = refl; mid = a; obeyed = refl; refused = h }
@@ -201,7 +203,8 @@ group_held opened before a b c first last inner (NotSafe why) begins ends begun 
 }
 
 -- a line that was obeyed and is dropped
-pub line_swayed : (opened : OriginalView) (before : List Shown) (a b : Machine) (line : List ℕ) (reason : Reason) → ObeyedAll a (line ∷ []) b → Sways opened before b.state reason
+pub line_swayed : (opened : OriginalView) (before : List Shown) (a b : Machine) (line : List ℕ) (reason : Reason) → ObeyedAll a (line ∷ []) b
+    → Sways opened before b.state reason
     → Drops opened before a (line ∷ []) reason
 line_swayed opened before a b line NoRepair h k = absurd k
 line_swayed opened before a b line (Refused why) h k = absurd k

@@ -146,7 +146,8 @@ pub stands_guarded : (terms m : TermsView) (first now : Machine) (script : List 
     → IsGuarded terms first script now
 stands_guarded terms m first now script e s safe =
     let each = obeyed_goes first s.left s.lines s.plain s.obeyed in
-    let lines : script_lines script ≡ s.lines = ap script_lines (s.cut ∙ sym (append-nil (unlines s.lines))) ∙ (lines_and s.lines [] each ∙ append-nil s.lines) in
+    let lines : script_lines script ≡ s.lines =
+        ap script_lines (s.cut ∙ sym (append-nil (unlines s.lines))) ∙ (lines_and s.lines [] each ∙ append-nil s.lines) in
     record {
       left = s.left;
       runs = subst (λ (l : List (List ℕ)). Runs first l (map silence l) [] s.left) (sym lines) (runs_of first s.left s.lines s.obeyed);
@@ -259,7 +260,8 @@ pub remarked_more : (xs : List Line) (i : ℕ) (x : Line) (old mid new : List �
 remarked_more xs i x old mid new within is h k = (
   h.0 ++ k.0 ∷ [],
   all-append IsRemark h.0 (k.0 ∷ []) h.1 (k.1, tt),
-  subst (λ (l : List (List ℕ)). AreRemarksOf l (h.0 ++ k.0 ∷ [])) (sym (texts_more xs i x within is)) (remarks_of_more (texts (take i xs)) h.0 x.bytes.items k.0 h.2 k.2),
+  subst (λ (l : List (List ℕ)). AreRemarksOf l (h.0 ++ k.0 ∷ [])) (sym (texts_more xs i x within is))
+      (remarks_of_more (texts (take i xs)) h.0 x.bytes.items k.0 h.2 k.2),
   k.3 ∙ (ap (λ l. l ++ (k.0 ++ 10 ∷ [])) h.3 ∙ (append_assoc old (unlines h.0) (k.0 ++ 10 ∷ [])
       ∙ ap (λ l. old ++ l) (ap (λ l. unlines h.0 ++ l) (sym (unlines_one k.0)) ∙ sym (unlines-append h.0 (k.0 ∷ []))))),
 )

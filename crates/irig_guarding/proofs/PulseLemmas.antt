@@ -23,7 +23,8 @@ use Rattle.irig_guarding.specs.declared.seen.Seen.{Seen}
 use Rattle.irig_guarding.proofs.ControlLemmas.{IsBeforeAll, after_all, before_next, drop_seen}
 
 -- the pulses of frames with a fault are not where they have to be
-stray_so : (o : OriginalView) (s : State) (ms : List ℕ) (a2 a : Option Shown) (old : List Shown) (new : List Seen) (why : Fault) → StrayFrom o s ms a2 a old new why
+stray_so : (o : OriginalView) (s : State) (ms : List ℕ) (a2 a : Option Shown) (old : List Shown) (new : List Seen) (why : Fault)
+    → StrayFrom o s ms a2 a old new why
     → StandFrom o s ms a2 a old new → ⊥
 stray_so o s ms a2 a [] [] why h k = h
 stray_so o s ms a2 a (x ∷ old) [] why h k = h
@@ -65,25 +66,29 @@ as_on o s ms a2 a x y old new (Some why) same told h = inl (same, inr (told, h))
 pub stands_at : (o : OriginalView) (s : State) (k : ℕ) (x : Shown) (y : Seen) (rest : List Seen) (found : Option Fault) → slice_get o.frames k ≡ Some x
     → x.rise ≡ y.shown.rise → StandsAs o s (drop k o.markers) y → PulsesAt o s (k + 1) rest found → PulsesAt o s k (y ∷ rest) found
 stands_at o s k x y rest found e same told h =
-    subst (λ (l : List Shown). PulsesFrom o s (drop k o.markers) (behind (k - 1) o.frames) (behind k o.frames) l (y ∷ rest) found) (sym (drop-item o.frames k x e))
+    subst (λ (l : List Shown). PulsesFrom o s (drop k o.markers) (behind (k - 1) o.frames) (behind k o.frames) l (y ∷ rest) found)
+        (sym (drop-item o.frames k x e))
     (as_on o s (drop k o.markers) (behind (k - 1) o.frames) (behind k o.frames) x y (drop (k + 1) o.frames) rest found same told
     (subst (λ (T : Type 0). T) (next_at o s k x rest found e) h))
 
 pub strays_at : (o : OriginalView) (s : State) (k : ℕ) (x : Shown) (y : Seen) (rest : List Seen) → slice_get o.frames k ≡ Some x → x.rise ≡ y.shown.rise
     → (StandsAs o s (drop k o.markers) y → ⊥) → PulsesAt o s k (y ∷ rest) (Some (Moved y.shown))
 strays_at o s k x y rest e same other =
-    subst (λ (l : List Shown). StrayFrom o s (drop k o.markers) (behind (k - 1) o.frames) (behind k o.frames) l (y ∷ rest) (Moved y.shown)) (sym (drop-item o.frames k x e))
+    subst (λ (l : List Shown). StrayFrom o s (drop k o.markers) (behind (k - 1) o.frames) (behind k o.frames) l (y ∷ rest) (Moved y.shown))
+        (sym (drop-item o.frames k x e))
     (inl (same, inl (other, refl)))
 
 -- one that is passed
 pub lost_at : (o : OriginalView) (s : State) (k : ℕ) (x : Shown) (y : Seen) (rest : List Seen) → slice_get o.frames k ≡ Some x → x.rise < y.shown.rise
     → PulsesAt o s k (y ∷ rest) (Some (Lost x))
 lost_at o s k x y rest e less =
-    subst (λ (l : List Shown). StrayFrom o s (drop k o.markers) (behind (k - 1) o.frames) (behind k o.frames) l (y ∷ rest) (Lost x)) (sym (drop-item o.frames k x e))
+    subst (λ (l : List Shown). StrayFrom o s (drop k o.markers) (behind (k - 1) o.frames) (behind k o.frames) l (y ∷ rest) (Lost x))
+        (sym (drop-item o.frames k x e))
     (inr (inr (less, refl)))
 
 -- a frame before the former that are left
-before_on : (o : OriginalView) (s : State) (ms : List ℕ) (a2 a : Option Shown) (y : Seen) (old : List Shown) (new : List Seen) (found : Option Fault) → IsBeforeAll old y
+before_on : (o : OriginalView) (s : State) (ms : List ℕ) (a2 a : Option Shown) (y : Seen) (old : List Shown) (new : List Seen) (found : Option Fault)
+    → IsBeforeAll old y
     → Stands o s (near_by a2 a old) y → PulsesFrom o s ms a2 a old new found → PulsesFrom o s ms a2 a old (y ∷ new) found
 before_on o s ms a2 a y [] new None less borne h = (borne, h)
 before_on o s ms a2 a y [] new (Some why) less borne h = inr (borne, h)
@@ -230,18 +235,21 @@ no_frame : (o : OriginalView) (s : State) (frames : List Shown) (r : Bool) → r
 no_frame o s [] r is t = ((λ h. h, λ h. h), λ why h. h)
 no_frame o s (x ∷ frames) r is t = let none = none_there (length (x ∷ frames)) r is t in absurd (omega (arith, none))
 
-pub rooted_stand : (o : OriginalView) (s : State) (new : List Seen) (r : Result Unit Fault) (b : Bool) → b ≡ (length o.frames == 0) → b ≡ true → new ≡ seen_frames s
+pub rooted_stand : (o : OriginalView) (s : State) (new : List Seen) (r : Result Unit Fault) (b : Bool) → b ≡ (length o.frames == 0) → b ≡ true
+    → new ≡ seen_frames s
     → OnOk r (AllByRecursion (IsRooted o s) new) → OnOk r (StandBy o.frames o s)
 rooted_stand o s new (Ok u) b is t e h = (no_frame o s o.frames b is t).0.0 (subst (λ (l : List Seen). AllByRecursion (IsRooted o s) l) e h)
 rooted_stand o s new (Err why) b is t e h = tt
 
-pub unrooted_stray : (o : OriginalView) (s : State) (new : List Seen) (r : Result Unit Fault) (b : Bool) → b ≡ (length o.frames == 0) → b ≡ true → new ≡ seen_frames s
+pub unrooted_stray : (o : OriginalView) (s : State) (new : List Seen) (r : Result Unit Fault) (b : Bool) → b ≡ (length o.frames == 0) → b ≡ true
+    → new ≡ seen_frames s
     → OnErr r (AllByRecursion (IsRooted o s) new → ⊥) → OnErr r (StandBy o.frames o s → ⊥)
 unrooted_stray o s new (Ok u) b is t e h = tt
 unrooted_stray o s new (Err why) b is t e h =
     λ k. h (subst (λ (l : List Seen). AllByRecursion (IsRooted o s) l) (sym e) ((no_frame o s o.frames b is t).0.1 k))
 
-pub unrooted_fault : (o : OriginalView) (s : State) (new : List Seen) (r : Result Unit Fault) (b : Bool) → b ≡ (length o.frames == 0) → b ≡ true → new ≡ seen_frames s
+pub unrooted_fault : (o : OriginalView) (s : State) (new : List Seen) (r : Result Unit Fault) (b : Bool) → b ≡ (length o.frames == 0) → b ≡ true
+    → new ≡ seen_frames s
     → IfErr r (UnrootedFrom o s new) → IfErr r (StrayBy o.frames o s)
 unrooted_fault o s new (Ok u) b is t e h = tt
 unrooted_fault o s new (Err why) b is t e h =
@@ -289,7 +297,8 @@ some_stands : (o : OriginalView) (s : State) (frames : List Shown) (r : Bool) �
 some_stands o s [] r is f h = let bad : false ≡ true = sym f ∙ is in absurd (cc)
 some_stands o s (x ∷ frames) r is f h = h
 
-pub judged_stand : (o : OriginalView) (s : State) (new : List Seen) (r : Result Unit Fault) (b : Bool) → b ≡ (length o.frames == 0) → b ≡ false → new ≡ seen_frames s
+pub judged_stand : (o : OriginalView) (s : State) (new : List Seen) (r : Result Unit Fault) (b : Bool) → b ≡ (length o.frames == 0) → b ≡ false
+    → new ≡ seen_frames s
     → OnOk r (StandFrom o s o.markers None None o.frames new) → OnOk r (StandBy o.frames o s)
 judged_stand o s new (Ok u) b is f e h = some_stands o s o.frames b is f (subst (λ (l : List Seen). StandFrom o s o.markers None None o.frames l) e h)
 judged_stand o s new (Err why) b is f e h = tt

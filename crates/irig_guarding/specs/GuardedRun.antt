@@ -24,8 +24,8 @@ product_texts product.Nothing m = []
 product_texts product.Track m = dump_text m ∷ []
 product_texts product.Session m = saved_text (work_in m) ∷ []
 
--- the proposed script was run under guard, repair by repair: what it printed, what it left, its status,
--- and how many frames have a control function then that is not in the recording
+-- the proposed script was run under guard, repair by repair: what it printed, what it left, its
+-- status, and how many frames have a control function then that is not in the recording
 pub record Guards (terms : TermsView) (first : Machine) (script : Option (List ℕ)) : Type 0 where
   pub proposal : List ℕ
   pub whole : IfSome script (λ all. proposal ≡ all)
@@ -37,10 +37,9 @@ pub record Guards (terms : TermsView) (first : Machine) (script : Option (List �
   pub filled : ℕ
   pub fillings : Fills (original_of terms first.state) last.state filled
 
--- it was run, its result was printed, what is asked for was written, and the status says whether all
--- of it was kept; or memory ran out, or a
--- read failed, and nothing was printed or written; or the printing failed, and nothing was written;
--- or the writing failed
+-- it was run, its result was printed, what is asked for was written, and the status says whether
+-- all of it was kept; or memory ran out, or a read failed, and nothing was printed or written; or
+-- the printing failed, and nothing was written; or the writing failed
 abbrev pub RunsUnderGuard : TermsView → Product → Machine → Option (List ℕ) → Desk → Desk
     → Result Kept GuardFault → Type 0
 RunsUnderGuard terms asked first script from to (Ok kept) =

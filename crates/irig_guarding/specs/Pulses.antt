@@ -1,5 +1,5 @@
--- When the pulses of the frames of a state stay where they were, by a recording as it was opened. This
--- project's own.
+-- When the pulses of the frames of a state stay where they were, by a recording as it was opened.
+-- This project's own.
 use Rattle.std.specs.Prelude.{◌≡◌, ◌≤◌, ◌<◌, ◌⊎◌, ◌-◌, ℕ, List, [], ◌∷◌, Option, Some, None, drop, get_or}
 use Rattle.std.specs.Prelude.{Result, Ok, Err}
 use Rattle.std.specs.List.{AllByRecursion}
@@ -16,7 +16,8 @@ use Rattle.irig_guarding.specs.{Reading.seen_frames, declared.seen.Seen.Seen}
 abbrev pub StandsAs : OriginalView → State → List ℕ → Seen → Type 0
 StandsAs o s markers y = KeepsRises o.pulses (get_or markers 0 0) s.pulses y.marker
 
--- the pulses of a frame that was not fine are where they may be, next to these frames of the recording
+-- the pulses of a frame that was not fine are where they may be, next to these frames of the
+-- recording
 abbrev pub Stands : OriginalView → State → Witnesses → Seen → Type 0
 Stands o s w y = ArePlaced s.format o.pulses s.pulses y.marker w y.shown
 
@@ -74,7 +75,8 @@ UnrootedFrom o s [] why = ⊥
 UnrootedFrom o s (y ∷ new) why =
     NextOrLater (IsRooted o s y) (Misplaced y.shown) why (UnrootedFrom o s new why)
 
--- the pulses of all frames are where they may be. If no frame of the recording reads well, most of each are anchors
+-- the pulses of all frames are where they may be. If no frame of the recording reads well, most of
+-- each are anchors
 abbrev pub StandBy : List Shown → OriginalView → State → Type 0
 StandBy [] o s = AllByRecursion (IsRooted o s) (seen_frames s)
 StandBy (x ∷ frames) o s = StandFrom o s o.markers None None (x ∷ frames) (seen_frames s)

@@ -98,7 +98,8 @@ HasFault opened last s why =
     HasFaultAt (located_by opened s) (located opened.terms.moved last (fine_frames s)) s why
 
 -- the lines are obeyed, but for the end of a group, and what they lead to may not stay
-pub record IsUnsafe (opened : OriginalView) (last : List Shown) (old : Machine) (lines : List (List ℕ))
+pub record IsUnsafe (opened : OriginalView) (last : List Shown) (old : Machine)
+    (lines : List (List ℕ))
     (why : Fault) : Type 0
   where
     pub front : List (List ℕ)
@@ -144,7 +145,8 @@ Drops opened last old lines OutOfMemory = Unit {0}
 Drops opened last old lines (NotSafe why) = IsUnsafe opened last old lines why
 
 -- a repair that is kept: its lines are obeyed, and what they lead to may stay
-pub record Keeps (opened : OriginalView) (old : Machine) (lines : List (List ℕ)) (new : Machine) : Type
+pub record Keeps (opened : OriginalView) (old : Machine) (lines : List (List ℕ))
+    (new : Machine) : Type
     0
   where
     pub obeyed : ObeyedAll old lines new
@@ -233,9 +235,10 @@ abbrev pub status_of : List Trial → Status
 status_of [] = AllAccepted
 status_of (t ∷ trials) = if is_none t.dropped then status_of trials else SomeRefused
 
--- lines of a script were cut into repairs before a rest of it, each was tried from the opened session
--- on, and this was printed after the head
-pub record IsTriedBefore (terms : TermsView) (opened : Machine) (lines rest : List (List ℕ)) (script : List ℕ)
+-- lines of a script were cut into repairs before a rest of it, each was tried from the opened
+-- session on, and this was printed after the head
+pub record IsTriedBefore (terms : TermsView) (opened : Machine) (lines rest : List (List ℕ))
+    (script : List ℕ)
     (reported : Status) (now : Machine) : Type 0 where
   pub trials : List Trial
   pub whole : proposed trials ≡ lines

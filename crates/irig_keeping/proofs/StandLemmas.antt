@@ -44,7 +44,8 @@ is_seen ps (q ∷ rs) zero r g here reads =
 is_seen ps (q ∷ rs) (suc at) r g here reads = seen_next ps (seen_by ps q) (flat_map (seen_by ps) rs) r g (is_seen ps rs at r g here reads)
 
 -- one of all
-of_all : (least : ℕ) (ys : List Seen) (k : ℕ) (y : Seen) → AllByRecursion (λ (x : Shown). least < x.rise) (shown_all ys) → slice_get ys k ≡ Some y → least < y.shown.rise
+of_all : (least : ℕ) (ys : List Seen) (k : ℕ) (y : Seen) → AllByRecursion (λ (x : Shown). least < x.rise) (shown_all ys) → slice_get ys k ≡ Some y
+    → least < y.shown.rise
 of_all least [] zero y all here = absurd (cc)
 of_all least [] (suc k) y all here = absurd (cc)
 of_all least (x ∷ ys) zero y all here =

@@ -19,10 +19,10 @@ pub record IsStill (f : FormatView) (old new : List Pulse) (number : ℕ) (g : F
   pub begins : IsElement f (frames f new) marker 0 g
   pub rise : rise_in new marker 0 ≡ rise_in old number 0
 
--- the frame with this marker, which has these fields, is followed by another in both, and that begins
--- at the same time. The pulse with the number is its last one
-pub record IsFollowedStill (f : FormatView) (century : ℕ) (old new : List Pulse) (number marker : ℕ) (g : Fields)
-    : Type 0 where
+-- the frame with this marker, which has these fields, is followed by another in both, and that
+-- begins at the same time. The pulse with the number is its last one
+pub record IsFollowedStill (f : FormatView) (century : ℕ) (old new : List Pulse) (number marker : ℕ)
+    (g : Fields) : Type 0 where
   pub before : IsFollowed f century (frames f old) number g
   pub after : IsFollowed f century (frames f new) (marker + 99) g
   pub rise : rise_in new marker 100 ≡ rise_in old number 1
@@ -33,47 +33,46 @@ IsSafeUnmoved old new =
     (told : List Shown × List Shown)
     × IsSafeAfter (record { moved = false; others = told.0; even = told.1 }) old new
 
--- a moment of a recording has a time by the frame around it. The recording is repaired, the result is
--- safe, no frame may move, and the frame is still there. Then it has the same time after the repair;
--- in the last element of the frame, if the frame that follows it is still there too
+-- a moment of a recording has a time by the frame around it. The recording is repaired, the result
+-- is safe, no frame may move, and the frame is still there. Then it has the same time after the
+-- repair; in the last element of the frame, if the frame that follows it is still there too
 abbrev pub ToldTimesStay : Type 0
 ToldTimesStay = (old new : State) → IsTrack old.micros old.pulses → IsTrack new.micros new.pulses
-    → IsSafeUnmoved old new
-    → (century d n : ℕ) (x : Time) → 0 < d
+    → IsSafeUnmoved old new → (century d n : ℕ) (x : Time) → 0 < d
     → (has : TellsTime old.format century old.pulses d n x)
     → (still : IsStill old.format old.pulses new.pulses has.is_element.one.marker has.fields)
-    → (has.element < 99)
-    ⊎ ((has.element ≡ 99)
-    × IsFollowedStill old.format century old.pulses new.pulses has.number still.marker has.fields)
+    → (has.element < 99) ⊎ ((has.element ≡ 99)
+        × IsFollowedStill old.format century old.pulses new.pulses has.number still.marker
+            has.fields)
     → TellsTime old.format century new.pulses d n x
 
--- so a moment that has a time by a frame that is believed, of those that `before` says, has the same
--- time after the repair, if the frame is one of those that `after` says are believed then
+-- so a moment that has a time by a frame that is believed, of those that `before` says, has the
+-- same time after the repair, if the frame is one of those that `after` says are believed then
 abbrev pub TimesStay : Type 0
 TimesStay = (old new : State) → IsTrack old.micros old.pulses → IsTrack new.micros new.pulses
-    → IsSafeUnmoved old new
-    → (before after : List Bool) (century d n : ℕ) (x : Time) → 0 < d
+    → IsSafeUnmoved old new → (before after : List Bool) (century d n : ℕ) (x : Time) → 0 < d
     → (has : HasTime old.format century old.pulses before d n x)
-    → (still : IsStill old.format old.pulses new.pulses has.told.is_element.one.marker has.told.fields)
+    → (still : IsStill old.format old.pulses new.pulses
+        has.told.is_element.one.marker has.told.fields)
     → slice_get after still.begins.at ≡ Some true
-    → (has.told.element < 99)
-    ⊎ ((has.told.element ≡ 99)
-    × IsFollowedStill old.format century old.pulses new.pulses has.told.number still.marker has.told.fields)
+    → (has.told.element < 99) ⊎ ((has.told.element ≡ 99)
+        × IsFollowedStill old.format century old.pulses new.pulses
+            has.told.number still.marker has.told.fields)
     → HasTime old.format century new.pulses after d n x
 
--- so by counting: a moment that has a time by a frame that is believed is timed after the repair, and
--- at the same time, if the frame is believed then, the time does not jump next to it and no tens of
--- intervals are lost after it, and so is the next one if the moment is in its last element
+-- so by counting: a moment that has a time by a frame that is believed is timed after the repair,
+-- and at the same time, if the frame is believed then, the time does not jump next to it and no
+-- tens of intervals are lost after it, and so is the next one if the moment is in its last element
 abbrev pub CountedTimesStay : Type 0
 CountedTimesStay = (old new : State) → IsTrack old.micros old.pulses → IsTrack new.micros new.pulses
-    → IsSafeUnmoved old new
-    → (alone : Bool) (century d n : ℕ) (x : Time) → 0 < d
+    → IsSafeUnmoved old new → (alone : Bool) (century d n : ℕ) (x : Time) → 0 < d
     → (has : HasTime old.format century old.pulses (believed old.format alone old.pulses) d n x)
-    → (still : IsStill old.format old.pulses new.pulses has.told.is_element.one.marker has.told.fields)
+    → (still : IsStill old.format old.pulses new.pulses
+        has.told.is_element.one.marker has.told.fields)
     → slice_get (believed old.format alone new.pulses) still.begins.at ≡ Some true
-    → (has.told.element < 99)
-    ⊎ ((has.told.element ≡ 99)
-    × IsFollowedStill old.format century old.pulses new.pulses has.told.number still.marker has.told.fields)
+    → (has.told.element < 99) ⊎ ((has.told.element ≡ 99)
+        × IsFollowedStill old.format century old.pulses new.pulses
+            has.told.number still.marker has.told.fields)
     → IsSteady old.format alone century new.pulses still.begins.one.marker
     → HeldGoesOn old.format alone century new.pulses (still.marker + has.told.element)
     has.told.element has.told.fields

@@ -9,7 +9,8 @@ use Rattle.irig_safety.specs.{Bearing.clock_of, declared.shown.Shown.Shown}
 use Rattle.irig_safety.proofs.SafetyLemmas.{drop-item, first_from}
 
 -- a place that is looked at
-from_here : (x n : Shown) (new : List Shown) (b : Bool) → b ≡ (clock_of x.fields == clock_of n.fields) → from_time x (n ∷ new) ≡ (if b then n ∷ new else from_time x new)
+from_here : (x n : Shown) (new : List Shown) (b : Bool) → b ≡ (clock_of x.fields == clock_of n.fields)
+    → from_time x (n ∷ new) ≡ (if b then n ∷ new else from_time x new)
 from_here x n new b e = ap (λ (c : Bool). if c then n ∷ new else from_time x new) (sym e)
 
 pub from_found : (x n : Shown) (new : List Shown) (k : ℕ) (b : Bool) → slice_get new k ≡ Some n → b ≡ (clock_of x.fields == clock_of n.fields) → b ≡ true
@@ -44,11 +45,13 @@ rest_none new more k past = sym (ap (λ l. rest_of l more) (drop_all k new past)
 abbrev pub Moves : List Shown → List Shown → List Shown → ℕ → ℕ → Type 0
 Moves old new moved k i = (k ≤ length new) × (moved ++ moved_in (drop i old) (drop k new) ≡ moved_in old new)
 
-pub moves_on : (old new moved more : List Shown) (k i place next : ℕ) (x y : Shown) (at : Option Shown) → slice_get old i ≡ Some x → drop place new ≡ from_time x (drop k new)
+pub moves_on : (old new moved more : List Shown) (k i place next : ℕ) (x y : Shown) (at : Option Shown) → slice_get old i ≡ Some x
+    → drop place new ≡ from_time x (drop k new)
     → next ≤ length new → drop next new ≡ rest_of (drop place new) (drop k new) → more ≡ moved ++ y ∷ []
     → y ≡ moved_to x at → at ≡ slice_get new place → Moves old new moved k i → Moves old new more next (i + 1)
 moves_on old new moved more k i place next x y at here first most rest e made there h =
-    let added : more ≡ moved ++ moved_to x (slice_get new place) ∷ [] = e ∙ ap (λ (z : Shown). moved ++ z ∷ []) (made ∙ ap (λ (a : Option Shown). moved_to x a) there) in
+    let added : more ≡ moved ++ moved_to x (slice_get new place) ∷ [] =
+        e ∙ ap (λ (z : Shown). moved ++ z ∷ []) (made ∙ ap (λ (a : Option Shown). moved_to x a) there) in
     let one : moved_in (drop i old) (drop k new) ≡ moved_to x (slice_get new place) ∷ moved_in (drop (i + 1) old) (drop next new) =
     ap (λ l. moved_in l (drop k new)) (drop-item old i x here)
     ∙ (ap (λ l. moved_to x (slice_get l 0) ∷ moved_in (drop (i + 1) old) (rest_of l (drop k new))) (sym first)

@@ -67,12 +67,14 @@ none_later f any xs p place tenth high x rising here is h over none found = elim
       let within = slice_get_within xs found.place found.other found.there in
       let up = rising place found.place x from within in
       let one : (get_or xs place x).rise ≡ x.rise = ap (λ (q : Pulse). q.rise) (get_or_from_slice_get xs place x x here) in
-      let two : (get_or xs found.place x).rise ≡ found.other.rise = ap (λ (q : Pulse). q.rise) (get_or_from_slice_get xs found.place found.other x found.there) in
+      let two : (get_or xs found.place x).rise ≡ found.other.rise =
+          ap (λ (q : Pulse). q.rise) (get_or_from_slice_get xs found.place found.other x found.there) in
       let near = found.near in
       omega (arith, up, one, two, is, h, over, near)
 ]
 
-pub none_at_all : (f : FormatView) (any : Bool) (xs : List Pulse) (p : Pulse) (place : ℕ) → length xs ≤ place → NoneBefore f any xs p place → IsNear f any xs p → ⊥
+pub none_at_all : (f : FormatView) (any : Bool) (xs : List Pulse) (p : Pulse) (place : ℕ) → length xs ≤ place → NoneBefore f any xs p place → IsNear f any xs p
+    → ⊥
 none_at_all f any xs p place past none found =
     let within = slice_get_within xs found.place found.other found.there in
     none found.place found.other (omega (arith, within, past)) found.there (record { near = found.near; alike = found.alike })

@@ -1,5 +1,5 @@
--- When the pulses of a frame are where a recording has them: they rise when pulses of it do, or are on
--- the lines between those that do. This project's own.
+-- When the pulses of a frame are where a recording has them: they rise when pulses of it do, or are
+-- on the lines between those that do. This project's own.
 use Rattle.std.specs.Prelude.{◌≡◌, ◌<◌, ◌+◌, ◌-◌, ◌*◌, ◌==◌, ◌&&◌, ◌||◌, ℕ, zero, suc, Bool, true, false, List}
 use Rattle.std.specs.Prelude.{Option, Some, None, if◌then◌else◌, slice_get}
 use Rattle.std.specs.List.{list_any}
@@ -17,8 +17,8 @@ is_rise pulses t = list_any (λ p. p.rise == t) pulses
 abbrev pub is_fall : List Pulse → ℕ → Bool
 is_fall pulses t = list_any (λ p. p.fall == t) pulses
 
--- a pulse is an anchor: it rises when one of the recorded pulses does; or it is a gap between them that
--- was turned over, rises when one falls and falls when one rises
+-- a pulse is an anchor: it rises when one of the recorded pulses does; or it is a gap between them
+-- that was turned over, rises when one falls and falls when one rises
 abbrev pub is_anchor : List Pulse → Option Pulse → Bool
 is_anchor recorded None = false
 is_anchor recorded (Some p) =
@@ -48,7 +48,8 @@ anchors_among recorded pulses marker (suc n) =
     anchors_among recorded pulses marker n
     + (if is_anchored recorded pulses marker n then 1 else 0)
 
--- what holds an element from before: the last anchor of its frame, or the marker of the frame before
+-- what holds an element from before: the last anchor of its frame, or the marker of the frame
+-- before
 abbrev pub held_before : FormatView → List Pulse → ℕ → Witnesses → Shown → ℕ → Option ℕ
     → Option Anchor
 held_before f pulses marker w y j None = marker_before f w y j
@@ -63,7 +64,8 @@ held_after f pulses marker w y j (Some k) =
     Some (record { steps = k - j; rise = rise_in pulses marker k })
 
 -- the element is on the line between those that hold it
-abbrev pub is_held : FormatView → List Pulse → ℕ → Witnesses → Shown → ℕ → Option ℕ → Option ℕ → Bool
+abbrev pub is_held : FormatView → List Pulse → ℕ → Witnesses → Shown → ℕ → Option ℕ → Option ℕ
+    → Bool
 is_held f pulses marker w y j last next =
     is_on_line f w (held_before f pulses marker w y j last) (rise_in pulses marker j)
     (held_after f pulses marker w y j next)

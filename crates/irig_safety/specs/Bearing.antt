@@ -96,13 +96,13 @@ leads f a b = is_later f a b && not (is_far f a b) && nat_le (2000 * stray f a b
 abbrev pub allows : FormatView → Shown → Shown → Bool
 allows f a b = is_far f a b || is_shown f a b
 
--- the frames are near enough for their distance to say how many frame periods it is, and their times
--- are as many apart
+-- the frames are near enough for their distance to say how many frame periods it is, and their
+-- times are as many apart
 abbrev pub agrees : FormatView → Shown → Shown → Bool
 agrees f a b = not (is_far f a b) && is_shown f a b
 
--- two frames stray by no more than half an interval more than two others do from each other, or those
--- do not agree
+-- two frames stray by no more than half an interval more than two others do from each other, or
+-- those do not agree
 abbrev pub is_within : FormatView → Shown → Shown → Shown → Shown → Bool
 is_within f p q x y =
     not (is_shown f p q) || nat_le (2 * stray f x y) (interval_of f.kind + 2 * stray f p q)

@@ -4,8 +4,8 @@ use Rattle.irig_codes.specs.Format.{FormatView, frame_period_of, interval_of}
 use Rattle.irig_safety.specs.Bearing.{apart, distance, is_later, is_shown, periods, stray}
 use Rattle.irig_safety.specs.declared.shown.Shown.{Shown}
 
--- the frames agree, and so show by how much the clock is off: by a fortieth at most, or by 8 in 100 if
--- the second is the next after the first
+-- the frames agree, and so show by how much the clock is off: by a fortieth at most, or by 8 in 100
+-- if the second is the next after the first
 abbrev pub shows_clock : FormatView → Shown → Shown → Bool
 shows_clock f p q =
     is_shown f p q
@@ -24,7 +24,8 @@ is_in_time f p q x y =
 abbrev pub is_by_clock : FormatView → Shown → Shown → Shown → Shown → Bool
 is_by_clock f p q x y = shows_clock f p q && is_in_time f p q x y
 
--- so on that of two frames, if the second is the next after the first, and y no more than two after x
+-- so on that of two frames, if the second is the next after the first, and y no more than two after
+-- x
 abbrev pub is_by_near_clock : FormatView → Shown → Shown → Shown → Shown → Bool
 is_by_near_clock f p q x y =
     (periods f p q == 1) && nat_le (periods f x y) 2 && is_by_clock f p q x y

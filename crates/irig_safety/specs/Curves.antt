@@ -1,5 +1,5 @@
--- When a pulse is on the curve on which the clock of two frames becomes that of two others. This project's
--- own.
+-- When a pulse is on the curve on which the clock of two frames becomes that of two others. This
+-- project's own.
 use Rattle.std.specs.Prelude.{◌+◌, ◌-◌, ◌*◌, ◌/◌, ◌==◌, ◌&&◌, ℕ, Bool, false, nat_le, nat_lt}
 use Rattle.std.specs.Prelude.{Option, Some, None, if◌then◌else◌}
 use Rattle.irig_codes.specs.Format.{FormatView, interval_of}
@@ -9,15 +9,15 @@ use Rattle.irig_safety.specs.{Straight.is_straight, declared.turning.Sides.Sides
 use Rattle.irig_safety.specs.{declared.lines.Anchor.Anchor, declared.shown.Shown.Shown}
 use Rattle.irig_safety.specs.{declared.witnesses.Witnesses.Witnesses}
 
--- there are 500 frame periods at most between the two frames before, between those on both sides, and
--- between the two after
+-- there are 500 frame periods at most between the two frames before, between those on both sides,
+-- and between the two after
 abbrev pub are_few : FormatView → Sides → Bool
 are_few f s =
     nat_le (periods f s.before2 s.before) 500 && nat_le (periods f s.before s.after) 500
     && nat_le (periods f s.after s.after2) 500
 
--- how long a frame period is by the clock of the two before, and by that of the two after: both by the same
--- measure
+-- how long a frame period is by the clock of the two before, and by that of the two after: both by
+-- the same measure
 abbrev pub period_before : FormatView → Sides → ℕ
 period_before f s = distance s.before2 s.before * periods f s.after s.after2
 
@@ -35,7 +35,8 @@ is_mean f s =
     (periods f s.before s.after * (period_before f s + period_after f s)))
     (clock_scale f s * interval_of f.kind)
 
--- the clock changes from that of the two before to that of the two after, which are off by 8 in 100 at most
+-- the clock changes from that of the two before to that of the two after, which are off by 8 in 100
+-- at most
 abbrev pub changes_evenly : FormatView → Sides → Bool
 changes_evenly f s =
     shows_any_clock f s.before2 s.before && shows_any_clock f s.after s.after2

@@ -19,8 +19,8 @@ is_disputed f x p q = false
 abbrev pub witnesses : Option Shown → Option Shown → Option Shown → Option Shown → Witnesses
 witnesses a2 a b b2 = record { before2 = a2; before = a; after = b; after2 = b2 }
 
--- those that are heard: not the one before it or the one after it, if that is overruled; and none of
--- two on one side, if they contradict each other and the other has none
+-- those that are heard: not the one before it or the one after it, if that is overruled; and none
+-- of two on one side, if they contradict each other and the other has none
 abbrev pub heard : FormatView → Option Shown → Option Shown → Option Shown → Option Shown
     → Witnesses
 heard f a2 a b b2 =

@@ -8,8 +8,8 @@ use Rattle.irig_safety.specs.{Straight.is_straight}
 use Rattle.irig_safety.specs.declared.lines.Anchor.{Anchor}
 use Rattle.irig_safety.specs.{declared.shown.Shown.Shown, declared.witnesses.Witnesses.Witnesses}
 
--- the distance of a frame y from one next to it says how many elements it is: both agree, or y is where
--- the recording's own clock has it; and it is 500 frames at most
+-- the distance of a frame y from one next to it says how many elements it is: both agree, or y is
+-- where the recording's own clock has it; and it is 500 frames at most
 abbrev pub is_counted : FormatView → Witnesses → Shown → Shown → Shown → Bool
 is_counted f w y p q =
     (agrees f p q || is_on_own_clock f w.before2 w.before w.after w.after2 y)

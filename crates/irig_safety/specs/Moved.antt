@@ -19,7 +19,8 @@ abbrev pub rest_of : List Shown → List Shown → List Shown
 rest_of [] new = new
 rest_of (n ∷ found) new = found
 
--- each former frame where the next frame is that has its time; one without such a frame where it was
+-- each former frame where the next frame is that has its time; one without such a frame where it
+-- was
 abbrev pub moved_in : List Shown → List Shown → List Shown
 moved_in [] new = []
 moved_in (x ∷ old) new =

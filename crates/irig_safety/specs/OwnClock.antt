@@ -1,5 +1,5 @@
--- When a frame between others begins by the clock of the recording, which may be off and may wander. This
--- project's own.
+-- When a frame between others begins by the clock of the recording, which may be off and may
+-- wander. This project's own.
 use Rattle.std.specs.Prelude.{◌+◌, ◌-◌, ◌*◌, ◌/◌, ◌==◌, ◌&&◌, ◌||◌, ℕ, Bool, false, nat_le}
 use Rattle.std.specs.Prelude.{Option, Some, None, if◌then◌else◌}
 use Rattle.irig_codes.specs.Format.{FormatView, frame_period_of, interval_of}
@@ -12,8 +12,8 @@ abbrev pub is_near_nominal : FormatView → Shown → Shown → Bool
 is_near_nominal f x y =
     is_later f x y && nat_le (25 * stray f x y) (2 * (periods f x y * frame_period_of f.kind))
 
--- x and y are no more than a hundred times as far from each other as p and q, so that the clock of p and
--- q says how many frame periods they are apart
+-- x and y are no more than a hundred times as far from each other as p and q, so that the clock of
+-- p and q says how many frame periods they are apart
 abbrev pub is_in_reach : FormatView → Shown → Shown → Shown → Shown → Bool
 is_in_reach f p q x y = nat_le (periods f x y) (100 * periods f p q)
 
@@ -36,15 +36,15 @@ keeps_clock_after f a b (Some b2) = is_same_clock f b b2 a b
 abbrev pub micros_by_clock : FormatView → Shown → Shown → ℕ → ℕ
 micros_by_clock f p q n = if periods f p q == 0 then 0 else n * distance p q / periods f p q
 
--- a distance is between what two clocks say, to half an interval, and they differ by six intervals at
--- most
+-- a distance is between what two clocks say, to half an interval, and they differ by six intervals
+-- at most
 abbrev pub is_between_clocks : ℕ → ℕ → ℕ → ℕ → Bool
 is_between_clocks i one other d =
     nat_le (apart one other) (6 * i) && (nat_le one (d + i / 2) || nat_le other (d + i / 2))
     && (nat_le (d - i / 2) one || nat_le (d - i / 2) other)
 
--- the clock wanders: the frames on both sides are as far apart as lies between what the clock of the two
--- before says and that of the two after
+-- the clock wanders: the frames on both sides are as far apart as lies between what the clock of
+-- the two before says and that of the two after
 abbrev pub is_wandering : FormatView → Option Shown → Shown → Shown → Option Shown → Bool
 is_wandering f None a b b2 = false
 is_wandering f (Some a2) a b None = false
@@ -54,8 +54,8 @@ is_wandering f (Some a2) a b (Some b2) =
     && is_between_clocks (interval_of f.kind) (micros_by_clock f a2 a (periods f a b))
     (micros_by_clock f b b2 (periods f a b)) (distance a b)
 
--- so it is the recording's own: by that clock y begins when it should after the first, and the second
--- after y
+-- so it is the recording's own: by that clock y begins when it should after the first, and the
+-- second after y
 abbrev pub is_by_own_clock : FormatView → Option Shown → Shown → Shown → Option Shown → Shown → Bool
 is_by_own_clock f a2 a b b2 y =
     (keeps_clock_before f a2 a b || keeps_clock_after f a b b2 || is_wandering f a2 a b b2)

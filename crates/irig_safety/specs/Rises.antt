@@ -7,7 +7,8 @@ abbrev pub rise_or : Option Pulse → ℕ
 rise_or None = 0
 rise_or (Some p) = p.rise
 
--- when the pulse of an element rises, from 0, of a frame whose marker is at this place of the pulses
+-- when the pulse of an element rises, from 0, of a frame whose marker is at this place of the
+-- pulses
 abbrev pub rise_in : List Pulse → ℕ → ℕ → ℕ
 rise_in pulses marker element = rise_or (slice_get pulses (marker + element))
 

@@ -7,8 +7,8 @@ use Rattle.irig_safety.specs.{Heard.heard, OwnClock.is_on_own_clock}
 use Rattle.irig_safety.specs.declared.shown.Shown.{Shown}
 use Rattle.irig_safety.specs.declared.witnesses.Witnesses.{Witnesses}
 
--- the frame before it leads to a frame, or it leads to the one after it. If both are there and agree,
--- they stray no more from it than from each other, but for half an interval
+-- the frame before it leads to a frame, or it leads to the one after it. If both are there and
+-- agree, they stray no more from it than from each other, but for half an interval
 abbrev pub is_led : FormatView → Option Shown → Option Shown → Shown → Bool
 is_led f None None y = false
 is_led f (Some a) None y = leads f a y
@@ -35,7 +35,8 @@ abbrev pub is_by_clock_after : FormatView → Shown → Shown → Option Shown �
 is_by_clock_after f y b None = false
 is_by_clock_after f y b (Some b2) = is_by_clock f b b2 y b
 
--- the two frames before it, or the two after it, are next to each other and to it, and show the clock
+-- the two frames before it, or the two after it, are next to each other and to it, and show the
+-- clock
 abbrev pub is_by_near_clock_before : FormatView → Option Shown → Shown → Shown → Bool
 is_by_near_clock_before f None a y = false
 is_by_near_clock_before f (Some a2) a y = is_by_near_clock f a2 a a y
@@ -44,8 +45,8 @@ abbrev pub is_by_near_clock_after : FormatView → Shown → Shown → Option Sh
 is_by_near_clock_after f y b None = false
 is_by_near_clock_after f y b (Some b2) = is_by_near_clock f b b2 y b
 
--- it is in time by the clock of the frames on both sides, or of two frames next to it; if one side has
--- none, by that of the two of the other
+-- it is in time by the clock of the frames on both sides, or of two frames next to it; if one side
+-- has none, by that of the two of the other
 abbrev pub is_timed : FormatView → Option Shown → Option Shown → Option Shown → Option Shown
     → Shown → Bool
 is_timed f a2 None None b2 y = false
@@ -58,8 +59,9 @@ is_timed f a2 (Some a) (Some b) b2 y =
 abbrev pub sides_suffice : Option Shown → Option Shown → Shown → Bool
 sides_suffice a b y = nat_le y.fields.seconds 59 || (is_some a && is_some b)
 
--- of the two frames before it and the two after it one leads to it, or it is in time by their clock;
--- and the nearest on both sides do not contradict it. Or it is where the recording's own clock has it
+-- of the two frames before it and the two after it one leads to it, or it is in time by their
+-- clock; and the nearest on both sides do not contradict it. Or it is where the recording's own
+-- clock has it
 abbrev pub bears : FormatView → Witnesses → Shown → Bool
 bears f w y =
     (((is_led f w.before w.after y || is_timed f w.before2 w.before w.after w.after2 y)

@@ -180,5 +180,6 @@ pub watched_run : (of : Given) (out : List ℕ) (shelf : List (List ℕ)) (seen 
     → (left : Option (List ℕ)) (result : Result Status DumpRunFault) → RunsOnDump None of.format of.dump (Some of.script) left old new result
     → IsWatched of out shelf seen (known_of new) result
 watched_run of out shelf seen old new shows left (Err (Dump fault)) h = ap known_of h.2 ∙ shows
-watched_run of out shelf seen old new shows left (Err (Run fault)) h = watched_end of out shelf seen old new shows h.first h.last h.opened left (Err fault) h.ran
+watched_run of out shelf seen old new shows left (Err (Run fault)) h =
+    watched_end of out shelf seen old new shows h.first h.last h.opened left (Err fault) h.ran
 watched_run of out shelf seen old new shows left (Ok status) h = watched_end of out shelf seen old new shows h.first h.last h.opened left (Ok status) h.ran

@@ -184,7 +184,8 @@ or-false true = refl
 or-false false = refl
 
 -- what the code makes of such points
-pub point-right : (up more : Bool) (right value result : ℕ) (whole fraction : List ℕ) → value ≡ min (digits_after (min (digits_after 0 whole) (2 ^ 120)) (padded right fraction)) (2 ^ 120)
+pub point-right : (up more : Bool) (right value result : ℕ) (whole fraction : List ℕ)
+    → value ≡ min (digits_after (min (digits_after 0 whole) (2 ^ 120)) (padded right fraction)) (2 ^ 120)
     → more ≡ (up && (has_weight (drop right fraction) || false)) → result ≡ min (with_one more value) (2 ^ 120)
     → result ≡ min (rounded up right 0 whole fraction) (2 ^ 120)
 point-right up more right value result whole fraction v m r =

@@ -19,7 +19,8 @@ if_held None g = None
 if_held (Some false) g = None
 if_held (Some true) g = g
 
--- of the records from a place on, the day in its year of the first frame that is believed, if one is
+-- of the records from a place on, the day in its year of the first frame that is believed, if one
+-- is
 abbrev pub first_day : FormatView → List Bool → ℕ → List Record → Option ℕ
 first_day f held place [] = None
 first_day f held place (r ∷ rs) =

@@ -39,8 +39,9 @@ signed n (b ∷ bs) =
     if b == 45 then below (size_in true n bs)
     else (if b == 43 then above (size_in false n bs) else above (size_in false n (b ∷ bs)))
 
--- the number in a column, if it is one: maybe a sign, digits, maybe a point and digits, and maybe an
--- exponent, with white space round them; in units of which 10^n make one of the column, rounded down
+-- the number in a column, if it is one: maybe a sign, digits, maybe a point and digits, and maybe
+-- an exponent, with white space round them; in units of which 10^n make one of the column, rounded
+-- down
 abbrev pub number_in : ℕ → List ℕ → Option Picos
 number_in n text = signed n (onward NonBlank text)
 

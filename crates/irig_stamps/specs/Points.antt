@@ -21,7 +21,8 @@ kept right left whole = length whole + right - left
 
 -- the number that they make
 abbrev pub scaled : ℕ → ℕ → List ℕ → List ℕ → ℕ
-scaled right left whole fraction = digits_after 0 (padded (kept right left whole) (whole ++ fraction))
+scaled right left whole fraction =
+    digits_after 0 (padded (kept right left whole) (whole ++ fraction))
 
 -- whether some digit is not zero
 abbrev pub has_weight : List ℕ → Bool

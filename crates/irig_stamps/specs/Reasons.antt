@@ -16,7 +16,8 @@ why_text Step = codes "step"
 why_text Unbelieved = codes "unbelieved"
 why_text Set = codes "set"
 
--- what is known of a track: the pulses that have a time; and why others have none, if that is asked for
+-- what is known of a track: the pulses that have a time; and why others have none, if that is asked
+-- for
 pub record IsKnownOf (f : FormatView) (s : Settings) (ps : List Pulse) (k : Known) : Type 0 where
   pub parts : k.parts.items ≡ timed_parts f s.alone s.century s.micros ps
   pub asked : is_some k.whys ≡ s.why

@@ -23,8 +23,8 @@ added s v = (if v.negative then 0 else v.size) + (if s.early then s.offset else 
 abbrev pub taken : Settings → Picos → ℕ
 taken s v = (if v.negative then v.size else 0) + (if s.early then 0 else s.offset)
 
--- the time of year at the recorder's time v, by the frames that are believed and the pulses that are
--- counted from them
+-- the time of year at the recorder's time v, by the frames that are believed and the pulses that
+-- are counted from them
 abbrev pub IsTimeOf : FormatView → List Pulse → Settings → Picos → Time → Type 0
 IsTimeOf f ps s v x =
     (taken s v ≤ added s v)
@@ -43,7 +43,8 @@ abbrev pub IsNone : Bool → FormatView → List Pulse → Settings → Picos �
 IsNone false f ps s v word = word ≡ 45 ∷ []
 IsNone true f ps s v word = (why : Why) × IsWhyOf f ps s v why × (word ≡ why_text why)
 
--- the word before a line: its time of year, or that of no time; a hyphen if its column has no number
+-- the word before a line: its time of year, or that of no time; a hyphen if its column has no
+-- number
 abbrev pub IsWord : FormatView → List Pulse → Settings → Option Picos → List ℕ → Type 0
 IsWord f ps s None word = word ≡ 45 ∷ []
 IsWord f ps s (Some v) word =

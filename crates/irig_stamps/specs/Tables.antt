@@ -41,7 +41,8 @@ IsTable f ps s place (r ∷ rs) text =
     × (IsTable f ps s (suc place) rs rest
     × (text ≡ row_of s (slice_get (believed f s.alone ps) place) start ++ rest))
 
--- the table was printed, and it is known whether a frame has a time; or only a front of it, if the output failed; or nothing, if memory ran out
+-- the table was printed, and it is known whether a frame has a time; or only a front of it, if the
+-- output failed; or nothing, if memory ran out
 abbrev pub Lists : FormatView → List Pulse → Settings → Option (List ℕ) → Option (List ℕ)
     → Result Standing RunFault → Type 0
 Lists f ps s from to (Ok stands) =

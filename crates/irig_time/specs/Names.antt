@@ -11,8 +11,9 @@ abbrev pub has_comma : Option ℕ → List ℕ → Bool
 has_comma None text = has 32 text || has 9 text
 has_comma (Some c) text = has c text
 
--- a column can have this name: it has some bytes, no quote, no end of a line, and nothing that parts
--- columns
+-- a column can have this name: it has some bytes, no quote, no end of a line, and nothing that
+-- parts columns
 abbrev pub is_name : Option ℕ → List ℕ → Bool
 is_name comma name = not (length name == 0)
-    && (not (has 34 name) && (not (has 10 name) && (not (has 13 name) && not (has_comma comma name))))
+    && (not (has 34 name) && (not (has 10 name) &&
+        (not (has 13 name) && not (has_comma comma name))))

@@ -9,8 +9,8 @@ use Rattle.irig_time.specs.{Ending.EndsBy, Ending.Held, Help.help_text, declared
 
 -- the status for how the program ended, and what is printed on the output of help: 0 if each line
 -- has a number or the table was printed, 1 if some lines have none, no frame has a time or some
--- frames are not believed, 2 for another command line, 3 if the track was not read, 4 if the run was
--- broken off; help ends with 0, or with 4 if it was not printed
+-- frames are not believed, 2 for another command line, 3 if the track was not read, 4 if the run
+-- was broken off; help ends with 0, or with 4 if it was not printed
 abbrev pub Reports : Ending → Option (List ℕ) → Option (List ℕ) → ℕ → Type 0
 Reports (Aligned true) old new status = EndsWith 0 old new status
 Reports (Aligned false) old new status = EndsWith 1 old new status

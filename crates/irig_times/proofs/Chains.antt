@@ -46,7 +46,8 @@ later century period a b h = elim (or_cases (is_later_in 60000000 century period
 ]
 
 -- minutes are counted from any time of the first to any of the last
-pub minutes-of : (century n : ℕ) (a b x y : Time) → minute_of a ≡ minute_of x → minute_of b ≡ minute_of y → MinutesAfter century n a b → MinutesAfter century n x y
+pub minutes-of : (century n : ℕ) (a b x y : Time) → minute_of a ≡ minute_of x → minute_of b ≡ minute_of y → MinutesAfter century n a b
+    → MinutesAfter century n x y
 minutes-of century zero a b x y p q h = sym p ∙ (h ∙ q)
 minutes-of century (suc n) a b x y p q h = (h.0, h.1, minutes-of century n a h.0 x h.0 p refl h.2, h.3, h.4 ∙ q)
 

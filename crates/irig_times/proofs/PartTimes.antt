@@ -88,7 +88,8 @@ module _ (f : FormatView) (century micros : ℕ) (ps : List Pulse) (parts : List
           let few : a.element ≤ 99 = omega (arith, it.few) in
           omega (arith, part-micros, part-share, mul-le-mul_right (interval_of f.kind) few, hundred-intervals f.kind, it.time.minute)
 
-  module _ (d : ℕ) (some : 0 < d) (n m : ℕ) (x y : Time) (a : TellsByParts f century ps parts d n x) (b : TellsByParts f century ps parts d m y) (le : n ≤ m) where
+  module _ (d : ℕ) (some : 0 < d) (n m : ℕ) (x y : Time) (a : TellsByParts f century ps parts d n x) (b : TellsByParts f century ps parts d m y)
+      (le : n ≤ m) where
     pub numbers-rise : a.number ≤ b.number
     numbers-rise =
         let by = le-div a.point.rise m d some (omega (arith, since-point d n x a, le)) in
@@ -102,7 +103,8 @@ module _ (f : FormatView) (century micros : ℕ) (ps : List Pulse) (parts : List
       starts = sym a.is_point.is ∙ (ap (λ (z : Part). z.time) one ∙ b.is_point.is)
 
       pub elements : b.element + a.number ≡ a.element + b.number
-      elements = omega (arith, ap (λ (z : Part). z.number) one, ap (λ (z : Part). z.element) one, a.is_point.place, b.is_point.place, a.is_point.from, b.is_point.from)
+      elements =
+          omega (arith, ap (λ (z : Part). z.number) one, ap (λ (z : Part). z.element) one, a.is_point.place, b.is_point.place, a.is_point.from, b.is_point.from)
 
       pub same-pulse : a.number ≡ b.number → x.micros ≤ y.micros
       same-pulse en =

@@ -24,7 +24,8 @@ fields hundredths seconds = record {
 }
 
 -- tenths of A, whole seconds of B, tens of seconds of E, hundredths of G
-pub in-minute : map minute_micros (fields (Some 90) 12 ∷ fields None 60 ∷ fields None 50 ∷ fields (Some 7) 3 ∷ []) ≡ 12900000 ∷ 60000000 ∷ 50000000 ∷ 3070000 ∷ []
+pub in-minute : map minute_micros (fields (Some 90) 12 ∷ fields None 60 ∷ fields None 50 ∷ fields (Some 7) 3 ∷ [])
+    ≡ 12900000 ∷ 60000000 ∷ 50000000 ∷ 3070000 ∷ []
 in-minute = refl
 
 -- a frame of a second 60 has a time, except in E, whose frames are longer than that second

@@ -71,8 +71,10 @@ module _ (f : FormatView) (ps : List Pulse) where
 module _ (f : FormatView) (ps : List Pulse) (wanted : List Element) where
   contradictions-step : (number element n : ℕ) (b : Bool) → b ≡ contradicts f element (slice_get ps number) (slice_get wanted element)
       → contradictions f ps wanted number element (suc n) ≡ cond b 1 0 + contradictions f ps wanted (number + 1) (element + 1) n
-  contradictions-step number element n true e = ap (λ c. cond c (suc (contradictions f ps wanted (number + 1) (element + 1) n)) (contradictions f ps wanted (number + 1) (element + 1) n)) (sym e) ∙ omega arith
-  contradictions-step number element n false e = ap (λ c. cond c (suc (contradictions f ps wanted (number + 1) (element + 1) n)) (contradictions f ps wanted (number + 1) (element + 1) n)) (sym e) ∙ omega arith
+  contradictions-step number element n true e = ap (λ c. cond c (suc (contradictions f ps wanted (number + 1) (element + 1) n))
+      (contradictions f ps wanted (number + 1) (element + 1) n)) (sym e) ∙ omega arith
+  contradictions-step number element n false e = ap (λ c. cond c (suc (contradictions f ps wanted (number + 1) (element + 1) n))
+      (contradictions f ps wanted (number + 1) (element + 1) n)) (sym e) ∙ omega arith
 
   counted-more : (count : ℕ) (b : Bool) → cond b (count + 1) count ≡ count + cond b 1 0
   counted-more count true = refl

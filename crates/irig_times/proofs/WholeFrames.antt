@@ -45,7 +45,8 @@ module _ (f : FormatView) (ps : List Pulse) where
   at-most-all true r g = omega arith
   at-most-all false r g = omega arith
 
-  whole-part : (b : Bool) (r : Record) (base : ℕ) (g : Fields) → slice_get (frames f ps) base ≡ Some r → timed f r.verdict ≡ Some g → IsPart f (whole r.marker b g)
+  whole-part : (b : Bool) (r : Record) (base : ℕ) (g : Fields) → slice_get (frames f ps) base ≡ Some r → timed f r.verdict ≡ Some g
+      → IsPart f (whole r.marker b g)
   whole-part b r base g here tells =
       let few = at-most-all b r g in
       let both = of-calendar f (frame_at ps r.marker) g (frame-reads f ps base r g here tells) (time_in g 0) refl refl refl refl in

@@ -78,8 +78,8 @@ day_micros t = 60000000 * (60 * t.hours + t.minutes) + t.micros
 abbrev pub rounded : ℕ → ℕ → ℕ → ℕ
 rounded period from to = (2 * (to - from) + period) / (2 * period)
 
--- of the frames that are missing between two, the time of the first and of the last; `n` is how many
--- periods the two are apart
+-- of the frames that are missing between two, the time of the first and of the last; `n` is how
+-- many periods the two are apart
 abbrev pub missing_one : Option Time → Option Missing
 missing_one None = None
 missing_one (Some x) = Some (record { is_one = true; first = x; last = x })
@@ -116,8 +116,8 @@ tail_of b n x = record { number = b.number - n; element = 100 - n; count = n; ti
 abbrev pub gap : Part → Part → ℕ
 gap a b = b.number - (a.number + a.count)
 
--- of the elements that one side reaches, those that the other does not reach too, if both are of one
--- frame
+-- of the elements that one side reaches, those that the other does not reach too, if both are of
+-- one frame
 abbrev pub kept : Bool → ℕ → ℕ → ℕ
 kept is_one m n = if is_one then min m (100 - n) else m
 
@@ -144,9 +144,9 @@ sides_by a b h k t in_step =
     )
     else None
 
--- m pulses after a part and n before another are in step. If one frame is missing, there are as many
--- pulses as it has, and each is reached, all have a time. Else those have one whose element is not
--- reached from the other side too, if no pulse is
+-- m pulses after a part and n before another are in step. If one frame is missing, there are as
+-- many pulses as it has, and each is reached, all have a time. Else those have one whose element is
+-- not reached from the other side too, if no pulse is
 abbrev pub sides : Part → Part → ℕ → ℕ → Missing → Bool → Option (Part × Part)
 sides a b m n t in_step =
     if t.is_one && (gap a b == 100 && nat_lt 100 (m + n))

@@ -56,7 +56,8 @@ filled f century micros ps before [] = with_sides (counted_after f micros ps bef
 filled f century micros ps before (b ∷ parts) =
     with_frame f century ps before b (slice_get parts 0) (filled f century micros ps (Some b) parts)
 
--- all parts of a track that have a time, if of each record `held` says whether its frame is believed
+-- all parts of a track that have a time, if of each record `held` says whether its frame is
+-- believed
 abbrev pub parts_by : FormatView → List Bool → ℕ → ℕ → List Pulse → List Part
 parts_by f held century micros ps =
     filled f century micros ps None (whole_in f (frames f ps) held)

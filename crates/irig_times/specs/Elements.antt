@@ -37,8 +37,8 @@ pub record NextRises (ps : List Pulse) (number time : ℕ) : Type 0 where
   pub stands : slice_get ps (number + 1) ≡ Some next
   pub is : time ≡ next.rise
 
--- the interval from an index point ends at `to`, at the next index point: in this frame, or in the one
--- that follows it
+-- the interval from an index point ends at `to`, at the next index point: in this frame, or in the
+-- one that follows it
 abbrev pub IntervalEnds : FormatView → ℕ → List Pulse → ℕ → ℕ → Fields → ℕ → Type 0
 IntervalEnds f century ps number element g to =
     ((element < 99) × NextRises ps number to)

@@ -20,7 +20,8 @@ IsBelieved f alone ps marker g =
     IsHeldElement f (frames f ps) (believed f alone ps) marker 0 g
 
 -- the pulse is an element of such a frame
-pub record InFrame (f : FormatView) (alone : Bool) (ps : List Pulse) (number element : ℕ) (time : Time)
+pub record InFrame (f : FormatView) (alone : Bool) (ps : List Pulse) (number element : ℕ)
+    (time : Time)
     : Type 0 where
   pub marker : ℕ
   pub fields : Fields

@@ -97,13 +97,14 @@ KeepsTimes = (f : FormatView) (alone : Bool) (century micros : ℕ) (ps : List P
     → HeldGoesOn f alone century ps a.told.number a.told.element a.told.fields
     → TellsByParts f century ps (timed_parts f alone century micros ps) d n x
 
--- where each pulse between two moments has a time that goes on, the time never falls: it is later by
--- the calendar, by less than an interval more than there are pulses between them
+-- where each pulse between two moments has a time that goes on, the time never falls: it is later
+-- by the calendar, by less than an interval more than there are pulses between them
 abbrev pub NeverFallsByParts : Type 0
 NeverFallsByParts = (f : FormatView) (century micros : ℕ) (ps : List Pulse) (parts : List Part)
     → AreParts f 0 (length ps) parts → IsLongTrack micros ps → (d : ℕ) → 0 < d
     → (n m : ℕ) (x y : Time)
-    → (a : TellsByParts f century ps parts d n x) (b : TellsByParts f century ps parts d m y) → n ≤ m
+    → (a : TellsByParts f century ps parts d n x) (b : TellsByParts f century ps parts d m y)
+        → n ≤ m
     → ((j e : ℕ) (t : Time) → a.number ≤ j → j < b.number → IsPoint parts j e t
     → GoesOn f century parts j e t)
     → (since : ℕ) × (since < (b.number - a.number + 1) * interval_of f.kind)

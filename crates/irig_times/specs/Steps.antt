@@ -26,8 +26,8 @@ step_at ps (suc k) = apart (slice_get ps k) (slice_get ps (suc k))
 abbrev pub is_as_long : FormatView → ℕ → ℕ → Bool
 is_as_long f step other = if is_in_step f other then step_in other step else true
 
--- the step to the pulse with this number is as long as those next to it, so that a rise that is late
--- or early by more than a tenth is not in step on a clock that is slow or fast
+-- the step to the pulse with this number is as long as those next to it, so that a rise that is
+-- late or early by more than a tenth is not in step on a clock that is slow or fast
 abbrev pub is_even_at : FormatView → List Pulse → ℕ → Bool
 is_even_at f ps k =
     is_as_long f (step_at ps k) (step_at ps (k - 1))

@@ -16,8 +16,9 @@ are_apart_by century period a b (Some p) None = true
 are_apart_by century period a b (Some p) (Some q) =
     are_apart century period (rounded period p.rise q.rise) a b
 
--- why pulses between two frames have no time, if it does not jump there: one of them is not believed;
--- or their times are not as far apart as their pulses; or pulses are missing, or not in step
+-- why pulses between two frames have no time, if it does not jump there: one of them is not
+-- believed; or their times are not as far apart as their pulses; or pulses are missing, or not in
+-- step
 abbrev pub why_between : FormatView → ℕ → List Pulse → Part → Part → Why
 why_between f century ps a b =
     if is_empty a then Unbelieved
@@ -54,9 +55,9 @@ is_step Step = true
 is_step Unbelieved = false
 is_step Set = false
 
--- why a pulse has no time, after the begin of a frame: it is of that frame, which is not believed; or
--- it is of its day, hour, minute or second, and the time jumps before it. Else by what is between
--- that frame and the next one
+-- why a pulse has no time, after the begin of a frame: it is of that frame, which is not believed;
+-- or it is of its day, hour, minute or second, and the time jumps before it. Else by what is
+-- between that frame and the next one
 abbrev pub why_after : FormatView → ℕ → Option Part → Why → Why → Why
 why_after f number None earlier later = later
 why_after f number (Some a) earlier later =

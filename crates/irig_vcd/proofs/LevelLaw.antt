@@ -40,7 +40,8 @@ level_told cs t (suc n) lt = elim (cases_lt t n) [
 pub level_up_to : (cs : List Change) (end t : ℕ) → t < end → level_by_edges t (edges_up_to cs end) ≡ level_by_changes cs t
 level_up_to cs end t lt = level_later (level_before cs end) (edges_below cs end) end t lt ∙ level_told cs t end lt
 
-pub few_level : (many : Bool) (cs : List Change) (end : ℕ) (r : RecordingView) → cond many (Err TooManyPulses) (Ok (recording_view end (edges_up_to cs end))) ≡ Ok r
+pub few_level : (many : Bool) (cs : List Change) (end : ℕ) (r : RecordingView)
+    → cond many (Err TooManyPulses) (Ok (recording_view end (edges_up_to cs end))) ≡ Ok r
     → (end ≡ r.micros) × ((t : ℕ) → t < r.micros → level_by_edges t r.edges ≡ level_by_changes cs t)
 few_level true cs end r h = absurd (cc h)
 few_level false cs end r h =

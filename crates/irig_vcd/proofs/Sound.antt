@@ -26,7 +26,8 @@ late_sound false false n offset = tt
 
 time_sound : (unit last : ℕ) (digits : List ℕ) (offset : ℕ) → IsSound (time_of unit last digits offset)
 unfolding time_of
-time_sound unit last digits offset = bad_sound (not (is_number digits)) _ offset (late_sound (nat_lt (number_from 0 digits) last) _ (number_from 0 digits) offset)
+time_sound unit last digits offset =
+    bad_sound (not (is_number digits)) _ offset (late_sound (nat_lt (number_from 0 digits) last) _ (number_from 0 digits) offset)
 
 value_sound : (b : Bool) (offset : ℕ) (x : Option Bool) → IsSound (cond b (Ok x) (Err (BadToken offset)))
 value_sound true offset x = tt

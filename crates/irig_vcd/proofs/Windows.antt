@@ -112,7 +112,8 @@ pub windows_meet : (a end t : ℕ) (cs : List Change) → a ≤ end → t < end
     → (t < a → level_by_edges t (edges_up_to (within (Some (record { from = 0; to = a })) cs) a) ≡ level_by_edges t (edges_up_to cs end))
     × (a ≤ t → level_by_edges (t - a) (edges_up_to (within (Some (record { from = a; to = end })) cs) (end - a)) ≡ level_by_edges t (edges_up_to cs end))
 windows_meet a end t cs le lt = (
-  λ low. level_up_to (within (Some (record { from = 0; to = a })) cs) a t low ∙ (level_within (record { from = 0; to = a }) cs t (omega (arith, low)) ∙ (ap (level_by_changes cs) (let k : 0 + t ≡ t = omega arith in k) ∙ sym (level_up_to cs end t lt))),
+  λ low. level_up_to (within (Some (record { from = 0; to = a })) cs) a t low ∙ (level_within (record { from = 0; to = a }) cs t (omega (arith, low))
+      ∙ (ap (level_by_changes cs) (let k : 0 + t ≡ t = omega arith in k) ∙ sym (level_up_to cs end t lt))),
   λ high. (let same : a + (t - a) ≡ t = omega (arith, high) in
       level_up_to (within (Some (record { from = a; to = end })) cs) (end - a) (t - a) (omega (arith, high, lt))
       ∙ (level_within (record { from = a; to = end }) cs (t - a) (omega (arith, high, lt)) ∙ (ap (level_by_changes cs) same ∙ sym (level_up_to cs end t lt)))),

@@ -10,7 +10,8 @@
 //! session is the one that a dump gives. The label of a shelf sets it apart from others, so `label`
 //! says that it is still the same shelf; `since` is what the shelf promises of each later state,
 //! whatever is written to it in between. `ReadsTo` says that at most 2^44 bytes of the script were
-//! read (2^32 reads of 4,096), and that only the last 4,096 of these can have the line that ends it.
+//! read (2^32 reads of 4,096), and that only the last 4,096 of these can have the line that ends
+//! it.
 
 ghost use Rattle.std.specs.Prelude.{◌≡◌, ◌≢◌, ◌⊎◌, ◌≤◌, ◌^◌, ℕ, List, Option, length, Ok, Err};
 ghost use Rattle.std.specs.Prelude.{IfSome, MatchResult};

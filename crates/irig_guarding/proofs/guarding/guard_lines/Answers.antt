@@ -24,7 +24,8 @@ loop-at-preserved c =
       c.guard_repair.ensures.closed,
       c.repair_end-end.ensures.within,
       c.guard_repair.ensures.known,
-      tried_step c.args.session.now c.args.opened.now c.args.lines.now _ _ _ _ _ _ _ _ _ c.requires.opened c.repair_end-end.ensures.more s.6 c.repair_end-end.ensures.cut
+      tried_step c.args.session.now c.args.opened.now c.args.lines.now _ _ _ _ _ _ _ _ _ c.requires.opened c.repair_end-end.ensures.more s.6
+          c.repair_end-end.ensures.cut
           c.in_ok-dropped.ensures.tried c.in_ok-dropped.ensures.printed c.status_with-status.ensures,
       c.guard_repair.ensures.lists,
     )

@@ -7,4 +7,5 @@ use Rattle.irig_guarding.proofs.pulses.rises_as_former.Goals as goal
 pub returns : goal.returns
 returns c =
     let same = c.marker.ensures ∙ sym (first_marker c.args.opened.now.markers c.args.place) in
-    subst (λ m. IsTrue c.keeps_rises.result ↔ KeepsRises c.args.opened.now.pulses m c.args.session.now.state.pulses c.args.frame.now.marker) same c.keeps_rises.ensures
+    subst (λ m.
+        IsTrue c.keeps_rises.result ↔ KeepsRises c.args.opened.now.pulses m c.args.session.now.state.pulses c.args.frame.now.marker) same c.keeps_rises.ensures

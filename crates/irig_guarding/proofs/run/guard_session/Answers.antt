@@ -7,7 +7,8 @@ pub returns-in_default-put_all-clause-ends : goal.returns-in_default-put_all-cla
 returns-in_default-put_all-clause-ends g c = (
   record {
     proposal = c.read_to_end.new.buf.items;
-    whole = read_whole (g.R.Read.remaining c.args.script.now) c.new-bytes.result.items c.read_to_end.new.buf.items c.new-bytes.ensures.items c.in-Ok.ensures.bytes;
+    whole =
+        read_whole (g.R.Read.remaining c.args.script.now) c.new-bytes.result.items c.read_to_end.new.buf.items c.new-bytes.ensures.items c.in-Ok.ensures.bytes;
     printed = c.in-Ok-guard.printed.items;
     last = c.guard.new.session;
     guarded = c.in-Ok-guard.ensures.guarded;
@@ -25,7 +26,8 @@ pub returns-in-Ok-write_product-clause-ends : goal.returns-in-Ok-write_product-c
 returns-in-Ok-write_product-clause-ends g c = (
   record {
     proposal = c.read_to_end.new.buf.items;
-    whole = read_whole (g.R.Read.remaining c.args.script.now) c.new-bytes.result.items c.read_to_end.new.buf.items c.new-bytes.ensures.items c.in-Ok.ensures.bytes;
+    whole =
+        read_whole (g.R.Read.remaining c.args.script.now) c.new-bytes.result.items c.read_to_end.new.buf.items c.new-bytes.ensures.items c.in-Ok.ensures.bytes;
     printed = c.in-Ok-guard.printed.items;
     last = c.guard.new.session;
     guarded = c.in-Ok-guard.ensures.guarded;
@@ -45,7 +47,8 @@ pub returns-clause-ends : goal.returns-clause-ends
 returns-clause-ends g c = (
   record {
     proposal = c.read_to_end.new.buf.items;
-    whole = read_whole (g.R.Read.remaining c.args.script.now) c.new-bytes.result.items c.read_to_end.new.buf.items c.new-bytes.ensures.items c.in-Ok.ensures.bytes;
+    whole =
+        read_whole (g.R.Read.remaining c.args.script.now) c.new-bytes.result.items c.read_to_end.new.buf.items c.new-bytes.ensures.items c.in-Ok.ensures.bytes;
     printed = c.in-Ok-guard.printed.items;
     last = c.guard.new.session;
     guarded = c.in-Ok-guard.ensures.guarded;

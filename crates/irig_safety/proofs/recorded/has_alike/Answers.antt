@@ -16,7 +16,8 @@ loop-place-init c =
 pub returns-then-saturating_sub-pulse : goal.returns-then-saturating_sub-pulse
 returns-then-saturating_sub-pulse c = (
   λ t. absurd (cc),
-  λ found. absurd (none_later c.args.format c.args.any_class c.args.recorded.now c.args.pulse c.loop-place.place c.reach_of-reach.result c.saturating_sub.result _ c.requires
+  λ found. absurd (none_later c.args.format c.args.any_class c.args.recorded.now c.args.pulse c.loop-place.place c.reach_of-reach.result c.saturating_sub.result
+      _ c.requires
       (slice_get-get_or c.args.recorded.now c.loop-place.place _ c.loop-place-test.true) c.reach_of-reach.ensures
       c.saturating_sub.ensures (omega (arith, c.if-saturating_sub-pulse.true)) c.loop-place.invariant found),
 )
@@ -25,7 +26,8 @@ pub returns-then-is_alike : goal.returns-then-is_alike
 returns-then-is_alike c =
     let low = c.saturating_sub-low.result in
     let parted = IsPartitionedBy-ltb (λ (q : Pulse). q.rise) _ low c.requires in
-    let point = IsPartitionPoint-from_clause (λ (q : Pulse). ltb q.rise low) _ _ c.partition_point-first.ensures.partitioned parted (λ a r q k. search rules) in (
+    let point =
+        IsPartitionPoint-from_clause (λ (q : Pulse). ltb q.rise low) _ _ c.partition_point-first.ensures.partitioned parted (λ a r q k. search rules) in (
       λ t. found_here c.args.format c.args.any_class c.args.recorded.now c.args.pulse c.loop-place.place c.reach_of-reach.result low c.saturating_sub.result _
           (slice_get-get_or c.args.recorded.now c.loop-place.place _ c.loop-place-test.true) c.reach_of-reach.ensures
           c.saturating_sub-low.ensures (λ d. ltb-false _ _ (point.1 c.loop-place.place d c.loop-place.auto.place c.loop-place-test.true))
@@ -42,5 +44,6 @@ loop-place-preserved c =
 pub returns : goal.returns
 returns c = (
   λ t. absurd (cc),
-  λ found. absurd (none_at_all c.args.format c.args.any_class c.args.recorded.now c.args.pulse c.loop-place.place (omega (arith, c.loop-place-test.false)) c.loop-place.invariant found),
+  λ found. absurd (none_at_all c.args.format c.args.any_class c.args.recorded.now c.args.pulse c.loop-place.place
+      (omega (arith, c.loop-place-test.false)) c.loop-place.invariant found),
 )

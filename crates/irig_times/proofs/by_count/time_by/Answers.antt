@@ -40,7 +40,8 @@ returns-then-not-goes_on-clause-exact c x =
     let ps = c.args.pulses.now.track.pulses in
     let number = c.find-risen.result - 1 in (
       λ e. absurd (none-some x e),
-      λ h. absurd (no-next c.args.format c.args.century ps c.args.parts.now c.requires.parts 1000000 c.args.picos number c.in-Some.place.element c.in-Some.place.time x
+      λ h. absurd
+          (no-next c.args.format c.args.century ps c.args.parts.now c.requires.parts 1000000 c.args.picos number c.in-Some.place.element c.in-Some.place.time x
           count c.in-Some.ensures (λ g. false≢true (sym c.if-not-goes_on.true ∙ c.goes_on.ensures.1 g)) h),
     )
 
@@ -161,5 +162,6 @@ returns-clause-pulses c =
 
 pub returns-clause-looked : goal.returns-clause-looked
 returns-clause-looked c digits few =
-    let all = through-next _ _ _ (digits + 1) (through-next _ _ _ digits (c.find-risen.ensures.looked digits few) c.pulse-from.ensures.counted) c.pulse-to.ensures.counted in
+    let all = through-next _ _ _ (digits + 1)
+        (through-next _ _ _ digits (c.find-risen.ensures.looked digits few) c.pulse-from.ensures.counted) c.pulse-to.ensures.counted in
     record { made = all.made; few = omega (arith, all.few); lens = all.lens }

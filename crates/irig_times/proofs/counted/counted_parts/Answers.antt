@@ -22,14 +22,16 @@ pub put_frame-requires-clause-next : goal.put_frame-requires-clause-next
 put_frame-requires-clause-next c =
     let whole = c.args.whole.now in
     let here = slice_get-get_or whole c.loop-place.place none-part c.loop-place-test.true in
-    known-next c.args.format (length c.args.pulses.now.track.pulses) whole c.requires.whole c.len-count.ensures.track.few c.loop-place.place _ here c.part_at-next.result
+    known-next c.args.format
+        (length c.args.pulses.now.track.pulses) whole c.requires.whole c.len-count.ensures.track.few c.loop-place.place _ here c.part_at-next.result
     c.part_at-next.ensures
 
 pub put_frame-requires-clause-order : goal.put_frame-requires-clause-order
 put_frame-requires-clause-order c =
     let whole = c.args.whole.now in
     let here = slice_get-get_or whole c.loop-place.place none-part c.loop-place-test.true in
-    known-order c.args.format (length c.args.pulses.now.track.pulses) whole c.requires.whole c.len-count.ensures.track.few c.loop-place.place _ here c.part_at-next.result
+    known-order c.args.format
+        (length c.args.pulses.now.track.pulses) whole c.requires.whole c.len-count.ensures.track.few c.loop-place.place _ here c.part_at-next.result
     c.part_at-next.ensures
 
 pub loop-place-preserved : goal.loop-place-preserved
@@ -50,5 +52,6 @@ loop-place-preserved c =
 
 pub counted_after-sides-requires : goal.counted_after-sides-requires
 counted_after-sides-requires c =
-    low c.args.format (length c.args.pulses.now.track.pulses) c.args.whole.now c.requires.whole c.len-count.ensures.track.few c.loop-place.place c.loop-place.before
+    low c.args.format
+        (length c.args.pulses.now.track.pulses) c.args.whole.now c.requires.whole c.len-count.ensures.track.few c.loop-place.place c.loop-place.before
     c.loop-place.invariant.before

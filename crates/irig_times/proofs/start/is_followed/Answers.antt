@@ -33,7 +33,8 @@ returns-in-Some-clause-exact c =
           one = c.record-record.result;
           there = c.record-record.ensures.value;
           tells = sym c.in-Some.ensures;
-          place = omega (arith, c.if-record-number.false, c.requires.parted.after c.args.next c.record-record.result c.record-record.ensures.value (omega arith));
+          place =
+              omega (arith, c.if-record-number.false, c.requires.parted.after c.args.next c.record-record.result c.record-record.ensures.value (omega arith));
           few = omega arith;
         };
         later = sym told ∙ yes';

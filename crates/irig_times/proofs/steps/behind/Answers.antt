@@ -7,7 +7,8 @@ pub loop-count-preserved : goal.loop-count-preserved
 loop-count-preserved c =
     let before = c.loop-count.invariant in
     let on : is_in_step_at c.args.format c.args.pulses.now.track.pulses (c.args.number - c.loop-count.count) ≡ true =
-    ap (λ t. is_in_step_at c.args.format t.pulses (c.args.number - c.loop-count.count)) (sym before.track) ∙ (sym c.is_in_step_at.ensures.step ∙ c.if-not-is_in_step_at.false) in
+    ap (λ t. is_in_step_at c.args.format t.pulses (c.args.number - c.loop-count.count)) (sym before.track)
+        ∙ (sym c.is_in_step_at.ensures.step ∙ c.if-not-is_in_step_at.false) in
     record {
       track = c.is_in_step_at.ensures.pulses ∙ before.track;
       few = omega (arith, c.loop-count-test.true);
@@ -18,6 +19,7 @@ pub returns-then-not-is_in_step_at-clause-count : goal.returns-then-not-is_in_st
 returns-then-not-is_in_step_at-clause-count c =
     let before = c.loop-count.invariant in
     let off : is_in_step_at c.args.format c.args.pulses.now.track.pulses (c.args.number - c.loop-count.count) ≡ false =
-    ap (λ t. is_in_step_at c.args.format t.pulses (c.args.number - c.loop-count.count)) (sym before.track) ∙ (sym c.is_in_step_at.ensures.step ∙ c.if-not-is_in_step_at.true) in
+    ap (λ t. is_in_step_at c.args.format t.pulses (c.args.number - c.loop-count.count)) (sym before.track)
+        ∙ (sym c.is_in_step_at.ensures.step ∙ c.if-not-is_in_step_at.true) in
     let none = behind-stop c.args.format c.args.pulses.now.track.pulses (c.args.most - c.loop-count.count) (c.args.number - c.loop-count.count) off in
     omega (arith, before.left, none)

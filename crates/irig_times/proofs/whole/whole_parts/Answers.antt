@@ -16,7 +16,8 @@ loop-place-preserved c =
     record {
       same = c.whole_at.ensures.same ∙ before.same;
       left = elim c.match-whole_at.branch [
-        | in-Some+in_ok-push w ↦ whole-more c.args.format rs c.args.held.now k lt c.requires c.whole_at.result is c.loop-place.list.items _ before.left w.in-Some.part c.match-whole_at.list.items w.in-Some.is
+        | in-Some+in_ok-push w ↦ whole-more c.args.format rs c.args.held.now k lt c.requires c.whole_at.result is c.loop-place.list.items _ before.left
+            w.in-Some.part c.match-whole_at.list.items w.in-Some.is
             (ap (λ v. v.items) w.list-is ∙ w.in_ok-push.ensures.items)
         | in_default w ↦ whole-less c.args.format rs c.args.held.now k lt c.requires c.whole_at.result is c.match-whole_at.list.items _
             (ap (λ v. v.items ++ whole_in c.args.format (drop k rs) (drop k c.args.held.now)) w.list-is ∙ before.left) w.in_default.is

@@ -32,5 +32,6 @@ returns-clause-here c =
     stretch_goes_on s c.args.self.now _ c.requires.here (omega (arith, c.requires.first, c.requires.second)) c.requires.within refl refl
     (λ same. record {
       before = k.0.before;
-      risen = ap is_even_long c.in_ok-close_and_open.ensures ∙ (even-push_two c.args.self.now.edges (c.args.self.now.time - s.from) (c.args.rise - s.from) ∙ k.0.risen);
+      risen = ap is_even_long c.in_ok-close_and_open.ensures
+          ∙ (even-push_two c.args.self.now.edges (c.args.self.now.time - s.from) (c.args.rise - s.from) ∙ k.0.risen);
     })
