@@ -3,28 +3,28 @@ use Rattle.std.proofs.Common.{◌*◌, ◌≡◌, ◌<◌, ◌≤◌, ◌+◌, �
 use Rattle.std.proofs.Common.{refl, sym, ap, ◌∙◌, subst, append_assoc, arith}
 use Rattle.std.specs.Prelude.{IfSome, is_some, min}
 use Rattle.std.proofs.lemmas.Option.{none-some, same_Some, slice_get_within}
-use Rattle.irig_times.specs.Ends.{after_last, alone, before_first, end_after, end_before, is_borne_out, time_elements}
+use Rattle.irig_times.specs.Ends.{after_last, possible_pair, before_first, end_after, end_before, is_borne_out, time_elements}
 use Rattle.std.proofs.lemmas.Bool.{and_parts, eqb-true, leb-true, ltb-true}
 use Rattle.irig_codes.specs.Format.{FormatView, frame_period_of, has_year}
 use Rattle.irig_recording.specs.declared.pulse.Pulse.{Pulse}
 use Rattle.irig_times.specs.{declared.missing.Missing.Missing, declared.part.Part.Part, declared.time.Time.Time, Follows.same_day}
-use Rattle.irig_times.specs.Between.{at_micros, at_minute, day_micros, gap, head_of, is_middle, is_whole, middle, missing_by, missing_in, missing_more, missing_one}
-use Rattle.irig_times.specs.Between.{head_left, is_seam, kept, next_time, rounded, sides, sides_at, sides_by, tail_left, tail_of, time_before}
-use Rattle.irig_times.specs.Sides.{between, borne_at, side_after, side_before, side_of, sides_in, sides_of}
+use Rattle.irig_times.specs.Between.{at_micros, at_minute, day_micros, gap, head_of, is_middle, ends_in_minute, middle, missing_by, missing_in, missing_more, missing_one}
+use Rattle.irig_times.specs.Between.{head_left, is_seam, kept, next_time, periods_between, sides, sides_at, sides_by, tail_left, tail_of, time_before}
+use Rattle.irig_times.specs.Sides.{between, borne_out_at, side_after, side_before, side_of, sides_in, sides_of}
 use Rattle.irig_times.specs.Torn.{are_tens, is_torn, tenths_found}
-use Rattle.irig_times.specs.Counted.{filled, kept_at, kept_before, sides_before, sides_without, with_frame, with_sides}
+use Rattle.irig_times.specs.Counted.{filled, kept_at, kept_of_own, sides_before, sides_unless_jump, with_frame, with_sides}
 use Rattle.irig_times.specs.Tens.{front_of, loses_tens, loses_tens_to, sure_elements, up_to_loss}
 use Rattle.irig_times.specs.Jumps.{after_jump, before_jump, is_jump_between}
 use Rattle.irig_times.specs.Silence.{counted_after, counted_before, counts_before, has_its_time, heard_after, heard_before, precedes_silence, up_to_mark}
 use Rattle.irig_times.specs.Follows.{is_later}
 use Rattle.irig_times.specs.Parts.{AreParts, IsFrameTime, IsPart, is_empty}
 use Rattle.irig_times.specs.Laws.{IsOfCalendar}
-use Rattle.irig_times.specs.Steps.{ahead, are_in_step, behind, follows_at, is_in_step_at}
+use Rattle.irig_times.specs.Steps.{ahead, is_regular, behind, follows_at, is_in_step_at}
 use Rattle.irig_times.proofs.WholeSteps.{from-at}
-use Rattle.irig_times.proofs.SideCounts.{borne_at-few, cond-holds}
+use Rattle.irig_times.proofs.SideCounts.{borne_out_at-few, cond-holds}
 
 -- a frame that ends with its minute ends with a long one
-whole-ends : (period : ℕ) (t : Time) → is_whole period t ≡ true → t.micros + period ≤ 61000000
+whole-ends : (period : ℕ) (t : Time) → ends_in_minute period t ≡ true → t.micros + period ≤ 61000000
 whole-ends period t on = cond-holds (λ m. nat_le (t.micros + period) m ≡ true → t.micros + period ≤ 61000000) (t.minutes == 59) 61000000 60000000
     (λ long h. leb-true _ 61000000 h) (λ short h. (let le = leb-true _ 60000000 h in omega (arith, le))) on
 
@@ -74,8 +74,7 @@ module _ (f : FormatView) (century : ℕ) where
       })
       (λ off. cond-holds (λ o. IfSome o (IsFrameTime f)) (nat_le period b.micros && is_middle century period a y b) _ _
       (λ on. record {
-        minute = whole-ends period y (and_parts (is_later century period y b) _
-            (and_parts (is_later century period a y) _ (and_parts (nat_le period b.micros) _ on).1).1).1;
+        minute = whole-ends period y (and_parts (is_later century period y b) _ (and_parts (is_later century period a y) _ (and_parts (nat_le period b.micros) _ on).1).1).1;
         calendar = in-minute-of b _ hb.calendar;
         year = hb.year;
       })
@@ -103,10 +102,9 @@ module _ (f : FormatView) (century : ℕ) where
   more-end : (x y : Option Time) → IfSome x InCalendar → IfSome y InCalendar → IfSome (missing_more period x y) BothEnd
   more-end None y hx hy = tt
   more-end (Some x) None hx hy = tt
-  more-end (Some x) (Some y) hx hy = cond-holds (λ o. IfSome o BothEnd) (is_whole period x && is_whole period y) _ _
-      (λ on. let both = and_parts (is_whole period x) _ on in
-      (record { minute = whole-ends period x both.0; calendar = hx.0; year = hx.1 },
-          record { minute = whole-ends period y both.1; calendar = hy.0; year = hy.1 }))
+  more-end (Some x) (Some y) hx hy = cond-holds (λ o. IfSome o BothEnd) (ends_in_minute period x && ends_in_minute period y) _ _
+      (λ on. let both = and_parts (ends_in_minute period x) _ on in
+      (record { minute = whole-ends period x both.0; calendar = hx.0; year = hx.1 }, record { minute = whole-ends period y both.1; calendar = hy.0; year = hy.1 }))
       (λ off. tt)
 
   missing-ends : (n : ℕ) (a b : Time) → IsFrameTime f a → IsFrameTime f b → IfSome (missing_in century period n a b) BothEnd
@@ -118,7 +116,7 @@ module _ (f : FormatView) (century : ℕ) where
   missing-by-ends : (a b : Time) (p q : Option Pulse) → IsFrameTime f a → IsFrameTime f b → IfSome (missing_by century period a b p q) BothEnd
   missing-by-ends a b None q ha hb = tt
   missing-by-ends a b (Some p) None ha hb = tt
-  missing-by-ends a b (Some p) (Some q) ha hb = missing-ends (rounded period p.rise q.rise) a b ha hb
+  missing-by-ends a b (Some p) (Some q) ha hb = missing-ends (periods_between period p.rise q.rise) a b ha hb
 
 -- some of those that one side reaches
 pub kept-few : (b : Bool) (m n : ℕ) → kept b m n ≤ m
@@ -177,9 +175,9 @@ module _ (f : FormatView) (a b : Part) (order : a.number + a.count ≤ b.number)
     in-fit : (m n : ℕ) (t : Missing) → m ≤ 100 → n ≤ 100 → BothEnd f 0 t → IfSome (sides_in f ps a b m n t) (Fit f (a.number + a.count) b.number)
     in-fit m n t fm fn h = cond-holds (λ o. IfSome o (Fit f (a.number + a.count) b.number)) (is_torn f ps a b m n) _ _
         (λ torn. cond-holds (λ o. IfSome o (Fit f (a.number + a.count) b.number)) (are_tens (tenths_found ps a b)) _ _ (λ tens. tt)
-        (λ some. (let lm = borne_at-few f ps t.first (side_after a) m in
-        let ln = borne_at-few f ps t.last (side_before b) n in
-        at-fit (borne_at f ps t.first (side_after a) m) (borne_at f ps t.last (side_before b) n) t (omega (arith, lm, fm)) (omega (arith, ln, fn)) h)))
+        (λ some. (let lm = borne_out_at-few f ps t.first (side_after a) m in
+        let ln = borne_out_at-few f ps t.last (side_before b) n in
+        at-fit (borne_out_at f ps t.first (side_after a) m) (borne_out_at f ps t.last (side_before b) n) t (omega (arith, lm, fm)) (omega (arith, ln, fn)) h)))
         (λ sound. at-fit m n t fm fn h)
 
     sides-of-fit : (o : Option Missing) → IfSome o (BothEnd f 0) → IfSome (sides_of f ps a b o) (Fit f (a.number + a.count) b.number)
@@ -198,7 +196,7 @@ module _ (f : FormatView) (ps : List Pulse) where
   follows-within zero on = absurd (cc on)
   follows-within (suc k) on = both (slice_get ps k) (slice_get ps (suc k)) refl on
     where
-      both : (p q : Option Pulse) → slice_get ps (suc k) ≡ q → are_in_step f p q ≡ true → suc k < length ps
+      both : (p q : Option Pulse) → slice_get ps (suc k) ≡ q → is_regular f p q ≡ true → suc k < length ps
       both None q e h = absurd (cc h)
       both (Some p) None e h = absurd (cc h)
       both (Some p) (Some q) e h = slice_get_within ps (suc k) q e
@@ -211,11 +209,11 @@ module _ (f : FormatView) (ps : List Pulse) where
   ahead-within (suc n) k le = cond-holds (λ m. k + m ≤ length ps) (is_in_step_at f ps k) _ _
       (λ on. (let it = ahead-within n (k + 1) (omega (arith, step-within k on)) in omega (arith, it))) (λ off. omega (arith, le))
 
-  alone-fits : (from to : ℕ) (p : Part) → from ≤ p.number → p.element + p.count ≤ 100 → p.number + p.count ≤ to
-      → IsOfCalendar p.time × (is_some p.time.year ≡ has_year f.expression) → IfSome (alone f ps p) (Fit f from to)
-  alone-fits from to p first few last cal = cond-holds (λ o. IfSome o (Fit f from to)) (is_borne_out f ps p) _ _
+  pair-fits : (from to : ℕ) (p : Part) → from ≤ p.number → p.element + p.count ≤ 100 → p.number + p.count ≤ to
+      → IsOfCalendar p.time × (is_some p.time.year ≡ has_year f.expression) → IfSome (possible_pair f ps p) (Fit f from to)
+  pair-fits from to p first few last cal = cond-holds (λ o. IfSome o (Fit f from to)) (is_borne_out f ps p) _ _
       (λ on. (let time : IsFrameTime f p.time = record {
-        minute = whole-ends (frame_period_of f.kind) p.time (and_parts (is_whole (frame_period_of f.kind) p.time) _ on).0;
+        minute = whole-ends (frame_period_of f.kind) p.time (and_parts (ends_in_minute (frame_period_of f.kind) p.time) _ on).0;
         calendar = cal.0;
         year = cal.1;
       } in
@@ -234,15 +232,14 @@ module _ (f : FormatView) (ps : List Pulse) where
   last-fits a (Some x) le cal =
       let few = ahead-few f ps 100 (a.number + a.count) in
       let within = ahead-within 100 (a.number + a.count) le in
-      alone-fits (a.number + a.count) (length ps) (head_of a (ahead f ps (a.number + a.count) 100) x) (omega arith) (omega (arith, few))
-          (omega (arith, within)) cal
+      pair-fits (a.number + a.count) (length ps) (head_of a (ahead f ps (a.number + a.count) 100) x) (omega arith) (omega (arith, few)) (omega (arith, within)) cal
 
   first-fits : (b : Part) (o : Option Time) → IfSome o (λ x. IsOfCalendar x × (is_some x.year ≡ has_year f.expression))
       → IfSome (before_first f ps b o) (Fit f 0 b.number)
   first-fits b None cal = tt
   first-fits b (Some x) cal =
       let few = behind-few f ps (min b.number 100) b.number in
-      alone-fits 0 b.number (tail_of b (behind f ps b.number (min b.number 100)) x) (omega arith) (grind (arith, few)) (grind (arith, few)) cal
+      pair-fits 0 b.number (tail_of b (behind f ps b.number (min b.number 100)) x) (omega arith) (grind (arith, few)) (grind (arith, few)) cal
 
 -- what counts at an end is what is counted there, or less of it
 pub heard-before-holds : (P : Part × Part → Type 0) (f : FormatView) (ps : List Pulse) (s : Option (Part × Part)) → IfSome s P → IfSome (heard_before f ps s) P
@@ -257,7 +254,7 @@ heard-after-holds P f micros ps (Some s) less h = cond-holds (λ o. IfSome o P) 
 
 mark-fits : (f : FormatView) (ps : List Pulse) (from to : ℕ) (s : Part × Part) → Fit f from to s → Fit f from to (up_to_mark f ps s.0, s.1)
 mark-fits f ps from to s h =
-    let few = borne_at-few f ps s.0.time (side_of s.0) s.0.count in
+    let few = borne_out_at-few f ps s.0.time (side_of s.0) s.0.count in
     record {
       first = h.first;
       one = record { few = omega (arith, few, h.one.few); time = h.one.time };
@@ -299,22 +296,19 @@ module _ (f : FormatView) where
 
   loss-cut : (ps : List Pulse) (b : Part) (next : Option Part) → IsPart f b → Cut f b (up_to_loss f ps b next)
   loss-cut ps b None is = all-cut b is
-  loss-cut ps b (Some c) is =
-      cond-holds (Cut f b) (loses_tens f ps b c) _ _ (λ loses. front-cut (sure_elements (tenths_found ps b c)) b is) (λ none. all-cut b is)
+  loss-cut ps b (Some c) is = cond-holds (Cut f b) (loses_tens f ps b c) _ _ (λ loses. front-cut (sure_elements (tenths_found ps b c)) b is) (λ none. all-cut b is)
 
   after-cut : (jumps : Bool) (b : Part) → IsPart f b → Cut f b (after_jump f.kind jumps b)
   after-cut false b is = all-cut b is
   after-cut true b is =
       let few = min-few b.count (time_elements f.kind) in
-      record { low = omega arith; high = omega (arith, few); place = omega arith; same = refl;
-          is = record { few = omega (arith, few, is.few); time = is.time } }
+      record { low = omega arith; high = omega (arith, few); place = omega arith; same = refl; is = record { few = omega (arith, few, is.few); time = is.time } }
 
-  pub kept-cut : (century : ℕ) (ps : List Pulse) (before : Option Part) (b : Part) (next : Option Part) → IsPart f b
-      → Cut f b (kept_at f century ps before b next)
+  pub kept-cut : (century : ℕ) (ps : List Pulse) (before : Option Part) (b : Part) (next : Option Part) → IsPart f b → Cut f b (kept_at f century ps before b next)
   kept-cut century ps before b next is =
       let loss = loss-cut ps b next is in
       let one = before-cut (is_jump_between f century ps (Some b) next) (up_to_loss f ps b next) loss.is in
-      let two = after-cut (is_jump_between f century ps before (Some b)) (kept_before f century ps b next) one.is in
+      let two = after-cut (is_jump_between f century ps before (Some b)) (kept_of_own f century ps b next) one.is in
       record {
         low = omega (arith, loss.low, one.low, two.low);
         high = omega (arith, loss.high, one.high, two.high);
@@ -353,11 +347,10 @@ module _ (f : FormatView) (century micros : ℕ) (ps : List Pulse) where
       → Cut f b q → AreParts f (b.number + b.count) n parts → AreParts f from n (with_sides s (q ∷ parts))
   with-fit None from b q parts fits le cut are = (omega (arith, le, cut.low), cut.is, from-less (b.number + b.count) (q.number + q.count) parts cut.high are)
   with-fit (Some s) from b q parts fits le cut are =
-      (fits.first, fits.one,
-          (fits.middle, fits.two, (omega (arith, fits.last, cut.low), cut.is, from-less (b.number + b.count) (q.number + q.count) parts cut.high are)))
+      (fits.first, fits.one, (fits.middle, fits.two, (omega (arith, fits.last, cut.low), cut.is, from-less (b.number + b.count) (q.number + q.count) parts cut.high are)))
 
   without-fit : (jumps : Bool) (before : Option Part) (from : ℕ) (b : Part) → Ends before from → from ≤ b.number → IsPart f b
-      → IfSome (sides_without jumps f century ps before b) (Fit f from b.number)
+      → IfSome (sides_unless_jump jumps f century ps before b) (Fit f from b.number)
   without-fit true before from b ends le is = tt
   without-fit false before from b ends le is = before-fit before from b ends le is
 
@@ -377,7 +370,8 @@ module _ (f : FormatView) (century micros : ℕ) (ps : List Pulse) where
       → AreParts f from n (filled f century micros ps before parts)
   filled-from before from [] ends are = ended (counted_after f micros ps before) from (after-fit before from ends are) are
   filled-from before from (b ∷ parts) ends are =
-      with-fit (sides_without (is_jump_between f century ps before (Some b)) f century ps before b) from b (kept_at f century ps before b (slice_get parts 0))
+      with-fit (sides_unless_jump (is_jump_between f century ps before (Some b)) f century ps before b) from b
+      (kept_at f century ps before b (slice_get parts 0))
       (filled f century micros ps (Some b) parts) (without-fit (is_jump_between f century ps before (Some b)) before from b ends are.0 are.1) are.0
       (kept-cut f century ps before b (slice_get parts 0) are.1)
       (filled-from (Some b) (b.number + b.count) parts (refl, are.1) are.2)
@@ -413,18 +407,17 @@ module _ (f : FormatView) (century micros : ℕ) (ps : List Pulse) where
       let same : b ≡ p = same_Some b p here in
       let whole : kept_at f century ps before b (slice_get parts 0) ≡ p =
       ap (λ q. kept_at f century ps before q (slice_get parts 0)) same ∙ kept-whole before p (slice_get parts 0) first last none in
-      with-stays (sides_without (is_jump_between f century ps before (Some b)) f century ps before b) (kept_at f century ps before b (slice_get parts 0))
+      with-stays (sides_unless_jump (is_jump_between f century ps before (Some b)) f century ps before b) (kept_at f century ps before b (slice_get parts 0))
       (filled f century micros ps (Some b) parts) zero p (ap Some whole)
   filled-stays before (b ∷ parts) (suc k) p here first last none =
       let e : suc k + 1 ≡ suc (k + 1) = omega arith in
       let end = subst (λ i. is_jump_between f century ps (Some p) (slice_get (b ∷ parts) i) ≡ false) e last in
       let whole = subst (λ i. loses_tens_to f ps p (slice_get (b ∷ parts) i) ≡ false) e none in
       let it = filled-stays (Some b) parts k p here (earlier-same before b parts k p first) end whole in
-      with-stays (sides_without (is_jump_between f century ps before (Some b)) f century ps before b) (kept_at f century ps before b (slice_get parts 0))
+      with-stays (sides_unless_jump (is_jump_between f century ps before (Some b)) f century ps before b) (kept_at f century ps before b (slice_get parts 0))
       (filled f century micros ps (Some b) parts) (suc it.0) p it.1
     where
-      earlier-same : (before : Option Part) (b : Part) (parts : List Part) (k : ℕ) (p : Part)
-          → is_jump_between f century ps (slice_get (b ∷ parts) k) (Some p) ≡ false
+      earlier-same : (before : Option Part) (b : Part) (parts : List Part) (k : ℕ) (p : Part) → is_jump_between f century ps (slice_get (b ∷ parts) k) (Some p) ≡ false
           → is_jump_between f century ps (earlier (Some b) parts k) (Some p) ≡ false
       earlier-same before b parts zero p first = first
       earlier-same before b parts (suc k) p first = first
@@ -434,10 +427,9 @@ module _ (f : FormatView) (century micros : ℕ) (ps : List Pulse) where
   with-more (Some s) xs = refl
 
   -- one more frame
-  frame-more : (before : Option Part) (b : Part) (next : Option Part) (xs : List Part)
-      → with_frame f century ps before b next xs ≡ with_frame f century ps before b next [] ++ xs
+  frame-more : (before : Option Part) (b : Part) (next : Option Part) (xs : List Part) → with_frame f century ps before b next xs ≡ with_frame f century ps before b next [] ++ xs
   frame-more before b next xs =
-      let s = sides_without (is_jump_between f century ps before (Some b)) f century ps before b in
+      let s = sides_unless_jump (is_jump_between f century ps before (Some b)) f century ps before b in
       let kept = kept_at f century ps before b next in
       with-more s (kept ∷ xs)
       ∙ (sym (append_assoc (with_sides s []) (kept ∷ []) xs) ∙ ap (λ l. l ++ xs) (sym (with-more s (kept ∷ []))))

@@ -10,16 +10,16 @@ use Rattle.irig_index.specs.{Frames.frames, declared.record.Record.Record}
 use Rattle.irig_times.specs.{declared.missing.Missing.Missing, declared.part.Part.Part, declared.time.Time.Time}
 use Rattle.irig_times.specs.{Follows.is_later, Parts.IsFrameTime, Parts.IsPart, Parts.is_empty, Support.believed, Times.timed}
 use Rattle.irig_times.specs.Between.{gap, head_left, head_of, is_seam, kept, sides, sides_by, tail_left, tail_of}
-use Rattle.irig_times.specs.Sides.{between, borne_at, side_after, side_before, side_of, sides_in, sides_of}
+use Rattle.irig_times.specs.Sides.{between, borne_out_at, side_after, side_before, side_of, sides_in, sides_of}
 use Rattle.irig_times.specs.Torn.{are_tens, is_torn, tenths_found}
-use Rattle.irig_times.specs.{Counted.filled, Counted.kept_at, Counted.sides_before, Counted.sides_without, Counted.with_sides, Jumps.is_jump_between}
-use Rattle.irig_times.specs.Ends.{after_last, alone, before_first, end_after, end_before, is_borne_out}
+use Rattle.irig_times.specs.{Counted.filled, Counted.kept_at, Counted.sides_before, Counted.sides_unless_jump, Counted.with_sides, Jumps.is_jump_between}
+use Rattle.irig_times.specs.Ends.{after_last, possible_pair, before_first, end_after, end_before, is_borne_out}
 use Rattle.irig_times.specs.Silence.{counted_after, up_to_mark}
 use Rattle.irig_times.specs.Origins.{CountedBack, CountedOn, InFrame, IsBelieved, TimesAreCounted}
 use Rattle.irig_times.specs.Steps.{ahead, behind, is_in_step_at}
 use Rattle.irig_times.specs.Whole.{whole, whole_in, with_part}
 use Rattle.irig_times.proofs.Filling.{Cut, ahead-few, behind-few, head-few, heard-after-holds, heard-before-holds, kept-cut, kept-few, tail-few}
-use Rattle.irig_times.proofs.SideCounts.{borne_at-few, cond-holds}
+use Rattle.irig_times.proofs.SideCounts.{borne_out_at-few, cond-holds}
 use Rattle.irig_times.proofs.NextTimes.{before-later, missing-by-later, next-later}
 use Rattle.irig_times.proofs.{PartPlaces.part-of, WholeFrames.whole-are}
 
@@ -147,8 +147,7 @@ module _ (f : FormatView) (alone_frames : Bool) (century : ℕ) (ps : List Pulse
       → c ≤ behind f ps b.number n → EachCounted (tail_of b c x)
   tail-counted b h n c x later few within some skip lt =
       let less = behind-few f ps n b.number in
-      inr (inr (back-counted b h n _ _ x later (omega (arith, lt, some, few, within, less)) (omega (arith, lt, some, few, less))
-          (omega (arith, lt, some, few, less))))
+      inr (inr (back-counted b h n _ _ x later (omega (arith, lt, some, few, within, less)) (omega (arith, lt, some, few, less)) (omega (arith, lt, some, few, less))))
 
   none-counted : (a : Part) (x : Time) → EachCounted (head_of a 0 x)
   none-counted a x skip lt = absurd (omega (arith, lt))
@@ -175,8 +174,7 @@ module _ (f : FormatView) (alone_frames : Bool) (century : ℕ) (ps : List Pulse
       | inr off ↦
           let count : a.count ≡ 100 = ap (λ (p : Part). p.count) ha.is in
           let last = subst (λ (x : Time). is_later century (frame_period_of f.kind) x b.time ≡ true) (sym (h.2 one)) h.1 in
-          inr (inr (back-counted b hb (min (gap a b) 100) (a.number + a.count + skip) (0 + skip) t.first last (omega (arith, whole, count)) (omega (arith, lt))
-              (omega (arith, off, many, lt))))
+          inr (inr (back-counted b hb (min (gap a b) 100) (a.number + a.count + skip) (0 + skip) t.first last (omega (arith, whole, count)) (omega (arith, lt)) (omega (arith, off, many, lt))))
     ]
 
     tail-within : (g : ℕ) → min g 100 ≤ g → g ≡ gap a b → min g 100 ≤ b.number
@@ -207,8 +205,8 @@ module _ (f : FormatView) (alone_frames : Bool) (century : ℕ) (ps : List Pulse
     sides-in-counted : (t : Missing) → IsNext a.time b.time t → IfSome (sides_in f ps a b m n t) BothCounted
     sides-in-counted t h = cond-holds (λ o. IfSome o BothCounted) (is_torn f ps a b m n) _ _
         (λ torn. cond-holds (λ o. IfSome o BothCounted) (are_tens (tenths_found ps a b)) _ _ (λ tens. tt)
-        (λ some. sides-counted (borne_at f ps t.first (side_after a) m) (borne_at f ps t.last (side_before b) n) t _ h
-        (borne_at-few f ps t.first (side_after a) m) (borne_at-few f ps t.last (side_before b) n)))
+        (λ some. sides-counted (borne_out_at f ps t.first (side_after a) m) (borne_out_at f ps t.last (side_before b) n) t _ h
+        (borne_out_at-few f ps t.first (side_after a) m) (borne_out_at-few f ps t.last (side_before b) n)))
         (λ sound. sides-counted m n t _ h (omega arith) (omega arith))
 
     sides-of-counted : (o : Option Missing) → IfSome o (IsNext a.time b.time) → IfSome (sides_of f ps a b o) BothCounted
@@ -218,20 +216,19 @@ module _ (f : FormatView) (alone_frames : Bool) (century : ℕ) (ps : List Pulse
     between-counted : IfSome (between f century ps a b) BothCounted
     between-counted = sides-of-counted _ (missing-by-later f century a.time b.time (slice_get ps a.number) (slice_get ps b.number) ha.time hb.time)
 
-  alone-counted : (p : Part) → EachCounted p → IfSome (alone f ps p) BothCounted
-  alone-counted p h = cond-holds (λ o. IfSome o BothCounted) (is_borne_out f ps p) _ _ (λ on. (h, none-counted p p.time)) (λ off. tt)
+  pair-counted : (p : Part) → EachCounted p → IfSome (possible_pair f ps p) BothCounted
+  pair-counted p h = cond-holds (λ o. IfSome o BothCounted) (is_borne_out f ps p) _ _ (λ on. (h, none-counted p p.time)) (λ off. tt)
 
   last-counted : (a : Part) → IsWhole a → (o : Option Time) → IfSome o (λ x. is_later century (frame_period_of f.kind) a.time x ≡ true)
       → IfSome (after_last f ps a o) BothCounted
   last-counted a ha None h = tt
-  last-counted a ha (Some x) h = alone-counted (head_of a (ahead f ps (a.number + a.count) 100) x) (head-counted a ha 100 _ x h (omega arith) (omega arith))
+  last-counted a ha (Some x) h = pair-counted (head_of a (ahead f ps (a.number + a.count) 100) x) (head-counted a ha 100 _ x h (omega arith) (omega arith))
 
   first-counted : (b : Part) → IsWhole b → (o : Option Time) → IfSome o (λ x. is_later century (frame_period_of f.kind) x b.time ≡ true)
       → IfSome (before_first f ps b o) BothCounted
   first-counted b hb None h = tt
   first-counted b hb (Some x) h =
-      alone-counted (tail_of b (behind f ps b.number (min b.number 100)) x)
-          (tail-counted b hb (min b.number 100) _ x h (at-most b.number 100).0 (at-most b.number 100).1 (omega arith))
+      pair-counted (tail_of b (behind f ps b.number (min b.number 100)) x) (tail-counted b hb (min b.number 100) _ x h (at-most b.number 100).0 (at-most b.number 100).1 (omega arith))
 
   before-counted : (before : Option Part) (b : Part) → IfSome before IsSeen → IsSeen b → IfSome (sides_before f century ps before b) BothCounted
   before-counted None b ha hb = heard-before-holds BothCounted f ps (end_before f ps b) (cond-holds (λ o. IfSome o BothCounted) (is_empty b) _ _ (λ none. tt)
@@ -247,7 +244,7 @@ module _ (f : FormatView) (alone_frames : Bool) (century : ℕ) (ps : List Pulse
     where
       mark-counted : (s : Part × Part) → BothCounted s → BothCounted (up_to_mark f ps s.0, s.1)
       mark-counted s h =
-          let few = borne_at-few f ps s.0.time (side_of s.0) s.0.count in
+          let few = borne_out_at-few f ps s.0.time (side_of s.0) s.0.count in
           (λ skip lt. h.0 skip (omega (arith, lt, few)), h.1)
 
   abbrev AllCounted : List Part → Type 0
@@ -277,7 +274,7 @@ module _ (f : FormatView) (alone_frames : Bool) (century : ℕ) (ps : List Pulse
       (subst (λ e. Counted (q.number + skip) e b.time) there (subst (λ n. Counted n (b.element + (more + skip)) b.time) here it))
 
   without-counted : (jumps : Bool) (before : Option Part) (b : Part) → IfSome before IsSeen → IsSeen b
-      → IfSome (sides_without jumps f century ps before b) BothCounted
+      → IfSome (sides_unless_jump jumps f century ps before b) BothCounted
   without-counted true before b ha hb = tt
   without-counted false before b ha hb = before-counted before b ha hb
 
@@ -288,7 +285,7 @@ module _ (f : FormatView) (alone_frames : Bool) (century : ℕ) (ps : List Pulse
   filled-counted micros before (b ∷ parts) h all are =
       let hb = all 0 b refl in
       let kept = kept_at f century ps before b (slice_get parts 0) in
-      with-counted (sides_without (is_jump_between f century ps before (Some b)) f century ps before b) (kept ∷ filled f century micros ps (Some b) parts)
+      with-counted (sides_unless_jump (is_jump_between f century ps before (Some b)) f century ps before b) (kept ∷ filled f century micros ps (Some b) parts)
       (without-counted (is_jump_between f century ps before (Some b)) before b h hb)
       (one-there kept (filled f century micros ps (Some b) parts)
       (cut-counted b kept (kept-cut f century ps before b (slice_get parts 0) (are 0 b refl)) (seen-counted b hb))
@@ -307,8 +304,7 @@ record OfRecord (f : FormatView) (rs : List Record) (held : List Bool) (p : Part
 
 module _ (f : FormatView) where
   later-record : (r : Record) (rs : List Record) (b : Bool) (held : List Bool) (p : Part) → OfRecord f rs held p → OfRecord f (r ∷ rs) (b ∷ held) p
-  later-record r rs b held p h =
-      record { at = suc h.at; one = h.one; fields = h.fields; there = h.there; is_held = h.is_held; on = h.on; tells = h.tells; is = h.is }
+  later-record r rs b held p h = record { at = suc h.at; one = h.one; fields = h.fields; there = h.there; is_held = h.is_held; on = h.on; tells = h.tells; is = h.is }
 
   with-record : (r : Record) (rs : List Record) (b : Bool) (held : List Bool) (o : Option Fields) (i : ℕ) (p : Part) → timed f r.verdict ≡ o
       → ((i : ℕ) → slice_get (whole_in f rs held) i ≡ Some p → OfRecord f rs held p)

@@ -3,8 +3,8 @@ use Rattle.std.proofs.Common.{◌≡◌, ℕ, zero, suc, ◌+◌, ◌-◌, ◌<�
 use Rattle.std.specs.Prelude.{nat_lt}
 use Rattle.irig_codes.specs.{Format.FormatView, Encoding.encoded, Fields.fits_in, declared.width.Element.Element}
 use Rattle.irig_recording.specs.declared.pulse.Pulse.{Pulse}
-use Rattle.irig_times.specs.{Ends.fields_at, declared.time.Time.Time, declared.torn.Side.Side}
-use Rattle.irig_times.specs.Sides.{borne, borne_at, confirmed, placed, undenied}
+use Rattle.irig_times.specs.{Ends.fields_at, declared.time.Time.Time, declared.side.Side.Side}
+use Rattle.irig_times.specs.Sides.{borne_out, borne_out_at, confirmed, can_confirm, undenied}
 use Rattle.irig_times.specs.Torn.{confirms, denies}
 
 pub cond-holds : {X : Type 0} (P : X → Type 0) (b : Bool) (x y : X) → (b ≡ true → P x) → (b ≡ false → P y) → P (cond b x y)
@@ -14,8 +14,8 @@ cond-holds P false x y p q = q refl
 pub lt-false : (x y : ℕ) → y ≤ x → nat_lt x y ≡ false
 lt-false x y h = grind (arith, h)
 
-placed-few : (s : Side) (n : ℕ) → placed s n ≤ n
-placed-few s n = cond-holds (λ m. m ≤ n) s.is_back _ _ (λ back. omega arith) (λ on. omega arith)
+can_confirm-few : (s : Side) (n : ℕ) → can_confirm s n ≤ n
+can_confirm-few s n = cond-holds (λ m. m ≤ n) s.is_back _ _ (λ back. omega arith) (λ on. omega arith)
 
 module _ (f : FormatView) (ps : List Pulse) (wanted : List Element) (s : Side) where
   undenied-step : (n k : ℕ) → denies f ps wanted s k ≡ false → undenied f ps wanted s k (suc n) ≡ suc (undenied f ps wanted s (k + 1) n)
@@ -62,9 +62,9 @@ module _ (f : FormatView) (ps : List Pulse) (wanted : List Element) (s : Side) w
   confirmed-few zero = omega arith
   confirmed-few (suc n) = cond-holds (λ m. m ≤ suc n) (confirms f ps wanted s n) _ _ (λ on. omega arith) (λ off. omega (arith, confirmed-few n))
 
-  pub borne-few : (n : ℕ) → borne f ps wanted s n ≤ n
-  borne-few n = omega (arith, confirmed-few (placed s (undenied f ps wanted s 0 n)), placed-few s (undenied f ps wanted s 0 n), undenied-few n 0)
+  pub borne_out-few : (n : ℕ) → borne_out f ps wanted s n ≤ n
+  borne_out-few n = omega (arith, confirmed-few (can_confirm s (undenied f ps wanted s 0 n)), can_confirm-few s (undenied f ps wanted s 0 n), undenied-few n 0)
 
-pub borne_at-few : (f : FormatView) (ps : List Pulse) (x : Time) (s : Side) (n : ℕ) → borne_at f ps x s n ≤ n
-borne_at-few f ps x s n = cond-holds (λ m. m ≤ n) (nat_lt 61000000 x.micros) _ _ (λ late. omega arith)
-    (λ sound. cond-holds (λ m. m ≤ n) (fits_in f (fields_at f x)) _ _ (λ on. borne-few f ps (encoded f (fields_at f x)) s n) (λ off. omega arith))
+pub borne_out_at-few : (f : FormatView) (ps : List Pulse) (x : Time) (s : Side) (n : ℕ) → borne_out_at f ps x s n ≤ n
+borne_out_at-few f ps x s n = cond-holds (λ m. m ≤ n) (nat_lt 61000000 x.micros) _ _ (λ late. omega arith)
+    (λ sound. cond-holds (λ m. m ≤ n) (fits_in f (fields_at f x)) _ _ (λ on. borne_out-few f ps (encoded f (fields_at f x)) s n) (λ off. omega arith))

@@ -34,13 +34,13 @@ abbrev pub minute_end : ℕ → ℕ
 minute_end minutes = if minutes == 59 then 61000000 else 60000000
 
 -- a frame of a time ends with its minute
-abbrev pub is_whole : ℕ → Time → Bool
-is_whole period t = nat_le (t.micros + period) (minute_end t.minutes)
+abbrev pub ends_in_minute : ℕ → Time → Bool
+ends_in_minute period t = nat_le (t.micros + period) (minute_end t.minutes)
 
 -- the second time is one period after the first and one before the third
 abbrev pub is_middle : ℕ → ℕ → Time → Time → Time → Bool
 is_middle century period a x b =
-    is_later century period a x && (is_later century period x b && is_whole period x)
+    is_later century period a x && (is_later century period x b && ends_in_minute period x)
 
 -- the time of the one frame that is missing between two: in the minute of the first, or in that of
 -- the last
@@ -75,8 +75,8 @@ abbrev pub day_micros : Time → ℕ
 day_micros t = 60000000 * (60 * t.hours + t.minutes) + t.micros
 
 -- how many periods two rises are apart, to the nearest
-abbrev pub rounded : ℕ → ℕ → ℕ → ℕ
-rounded period from to = (2 * (to - from) + period) / (2 * period)
+abbrev pub periods_between : ℕ → ℕ → ℕ → ℕ
+periods_between period from to = (2 * (to - from) + period) / (2 * period)
 
 -- of the frames that are missing between two, the time of the first and of the last; `n` is how
 -- many periods the two are apart
@@ -88,7 +88,7 @@ abbrev pub missing_more : ℕ → Option Time → Option Time → Option Missing
 missing_more period None y = None
 missing_more period (Some x) None = None
 missing_more period (Some x) (Some y) =
-    if is_whole period x && is_whole period y
+    if ends_in_minute period x && ends_in_minute period y
     then Some (record { is_one = false; first = x; last = y }) else None
 
 abbrev pub missing_in : ℕ → ℕ → ℕ → Time → Time → Option Missing
@@ -103,7 +103,7 @@ abbrev pub missing_by : ℕ → ℕ → Time → Time → Option Pulse → Optio
 missing_by century period a b None q = None
 missing_by century period a b (Some p) None = None
 missing_by century period a b (Some p) (Some q) =
-    missing_in century period (rounded period p.rise q.rise) a b
+    missing_in century period (periods_between period p.rise q.rise) a b
 
 -- the pulses after a frame that have a time, and those before one
 abbrev pub head_of : Part → ℕ → Time → Part

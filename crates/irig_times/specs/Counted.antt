@@ -26,27 +26,28 @@ sides_before f century ps (Some a) b =
     if is_empty a then None else (if is_empty b then None else between f century ps a b)
 
 -- the same, if the time does not jump there
-abbrev pub sides_without : Bool → FormatView → ℕ → List Pulse → Option Part → Part
+abbrev pub sides_unless_jump : Bool → FormatView → ℕ → List Pulse → Option Part → Part
     → Option (Part × Part)
-sides_without true f century ps before b = None
-sides_without false f century ps before b = sides_before f century ps before b
+sides_unless_jump true f century ps before b = None
+sides_unless_jump false f century ps before b = sides_before f century ps before b
 
 -- of a frame before another one, the pulses that have its time by what is between the two
-abbrev pub kept_before : FormatView → ℕ → List Pulse → Part → Option Part → Part
-kept_before f century ps b next =
+abbrev pub kept_of_own : FormatView → ℕ → List Pulse → Part → Option Part → Part
+kept_of_own f century ps b next =
     before_jump (is_jump_between f century ps (Some b) next) (up_to_loss f ps b next)
 
 -- of a frame between two others, the pulses that have its time
 abbrev pub kept_at : FormatView → ℕ → List Pulse → Option Part → Part → Option Part → Part
 kept_at f century ps before b next =
     after_jump f.kind (is_jump_between f century ps before (Some b))
-    (kept_before f century ps b next)
+    (kept_of_own f century ps b next)
 
 -- the same, and what is counted before them, before other parts
 abbrev pub with_frame : FormatView → ℕ → List Pulse → Option Part → Part → Option Part → List Part
     → List Part
 with_frame f century ps before b next parts =
-    with_sides (sides_without (is_jump_between f century ps before (Some b)) f century ps before b)
+    with_sides
+    (sides_unless_jump (is_jump_between f century ps before (Some b)) f century ps before b)
     (kept_at f century ps before b next ∷ parts)
 
 -- the parts from a frame on, and what is counted before, between and after them, in a track of some

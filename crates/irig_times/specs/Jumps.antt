@@ -1,14 +1,13 @@
--- Where the time jumps between two frames though all pulses from the one to the other are in step:
--- a clock was set, or a recorder lost whole frames. Nobody knows at which element. Both can be
--- frames that are not believed: one that is damaged, or one that the jump is in. This project's
--- own.
+-- Where the time jumps between two frames though all pulses from the one to the other are in step: a
+-- clock was set, or a recorder lost whole frames. Nobody knows at which element. Both can be frames
+-- that are not believed: one that is damaged, or one that the jump is in. This project's own.
 use Rattle.std.specs.Prelude.{ℕ, ◌+◌, ◌-◌, ◌*◌, ◌/◌, ◌%◌, ◌==◌, ◌&&◌, ◌||◌, nat_le, Bool, false, true}
 use Rattle.std.specs.Prelude.{is_some, min, not, if◌then◌else◌, List, Option, Some, None, slice_get}
 use Rattle.irig_codes.specs.Format.{FormatView, frame_period_of, interval_of}
 use Rattle.irig_codes.specs.declared.format.Kind.{Kind}
 use Rattle.irig_recording.specs.declared.pulse.Pulse.{Pulse}
 use Rattle.irig_times.specs.{declared.part.Part.Part, declared.time.Time.Time}
-use Rattle.irig_times.specs.Between.{day_micros, middle, missing_in, next_time, rounded, time_before}
+use Rattle.irig_times.specs.Between.{day_micros, middle, missing_in, next_time, periods_between, time_before}
 use Rattle.irig_times.specs.{Ends.end_after, Ends.end_before, Ends.time_elements}
 use Rattle.irig_times.specs.{Follows.is_later, Follows.same_day, Parts.is_empty, Steps.all_follow}
 
@@ -30,8 +29,8 @@ runs_on f century a b =
     else false)
 
 -- a distance is a whole number of periods, to half an interval
-abbrev pub is_whole_apart : ℕ → ℕ → ℕ → Bool
-is_whole_apart period interval distance =
+abbrev pub is_whole_periods : ℕ → ℕ → ℕ → Bool
+is_whole_periods period interval distance =
     nat_le (2 * (distance % period)) interval
     || nat_le (2 * (period - distance % period)) interval
 
@@ -43,15 +42,15 @@ are_apart century period n a b =
     else (if n == 2 then is_some (middle century period a b)
     else not (same_day a b) || (day_micros b == day_micros a + n * period))
 
--- the markers of two frames are whole periods apart, and their times are not that many: whole
--- frames are lost, or a clock was set, and other damage is between them
-abbrev pub slips : FormatView → ℕ → Time → Time → Option Pulse → Option Pulse → Bool
-slips f century a b None q = false
-slips f century a b (Some p) None = false
-slips f century a b (Some p) (Some q) =
-    if is_whole_apart (frame_period_of f.kind) (interval_of f.kind) (q.rise - p.rise)
+-- the markers of two frames are whole periods apart, and their times are not that many: whole frames
+-- are lost, or a clock was set, and other damage is between them
+abbrev pub misfits : FormatView → ℕ → Time → Time → Option Pulse → Option Pulse → Bool
+misfits f century a b None q = false
+misfits f century a b (Some p) None = false
+misfits f century a b (Some p) (Some q) =
+    if is_whole_periods (frame_period_of f.kind) (interval_of f.kind) (q.rise - p.rise)
     then not (are_apart century (frame_period_of f.kind)
-    (rounded (frame_period_of f.kind) p.rise q.rise) a b)
+    (periods_between (frame_period_of f.kind) p.rise q.rise) a b)
     else false
 
 -- the time jumps between two frames
@@ -59,7 +58,7 @@ abbrev pub is_jump : FormatView → ℕ → List Pulse → Part → Part → Boo
 is_jump f century ps a b =
     if runs_on f century a b then false
     else (if are_joined f ps a b then true
-    else slips f century a.time b.time (slice_get ps a.number) (slice_get ps b.number))
+    else misfits f century a.time b.time (slice_get ps a.number) (slice_get ps b.number))
 
 -- the last frame is believed, and pulses that are in step after it say another time than one period
 -- later; or the first one, and pulses before it say another time than one period earlier

@@ -7,7 +7,7 @@ use Rattle.irig_codes.specs.Format.{FormatView, frame_period_of}
 use Rattle.irig_codes.specs.{Encoding.encoded, Fields.fits_in, declared.width.Element.Element}
 use Rattle.irig_recording.specs.declared.pulse.Pulse.{Pulse}
 use Rattle.irig_times.specs.{declared.part.Part.Part, declared.missing.Missing.Missing}
-use Rattle.irig_times.specs.{declared.time.Time.Time, declared.torn.Side.Side}
+use Rattle.irig_times.specs.{declared.time.Time.Time, declared.side.Side.Side}
 use Rattle.irig_times.specs.Between.{gap, missing_by, sides_at}
 use Rattle.irig_times.specs.{Ends.fields_at, Steps.ahead, Steps.behind}
 use Rattle.irig_times.specs.Torn.{are_tens, confirms, denies, is_torn, tenths_found}
@@ -28,18 +28,18 @@ confirmed f ps wanted s (suc n) =
 
 -- of n pulses of a side those among which a position identifier is at its place: going back, not
 -- the last one, since without the pulse before it it can be the marker of its frame
-abbrev pub placed : Side → ℕ → ℕ
-placed s n = if s.is_back then n - 1 else n
+abbrev pub can_confirm : Side → ℕ → ℕ
+can_confirm s n = if s.is_back then n - 1 else n
 
 -- those up to the last position identifier before the first that says another element, or of all n
-abbrev pub borne : FormatView → List Pulse → List Element → Side → ℕ → ℕ
-borne f ps wanted s n = confirmed f ps wanted s (placed s (undenied f ps wanted s 0 n))
+abbrev pub borne_out : FormatView → List Pulse → List Element → Side → ℕ → ℕ
+borne_out f ps wanted s n = confirmed f ps wanted s (can_confirm s (undenied f ps wanted s 0 n))
 
 -- the same of a side that is of a frame of this time
-abbrev pub borne_at : FormatView → List Pulse → Time → Side → ℕ → ℕ
-borne_at f ps x s n =
+abbrev pub borne_out_at : FormatView → List Pulse → Time → Side → ℕ → ℕ
+borne_out_at f ps x s n =
     if nat_lt 61000000 x.micros then 0
-    else (if fits_in f (fields_at f x) then borne f ps (encoded f (fields_at f x)) s n else 0)
+    else (if fits_in f (fields_at f x) then borne_out f ps (encoded f (fields_at f x)) s n else 0)
 
 -- the pulses of a part, those after a frame, from the first on, and those before one, from the last
 -- back
@@ -58,8 +58,8 @@ abbrev pub torn_sides : FormatView → List Pulse → Part → Part → ℕ → 
     → Option (Part × Part)
 torn_sides f ps a b m n t =
     if are_tens (tenths_found ps a b) then None
-    else sides_at f ps a b (borne_at f ps t.first (side_after a) m)
-    (borne_at f ps t.last (side_before b) n) t
+    else sides_at f ps a b (borne_out_at f ps t.first (side_after a) m)
+    (borne_out_at f ps t.last (side_before b) n) t
 
 abbrev pub sides_in : FormatView → List Pulse → Part → Part → ℕ → ℕ → Missing
     → Option (Part × Part)

@@ -6,8 +6,8 @@ use Rattle.std.specs.Prelude.{if◌then◌else◌, List, Option, Some, None, len
 use Rattle.irig_codes.specs.Format.{FormatView, interval_of}
 use Rattle.irig_recording.specs.declared.pulse.Pulse.{Pulse}
 use Rattle.irig_times.specs.declared.part.Part.{Part}
-use Rattle.irig_times.specs.Ends.{end_after, end_before, telling, time_elements}
-use Rattle.irig_times.specs.Sides.{borne_at, side_of}
+use Rattle.irig_times.specs.Ends.{end_after, end_before, uncut_pulses, time_elements}
+use Rattle.irig_times.specs.Sides.{borne_out_at, side_of}
 
 -- some microseconds without a rise are silence: more than two intervals
 abbrev pub is_silence : FormatView → ℕ → Bool
@@ -34,7 +34,7 @@ precedes_silence f micros ps p =
 
 -- all elements of the time are among those pulses of a part that can say another time
 abbrev pub has_its_time : FormatView → List Pulse → Part → Bool
-has_its_time f ps p = p.element == 0 && nat_le (time_elements f.kind) (telling ps p)
+has_its_time f ps p = p.element == 0 && nat_le (time_elements f.kind) (uncut_pulses ps p)
 
 -- a part before the first frame counts if it is not next to silence, or has all elements of its
 -- time
@@ -46,7 +46,7 @@ abbrev pub up_to_mark : FormatView → List Pulse → Part → Part
 up_to_mark f ps p = record {
   number = p.number;
   element = p.element;
-  count = borne_at f ps p.time (side_of p) p.count;
+  count = borne_out_at f ps p.time (side_of p) p.count;
   time = p.time;
 }
 

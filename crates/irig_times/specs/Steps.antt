@@ -7,10 +7,10 @@ use Rattle.irig_recording.specs.declared.pulse.Pulse.{Pulse}
 use Rattle.irig_index.specs.Marker.{follows}
 
 -- two pulses are there, and the second rises one interval after the first, to a tenth of it
-abbrev pub are_in_step : FormatView → Option Pulse → Option Pulse → Bool
-are_in_step f None q = false
-are_in_step f (Some p) None = false
-are_in_step f (Some p) (Some q) = follows f p q
+abbrev pub is_regular : FormatView → Option Pulse → Option Pulse → Bool
+is_regular f None q = false
+is_regular f (Some p) None = false
+is_regular f (Some p) (Some q) = follows f p q
 
 -- how long after the one before it the pulse with this number rises; 0 if one of them is not there
 abbrev pub apart : Option Pulse → Option Pulse → ℕ
@@ -36,7 +36,7 @@ is_even_at f ps k =
 -- the pulse with this number rises one interval after the one before it
 abbrev pub follows_at : FormatView → List Pulse → ℕ → Bool
 follows_at f ps zero = false
-follows_at f ps (suc k) = are_in_step f (slice_get ps k) (slice_get ps (suc k))
+follows_at f ps (suc k) = is_regular f (slice_get ps k) (slice_get ps (suc k))
 
 -- the pulse with this number is in step with the one before it
 abbrev pub is_in_step_at : FormatView → List Pulse → ℕ → Bool

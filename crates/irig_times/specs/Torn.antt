@@ -7,19 +7,19 @@ use Rattle.irig_codes.specs.Format.{FormatView, frame_period_of}
 use Rattle.irig_codes.specs.declared.width.Element.{Element}
 use Rattle.irig_index.specs.Marker.{class_at, is_position}
 use Rattle.irig_recording.specs.declared.pulse.Pulse.{Pulse}
-use Rattle.irig_times.specs.{declared.part.Part.Part, declared.torn.Side.Side}
-use Rattle.irig_times.specs.Between.{gap, rounded}
+use Rattle.irig_times.specs.{declared.part.Part.Part, declared.side.Side.Side}
+use Rattle.irig_times.specs.Between.{gap, periods_between}
 use Rattle.irig_times.specs.Ends.{contradicts, is_identifier}
 use Rattle.irig_times.specs.Steps.{apart}
 
 -- how long after one pulse another rises; 0 if one of them is not there
-abbrev pub from_to : List Pulse → ℕ → ℕ → ℕ
-from_to ps one other = apart (slice_get ps one) (slice_get ps other)
+abbrev pub micros_between : List Pulse → ℕ → ℕ → ℕ
+micros_between ps one other = apart (slice_get ps one) (slice_get ps other)
 
 -- how long two frames last, each from its marker to its last element: 198 intervals
-abbrev pub both_last : List Pulse → Part → Part → ℕ
-both_last ps a b =
-    from_to ps a.number (a.number + 99) + from_to ps b.number (b.number + 99)
+abbrev pub length_of_both : List Pulse → Part → Part → ℕ
+length_of_both ps a b =
+    micros_between ps a.number (a.number + 99) + micros_between ps b.number (b.number + 99)
 
 -- how many tenths of an interval a time has, to the nearest, by the mean interval of two frames
 -- that last so long
@@ -29,12 +29,12 @@ tenths_by both time = if both == 0 then 0 else (3960 * time + both) / (2 * both)
 -- how many one frame ends after another, as it was recorded
 abbrev pub tenths_found : List Pulse → Part → Part → ℕ
 tenths_found ps a b =
-    tenths_by (both_last ps a b) (from_to ps (a.number + 99) b.number) + 990
+    tenths_by (length_of_both ps a b) (micros_between ps (a.number + 99) b.number) + 990
 
 -- the same by their times, which are as far apart as their markers, to the nearest period
-abbrev pub tenths_told : FormatView → List Pulse → Part → Part → ℕ
-tenths_told f ps a b =
-    1000 * rounded (frame_period_of f.kind) 0 (from_to ps a.number b.number)
+abbrev pub tenths_expected : FormatView → List Pulse → Part → Part → ℕ
+tenths_expected f ps a b =
+    1000 * periods_between (frame_period_of f.kind) 0 (micros_between ps a.number b.number)
 
 -- the same number of tenths, to half an interval
 abbrev pub are_near : ℕ → ℕ → Bool
@@ -49,7 +49,7 @@ are_tens n = nat_le ((n + 2) % 100) 4
 abbrev pub is_torn : FormatView → List Pulse → Part → Part → ℕ → ℕ → Bool
 is_torn f ps a b m n =
     if nat_lt (gap a b) (m + n) then false
-    else not (are_near (tenths_found ps a b) (tenths_told f ps a b))
+    else not (are_near (tenths_found ps a b) (tenths_expected f ps a b))
 
 -- a place of a side, from 0 on: the number of its pulse, and its element
 abbrev pub pulse_of : Side → ℕ → ℕ

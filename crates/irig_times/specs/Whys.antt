@@ -5,7 +5,7 @@ use Rattle.irig_codes.specs.Format.{FormatView, frame_period_of}
 use Rattle.irig_recording.specs.declared.pulse.Pulse.{Pulse}
 use Rattle.irig_times.specs.declared.why.Why.TheVariants.{After, Before, Hole, Set, Step, Unbelieved}
 use Rattle.irig_times.specs.{declared.part.Part.Part, declared.time.Time.Time, declared.why.Why.Why}
-use Rattle.irig_times.specs.{Between.rounded, Jumps.are_apart}
+use Rattle.irig_times.specs.{Between.periods_between, Jumps.are_apart}
 use Rattle.irig_times.specs.Ends.{time_elements}
 use Rattle.irig_times.specs.{Jumps.is_jump_between, Parts.is_empty}
 
@@ -14,7 +14,7 @@ abbrev pub are_apart_by : ℕ → ℕ → Time → Time → Option Pulse → Opt
 are_apart_by century period a b None q = true
 are_apart_by century period a b (Some p) None = true
 are_apart_by century period a b (Some p) (Some q) =
-    are_apart century period (rounded period p.rise q.rise) a b
+    are_apart century period (periods_between period p.rise q.rise) a b
 
 -- why pulses between two frames have no time, if it does not jump there: one of them is not
 -- believed; or their times are not as far apart as their pulses; or pulses are missing, or not in
@@ -27,15 +27,15 @@ why_between f century ps a b =
     (slice_get ps b.number) then Hole else Set))
 
 -- the same before the first frame, and after the last one
-abbrev pub why_steady : FormatView → ℕ → List Pulse → Option Part → Option Part → Why
-why_steady f century ps None b = Before
-why_steady f century ps (Some a) None = After
-why_steady f century ps (Some a) (Some b) = why_between f century ps a b
+abbrev pub why_without_jump : FormatView → ℕ → List Pulse → Option Part → Option Part → Why
+why_without_jump f century ps None b = Before
+why_without_jump f century ps (Some a) None = After
+why_without_jump f century ps (Some a) (Some b) = why_between f century ps a b
 
 -- the same, if the time can jump there
 abbrev pub why_next_to : FormatView → ℕ → List Pulse → Option Part → Option Part → Why
 why_next_to f century ps a b =
-    if is_jump_between f century ps a b then Step else why_steady f century ps a b
+    if is_jump_between f century ps a b then Step else why_without_jump f century ps a b
 
 -- the frame before that at a place
 abbrev pub frame_before : List Part → ℕ → Option Part

@@ -57,7 +57,7 @@ pub fn time_by(
     let from = pulses.pulse(number).rise;
     // The next pulse is there: `goes_on` found its place.
     let to = pulses.pulse(number + 1).rise;
-    Some(shared(format, &place, picos - PICOS * from, to - from))
+    Some(time_within(format, &place, picos - PICOS * from, to - from))
 }
 
 /// Whether the pulse after pulse `number` has the time one interval later. `place` is what
@@ -82,36 +82,36 @@ fn goes_on(parts: &[Part], format: Format, century: u32, number: usize, place: &
     }
 }
 
-/// The time `part` picoseconds after the rise of an element (`place`) and before the next rise,
-/// which was recorded `whole` microseconds after that of the element. The share of the recorded
+/// The time `picos` picoseconds after the rise of an element (`place`) and before the next rise,
+/// which was recorded `span` microseconds after that of the element. The share of the recorded
 /// interval that is over is taken of the format's nominal interval (`share`), so a clock that is
 /// slow or fast does no harm.
-fn shared(format: Format, place: &Place, part: u64, whole: u64) -> Time
-    requires order { part < 1000000 * whole }
-    requires small { whole ≤ 2 ^ 41 }
+fn time_within(format: Format, place: &Place, picos: u64, span: u64) -> Time
+    requires order { picos < 1000000 * span }
+    requires small { span ≤ 2 ^ 41 }
     requires few { place.now.element ≤ 99 }
     requires minute { place.now.time.micros ≤ 61000000 }
     ensures { result ≡ plus place.now.time (place.now.element * interval_of format.kind
-        + share (interval_of format.kind) part (1000000 * whole)) }
+        + share (interval_of format.kind) picos (1000000 * span)) }
 {
     let interval = format.interval();
-    let over = share(interval, part / PICOS, part % PICOS, whole);
+    let over = share(interval, picos / PICOS, picos % PICOS, span);
     later_by(&place.time, place.element as u64 * interval + over)
 }
 
 /// How many microseconds of a nominal interval are over, if `micros` microseconds and `picos`
-/// picoseconds of the recorded one are, which is `whole` microseconds long. Rounded down.
+/// picoseconds of the recorded one are, which is `span` microseconds long. Rounded down.
 /// `interval` is the nominal one, 100,000 microseconds at most (in E). `micros` and `picos` are
 /// multiplied with it one by one, as one product in picoseconds could overflow. What the inner
 /// division drops is less than 1, so the result, rounded down, is the same.
-fn share(interval: u64, micros: u64, picos: u64, whole: u64) -> u64
+fn share(interval: u64, micros: u64, picos: u64, span: u64) -> u64
     requires interval { interval ≤ 100000 }
     requires picos { picos < 1000000 }
-    requires order { micros < whole }
-    requires small { whole ≤ 2 ^ 41 }
-    ensures { result ≡ share interval (1000000 * micros + picos) (1000000 * whole) }
+    requires order { micros < span }
+    requires small { span ≤ 2 ^ 41 }
+    ensures { result ≡ share interval (1000000 * micros + picos) (1000000 * span) }
 {
-    (micros * interval + picos * interval / PICOS) / whole
+    (micros * interval + picos * interval / PICOS) / span
 }
 
 /// The time `micros` microseconds after `time`, that of a frame. Nothing is carried to the minute:

@@ -12,7 +12,7 @@
 ghost use Rattle.std.specs.Prelude.{[], ◌≡◌, ◌≤◌, ◌<◌, ◌++◌, ◌∷◌, IfOk, None, OnOk, Some, length};
 ghost use Rattle.irig_index.specs.Frames.{frames};
 ghost use Rattle.std.specs.Prelude.{IfSome, MatchOption, ◌^◌, ◌+◌, slice_get};
-ghost use Rattle.irig_times.specs.Counted.{filled, kept_before, parts_by, sides_without};
+ghost use Rattle.irig_times.specs.Counted.{filled, kept_of_own, parts_by, sides_unless_jump};
 ghost use Rattle.irig_times.specs.Counted.{with_frame, with_sides};
 ghost use Rattle.irig_times.specs.Parts.{AreParts};
 
@@ -53,7 +53,7 @@ pub fn timed_parts(
 }
 
 /// The parts of all frames that have a time (`whole`), and what is counted around them, in order:
-/// for each frame what `put_frame` adds, and after the last one what `counted_after` counts there.
+/// for each frame what `add_frame` adds, and after the last one what `counted_after` counts there.
 /// The part of a frame that is not believed is empty.
 fn counted_parts(
     alloc: Global,
@@ -75,11 +75,11 @@ fn counted_parts(
     for place in 0..whole.len() {
         let part = whole[place];
         let next = part_at(whole, place + 1);
-        put_frame(&mut list, pulses, format, century, before, part, next)?;
+        add_frame(&mut list, pulses, format, century, before, part, next)?;
         before = Some(part);
     }
     let sides = counted_after(pulses, format, before);
-    put_sides(&mut list, sides)?;
+    add_sides(&mut list, sides)?;
     Ok(list)
 }
 
@@ -94,13 +94,13 @@ fn part_at(parts: &[Part], place: usize) -> Option<Part>
     }
 }
 
-/// Adds to a list what is counted before a frame (`part`): two parts, or none (`sides_without`).
-/// Then adds the frame with what it keeps of its own pulses. If the time jumps before the frame
-/// (`is_jump_between`), nothing is counted there, and the frame does not keep the elements that
-/// carry its time (`after_jump`). What comes after the frame can leave it fewer, too
-/// (`kept_before`). `before` and `next` are the frames before and after it, `None` if there is
-/// none. If memory runs out, the list can have some of this.
-fn put_frame(
+/// Adds to a list what is counted before a frame (`part`): two parts, or none
+/// (`sides_unless_jump`). Then adds the frame with what it keeps of its own pulses. If the time
+/// jumps before the frame (`is_jump_between`), nothing is counted there, and the frame does not
+/// keep the elements that carry its time (`after_jump`). By what comes after the frame it can keep
+/// fewer, too (`kept_of_own`). `before` and `next` are the frames before and after it, `None` if
+/// there is none. If memory runs out, the list can have some of this.
+fn add_frame(
     list: &mut Vec<Part>,
     pulses: &mut Lens<'_>,
     format: Format,
@@ -122,18 +122,18 @@ fn put_frame(
     ensures pulses { pulses.new.track ≡ pulses.old.track }
 {
     let follows_jump = is_jump_between(pulses, format, century, before, Some(part));
-    let sides = sides_without(pulses, format, century, follows_jump, before, &part);
-    let kept = kept_before(pulses, format, century, part, next);
-    put_sides(list, sides)?;
+    let sides = sides_unless_jump(pulses, format, century, follows_jump, before, &part);
+    let kept = kept_of_own(pulses, format, century, part, next);
+    add_sides(list, sides)?;
     list.push(after_jump(format, follows_jump, kept))?;
     Ok(())
 }
 
-/// What a frame (`part`) keeps of its own pulses by what is after it. If the time jumps there, at
-/// most its marker, its first pulse (`before_jump`). If tens of intervals are lost there, those
+/// What a frame (`part`) keeps of its own pulses by what comes after it. If the time jumps there,
+/// at most its marker, its first pulse (`before_jump`). If tens of intervals are lost there, those
 /// that are surely its own (`up_to_loss`). Else all; a frame that is not believed has none. `next`
 /// is the frame after it, `None` if it is the last.
-fn kept_before(
+fn kept_of_own(
     pulses: &mut Lens<'_>,
     format: Format,
     century: u32,
@@ -145,7 +145,7 @@ fn kept_before(
     requires next { IfSome next (λ b. (b.time.micros < 2 ^ 59) × (b.number < 2 ^ 30)) }
     requires order { MatchOption next (part.number + part.count < 2 ^ 30)
         (λ b. part.number + part.count ≤ b.number) }
-    ensures part { result ≡ kept_before format century pulses.old.track.pulses part next }
+    ensures part { result ≡ kept_of_own format century pulses.old.track.pulses part next }
     ensures first { (result.number ≡ part.number) × (result.element ≡ part.element) }
     ensures pulses { pulses.new.track ≡ pulses.old.track }
 {
@@ -153,10 +153,10 @@ fn kept_before(
     before_jump(jumps, up_to_loss(pulses, format, part, next))
 }
 
-/// What is counted before a frame (`part`), as `sides_before` answers. `None` if the caller found
-/// that the time `jumps` there, if a frame is not believed, or if nothing can be counted. `before`
-/// is the frame before it, `None` if it is the first.
-fn sides_without(
+/// What is counted before a frame (`part`), as `sides_before` returns it. `None` if the caller
+/// found that the time `jumps` there, if a frame is not believed, or if nothing can be counted.
+/// `before` is the frame before it, `None` if it is the first.
+fn sides_unless_jump(
     pulses: &mut Lens<'_>,
     format: Format,
     century: u32,
@@ -169,7 +169,7 @@ fn sides_without(
         × (a.number + a.count ≤ part.now.number)) }
     requires part { (part.now.time.micros < 2 ^ 59) × (part.now.number < 2 ^ 30) }
     ensures sides { result
-        ≡ sides_without jumps format century pulses.old.track.pulses before part.now }
+        ≡ sides_unless_jump jumps format century pulses.old.track.pulses before part.now }
     ensures pulses { pulses.new.track ≡ pulses.old.track }
 {
     if jumps {
@@ -181,7 +181,7 @@ fn sides_without(
 
 /// Adds the two parts of a pair to a list; does nothing without a pair. If memory runs out, the
 /// list can have the first part alone.
-fn put_sides(list: &mut Vec<Part>, sides: Option<(Part, Part)>) -> Result<(), AllocError>
+fn add_sides(list: &mut Vec<Part>, sides: Option<(Part, Part)>) -> Result<(), AllocError>
     ensures { OnOk result (list.new.items ≡ list.old.items ++ with_sides sides []) }
 {
     match sides {

@@ -1,7 +1,8 @@
-//! Which time is one frame period after another. Periods are in microseconds. Years are of two
-//! digits, in a century: 20 for 2000 to 2099. Of two times `a` is the first, and `b` the second.
-//! Hours are 0 to 23, and minutes 0 to 59. Bounds in `requires`, as 2 ^ 60, only keep sums in their
-//! types.
+//! Which time is one frame period after another. A time is a minute of the year, and the
+//! microseconds since it began (`micros`). Of two times `from` is the first and `to` the second.
+//! Periods and the lengths of minutes are in microseconds. Years are of two digits, or unknown;
+//! `century` is 20 for 2000 to 2099. Days are from 1, hours 0 to 23, minutes 0 to 59. Bounds in
+//! `requires`, as 2 ^ 60, only keep sums in their types.
 
 ghost use Rattle.std.specs.Prelude.{◌≡◌, ◌+◌, ◌*◌, ◌%◌, ◌≤◌, ◌<◌, ◌^◌, pos};
 ghost use Rattle.jiff_core.specs.Calendar.{days_in_year};
@@ -12,6 +13,12 @@ ghost use Rattle.irig_times.specs.Follows.{is_later_in, is_later};
 
 use crate::time::Time;
 use jiff_core::civil::days_in_year;
+
+/// The microseconds of a minute without a second 60.
+const MINUTE: u64 = 60_000_000;
+
+/// The microseconds of a minute with a second 60.
+const LONG_MINUTE: u64 = 61_000_000;
 
 /// Whether two years are the same, or both are unknown.
 fn same_year(year: Option<u32>, other: Option<u32>) -> bool
@@ -35,56 +42,58 @@ fn next_year(year: Option<u32>) -> Option<u32>
     }
 }
 
-/// Whether two times are on the same day. Two unknown years count as the same here and below.
-pub fn same_day(a: &Time, b: &Time) -> bool
-    ensures { result ≡ same_day a.now b.now }
+/// Whether two times are on the same day of the same year. Two unknown years count as the same.
+pub fn same_day(one: &Time, other: &Time) -> bool
+    ensures { result ≡ same_day one.now other.now }
 {
-    same_year(a.year, b.year) && a.days == b.days
+    same_year(one.year, other.year) && one.days == other.days
 }
 
-/// Whether two times are in the same hour of the same day.
-fn same_hour(a: &Time, b: &Time) -> bool
-    ensures { result ≡ same_hour a.now b.now }
+/// Whether two times are in the same hour of the same day (`same_day`).
+fn same_hour(one: &Time, other: &Time) -> bool
+    ensures { result ≡ same_hour one.now other.now }
 {
-    same_day(a, b) && a.hours == b.hours
+    same_day(one, other) && one.hours == other.hours
 }
 
-/// Whether two times are in the same minute of the same hour and day.
-fn same_minute(a: &Time, b: &Time) -> bool
-    ensures { result ≡ same_minute a.now b.now }
+/// Whether two times are in the same minute of the same hour (`same_hour`).
+fn same_minute(one: &Time, other: &Time) -> bool
+    ensures { result ≡ same_minute one.now other.now }
 {
-    same_hour(a, b) && a.minutes == b.minutes
+    same_hour(one, other) && one.minutes == other.minutes
 }
 
 /// Whether two times are the same: in the same minute, and as many microseconds after it began.
-pub fn same_time(a: &Time, b: &Time) -> bool
-    ensures { result ≡ same_time a.now b.now }
+pub fn same_time(one: &Time, other: &Time) -> bool
+    ensures { result ≡ same_time one.now other.now }
 {
-    same_minute(a, b) && a.micros == b.micros
+    same_minute(one, other) && one.micros == other.micros
 }
 
 /// Whether the second time is on the day after that of the first, if the first one's year has
-/// `count` days: after day `count` comes day 1 of the next year. False if the first time is on a
-/// later day than `count`, as day 366 of a year of 365 days.
-fn is_day_after(count: u32, a: &Time, b: &Time) -> bool
-    ensures { result ≡ is_day_after count a.now b.now }
+/// `count` days. Before day `count` that is the next day of the same year; after day `count` it is
+/// day 1 of the next year. False if the first time is on a later day than `count`, as day 366 of a
+/// year of 365 days.
+fn is_day_after(count: u32, from: &Time, to: &Time) -> bool
+    ensures { result ≡ is_day_after count from.now to.now }
 {
-    if a.days < count {
-        same_year(a.year, b.year) && b.days == a.days + 1
+    if from.days < count {
+        same_year(from.year, to.year) && to.days == from.days + 1
     } else {
-        a.days == count && same_year(next_year(a.year), b.year) && b.days == 1
+        from.days == count && same_year(next_year(from.year), to.year) && to.days == 1
     }
 }
 
-/// Whether the second time is on the day after that of the first, by the length of the first one's
-/// year in a century. If the year is unknown, 365 and 366 days are both tried: one is enough.
-fn day_follows(century: u32, a: &Time, b: &Time) -> bool
+/// Whether the second time is on the day after that of the first. The length of the first one's
+/// year decides which day that is. If the year is unknown, 365 and 366 days are both tried, and one
+/// is enough.
+fn day_follows(century: u32, from: &Time, to: &Time) -> bool
     requires { century ≤ 99 }
-    ensures { result ≡ day_follows century a.now.year a.now b.now }
+    ensures { result ≡ day_follows century from.now.year from.now to.now }
 {
-    match a.year {
-        None => is_day_after(365, a, b) || is_day_after(366, a, b),
-        Some(year) => is_day_after(year_length(century, year), a, b),
+    match from.year {
+        None => is_day_after(365, from, to) || is_day_after(366, from, to),
+        Some(year) => is_day_after(year_length(century, year), from, to),
     }
 }
 
@@ -97,59 +106,62 @@ fn year_length(century: u32, year: u32) -> u32
     days_in_year((100 * century + year % 100) as i16) as u32
 }
 
-/// Whether the second time is in the hour after that of the first: after hour 23 that is hour 0 of
-/// the next day.
-fn hour_follows(century: u32, a: &Time, b: &Time) -> bool
+/// Whether the second time is in the hour after that of the first: the next one of the same day,
+/// or after hour 23 hour 0 of the next day.
+fn hour_follows(century: u32, from: &Time, to: &Time) -> bool
     requires { century ≤ 99 }
-    ensures { result ≡ hour_follows century a.now b.now }
+    ensures { result ≡ hour_follows century from.now to.now }
 {
-    if a.hours < 23 {
-        same_day(a, b) && b.hours == a.hours + 1
+    if from.hours < 23 {
+        same_day(from, to) && to.hours == from.hours + 1
     } else {
-        b.hours == 0 && day_follows(century, a, b)
+        to.hours == 0 && day_follows(century, from, to)
     }
 }
 
-/// Whether the second time is in the minute after that of the first: after minute 59 that is minute
-/// 0 of the next hour.
-fn minute_follows(century: u32, a: &Time, b: &Time) -> bool
+/// Whether the second time is in the minute after that of the first: the next one of the same hour,
+/// or after minute 59 minute 0 of the next hour.
+fn minute_follows(century: u32, from: &Time, to: &Time) -> bool
     requires { century ≤ 99 }
-    ensures { result ≡ minute_follows century a.now b.now }
+    ensures { result ≡ minute_follows century from.now to.now }
 {
-    if a.minutes < 59 {
-        same_hour(a, b) && b.minutes == a.minutes + 1
+    if from.minutes < 59 {
+        same_hour(from, to) && to.minutes == from.minutes + 1
     } else {
-        b.minutes == 0 && hour_follows(century, a, b)
+        to.minutes == 0 && hour_follows(century, from, to)
     }
 }
 
-/// Whether the second time is a frame period later, if the first is in a minute of `length`
-/// microseconds: in the same minute, or in the next one if the period leads past the end. The next
-/// one then begins when `length` is over. False if the first time is past that minute.
-fn is_later_in(length: u64, century: u32, period: u64, a: &Time, b: &Time) -> bool
+/// Whether the second time is one frame period after the first, if the first one's minute is
+/// `length` microseconds long. If one period later is still in that minute, the second time has to
+/// be there; else in the next minute, which begins when `length` is over. False if the first time
+/// is not within `length`, as second 60 in a minute of 60 seconds.
+fn is_later_in(length: u64, century: u32, period: u64, from: &Time, to: &Time) -> bool
     requires century { century ≤ 99 }
     requires small { (length < 2 ^ 32) × (period < 2 ^ 32) }
-    requires times { (a.now.micros < 2 ^ 60) × (b.now.micros < 2 ^ 60) }
-    ensures { result ≡ is_later_in length century period a.now b.now }
+    requires times { (from.now.micros < 2 ^ 60) × (to.now.micros < 2 ^ 60) }
+    ensures { result ≡ is_later_in length century period from.now to.now }
 {
-    if a.micros >= length {
+    if from.micros >= length {
         return false;
     }
-    let later = a.micros + period;
+    let later = from.micros + period;
     if later < length {
-        same_minute(a, b) && b.micros == later
+        same_minute(from, to) && to.micros == later
     } else {
-        minute_follows(century, a, b) && b.micros + length == later
+        minute_follows(century, from, to) && to.micros + length == later
     }
 }
 
-/// Whether the second time is one frame period after the first (`is_later_in`), in a minute of 60
-/// seconds or of 61: each minute may have a second 60, since the time zone is not known.
-pub fn is_later(century: u32, period: u64, a: &Time, b: &Time) -> bool
+/// Whether the second time is one frame period after the first (`is_later_in`). The first one's
+/// minute may have 60 seconds or 61, and one of the two is enough: each minute may have a second
+/// 60, a leap second, since the time zone is not known.
+pub fn is_later(century: u32, period: u64, from: &Time, to: &Time) -> bool
     requires century { century ≤ 99 }
     requires small { period < 2 ^ 32 }
-    requires times { (a.now.micros < 2 ^ 60) × (b.now.micros < 2 ^ 60) }
-    ensures { result ≡ is_later century period a.now b.now }
+    requires times { (from.now.micros < 2 ^ 60) × (to.now.micros < 2 ^ 60) }
+    ensures { result ≡ is_later century period from.now to.now }
 {
-    is_later_in(60_000_000, century, period, a, b) || is_later_in(61_000_000, century, period, a, b)
+    is_later_in(MINUTE, century, period, from, to)
+        || is_later_in(LONG_MINUTE, century, period, from, to)
 }

@@ -1,9 +1,9 @@
 //! Which frames are on an island: wrong alike, between frames that agree. Two frames agree if they
 //! are near enough for their distance to say how many periods it is, and their times are as many
-//! apart. A shore is a frame next to the island that does not agree with it. What a frame shows
-//! (`Shown`) is its fields and when its marker rises. `Three` is the nearest frame on one side, or
-//! a farther one, and the two next to it that are farther still; each is `None` if there is no such
-//! frame. All of them are frames that have a time.
+//! apart. A shore is a frame next to the island that does not agree with it. `Three` is a frame on
+//! one side of another, before it or after it, and the two that are next farther away on that side,
+//! in this order; each is `None` if there is no such frame. What a frame shows (`Shown`) is its
+//! fields and when its marker rises. Only frames that have a time count.
 
 ghost use Rattle.std.specs.Prelude.{◌≡◌, ◌&&◌, List};
 ghost use Rattle.irig_safety.specs.declared.shown.Shown.{Shown};
@@ -15,27 +15,27 @@ use crate::nearest::{Nearest, Three};
 use irig_codes::Format;
 use irig_safety::{Shown, agrees};
 
-/// Whether a frame is on an island: there are two shores, one before it and one after it, that
-/// agree with each other, and at most three frames are between them. `before` and `after` are the
-/// five nearest frames on each side. `near`, `next` and `far` give three of these, from the first,
-/// the second and the third on: so one line below is for an island of this frame alone, two for one
-/// of two frames, and three for one of three. A longer run is no island: a clock that was set, and
-/// set again later, looks like that.
+/// Whether a frame is on an island: it is between two shores that agree with each other
+/// (`is_between`), and with it at most two other frames are. `before` and `after` are the five
+/// nearest frames on each side. The shore on a side can be the first, the second or the third of
+/// these (`from_first`, `from_second`, `from_third`); each frame that is nearer is on the island,
+/// too. So the first line below is for an island of this frame alone, the next two for islands of
+/// two frames, and the last three for islands of three. A longer run is no island: a clock that was
+/// set, and set again later, looks like that.
 pub fn is_on_island(format: Format, before: &Nearest, frame: &Shown, after: &Nearest) -> bool
     ensures { (left : List Shown) (right : List Shown) → before.now ≡ nearest left
         → after.now ≡ nearest right → result ≡ is_on_island format left frame.now right }
 {
-    is_between(format, before.near(), frame, after.near())
-        || is_between(format, before.near(), frame, after.next())
-        || is_between(format, before.next(), frame, after.near())
-        || is_between(format, before.near(), frame, after.far())
-        || is_between(format, before.next(), frame, after.next())
-        || is_between(format, before.far(), frame, after.near())
+    is_between(format, before.from_first(), frame, after.from_first())
+        || is_between(format, before.from_first(), frame, after.from_second())
+        || is_between(format, before.from_second(), frame, after.from_first())
+        || is_between(format, before.from_first(), frame, after.from_third())
+        || is_between(format, before.from_second(), frame, after.from_second())
+        || is_between(format, before.from_third(), frame, after.from_first())
 }
 
-/// Whether the first of three frames before a frame and the first of three after it are shores
-/// (`is_shore_before`, `is_shore_after`), and agree with each other. The first of three is the
-/// nearest one to the frame; the other two can support it. False if one of the shores is not there.
+/// Whether the first of `before` and the first of `after` are shores of a frame (`is_shore_before`,
+/// `is_shore_after`), and agree with each other. False if one of the two is not there.
 fn is_between(format: Format, before: Three, frame: &Shown, after: Three) -> bool
     ensures { result ≡ (is_shore_before format before.2 before.1 before.0 frame.now
         && (is_shore_after format frame.now after.0 after.1 after.2
@@ -46,9 +46,10 @@ fn is_between(format: Format, before: Three, frame: &Shown, after: Three) -> boo
         && agree(format, before.0, after.0)
 }
 
-/// Whether the first of three frames before a frame is a shore: it is there and does not agree with
-/// the frame. Also, the second or the third has to agree with the first, so that no single wrong
-/// frame is a shore. If there is no second, there is no third, and this is not asked for.
+/// Whether the first of three frames before a frame is a shore. It has to be there, and must not
+/// agree with the frame. The second or the third has to agree with the first, so that no single
+/// wrong frame is a shore. If the second is `None`, so is the third, and the first needs no
+/// support.
 pub fn is_shore_before(format: Format, before: Three, frame: &Shown) -> bool
     ensures { result ≡ is_shore_before format before.2 before.1 before.0 frame.now }
 {
@@ -63,9 +64,10 @@ pub fn is_shore_before(format: Format, before: Three, frame: &Shown) -> bool
     }
 }
 
-/// Whether the first of three frames after a frame is a shore: it is there and does not agree with
-/// the frame. Also, the second or the third has to agree with the first, so that no single wrong
-/// frame is a shore. If there is no second, there is no third, and this is not asked for.
+/// Whether the first of three frames after a frame is a shore. It has to be there, and must not
+/// agree with the frame. The second or the third has to agree with the first, so that no single
+/// wrong frame is a shore. If the second is `None`, so is the third, and the first needs no
+/// support.
 fn is_shore_after(format: Format, frame: &Shown, after: Three) -> bool
     ensures { result ≡ is_shore_after format frame.now after.0 after.1 after.2 }
 {

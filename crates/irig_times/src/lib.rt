@@ -1,9 +1,12 @@
 //! The time of each microsecond of a track, by the frames around it.
 #![tactic(auto)]
 
+mod apart;
 mod between;
+mod borne_out;
 mod by_count;
 mod counted;
+mod elements;
 mod ends;
 mod follows;
 mod frame_lens;
@@ -11,8 +14,10 @@ mod islands;
 mod jumps;
 mod missing;
 mod nearest;
+mod next_time;
 mod part;
 mod part_law;
+mod side;
 mod sides;
 mod silence;
 mod start;
@@ -24,6 +29,7 @@ mod torn;
 mod whole;
 mod why;
 mod why_law;
+mod why_moment;
 
 pub use by_count::time_by;
 pub use counted::timed_parts;
@@ -33,5 +39,6 @@ pub use part_law::parts_are_exact;
 pub use start::{FrameStart, start_of};
 pub use support::held_frames;
 pub use time::{Time, timed};
-pub use why::{Why, Whys, find_whys, why_at};
+pub use why::{Why, Whys, find_whys};
+pub use why_moment::why_at;
 pub use why_law::reasons_are_exact;

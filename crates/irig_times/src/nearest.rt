@@ -1,9 +1,9 @@
-//! The five frames that are nearest to one. They are frames that have a time, on one side of it.
-//! Five, since each of the first three can be a shore of an island, and the two after it support
-//! that one. An island is up to three frames that are wrong alike; a shore is the frame next to it.
-//! `Shown` is what a frame shows: its fields, and when its marker rises. In contracts, `nearest` is
-//! the first five frames of a list, and `with_frame` is a list with one more frame before it, if
-//! that is there.
+//! The five frames that are nearest to one, on one side of it: before it or after it. Only frames
+//! that have a time count. An island is up to three frames that are wrong alike; a shore is the
+//! frame next to it. Each of the first three frames can be a shore, and the two that are next
+//! farther away support that one: so five are needed. `Shown` is what a frame shows: its fields,
+//! and when its marker rises. In contracts, `nearest` is the first five frames of a list, and
+//! `with_frame` is a list with one more frame before it, if that is there.
 
 ghost use Rattle.std.specs.Prelude.{◌≡◌, List, []};
 ghost use Rattle.irig_safety.specs.declared.shown.Shown.{Shown};
@@ -11,7 +11,8 @@ ghost use Rattle.irig_times.specs.{Nearest.nearest, Support.with_frame};
 
 use irig_safety::Shown;
 
-/// A frame, and the two next after it that are farther away; `None` for each that is not there.
+/// A frame, and the two that are next farther away than it, in this order; `None` for each that is
+/// not there.
 pub type Three = (Option<Shown>, Option<Shown>, Option<Shown>);
 
 /// The five frames that are nearest to a frame on one side of it, the nearest one first; `None` for
@@ -58,8 +59,8 @@ impl Nearest {
         }
     }
 
-    /// The nearest frame, and the two that are next farther away.
-    pub fn near(&self) -> Three
+    /// The first three: the nearest frame, and the two that are next farther away.
+    pub fn from_first(&self) -> Three
         ensures first { result.0 ≡ self.now.first }
         ensures second { result.1 ≡ self.now.second }
         ensures third { result.2 ≡ self.now.third }
@@ -67,8 +68,8 @@ impl Nearest {
         (self.first, self.second, self.third)
     }
 
-    /// The second nearest frame, and the two that are next farther away.
-    pub fn next(&self) -> Three
+    /// The second, the third and the fourth nearest frame.
+    pub fn from_second(&self) -> Three
         ensures first { result.0 ≡ self.now.second }
         ensures second { result.1 ≡ self.now.third }
         ensures third { result.2 ≡ self.now.fourth }
@@ -76,8 +77,8 @@ impl Nearest {
         (self.second, self.third, self.fourth)
     }
 
-    /// The third nearest frame, and the two that are next farther away.
-    pub fn far(&self) -> Three
+    /// The third, the fourth and the fifth nearest frame.
+    pub fn from_third(&self) -> Three
         ensures first { result.0 ≡ self.now.third }
         ensures second { result.1 ≡ self.now.fourth }
         ensures third { result.2 ≡ self.now.fifth }

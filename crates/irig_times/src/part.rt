@@ -1,10 +1,14 @@
-//! Parts of frames whose time is known. A frame is a hundred pulses, its elements, and its marker
-//! is the first of them. `AreParts` claims that parts are in order and no pulse is in two,
+//! Parts of frames whose time is known, and the parts next to one. A frame is a hundred pulses, its
+//! elements, and its marker is the first of them. A frame as a part has its hundred pulses; one
+//! that is not believed has none there: no frame near it supports its time. Pulses count from 0,
+//! and elements of a frame, too. `AreParts` claims that parts are in order and no pulse is in two,
 //! `IsPoint` that a pulse is this element of a frame of this time, by a part that has it, and
-//! `PartsAt` how many parts begin with a pulse or before it.
+//! `PartsAt` how many parts begin with a pulse or before it. Bounds in `requires`, as 2 ^ 32, only
+//! keep sums in their types.
 
-ghost use Rattle.std.specs.Prelude.{◌≡◌, ◌↔◌, ◌<◌, ◌≤◌, ◌^◌, ℕ, MatchOption, length};
+ghost use Rattle.std.specs.Prelude.{◌≡◌, ◌↔◌, ◌<◌, ◌≤◌, ◌+◌, ◌-◌, ◌^◌, ℕ, MatchOption, length, min};
 ghost use Rattle.irig_codes.specs.Format.{FormatView};
+ghost use Rattle.irig_times.specs.Between.{gap, head_of, tail_of};
 ghost use Rattle.irig_times.specs.declared.time.Time.{Time};
 ghost use Rattle.irig_times.specs.Parts.{AreParts, IsPoint, PartsAt, is_empty};
 
@@ -84,4 +88,48 @@ pub fn place_of(parts: &[Part], format: Format, number: usize) -> Option<Place>
         element: part.element + skipped,
         time: part.time,
     })
+}
+
+/// The first `count` pulses after a part, as the first elements of the frame that follows it, which
+/// has this time.
+pub fn head_of(part: &Part, count: usize, time: Time) -> Part
+    requires { part.now.number + part.now.count < 2 ^ 32 }
+    ensures { result ≡ head_of part.now count time }
+{
+    Part {
+        number: part.number + part.count,
+        element: 0,
+        count,
+        time,
+    }
+}
+
+/// The last `count` pulses before a part, as the last elements of the frame before it, which has
+/// this time.
+pub fn tail_of(part: &Part, count: usize, time: Time) -> Part
+    requires { (count ≤ part.now.number) × (count ≤ 100) }
+    ensures { result ≡ tail_of part.now count time }
+{
+    Part {
+        number: part.number - count,
+        element: 100 - count,
+        count,
+        time,
+    }
+}
+
+/// How many pulses are between the last one of a part and the first one of a later part.
+pub fn gap(from: &Part, to: &Part) -> usize
+    requires order { from.now.number + from.now.count ≤ to.now.number }
+    requires small { to.now.number < 2 ^ 32 }
+    ensures { result ≡ gap from.now to.now }
+{
+    to.number - (from.number + from.count)
+}
+
+/// The smaller of two numbers. Callers cut counts of pulses with it.
+pub fn min(one: usize, other: usize) -> usize
+    ensures { result ≡ min one other }
+{
+    if one <= other { one } else { other }
 }

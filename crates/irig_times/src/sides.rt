@@ -1,178 +1,29 @@
-//! What is counted between two frames, from both sides. A part is pulses in a row, as elements of
-//! one frame whose time is known; it may have no pulse. `from` and `to` are two frames, as parts,
-//! both believed: another frame near each supports its time. A side is the pulses after `from`, or
-//! back from `to`; pulse 0 of a side is the nearest to the frame. A pair is the part counted on
-//! from `from` and the part counted back from `to`. Pulses are in step if each rises one interval
-//! after the one before. A side counts a frame, 100 pulses in step, at most: further on a slip of
-//! one whole interval, which leaves pulses in step, would go unseen. If intervals are lost between
-//! the frames, a side keeps what is borne out: of its pulses before the first that says another
-//! element (`denies`) those nearer than the farthest position identifier at its place (`confirms`).
-//! `missing` is the frames that have to be between the two by their times, `wanted` the elements
-//! that the frame of a side should have. `Lens` shows the pulses of a track. Bounds in `requires`,
-//! as 2 ^ 32, only keep sums in their types. `century` is 20 for 2000 to 2099.
+//! The pair of parts between two frames, made of counts. A part is pulses in a row, as elements of
+//! one frame whose time is known; it may have no pulse. `from` and `to` are two frames, as parts.
+//! The callers counted `after` pulses in step after the first and `before` ones before the second:
+//! each rises one interval after the one before it. The first side is these pulses after `from`,
+//! the first elements of the first missing frame; the second side is those before `to`, the last
+//! elements of the last missing frame. A pair is the parts of the two sides. `missing` is what
+//! frames have to be between the two by their times. `head` and `tail` are how many pulses the
+//! first and the second side keep, each 100 at most, which is a frame. A recorder slips if it loses
+//! some time or has some twice. `Lens` shows the pulses of a track. Bounds in `requires`, as 2 ^
+//! 32, only keep sums in their types.
 
-ghost use Rattle.std.specs.Prelude.{◌≡◌, ◌≤◌, ◌<◌, ◌+◌, ◌^◌};
-ghost use Rattle.irig_times.specs.Sides.{between, borne, borne_at, confirmed, placed, side_after};
-ghost use Rattle.irig_times.specs.Sides.{side_before, side_of, sides_in, torn_sides, undenied};
+ghost use Rattle.std.specs.Prelude.{◌≡◌, ◌≤◌, ◌<◌, ◌+◌, ◌-◌, ◌^◌};
+ghost use Rattle.irig_times.specs.Between.{gap, head_left, is_seam, kept, sides, sides_at};
+ghost use Rattle.irig_times.specs.Between.{sides_by, tail_left};
 
-use crate::between::{gap, min, missing_by, sides_at};
-use crate::ends::fields_at;
 use crate::missing::Missing;
-use crate::part::Part;
-use crate::steps::{ahead, behind};
-use crate::time::Time;
-use crate::torn::{Side, are_tens, confirms, denies, is_torn, tenths_found};
-use irig_codes::{Element, Format, encode, fits};
+use crate::part::{Part, gap, head_of, min, tail_of};
+use crate::steps::follows_at;
+use irig_codes::Format;
 use irig_track::Lens;
 
-/// The microseconds of a minute with a second 60.
-const LONG_MINUTE: u64 = 61_000_000;
-
-/// How many of the first `most` pulses of a side come before the first of them that says another
-/// element than `wanted` (`denies`); all `most` if none does.
-fn undenied(
-    pulses: &mut Lens<'_>,
-    format: Format,
-    wanted: &[Element; 100],
-    side: &Side,
-    most: usize,
-) -> usize
-    requires { (side.now.number < 2 ^ 32) × (most ≤ 100) }
-    ensures count { result ≡ undenied format pulses.old.track.pulses wanted.now side.now 0 most }
-    ensures few { result ≤ most }
-    ensures pulses { pulses.new.track ≡ pulses.old.track }
-{
-    let mut count = 0;
-    while count < most {
-        if denies(pulses, format, wanted, side, count) {
-            return count;
-        }
-        count += 1;
-    }
-    count
-}
-
-/// How many of the first `most` pulses of a side are nearer than the farthest of them that is a
-/// position identifier at its place (`confirms`); 0 if none is. The identifier is not counted: what
-/// is lost can be within it.
-fn confirmed(
-    pulses: &mut Lens<'_>,
-    format: Format,
-    wanted: &[Element; 100],
-    side: &Side,
-    most: usize,
-) -> usize
-    requires { (side.now.number < 2 ^ 32) × (most ≤ 100) }
-    ensures count { result ≡ confirmed format pulses.old.track.pulses wanted.now side.now most }
-    ensures few { result ≤ most }
-    ensures pulses { pulses.new.track ≡ pulses.old.track }
-{
-    let mut left = most;
-    while left > 0 {
-        if confirms(pulses, format, wanted, side, left - 1) {
-            return left - 1;
-        }
-        left -= 1;
-    }
-    0
-}
-
-/// How many of the first `most` pulses of a side are kept: of those before the first that says
-/// another element (`undenied`) the ones nearer than the farthest position identifier at its place
-/// (`confirmed`); 0 if no such identifier is there. On a side that goes back the farthest of those
-/// pulses is not taken for an identifier (`placed`).
-fn borne(
-    pulses: &mut Lens<'_>,
-    format: Format,
-    wanted: &[Element; 100],
-    side: &Side,
-    most: usize,
-) -> usize
-    requires { (side.now.number < 2 ^ 32) × (most ≤ 100) }
-    ensures count { result ≡ borne format pulses.old.track.pulses wanted.now side.now most }
-    ensures few { result ≤ most }
-    ensures pulses { pulses.new.track ≡ pulses.old.track }
-{
-    let count = undenied(pulses, format, wanted, side, most);
-    confirmed(pulses, format, wanted, side, placed(side, count))
-}
-
-/// How many of the first `most` pulses of a side can show a position identifier at its place: all,
-/// but on a side that goes back not the farthest. That one can be a marker, the second of two
-/// identifiers in a row: the pulse before it would show that, and is not among the `most`.
-fn placed(side: &Side, most: usize) -> usize
-    ensures count { result ≡ placed side.now most }
-    ensures few { result ≤ most }
-{
-    if side.is_back {
-        most.saturating_sub(1)
-    } else {
-        most
-    }
-}
-
-/// How many of the first `most` pulses of a side are kept (`borne`), if its frame has this time; 0
-/// if no frame can have it: it is past 61 seconds of its minute, or the format cannot carry it.
-pub fn borne_at(
-    pulses: &mut Lens<'_>,
-    format: Format,
-    time: &Time,
-    side: &Side,
-    most: usize,
-) -> usize
-    requires { (side.now.number < 2 ^ 32) × (most ≤ 100) }
-    ensures count { result ≡ borne_at format pulses.old.track.pulses time.now side.now most }
-    ensures few { result ≤ most }
-    ensures pulses { pulses.new.track ≡ pulses.old.track }
-{
-    if time.micros > LONG_MINUTE {
-        return 0;
-    }
-    let fields = fields_at(format, time);
-    if !fits(format, &fields) {
-        return 0;
-    }
-    let wanted = encode(format, &fields);
-    borne(pulses, format, &wanted, side, most)
-}
-
-/// The pulses of a part, as a side: from its first one on.
-pub fn side_of(part: &Part) -> Side
-    ensures { result ≡ side_of part.now }
-{
-    Side {
-        is_back: false,
-        number: part.number,
-    }
-}
-
-/// The side after a frame: from the pulse after its last one on.
-fn side_after(part: &Part) -> Side
-    requires { part.now.number + part.now.count < 2 ^ 32 }
-    ensures { result ≡ side_after part.now }
-{
-    Side {
-        is_back: false,
-        number: part.number + part.count,
-    }
-}
-
-/// The side before a frame: from the pulse before its first one back. If the first one is pulse 0,
-/// there is no pulse before it, and callers ask for none.
-fn side_before(part: &Part) -> Side
-    ensures { result ≡ side_before part.now }
-{
-    Side {
-        is_back: true,
-        number: part.number.saturating_sub(1),
-    }
-}
-
-/// The pair between two frames, if intervals are lost there. `after` is how many pulses after the
-/// first the caller found in step, `before` how many before the second: of these each side keeps
-/// what is borne out (`borne_at`). `None` if tens of intervals are lost, as each position
-/// identifier is then at the place of another; or if a pulse would be of both sides.
-fn torn_sides(
+/// The pair between two frames, of `after` pulses after the first and `before` ones before the
+/// second (`sides`). `None` if a pulse would be of both. The one test of pulses that is still
+/// needed is made here: the two sides meet in step if the pulse after those that the first side
+/// keeps rises one interval after the one before it.
+pub fn sides_at(
     pulses: &mut Lens<'_>,
     format: Format,
     from: &Part,
@@ -184,67 +35,119 @@ fn torn_sides(
     requires order { from.now.number + from.now.count ≤ to.now.number }
     requires small { to.now.number < 2 ^ 32 }
     requires few { (after ≤ 100) × (before ≤ 100) × (before ≤ to.now.number) }
-    ensures sides { result ≡ torn_sides format pulses.old.track.pulses from.now to.now after
-        before missing.now }
-    ensures pulses { pulses.new.track ≡ pulses.old.track }
-{
-    if are_tens(tenths_found(pulses, from, to)) {
-        return None;
-    }
-    let head = borne_at(pulses, format, &missing.first, &side_after(from), after);
-    let tail = borne_at(pulses, format, &missing.last, &side_before(to), before);
-    sides_at(pulses, format, from, to, head, tail, missing)
-}
-
-/// The pair between two frames. The caller found `after` pulses after the first in step, and
-/// `before` ones before the second: `torn_sides` answers for these if intervals are lost there
-/// (`is_torn`), else `sides_at`. `None` if a pulse would be of both, or tens of intervals are lost.
-fn sides_in(
-    pulses: &mut Lens<'_>,
-    format: Format,
-    from: &Part,
-    to: &Part,
-    after: usize,
-    before: usize,
-    missing: &Missing,
-) -> Option<(Part, Part)>
-    requires order { from.now.number + from.now.count ≤ to.now.number }
-    requires small { to.now.number < 2 ^ 32 }
-    requires few { (after ≤ 100) × (before ≤ 100) × (before ≤ to.now.number) }
-    ensures sides { result ≡ sides_in format pulses.old.track.pulses from.now to.now after before
+    ensures sides { result ≡ sides_at format pulses.old.track.pulses from.now to.now after before
         missing.now }
     ensures pulses { pulses.new.track ≡ pulses.old.track }
 {
-    if is_torn(pulses, format, from, to, after, before) {
-        torn_sides(pulses, format, from, to, after, before, missing)
+    let head = kept(missing.is_one, after, before);
+    let in_step = follows_at(pulses, format, from.number + from.count + head);
+    sides(from, to, after, before, missing, in_step)
+}
+
+/// The pair between two frames, of `after` pulses after the first and `before` ones before the
+/// second. `in_step` is whether the two sides meet in step. If one frame is missing, its 100 pulses
+/// are there, and the counts overlap, then all are in step: the first side has all 100, and the
+/// second is empty. Else each side keeps what `kept` leaves it, and `sides_by` makes the pair:
+/// `None` if a pulse would be of both.
+fn sides(
+    from: &Part,
+    to: &Part,
+    after: usize,
+    before: usize,
+    missing: &Missing,
+    in_step: bool,
+) -> Option<(Part, Part)>
+    requires order { from.now.number + from.now.count ≤ to.now.number }
+    requires small { to.now.number < 2 ^ 32 }
+    requires few { (after ≤ 100) × (before ≤ 100) × (before ≤ to.now.number) }
+    ensures { result ≡ sides from.now to.now after before missing.now in_step }
+{
+    let gap = gap(from, to);
+    if missing.is_one && gap == 100 && after + before > 100 {
+        return Some((
+            head_of(from, 100, missing.first),
+            tail_of(to, 0, missing.last),
+        ));
+    }
+    let head = kept(missing.is_one, after, before);
+    let tail = kept(missing.is_one, before, after);
+    sides_by(from, to, head, tail, missing, in_step)
+}
+
+/// The pair of `head` pulses after the first frame and `tail` before the second; `None` if a pulse
+/// would be of both. If the recorder slipped where the sides meet (`is_seam`), one pulse is left
+/// out: the last of the first side (`head_left`) or, if that side has none, the first of the second
+/// (`tail_left`).
+fn sides_by(
+    from: &Part,
+    to: &Part,
+    head: usize,
+    tail: usize,
+    missing: &Missing,
+    in_step: bool,
+) -> Option<(Part, Part)>
+    requires order { from.now.number + from.now.count ≤ to.now.number }
+    requires small { to.now.number < 2 ^ 32 }
+    requires few { (head ≤ 100) × (tail ≤ 100) × (tail ≤ to.now.number) }
+    ensures { result ≡ sides_by from.now to.now head tail missing.now in_step }
+{
+    let gap = gap(from, to);
+    if head + tail > gap {
+        return None;
+    }
+    let seam = is_seam(in_step, gap, head, tail);
+    Some((
+        head_of(from, head_left(seam, head), missing.first),
+        tail_of(to, tail_left(seam, head, tail), missing.last),
+    ))
+}
+
+/// How many of its `count` elements a side keeps: all, unless one frame alone is missing
+/// (`is_one`). Then both sides are of that frame, and the other side has `other` of its 100
+/// elements, from the other end. This side keeps none of those: an element that both sides reach
+/// would be two different pulses.
+fn kept(is_one: bool, count: usize, other: usize) -> usize
+    requires { other ≤ 100 }
+    ensures kept { result ≡ kept is_one count other }
+    ensures few { result ≤ count }
+{
+    if is_one {
+        min(count, 100 - other)
     } else {
-        sides_at(pulses, format, from, to, after, before, missing)
+        count
     }
 }
 
-/// The pulses between two frames that have a time: what `sides_in` keeps of up to a hundred in step
-/// with the first (`ahead`) and with the second (`behind`). `None` if `sides_in` says so, or if
-/// `missing_by` gives no missing frames: none is missing, the times do not fit the markers'
-/// distance, or it is a case that `missing_by` does not count, as two or more over midnight.
-pub fn between(
-    pulses: &mut Lens<'_>,
-    format: Format,
-    century: u32,
-    from: &Part,
-    to: &Part,
-) -> Option<(Part, Part)>
-    requires century { century ≤ 99 }
-    requires times { (from.now.time.micros < 2 ^ 59) × (to.now.time.micros < 2 ^ 59) }
-    requires order { from.now.number + from.now.count ≤ to.now.number }
-    requires small { to.now.number < 2 ^ 32 }
-    ensures between { result ≡ between format century pulses.old.track.pulses from.now to.now }
-    ensures pulses { pulses.new.track ≡ pulses.old.track }
+/// Whether the recorder slipped where sides of `head` and `tail` pulses meet: they do not meet in
+/// step, and they are all `gap` pulses between the frames, those of just one or two frames. Then
+/// the elements of the second side follow those of the first, so the time would go on over the
+/// slip, which it must not. For another `gap` the elements do not follow one another anyway.
+fn is_seam(in_step: bool, gap: usize, head: usize, tail: usize) -> bool
+    requires { (head ≤ 100) × (tail ≤ 100) }
+    ensures { result ≡ is_seam in_step gap head tail }
 {
-    let Some(missing) = missing_by(pulses, format, century, from, to) else {
-        return None;
-    };
-    let gap = gap(from, to);
-    let after = ahead(pulses, format, from.number + from.count, min(gap, 100));
-    let before = behind(pulses, format, to.number, min(gap, 100));
-    sides_in(pulses, format, from, to, after, before, &missing)
+    !in_step && head + tail == gap && (gap == 100 || gap == 200)
+}
+
+/// How many of the `head` pulses of the first side have a time: all, but at a slip (`seam`) not the
+/// last. A moment has a time only if the pulses around it have one, so none over the slip has. 0 if
+/// `head` is 0.
+fn head_left(seam: bool, head: usize) -> usize
+    ensures left { result ≡ head_left seam head }
+    ensures few { result ≤ head }
+{
+    if seam { head.saturating_sub(1) } else { head }
+}
+
+/// How many of the `tail` pulses of the second side have a time: all, but at a slip (`seam`) not
+/// the first, if the first side has no pulse that could be left out (`head` is 0).
+fn tail_left(seam: bool, head: usize, tail: usize) -> usize
+    ensures left { result ≡ tail_left seam head tail }
+    ensures few { result ≤ tail }
+{
+    if seam && head == 0 {
+        tail.saturating_sub(1)
+    } else {
+        tail
+    }
 }

@@ -1,9 +1,10 @@
-//! The pulses at the two ends of a track that count. A part is pulses in a row, as elements of one
-//! frame whose time is known. A clock can be set in silence, and only the elements of the time, the
-//! first ones of a frame, show it. So pulses next to silence, at the begin or the end of the
-//! recording, count only if all these elements were recorded there. At the end they count only up
-//! to the last position identifier, without it. Pulses and elements count from 0. A pair of parts
-//! is what is counted, and an empty part, as other callers count from two sides. A frame is
+//! What counts of the pulses before the first frame and after the last one, that is, has a time.
+//! `end_before` and `end_after` list those that are in step and say no other time. A clock can be
+//! set in silence, and only the elements of the time, the first ones of a frame, show it. So pulses
+//! next to silence, at the begin or the end of the recording, count only if all these elements were
+//! recorded there. At the end they count only up to the last position identifier, without it. A
+//! part is pulses in a row, as elements of one frame whose time is known. A pair
+//! of parts is what counts, and an empty part, as other callers count from two sides. A frame is
 //! believed if another one near it supports its time. `Lens` shows the pulses of a track. Bounds in
 //! `requires`, as 2 ^ 32, only keep sums in their types.
 
@@ -14,9 +15,11 @@ ghost use Rattle.irig_times.specs.Silence.{heard_after, heard_before, is_silence
 ghost use Rattle.irig_times.specs.Silence.{is_silent_after, is_silent_before, precedes_silence};
 ghost use Rattle.irig_times.specs.Silence.{up_to_mark};
 
-use crate::ends::{end_after, end_before, telling, time_elements};
+use crate::borne_out::borne_out_at;
+use crate::elements::time_elements;
+use crate::ends::{end_after, end_before, uncut_pulses};
 use crate::part::Part;
-use crate::sides::{borne_at, side_of};
+use crate::side::side_of;
 use crate::steps::pulse_at;
 use irig_codes::Format;
 use irig_recording::Pulse;
@@ -85,12 +88,12 @@ fn precedes_silence(pulses: &mut Lens<'_>, format: Format, part: &Part) -> bool
 
 /// Whether all elements of the time are among the pulses of a part: it begins with element 0 and
 /// has enough pulses. The last pulse of the track does not count, since the end of the recording
-/// can have cut it (`telling`).
+/// can have cut it (`uncut_pulses`).
 fn has_its_time(pulses: &Lens<'_>, format: Format, part: &Part) -> bool
     requires small { (part.now.number < 2 ^ 32) × (part.now.count ≤ 100) }
     ensures { result ≡ has_its_time format pulses.now.track.pulses part.now }
 {
-    part.element == 0 && telling(pulses, part) >= time_elements(format)
+    part.element == 0 && uncut_pulses(pulses, part) >= time_elements(format)
 }
 
 /// Whether a part before the first frame counts: it is not next to silence (`follows_silence`), or
@@ -105,20 +108,20 @@ fn counts_before(pulses: &mut Lens<'_>, format: Format, part: &Part) -> bool
 
 /// A part with its first pulses alone: those before its last position identifier that is where its
 /// frame should have one. Only identifiers before the first pulse that says another element are
-/// taken (`borne_at`). It has no pulse if there is no such identifier, or if no frame can have its
-/// time.
+/// taken (`borne_out_at`). It has no pulse if there is no such identifier, or if no frame can have
+/// its time.
 fn up_to_mark(pulses: &mut Lens<'_>, format: Format, part: &Part) -> Part
     requires small { (part.now.number < 2 ^ 32) × (part.now.count ≤ 100) }
     ensures part { result ≡ up_to_mark format pulses.old.track.pulses part.now }
     ensures pulses { pulses.new.track ≡ pulses.old.track }
 {
-    let count = borne_at(pulses, format, &part.time, &side_of(part), part.count);
+    let count = borne_out_at(pulses, format, &part.time, &side_of(part), part.count);
     Part { count, ..*part }
 }
 
-/// What counts of a part before silence, and the empty part after it (`next`). `None` if the part
-/// does not have all elements of its time (`has_its_time`). From its last position identifier on
-/// nothing counts (`up_to_mark`), as nothing shows what was lost there.
+/// What counts of a part before silence, and the empty part after it (`next`): the pulses before
+/// its last position identifier (`up_to_mark`), as nothing shows what was lost from there on.
+/// `None` if the part does not have all elements of its time (`has_its_time`).
 fn before_silence(
     pulses: &mut Lens<'_>,
     format: Format,
@@ -136,8 +139,9 @@ fn before_silence(
     }
 }
 
-/// The pulses before the first frame that have a time (`sides`, as `end_before` gives them), if
-/// they count: `None` if they do not (`counts_before`), or there are none.
+/// What counts of the pulses before the first frame. `sides` is these, as `end_before` returns
+/// them: the same again if they count (`counts_before`), else `None`. `None` also if there are
+/// none.
 fn heard_before(
     pulses: &mut Lens<'_>,
     format: Format,
@@ -157,9 +161,9 @@ fn heard_before(
     }
 }
 
-/// The pulses after the last frame that have a time (`sides`, as `end_after` gives them), as far as
-/// they count. All do, unless they end the track and silence is after it (`precedes_silence`): then
-/// what `before_silence` leaves. `None` if there are none, or none count.
+/// What counts of the pulses after the last frame. `sides` is these, as `end_after` returns them:
+/// the same again, unless they end the track and silence is after it (`precedes_silence`); then
+/// what `before_silence` leaves of them. `None` if there are none, or none count.
 fn heard_after(
     pulses: &mut Lens<'_>,
     format: Format,
@@ -180,10 +184,10 @@ fn heard_after(
     }
 }
 
-/// The pulses before the first frame (`to`) that have a time, and an empty part. `end_before` gives
-/// them: `None` if the frame is not believed or begins the day, if a pulse says another time, or if
-/// no frame can have that time. `heard_before` gives `None`, too, if silence is before them and not
-/// all elements of the time are there.
+/// The pulses before the first frame (`to`) that have a time, and an empty part: what `end_before`
+/// counts, if it counts next to silence (`heard_before`). `None` if the frame is not believed or
+/// begins the day, if a pulse says another time, if no frame can have that time, or if silence is
+/// before the pulses and not all elements of the time are there.
 pub fn counted_before(pulses: &mut Lens<'_>, format: Format, to: &Part) -> Option<(Part, Part)>
     requires { (to.now.time.micros < 2 ^ 59) × (to.now.number < 2 ^ 30) }
     ensures end { result ≡ counted_before format pulses.old.track.pulses to.now }
@@ -193,11 +197,11 @@ pub fn counted_before(pulses: &mut Lens<'_>, format: Format, to: &Part) -> Optio
     heard_before(pulses, format, sides)
 }
 
-/// The pulses after the last frame (`from`) that have a time, and an empty part. `end_after` gives
-/// them: `None` if the frame is not there, not believed, ends the day or shows a second 60, if a
-/// pulse says another time, or if no frame can have that time. If they end the track and silence is
-/// after it, `heard_after` gives only those before the last position identifier, and `None` if not
-/// all elements of the time are there.
+/// The pulses after the last frame (`from`) that have a time, and an empty part: what `end_after`
+/// counts, as far as it counts next to silence (`heard_after`). `None` if the frame is not there,
+/// is not believed, ends the day or shows a second 60, if a pulse says another time, if no frame
+/// can have that time, or if silence is after the pulses and not all elements of the time are
+/// there.
 pub fn counted_after(
     pulses: &mut Lens<'_>,
     format: Format,

@@ -1,13 +1,14 @@
 //! Which frames are believed: those that another one near them supports, and that are on no island.
 //! Two frames agree if they are near enough for their distance to say how many periods it is, and
-//! their times are as many apart. An island is up to three frames that are wrong alike, between two
-//! that agree with each other, its shores. A record is a frame of the track; places count from 0.
-//! `Lens` shows the pulses of the track, and `FrameLens` its records. `before` and `after` are the
-//! five frames nearest to a frame that have a time; their `near`, `next` and `far` are three in a
-//! row, from the first, the second and the third on. What a frame shows (`Shown`) is its fields and
-//! when its marker rises. In contracts, `shown_in` is what those frames of some records show that
-//! have a time, and `with_frame` is a list with one more frame before it, if that is there. An
-//! error says that memory ran out.
+//! their times are as many apart. A frame is supported if one of the two nearest frames before it,
+//! or of the two nearest after it, agrees with it. An island is up to three frames that are wrong
+//! alike, between two frames that agree with each other, its shores. Only frames that have a time
+//! (`timed`) count here. A record is a frame of the track; places of records count from 0. `Lens`
+//! shows the pulses of the track, and `FrameLens` its records. `before` and `after` are the five
+//! frames nearest to a frame, on each side of it, the nearest first. What a frame shows (`Shown`)
+//! is its fields and when its marker, its first pulse, rises. In contracts, `shown_in` is what
+//! those frames of some records show that have a time, and `with_frame` is a list with one more
+//! frame before it, if that is there.
 
 ghost use Rattle.std.specs.Prelude.{◌≡◌, ◌<◌, ◌&&◌, IfOk, None, Some, [], drop, is_some, length};
 ghost use Rattle.std.specs.Prelude.{List, not, slice_get};
@@ -26,8 +27,9 @@ use irig_safety::Shown;
 use irig_track::Lens;
 use std::alloc::{AllocError, Global};
 
-/// Of each record, in order, whether its frame is believed (`is_held`). With `alone` each frame
-/// that has a time is believed; without it each that has a time, is supported and is on no island.
+/// Of each record, in order, whether its frame is believed. With `alone` each frame that has a time
+/// is believed; without it each one that has a time, is supported and is on no island. Fails only
+/// if memory runs out.
 pub fn held_frames(
     alloc: Global,
     pulses: &mut Lens<'_>,
@@ -53,7 +55,7 @@ pub fn held_frames(
     Ok(list)
 }
 
-/// What the frame of the record at a place shows; `None` if it has no time (`timed`).
+/// What the frame of the record at a place shows; `None` if it has no time.
 fn shown_at(
     pulses: &mut Lens<'_>,
     records: &mut FrameLens<'_>,
@@ -79,8 +81,9 @@ fn shown_at(
     }
 }
 
-/// The first five frames that have a time, of the records from the place `from` on; `None` for each
-/// that is not there. They are the five nearest after the frame before that place.
+/// What the first five frames show that have a time, of the records from the place `from` on;
+/// `None` for each that is not there. They are the five nearest after the frame whose record is
+/// just before that place.
 fn shown_after(
     pulses: &mut Lens<'_>,
     records: &mut FrameLens<'_>,
@@ -107,8 +110,8 @@ fn shown_after(
     }
 }
 
-/// The first frame that has a time, of the records from the place `from` on, and the place after
-/// its record. If there is none, `None` and the number of all records.
+/// What the first frame shows that has a time, of the records from the place `from` on, and the
+/// place after its record. If there is none, `None` and the number of all records.
 fn next_shown(
     pulses: &mut Lens<'_>,
     records: &mut FrameLens<'_>,
@@ -133,17 +136,17 @@ fn next_shown(
     (None, records.len())
 }
 
-/// Whether a frame is there: its record shows one that has a time.
+/// Whether a frame is there, that is, it is not `None`.
 fn is_there(frame: Option<Shown>) -> bool
     ensures { result ≡ is_some frame }
 {
     frame.is_some()
 }
 
-/// Whether a frame is there and believed; false if it is `None`. If `alone`, each frame that is
-/// there is believed. `before` is the nearest frames before it; the records after it begin at the
-/// place `next`. True without a look at those, if the frames before suffice (`is_sure`); else
-/// `is_believed` decides.
+/// Whether a frame is believed; false if it is `None`, as it has no time. If `alone`, each frame
+/// that is there is believed. `before` is the frames nearest before it, and `next` the place of the
+/// first record after it. The frames after it are looked at only if those before it do not decide
+/// (`is_believed_whatever_follows`).
 fn is_held(
     pulses: &mut Lens<'_>,
     records: &mut FrameLens<'_>,
@@ -166,18 +169,18 @@ fn is_held(
     if alone {
         return true;
     }
-    if is_sure(format, before, &frame) {
+    if is_believed_whatever_follows(format, before, &frame) {
         return true;
     }
     let after = shown_after(pulses, records, format, next);
     is_believed(format, before, &frame, &after)
 }
 
-/// Whether a frame is believed whatever comes after it: the nearest frame before it agrees with it,
-/// so the frame is supported and that nearest one is no shore; and neither is the second (`next`)
-/// or the third (`far`) before it. An island needs a shore among these three, so it is on none. If
-/// false, the frames after it decide.
-fn is_sure(format: Format, before: &Nearest, frame: &Shown) -> bool
+/// Whether the frames before a frame are enough to believe it. The nearest of them agrees with it:
+/// so it is supported, and that nearest one is no shore. Neither is the second (`from_second`) or
+/// the third (`from_third`) a shore. An island of at most three frames has its first shore among
+/// these three, so the frame is on none. If false, the frames after it decide.
+fn is_believed_whatever_follows(format: Format, before: &Nearest, frame: &Shown) -> bool
     ensures { result ≡ (agrees_from format before.now.first frame.now
         && (not (is_shore_before format before.now.fourth before.now.third before.now.second
         frame.now)
@@ -185,8 +188,8 @@ fn is_sure(format: Format, before: &Nearest, frame: &Shown) -> bool
         frame.now))) }
 {
     agrees_from(format, before.first, frame)
-        && !is_shore_before(format, before.next(), frame)
-        && !is_shore_before(format, before.far(), frame)
+        && !is_shore_before(format, before.from_second(), frame)
+        && !is_shore_before(format, before.from_third(), frame)
 }
 
 /// Whether a frame is supported (`is_supported`), and on no island (`is_on_island`).
@@ -198,7 +201,7 @@ fn is_believed(format: Format, before: &Nearest, frame: &Shown, after: &Nearest)
 }
 
 /// Whether one of the two nearest frames before a frame, or of the two nearest after it, agrees
-/// with it. Also true if no other frame has a time, so none could support it.
+/// with it. Also true if there is no other frame, so none could support it.
 fn is_supported(format: Format, before: &Nearest, frame: &Shown, after: &Nearest) -> bool
     ensures { result ≡ is_supported format before.now.second before.now.first after.now.first
         after.now.second frame.now }

@@ -95,8 +95,8 @@ overflow_sub-to c =
     let later = next-later (c.args.picos / 1000000) ps c.find-risen.ensures.track.rises number c.pulse-to.result count next in
     omega (arith, up, later)
 
-pub shared-requires-clause-order : goal.shared-requires-clause-order
-shared-requires-clause-order c =
+pub time_within-requires-clause-order : goal.time_within-requires-clause-order
+time_within-requires-clause-order c =
     let small : length c.args.pulses.now.track.pulses < 2 ^ 27 = omega (arith, c.find-risen.ensures.track.few) in
     let track = ap (λ v. v.track) (c.find-risen.ensures.looked 27 small).lens in
     let count : risen_by (c.args.picos / 1000000) c.args.pulses.now.track.pulses ≡ c.find-risen.result - 1 + 1 =
@@ -110,15 +110,15 @@ shared-requires-clause-order c =
     let later = next-later (c.args.picos / 1000000) ps c.find-risen.ensures.track.rises number c.pulse-to.result count next in
     omega (arith, up, later)
 
-pub shared-requires-clause-few : goal.shared-requires-clause-few
-shared-requires-clause-few c =
+pub time_within-requires-clause-few : goal.time_within-requires-clause-few
+time_within-requires-clause-few c =
     let ps = c.args.pulses.now.track.pulses in
     let number = c.find-risen.result - 1 in
     let place = point-minute c.args.format (length ps) c.args.parts.now c.requires.parts number _ _ c.in-Some.ensures in
     omega (arith, place.few)
 
-pub shared-requires-clause-minute : goal.shared-requires-clause-minute
-shared-requires-clause-minute c =
+pub time_within-requires-clause-minute : goal.time_within-requires-clause-minute
+time_within-requires-clause-minute c =
     let ps = c.args.pulses.now.track.pulses in
     let number = c.find-risen.result - 1 in
     let place = point-minute c.args.format (length ps) c.args.parts.now c.requires.parts number _ _ c.in-Some.ensures in
@@ -148,9 +148,9 @@ returns-clause-exact c x =
         stands_next = next;
         is_point = c.in-Some.ensures;
         goes_on = c.goes_on.ensures.0 c.if-not-goes_on.false;
-        is = sym (same_Some c.shared.result x e) ∙ c.shared.ensures;
+        is = sym (same_Some c.time_within.result x e) ∙ c.time_within.ensures;
       },
-      λ h. ap Some (c.shared.ensures ∙ sym (time-by-parts c.args.format c.args.century ps c.args.parts.now c.requires.parts 1000000 c.args.picos x h number
+      λ h. ap Some (c.time_within.ensures ∙ sym (time-by-parts c.args.format c.args.century ps c.args.parts.now c.requires.parts 1000000 c.args.picos x h number
           c.in-Some.place.element c.in-Some.place.time c.pulse-from.result c.pulse-to.result count here next c.in-Some.ensures)),
     )
 

@@ -5,29 +5,29 @@ use Rattle.irig_times.proofs.{Filling.filled-more, PartPlaces.known, PartPlaces.
 use Rattle.irig_times.proofs.PartPlaces.{none-part, part-of}
 use Rattle.irig_times.proofs.counted.counted_parts.Goals as goal
 
-pub put_frame-requires-clause-before : goal.put_frame-requires-clause-before
-put_frame-requires-clause-before c =
+pub add_frame-requires-clause-before : goal.add_frame-requires-clause-before
+add_frame-requires-clause-before c =
     let whole = c.args.whole.now in
     let n = length c.args.pulses.now.track.pulses in
     let here = slice_get-get_or whole c.loop-place.place none-part c.loop-place-test.true in
     known c.args.format n whole c.requires.whole c.loop-place.place _ here c.loop-place.before c.loop-place.invariant.before
 
-pub put_frame-requires-clause-part : goal.put_frame-requires-clause-part
-put_frame-requires-clause-part c =
+pub add_frame-requires-clause-part : goal.add_frame-requires-clause-part
+add_frame-requires-clause-part c =
     let here = slice_get-get_or c.args.whole.now c.loop-place.place none-part c.loop-place-test.true in
     let it = part-of c.args.format _ 0 c.args.whole.now c.requires.whole c.loop-place.place _ here in
     (omega (arith, it.2.time.minute), omega (arith, it.1, c.len-count.ensures.track.few), omega (arith, it.2.few))
 
-pub put_frame-requires-clause-next : goal.put_frame-requires-clause-next
-put_frame-requires-clause-next c =
+pub add_frame-requires-clause-next : goal.add_frame-requires-clause-next
+add_frame-requires-clause-next c =
     let whole = c.args.whole.now in
     let here = slice_get-get_or whole c.loop-place.place none-part c.loop-place-test.true in
     known-next c.args.format
         (length c.args.pulses.now.track.pulses) whole c.requires.whole c.len-count.ensures.track.few c.loop-place.place _ here c.part_at-next.result
     c.part_at-next.ensures
 
-pub put_frame-requires-clause-order : goal.put_frame-requires-clause-order
-put_frame-requires-clause-order c =
+pub add_frame-requires-clause-order : goal.add_frame-requires-clause-order
+add_frame-requires-clause-order c =
     let whole = c.args.whole.now in
     let here = slice_get-get_or whole c.loop-place.place none-part c.loop-place-test.true in
     known-order c.args.format
@@ -39,12 +39,12 @@ loop-place-preserved c =
     let before = c.loop-place.invariant in
     let here = slice_get-get_or c.args.whole.now c.loop-place.place none-part c.loop-place-test.true in
     record {
-      track = c.in_ok-put_frame.ensures.pulses ∙ before.track;
+      track = c.in_ok-add_frame.ensures.pulses ∙ before.track;
       before = (c.loop-place.place, omega arith, here);
       left = filled-more c.args.format c.args.century c.args.pulses.now.track.micros c.args.pulses.now.track.pulses
           c.args.whole.now c.loop-place.before c.loop-place.place _
           c.loop-place.list.items _ _ here
-          (c.in_ok-put_frame.ensures.parts
+          (c.in_ok-add_frame.ensures.parts
           ∙ λ i. c.loop-place.list.items ++ with_frame c.args.format c.args.century (before.track i).pulses c.loop-place.before
           (get_or c.args.whole.now c.loop-place.place none-part) (c.part_at-next.ensures i) [])
           before.left;

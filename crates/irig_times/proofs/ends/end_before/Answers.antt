@@ -1,7 +1,7 @@
 use Rattle.std.proofs.Common.{◌≡◌, Bool, false, cond, Some, None, min, ap, sym, ◌∙◌}
 use Rattle.irig_codes.specs.Format.{frame_period_of}
 use Rattle.irig_times.specs.Between.{tail_of, time_before}
-use Rattle.irig_times.specs.Ends.{alone, before_first}
+use Rattle.irig_times.specs.Ends.{possible_pair, before_first}
 use Rattle.irig_times.specs.{Parts.is_empty, Steps.behind}
 use Rattle.irig_times.proofs.ends.end_before.Goals as goal
 
@@ -16,6 +16,6 @@ returns-clause-end c =
     ap (λ k. time_before k b.time) (sym c.frame_period.ensures) ∙ (sym c.time_before.ensures.time ∙ c.in-Some.is) in
     let tail : c.tail_of.result ≡ tail_of b (behind f ps b.number (min b.number 100)) x =
     c.tail_of.ensures ∙ ap (λ n. tail_of b n x) (c.behind-count.ensures.count ∙ ap (behind f ps b.number) c.min.ensures) in
-    c.alone.ensures.part
-    ∙ ((λ i. alone f (c.behind-count.ensures.pulses i).pulses (tail i))
+    c.possible_pair.ensures.part
+    ∙ ((λ i. possible_pair f (c.behind-count.ensures.pulses i).pulses (tail i))
     ∙ sym (ap (λ (e : Bool). cond e None (before_first f ps b (time_before (frame_period_of f.kind) b.time))) some ∙ ap (before_first f ps b) told))

@@ -1,6 +1,6 @@
 use Rattle.std.proofs.Common.{◌≡◌, ◌+◌, ◌-◌, ◌≤◌}
 use Rattle.irig_times.specs.Sides.{undenied}
-use Rattle.irig_times.proofs.sides.undenied.Given as goal
+use Rattle.irig_times.proofs.borne_out.undenied.Given as goal
 
 abbrev pub invariant-loop-count : goal.invariant-loop-count
 invariant-loop-count l = record {

@@ -1,7 +1,7 @@
 use Rattle.std.proofs.Common.{◌≡◌, false, true, ◌-◌, ap, sym, ◌∙◌, arith}
 use Rattle.irig_times.specs.Torn.{denies}
 use Rattle.irig_times.proofs.SideCounts.{undenied-more, undenied-stop}
-use Rattle.irig_times.proofs.sides.undenied.Goals as goal
+use Rattle.irig_times.proofs.borne_out.undenied.Goals as goal
 
 pub loop-count-preserved : goal.loop-count-preserved
 loop-count-preserved c =

@@ -1,7 +1,7 @@
 use Rattle.std.proofs.Common.{◌≡◌, ◌-◌, ◌/◌, ◌<◌, ◌^◌, length, List, suc, sym, ap, subst, arith}
 use Rattle.irig_track.specs.Splices.{risen_by}
 use Rattle.irig_times.specs.{Untimed.IsKnownBy, Untimed.IsWhy, declared.part.Part.Part, declared.why.Why.Why}
-use Rattle.irig_times.proofs.why.why_at.Goals as goal
+use Rattle.irig_times.proofs.why_moment.why_at.Goals as goal
 
 pub returns-then-risen-eq0-clause-pulses : goal.returns-then-risen-eq0-clause-pulses
 returns-then-risen-eq0-clause-pulses c =

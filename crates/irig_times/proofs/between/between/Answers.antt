@@ -2,7 +2,7 @@ use Rattle.std.proofs.Common.{◌≡◌, ◌+◌, Option, Some, min, slice_get, 
 use Rattle.irig_codes.specs.Format.{frame_period_of}
 use Rattle.irig_times.specs.Between.{gap, missing_by}
 use Rattle.irig_times.specs.{Sides.sides_in, Sides.sides_of, Steps.ahead, Steps.behind}
-use Rattle.irig_times.proofs.sides.between.Goals as goal
+use Rattle.irig_times.proofs.between.between.Goals as goal
 
 pub returns-clause-between : goal.returns-clause-between
 returns-clause-between c =

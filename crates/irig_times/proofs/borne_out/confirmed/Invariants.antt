@@ -1,6 +1,6 @@
 use Rattle.std.proofs.Common.{◌≡◌, ◌≤◌}
 use Rattle.irig_times.specs.Sides.{confirmed}
-use Rattle.irig_times.proofs.sides.confirmed.Given as goal
+use Rattle.irig_times.proofs.borne_out.confirmed.Given as goal
 
 abbrev pub invariant-loop-left : goal.invariant-loop-left
 invariant-loop-left l = record {

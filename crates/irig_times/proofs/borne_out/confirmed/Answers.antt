@@ -1,7 +1,7 @@
 use Rattle.std.proofs.Common.{◌≡◌, false, true, ◌-◌, ap, sym, ◌∙◌, arith}
 use Rattle.irig_times.specs.Torn.{confirms}
 use Rattle.irig_times.proofs.SideCounts.{confirmed-found, confirmed-less}
-use Rattle.irig_times.proofs.sides.confirmed.Goals as goal
+use Rattle.irig_times.proofs.borne_out.confirmed.Goals as goal
 
 pub loop-left-preserved : goal.loop-left-preserved
 loop-left-preserved c =

@@ -1,6 +1,6 @@
 use Rattle.std.proofs.Common.{◌≡◌, Bool, true, cond, ap, sym, ◌∙◌}
 use Rattle.irig_times.specs.{Between.sides_at, Sides.torn_sides, Torn.is_torn}
-use Rattle.irig_times.proofs.sides.sides_in.Goals as goal
+use Rattle.irig_times.proofs.between.sides_in.Goals as goal
 
 pub returns-then-is_torn-clause-sides : goal.returns-then-is_torn-clause-sides
 returns-then-is_torn-clause-sides c =
