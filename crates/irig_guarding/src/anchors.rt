@@ -17,7 +17,8 @@ use irig_safety::{Original, Witnesses};
 
 /// Whether each of the 100 pulses of a frame is an anchor, or where the nearest anchors have it
 /// (`is_held`). `last` is the element of the nearest anchor before the one that is looked at, and
-/// `next` that of the first anchor from this one on; `None` if the frame has none there.
+/// `next` that of the first anchor from this one on; `None` if the frame has none there. On that
+/// side the marker of the next frame of the recording holds the pulse instead (`near_markers`).
 pub fn are_placed(session: &Session, opened: &Original, near: &Witnesses, frame: &Seen) -> bool
     ensures { IsTrue result ↔ Stands opened.now session.now.state near.now frame.now }
 {
