@@ -7,7 +7,7 @@ ghost use Rattle.std.specs.Prelude.{◌≡◌, ◌≤◌, ◌-◌, ◌++◌, len
 ghost use Rattle.std.specs.Prelude.{OnOk};
 ghost use Rattle.irig_index.specs.declared.record.Record.{Record};
 ghost use Rattle.irig_edit.specs.State.State.{frames_of};
-ghost use Rattle.irig_guarding.specs.Reading.{Lists, seen_at, seen_by, seen_frames};
+ghost use Rattle.irig_guarding.specs.Reading.{Lists, fine_frames, seen_at, seen_by, seen_frames};
 
 use irig_codes::Note;
 use irig_edit::{Session, Verdict};
@@ -34,7 +34,7 @@ pub fn list_frames(alloc: Global, session: &Session) -> Result<Frames, AllocErro
     ensures { IfOk result (λ frames. Lists session.now.state frames) }
 {
     let seen = seen_frames(alloc, session)?;
-    let shown = shown_among(alloc, seen.as_slice())?;
+    let shown = shown_of(alloc, session, seen.as_slice())?;
     Ok(Frames { seen, shown })
 }
 
@@ -47,6 +47,16 @@ pub fn seen_frames(alloc: Global, session: &Session) -> Result<Vec<Seen>, AllocE
         put_frame(&mut seen, session, index + 1)?;
     }
     Ok(seen)
+}
+
+/// What the frames `seen`, all of a session that read well, show without their markers
+/// (`shown_among`). The session is for the contract alone: it says which frames these are.
+pub fn shown_of(alloc: Global, session: &Session, seen: &[Seen]) -> Result<Vec<Shown>, AllocError>
+    requires { seen.now ≡ seen_frames session.now.state }
+    ensures { IfOk result (λ shown. shown.items ≡ fine_frames session.now.state) }
+{
+    let shown = shown_among(alloc, seen)?;
+    Ok(shown)
 }
 
 /// What some frames show, in their order, without their markers.
@@ -62,7 +72,7 @@ fn shown_among(alloc: Global, seen: &[Seen]) -> Result<Vec<Shown>, AllocError>
 
 /// Whether `frame` has the same fields and the same rise as the frame at a place, from 0, of the
 /// list `former`, earlier frames (`is_same`). False if the list has none there. The contract says
-/// only what true means: after false callers look further.
+/// only what true means: a caller that gets false judges the frame.
 pub fn is_as_before(former: &[Shown], place: usize, frame: &Seen) -> bool
     ensures { IsTrue result → slice_get former.now place ≡ Some frame.now.shown }
 {
