@@ -74,7 +74,8 @@ module _ (f : FormatView) (century : ℕ) where
       })
       (λ off. cond-holds (λ o. IfSome o (IsFrameTime f)) (nat_le period b.micros && is_middle century period a y b) _ _
       (λ on. record {
-        minute = whole-ends period y (and_parts (is_later century period y b) _ (and_parts (is_later century period a y) _ (and_parts (nat_le period b.micros) _ on).1).1).1;
+        minute = whole-ends period y (and_parts (is_later century period y b) _
+            (and_parts (is_later century period a y) _ (and_parts (nat_le period b.micros) _ on).1).1).1;
         calendar = in-minute-of b _ hb.calendar;
         year = hb.year;
       })
@@ -104,7 +105,8 @@ module _ (f : FormatView) (century : ℕ) where
   more-end (Some x) None hx hy = tt
   more-end (Some x) (Some y) hx hy = cond-holds (λ o. IfSome o BothEnd) (ends_in_minute period x && ends_in_minute period y) _ _
       (λ on. let both = and_parts (ends_in_minute period x) _ on in
-      (record { minute = whole-ends period x both.0; calendar = hx.0; year = hx.1 }, record { minute = whole-ends period y both.1; calendar = hy.0; year = hy.1 }))
+      (record { minute = whole-ends period x both.0; calendar = hx.0; year = hx.1 },
+          record { minute = whole-ends period y both.1; calendar = hy.0; year = hy.1 }))
       (λ off. tt)
 
   missing-ends : (n : ℕ) (a b : Time) → IsFrameTime f a → IsFrameTime f b → IfSome (missing_in century period n a b) BothEnd
@@ -232,7 +234,8 @@ module _ (f : FormatView) (ps : List Pulse) where
   last-fits a (Some x) le cal =
       let few = ahead-few f ps 100 (a.number + a.count) in
       let within = ahead-within 100 (a.number + a.count) le in
-      pair-fits (a.number + a.count) (length ps) (head_of a (ahead f ps (a.number + a.count) 100) x) (omega arith) (omega (arith, few)) (omega (arith, within)) cal
+      pair-fits (a.number + a.count) (length ps) (head_of a (ahead f ps (a.number + a.count) 100) x) (omega arith) (omega (arith, few))
+          (omega (arith, within)) cal
 
   first-fits : (b : Part) (o : Option Time) → IfSome o (λ x. IsOfCalendar x × (is_some x.year ≡ has_year f.expression))
       → IfSome (before_first f ps b o) (Fit f 0 b.number)
@@ -296,15 +299,18 @@ module _ (f : FormatView) where
 
   loss-cut : (ps : List Pulse) (b : Part) (next : Option Part) → IsPart f b → Cut f b (up_to_loss f ps b next)
   loss-cut ps b None is = all-cut b is
-  loss-cut ps b (Some c) is = cond-holds (Cut f b) (loses_tens f ps b c) _ _ (λ loses. front-cut (sure_elements (tenths_found ps b c)) b is) (λ none. all-cut b is)
+  loss-cut ps b (Some c) is =
+      cond-holds (Cut f b) (loses_tens f ps b c) _ _ (λ loses. front-cut (sure_elements (tenths_found ps b c)) b is) (λ none. all-cut b is)
 
   after-cut : (jumps : Bool) (b : Part) → IsPart f b → Cut f b (after_jump f.kind jumps b)
   after-cut false b is = all-cut b is
   after-cut true b is =
       let few = min-few b.count (time_elements f.kind) in
-      record { low = omega arith; high = omega (arith, few); place = omega arith; same = refl; is = record { few = omega (arith, few, is.few); time = is.time } }
+      record { low = omega arith; high = omega (arith, few); place = omega arith; same = refl;
+          is = record { few = omega (arith, few, is.few); time = is.time } }
 
-  pub kept-cut : (century : ℕ) (ps : List Pulse) (before : Option Part) (b : Part) (next : Option Part) → IsPart f b → Cut f b (kept_at f century ps before b next)
+  pub kept-cut : (century : ℕ) (ps : List Pulse) (before : Option Part) (b : Part) (next : Option Part) → IsPart f b
+      → Cut f b (kept_at f century ps before b next)
   kept-cut century ps before b next is =
       let loss = loss-cut ps b next is in
       let one = before-cut (is_jump_between f century ps (Some b) next) (up_to_loss f ps b next) loss.is in
@@ -347,7 +353,8 @@ module _ (f : FormatView) (century micros : ℕ) (ps : List Pulse) where
       → Cut f b q → AreParts f (b.number + b.count) n parts → AreParts f from n (with_sides s (q ∷ parts))
   with-fit None from b q parts fits le cut are = (omega (arith, le, cut.low), cut.is, from-less (b.number + b.count) (q.number + q.count) parts cut.high are)
   with-fit (Some s) from b q parts fits le cut are =
-      (fits.first, fits.one, (fits.middle, fits.two, (omega (arith, fits.last, cut.low), cut.is, from-less (b.number + b.count) (q.number + q.count) parts cut.high are)))
+      (fits.first, fits.one,
+          (fits.middle, fits.two, (omega (arith, fits.last, cut.low), cut.is, from-less (b.number + b.count) (q.number + q.count) parts cut.high are)))
 
   without-fit : (jumps : Bool) (before : Option Part) (from : ℕ) (b : Part) → Ends before from → from ≤ b.number → IsPart f b
       → IfSome (sides_unless_jump jumps f century ps before b) (Fit f from b.number)
@@ -417,7 +424,8 @@ module _ (f : FormatView) (century micros : ℕ) (ps : List Pulse) where
       with-stays (sides_unless_jump (is_jump_between f century ps before (Some b)) f century ps before b) (kept_at f century ps before b (slice_get parts 0))
       (filled f century micros ps (Some b) parts) (suc it.0) p it.1
     where
-      earlier-same : (before : Option Part) (b : Part) (parts : List Part) (k : ℕ) (p : Part) → is_jump_between f century ps (slice_get (b ∷ parts) k) (Some p) ≡ false
+      earlier-same : (before : Option Part) (b : Part) (parts : List Part) (k : ℕ) (p : Part)
+          → is_jump_between f century ps (slice_get (b ∷ parts) k) (Some p) ≡ false
           → is_jump_between f century ps (earlier (Some b) parts k) (Some p) ≡ false
       earlier-same before b parts zero p first = first
       earlier-same before b parts (suc k) p first = first
@@ -427,7 +435,8 @@ module _ (f : FormatView) (century micros : ℕ) (ps : List Pulse) where
   with-more (Some s) xs = refl
 
   -- one more frame
-  frame-more : (before : Option Part) (b : Part) (next : Option Part) (xs : List Part) → with_frame f century ps before b next xs ≡ with_frame f century ps before b next [] ++ xs
+  frame-more : (before : Option Part) (b : Part) (next : Option Part) (xs : List Part)
+      → with_frame f century ps before b next xs ≡ with_frame f century ps before b next [] ++ xs
   frame-more before b next xs =
       let s = sides_unless_jump (is_jump_between f century ps before (Some b)) f century ps before b in
       let kept = kept_at f century ps before b next in

@@ -52,7 +52,8 @@ module _ (century : ℕ) (a b : Time) (period : ℕ) (ey : a.year ≡ b.year) (e
   same-minute-later n eh em eu lt =
       both _ _ (less a.micros n (omega (arith, lt)))
       (if-true _ _ _ (less (a.micros + period) n lt)
-      (both _ _ (both _ _ (both _ _ (day-same a b ey ed) (eq-eqb a.hours b.hours eh)) (eq-eqb a.minutes b.minutes em)) (eq-eqb b.micros (a.micros + period) eu)))
+      (both _ _ (both _ _ (both _ _ (day-same a b ey ed) (eq-eqb a.hours b.hours eh)) (eq-eqb a.minutes b.minutes em))
+          (eq-eqb b.micros (a.micros + period) eu)))
 
   -- over the end of a minute of 60 seconds
   over-minute : a.micros < 60000000 → 60000000 ≤ a.micros + period → b.micros + 60000000 ≡ a.micros + period → minute_follows century a b ≡ true
@@ -81,14 +82,17 @@ module _ (f : FormatView) (century : ℕ) where
   next-later t h = cond-holds (λ o. IfSome o (IsNextOf t)) (nat_le 60000000 t.micros) _ _ (λ leap. tt)
       (λ usual. (let low = not-le 60000000 t.micros usual in
       cond-holds (λ o. IfSome o (IsNextOf t)) (nat_lt (t.micros + period) 60000000) _ _
-      (λ on. either-left _ _ (same-minute-later century t (at_micros t (t.micros + period)) period refl refl 60000000 refl refl refl (ltb-true (t.micros + period) 60000000 on)))
+      (λ on. either-left _ _ (same-minute-later century t (at_micros t (t.micros + period)) period refl refl 60000000 refl refl refl
+          (ltb-true (t.micros + period) 60000000 on)))
       (λ off. (let ge = not-lt (t.micros + period) 60000000 off in
       cond-holds (λ o. IfSome o (IsNextOf t)) (nat_lt t.minutes 59) _ _
       (λ on. (let x = at_minute t t.hours (t.minutes + 1) (t.micros + period - 60000000) in
-      either-left _ _ (over-minute century t x period refl refl low ge (omega (arith, ge)) (next-minute century t x period refl refl (ltb-true t.minutes 59 on) refl refl))))
+      either-left _ _ (over-minute century t x period refl refl low ge (omega (arith, ge))
+          (next-minute century t x period refl refl (ltb-true t.minutes 59 on) refl refl))))
       (λ full. cond-holds (λ o. IfSome o (IsNextOf t)) (nat_lt t.hours 23) _ _
       (λ on. (let x = at_minute t (t.hours + 1) 0 (t.micros + period - 60000000) in
-      either-left _ _ (over-minute century t x period refl refl low ge (omega (arith, ge)) (next-hour century t x period refl refl (not-lt t.minutes 59 full) (ltb-true t.hours 23 on) refl refl))))
+      either-left _ _ (over-minute century t x period refl refl low ge (omega (arith, ge))
+          (next-hour century t x period refl refl (not-lt t.minutes 59 full) (ltb-true t.hours 23 on) refl refl))))
       (λ midnight. tt))))))
 
   abbrev IsBeforeOf : Time → Time → Type 0
@@ -99,7 +103,8 @@ module _ (f : FormatView) (century : ℕ) where
       let few = period-most f.kind in
       cond-holds (λ o. IfSome o (IsBeforeOf t)) (nat_le period t.micros) _ _
       (λ on. (let le = leb-true period t.micros on in
-      either-right _ _ (same-minute-later century (at_micros t (t.micros - period)) t period refl refl 61000000 refl refl (omega (arith, le)) (omega (arith, le, h.minute, few.0)))))
+      either-right _ _ (same-minute-later century (at_micros t (t.micros - period)) t period refl refl 61000000 refl refl (omega (arith, le))
+          (omega (arith, le, h.minute, few.0)))))
       (λ off. (let lt = not-le period t.micros off in
       cond-holds (λ o. IfSome o (IsBeforeOf t)) (nat_lt 0 t.minutes) _ _
       (λ on. (let x = at_minute t t.hours (t.minutes - 1) (t.micros + 60000000 - period) in
@@ -110,7 +115,8 @@ module _ (f : FormatView) (century : ℕ) where
       (λ on. (let x = at_minute t (t.hours - 1) 59 (t.micros + 60000000 - period) in
       let some = ltb-true 0 t.hours on in
       either-left _ _ (over-minute century x t period refl refl (omega (arith, lt, few.1)) (omega (arith, few.1)) (omega (arith, few.1))
-      (next-hour century x t period refl refl (omega arith) (omega (arith, some, h.calendar.hours)) (omega (arith, not-lt 0 t.minutes full)) (omega (arith, some))))))
+      (next-hour century x t period refl refl (omega arith) (omega (arith, some, h.calendar.hours)) (omega (arith, not-lt 0 t.minutes full))
+          (omega (arith, some))))))
       (λ midnight. tt))))
 
   -- the first missing frame is one period after the one before, and the last one before the one after
@@ -127,7 +133,8 @@ module _ (f : FormatView) (century : ℕ) where
       cond-holds (λ o. IfSome o (IsBetween a b)) (is_middle century period a x b) _ _
       (λ on. let it = and_parts (is_later century period a x) _ on in (it.0, (and_parts (is_later century period x b) _ it.1).0))
       (λ off. cond-holds (λ o. IfSome o (IsBetween a b)) (nat_le period b.micros && is_middle century period a y b) _ _
-      (λ on. let it = and_parts (is_later century period a y) _ (and_parts (nat_le period b.micros) _ on).1 in (it.0, (and_parts (is_later century period y b) _ it.1).0))
+      (λ on. let it = and_parts (is_later century period a y) _ (and_parts (nat_le period b.micros) _ on).1 in
+          (it.0, (and_parts (is_later century period y b) _ it.1).0))
       (λ none. tt))
 
   one-later : (a b : Time) (o : Option Time) → IfSome o (IsBetween a b) → IfSome (missing_one o) (AreNext a b)
@@ -137,7 +144,8 @@ module _ (f : FormatView) (century : ℕ) where
   more-later : (a b : Time) (x y : Option Time) → IfSome x (IsNextOf a) → IfSome y (IsBeforeOf b) → IfSome (missing_more period x y) (AreNext a b)
   more-later a b None y hx hy = tt
   more-later a b (Some x) None hx hy = tt
-  more-later a b (Some x) (Some y) hx hy = cond-holds (λ o. IfSome o (AreNext a b)) (ends_in_minute period x && ends_in_minute period y) _ _ (λ on. (hx, hy, λ one. absurd (cc one))) (λ off. tt)
+  more-later a b (Some x) (Some y) hx hy =
+      cond-holds (λ o. IfSome o (AreNext a b)) (ends_in_minute period x && ends_in_minute period y) _ _ (λ on. (hx, hy, λ one. absurd (cc one))) (λ off. tt)
 
   missing-later : (n : ℕ) (a b : Time) → IsFrameTime f a → IsFrameTime f b → IfSome (missing_in century period n a b) (AreNext a b)
   missing-later n a b ha hb = cond-holds (λ o. IfSome o (AreNext a b)) (nat_le n 1) _ _ (λ few. tt)

@@ -1,6 +1,7 @@
--- Where the time jumps between two frames though all pulses from the one to the other are in step: a
--- clock was set, or a recorder lost whole frames. Nobody knows at which element. Both can be frames
--- that are not believed: one that is damaged, or one that the jump is in. This project's own.
+-- Where the time jumps between two frames though all pulses from the one to the other are in step:
+-- a clock was set, or a recorder lost whole frames. Nobody knows at which element. Both can be
+-- frames that are not believed: one that is damaged, or one that the jump is in. This project's
+-- own.
 use Rattle.std.specs.Prelude.{ℕ, ◌+◌, ◌-◌, ◌*◌, ◌/◌, ◌%◌, ◌==◌, ◌&&◌, ◌||◌, nat_le, Bool, false, true}
 use Rattle.std.specs.Prelude.{is_some, min, not, if◌then◌else◌, List, Option, Some, None, slice_get}
 use Rattle.irig_codes.specs.Format.{FormatView, frame_period_of, interval_of}
@@ -42,8 +43,8 @@ are_apart century period n a b =
     else (if n == 2 then is_some (middle century period a b)
     else not (same_day a b) || (day_micros b == day_micros a + n * period))
 
--- the markers of two frames are whole periods apart, and their times are not that many: whole frames
--- are lost, or a clock was set, and other damage is between them
+-- the markers of two frames are whole periods apart, and their times are not that many: whole
+-- frames are lost, or a clock was set, and other damage is between them
 abbrev pub misfits : FormatView → ℕ → Time → Time → Option Pulse → Option Pulse → Bool
 misfits f century a b None q = false
 misfits f century a b (Some p) None = false

@@ -14,9 +14,11 @@ loop-place-preserved c =
     record {
       track = c.contradicts-here.ensures.pulses ∙ before.track;
       few = omega (arith, c.more-count.ensures, counted-few c.loop-place.count c.contradicts-here.result, before.few);
-      left = contradictions-more c.args.format c.args.pulses.now.track.pulses c.args.wanted.now part.number part.element c.args.uncut place c.loop-place.count _ _
+      left =
+          contradictions-more c.args.format c.args.pulses.now.track.pulses c.args.wanted.now part.number part.element c.args.uncut place c.loop-place.count _ _
           c.contradicts-here.result c.loop-place-test.true
           (c.contradicts-here.ensures.answer
-          ∙ ap (λ t. contradicts c.args.format (part.element + place) (slice_get t.pulses (part.number + place)) (slice_get c.args.wanted.now (part.element + place))) before.track)
+          ∙ ap (λ t. contradicts c.args.format (part.element + place) (slice_get t.pulses (part.number + place))
+              (slice_get c.args.wanted.now (part.element + place))) before.track)
           c.more-count.ensures before.left;
     }
