@@ -28,10 +28,10 @@ use irig_track::Lens;
 use std::alloc::{AllocError, Global};
 
 /// All pulses of a track that have a time, as parts in order. Some parts can be empty, as that of a
-/// frame that is not believed. Of each record, which is a frame of the track, `held` says whether
-/// it is believed.
+/// frame that is not believed. `held` says of each record, which is a frame of the track, whether
+/// it is believed. Fails only if memory runs out.
 ///
-/// The years of two digits are of this century: 20 for 2000 to 2099.
+/// The years of two digits are of this `century`: 20 for 2000 to 2099.
 pub fn timed_parts(
     alloc: Global,
     pulses: &mut Lens<'_>,

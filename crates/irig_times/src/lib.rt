@@ -40,5 +40,5 @@ pub use start::{FrameStart, start_of};
 pub use support::held_frames;
 pub use time::{Time, timed};
 pub use why::{Why, Whys, find_whys};
-pub use why_moment::why_at;
 pub use why_law::reasons_are_exact;
+pub use why_moment::why_at;

@@ -1,7 +1,8 @@
-//! The frames of a track that have a time, as parts: pulses in a row, as elements of one frame. A
-//! frame is believed if another one near it supports its time; one that is not is a part without
-//! pulses. A fine frame that ends with its minute has a time (`timed`). `FrameLens` shows the
-//! frames of a track, each by a record.
+//! The frames of a track that have a time, as parts. A part is pulses in a row, as elements of one
+//! frame whose time is known. A whole part is that of a frame alone: its hundred pulses, or none if
+//! it is not believed. A frame is believed if another one near it supports its time. A fine frame,
+//! neither broken nor read with a note, that ends with its minute has a time (`timed`). `FrameLens`
+//! shows the frames of a track, each by a record.
 
 ghost use Rattle.std.specs.Prelude.{◌≡◌, ◌<◌, IfOk, Some, length, slice_get};
 ghost use Rattle.irig_index.specs.{Frames.frames, declared.record.Record.Record};
@@ -14,9 +15,9 @@ use crate::time::{time_in, timed};
 use irig_codes::{Fields, Format};
 use std::alloc::{AllocError, Global};
 
-/// The frames of a track that have a time, in order. `held` says of each record, which is a frame,
-/// whether it is believed; one that is not is there without pulses. It fails only if memory runs
-/// out.
+/// The parts of the frames of a track that have a time, in order. `held` says of each record
+/// whether its frame is believed: the part of one that is not has no pulse. Fails only if memory
+/// runs out.
 pub fn whole_parts(
     alloc: Global,
     records: &mut FrameLens<'_>,
@@ -37,8 +38,8 @@ pub fn whole_parts(
     Ok(list)
 }
 
-/// The frame of the record at a place, from 0, as a part; `None` if it has no time (`timed`).
-/// `is_held` is whether the frame is believed: if not, the part has no pulses (`whole`).
+/// The part of the frame of the record at a place, from 0; `None` if the frame has no time
+/// (`timed`). `is_held` is whether it is believed (`whole`).
 fn whole_at(
     records: &mut FrameLens<'_>,
     format: Format,
