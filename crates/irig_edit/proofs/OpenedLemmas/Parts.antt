@@ -1,5 +1,5 @@
 -- A session of the parts of a dump is one of the dump.
-use Rattle.std.proofs.Common.{◌≡◌, ℕ, List, Option, Some, None, Result, Ok, Err, IfErr, inl, inr}
+use Rattle.std.proofs.Common.{◌≡◌, ap, ℕ, List, Option, Some, None, Result, Ok, Err, IfErr, inl, inr}
 use Rattle.irig_codes.specs.Format.{FormatView}
 use Rattle.irig_saved.specs.declared.saved.Saved.{Saved}
 use Rattle.irig_vcd.specs.{Parts.dump_parts, declared.fault.VcdFault.VcdFault}
@@ -25,6 +25,12 @@ pub parts_opened : (wire : Option (List ℕ)) (bytes : List ℕ) (r : RecordingV
     → ArePartsOf wire bytes r journal → IsSessionOf r journal format v → IsOpened wire bytes format v
 parts_opened wire bytes r None format v read is = inl (r, read, is)
 parts_opened wire bytes r (Some saved) format v (text, (read, told)) is = inr (r, (text, (saved, read, told, is)))
+
+-- no group is open in it
+pub closed_session : (r : RecordingView) (journal : Option Saved) (format : FormatView) (v : SessionView) → IsSessionOf r journal format v
+    → v.floor ≡ None
+closed_session r None format v is = ap (λ (w : SessionView). w.floor) is.start
+closed_session r (Some saved) format v is = ap (λ (w : SessionView). w.floor) is.session
 
 -- a session without a journal
 pub no_journal : (journal : Option Saved) (r : RecordingView) (format : FormatView) (v : SessionView) → journal ≡ None

@@ -8,10 +8,11 @@
 //!
 //! In a contract `IsOpened` says that the session is the right one, and `IsUnopened` that the error
 //! is that of the dump, or else of its journal. `heading`: a fault of the dump's declarations is
-//! answered before all others. `IsBad P` is V13 at a line that `P` holds of, or `OutOfMemory`. The
-//! clauses `memory` say when memory can run out: `ReachesSteps` if the text begins a journal that
-//! has a step; `HasHead` if format, cursor and marks of the journal are right, or there is no
-//! journal; `MayBeShort` if the dump has no fault and one of these two holds.
+//! answered before all others. `closed`: no group is open in the session. `IsBad P` is V13 at a
+//! line that `P` holds of, or `OutOfMemory`. The clauses `memory` say when memory can run out:
+//! `ReachesSteps` if the text begins a journal that has a step; `HasHead` if format, cursor and
+//! marks of the journal are right, or there is no journal; `MayBeShort` if the dump has no fault
+//! and one of these two holds.
 //!
 //! Where `match` hands an error on, `?` would do the same; the proof of it takes longer.
 
@@ -54,6 +55,7 @@ impl Session {
     ) -> Result<Session, VcdFault>
         requires short { length bytes.items ≤ 2 ^ 28 }
         ensures opened { IfOk result (λ s. IsOpened (name_of wire.entry) bytes.items format s) }
+        ensures closed { IfOk result (λ s. s.floor ≡ None) }
         ensures heading { (e : VcdFault)
             → declarations_of (name_of wire.entry) (words_of bytes.items) ≡ Err e
             → result ≡ Err e }
@@ -88,6 +90,7 @@ impl Session {
         ensures opened { IfOk result (λ s. (wire : Option (List ℕ)) (bytes : List ℕ)
             → dump_parts wire bytes ≡ Ok (recording, bytes_of journal)
             → IsOpened wire bytes format s) }
+        ensures closed { IfOk result (λ s. s.floor ≡ None) }
         ensures fault { IfErr result (λ e. (wire : Option (List ℕ)) (bytes : List ℕ)
             → dump_parts wire bytes ≡ Ok (recording, bytes_of journal)
             → IsUnopened wire bytes e) }

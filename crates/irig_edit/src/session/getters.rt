@@ -7,14 +7,14 @@ ghost use Rattle.irig_recording.specs.FileText.{file_text};
 ghost use Rattle.irig_journal.specs.Journal.{weight_of};
 ghost use Rattle.irig_edit.specs.Changes.Delta.{weight_of as weight_of_change};
 ghost use Rattle.irig_edit.specs.State.State.{frames_of, recording_of};
-ghost use Rattle.irig_track.specs.Splices.{risen_by};
+ghost use Rattle.irig_track.specs.{Splices.risen_by, Track.IsTrack};
 
 use crate::session::frame::Frame;
 use crate::session::session::Session;
 use irig_codes::Format;
 use irig_text::whole;
 use irig_track::{Pulse, TrackText};
-use std::alloc::AllocError;
+use std::alloc::{AllocError, Global};
 
 /// The present state.
 impl Session {
@@ -39,6 +39,21 @@ impl Session {
         ensures { slice_get self.now.state.pulses (number - 1) ≡ Some result }
     {
         self.present.pulse(number)
+    }
+
+    /// All pulses of the track, in their order: the rise and the fall of each, in microseconds.
+    /// Each rises before it falls, and falls before the next one rises (`lawful`). `Err` means that
+    /// memory for the list ran out.
+    pub fn pulses(&self, alloc: Global) -> Result<Vec<Pulse>, AllocError>
+        ensures all { IfOk result (λ pulses. pulses.items ≡ self.now.state.pulses) }
+        ensures lawful { IsTrack self.now.state.micros self.now.state.pulses }
+    {
+        let track = self.present.track();
+        let mut pulses = Vec::with_capacity(alloc, track.len())?;
+        for index in 0..track.len() {
+            pulses.push(track.pulse(index))?;
+        }
+        Ok(pulses)
     }
 
     /// How many pulses rise at or before a time, in microseconds. So it is the number of the last
