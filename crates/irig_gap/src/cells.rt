@@ -77,8 +77,8 @@ pub(crate) fn deallocate<T, A: Allocator>(alloc: &A, len: usize, cells: Cells<T>
     }
 }
 
-/// Makes a block of `old` places one of `len`, which keeps the items in its first `full` places,
-/// and no other item. The allocator can leave it where it is. Returns its places and its deed. If
+/// Makes a block longer: from `old` places to `len`. It keeps the items in the first `full` places,
+/// and no other. The allocator can leave the block where it is. Returns its places and its deed. If
 /// memory runs out, the error has the places and the deed of the block of `old` places, with the
 /// items of the first `full` ones.
 pub(crate) fn enlarge<T, A: Allocator>(
@@ -137,9 +137,9 @@ impl<T> Cells<T> {
         unsafe { self.start.add(index).write(item) }
     }
 
-    /// Moves the `count` items from the place `from` on, which must be full, to the place `to` and
-    /// those after it; what these held is forgotten. The two runs must not overlap. The `count`
-    /// places from `from` on are empty then.
+    /// Moves the `count` items in the places from `from` on, which must be full, to the places from
+    /// `to` on. What was in the latter is forgotten, not dropped. The two runs must not overlap.
+    /// The `count` places from `from` on are empty afterwards.
     pub(crate) fn move_run(&mut self, from: usize, to: usize, count: usize)
         requires inside { (from + count ≤ length self.old.slots)
             × (to + count ≤ length self.old.slots) }

@@ -106,8 +106,8 @@ impl<T: Copy> Gap<T> {
         *self.cells.get(slot)
     }
 
-    /// The item at `index`, from 0, which has to be left of the place: so its place in the block is
-    /// known without a test.
+    /// The item at `index`, from 0, which has to be left of the place. So its place in the block is
+    /// `index`, and no test is needed to find it.
     pub fn get_left(&self, index: usize) -> T
         requires { index < self.now.place }
         ensures { slice_get self.now.items index ≡ Some result }

@@ -35,8 +35,8 @@ impl<T: Copy> Gap<T> {
         self.after += 1;
     }
 
-    /// Moves the place so that `place` items are left of it; there have to be as many items. Items
-    /// move in runs that are no longer than the gap.
+    /// Moves the place so that `place` items are left of it; there must be at least `place` items.
+    /// Each leap moves as many items as the gap is wide, or fewer at the end.
     pub fn move_to(&mut self, place: usize)
         requires { place ≤ length self.old.items }
         ensures { self.new ≡ gap_view self.old.items place self.old.capacity }
@@ -49,10 +49,10 @@ impl<T: Copy> Gap<T> {
         }
     }
 
-    /// Moves the place left over as many items as the gap is wide, or until `place` items are left
-    /// of it if that is nearer. So the items are copied to places that do not overlap their own. If
-    /// the gap is empty, no item is copied, and `place` is reached at once. More than `place` items
-    /// must be left of the place.
+    /// Moves the place to the left, towards `place`: over as many items as the gap is wide, or
+    /// fewer if `place` is nearer. So the items are copied to places that do not overlap their own.
+    /// If the gap is empty, no item is copied, and `place` is reached at once. More than `place`
+    /// items must be left of the place.
     fn leap_left(&mut self, place: usize)
         requires { place < self.old.place }
         ensures view { self.new ≡ gap_view self.old.items self.new.place self.old.capacity }
@@ -71,10 +71,10 @@ impl<T: Copy> Gap<T> {
         self.cells.move_run(self.gap, self.after, count);
     }
 
-    /// Moves the place right over as many items as the gap is wide, or until `place` items are left
-    /// of it if that is nearer. So the items are copied to places that do not overlap their own. If
-    /// the gap is empty, no item is copied, and `place` is reached at once. Fewer than `place`
-    /// items must be left of the place, and there must be as many in all.
+    /// Moves the place to the right, towards `place`: over as many items as the gap is wide, or
+    /// fewer if `place` is nearer. So the items are copied to places that do not overlap their own.
+    /// If the gap is empty, no item is copied, and `place` is reached at once. Fewer than `place`
+    /// items must be left of the place, and at least `place` in all.
     fn leap_right(&mut self, place: usize)
         requires { (self.old.place < place) × (place ≤ length self.old.items) }
         ensures view { self.new ≡ gap_view self.old.items self.new.place self.old.capacity }
