@@ -1,12 +1,10 @@
 -- Control functions that are borne out, frame by frame.
-use Rattle.std.proofs.Common.{◌≡◌, ◌+◌, ◌-◌, ◌<◌, ◌≤◌, ◌++◌, ◌==◌, ℕ, zero, suc, Bool, true, false, List, [], ◌∷◌, Option, Some, None, length, drop, get_or, slice_get, take, length-append}
+use Rattle.std.proofs.Common.{◌≡◌, ◌+◌, ◌-◌, ◌<◌, ◌≤◌, ◌++◌, ◌==◌, ℕ, Bool, true, false, List, [], ◌∷◌, Option, Some, None, length, drop, get_or, slice_get}
 use Rattle.std.proofs.Common.{inl, inr, refl, ap, sym, ◌∙◌, subst, arith}
-use Rattle.std.specs.Prelude.{◌⊎◌, IfErr, IfOk, OnErr, OnOk, Result, Ok, Err}
+use Rattle.std.specs.Prelude.{IfErr, IfOk, OnErr, OnOk, Result, Ok, Err}
 use Rattle.std.specs.List.{flat_map}
-use Rattle.std.specs.List.Sorted.{IsNonDecreasingBy}
-use Rattle.std.proofs.lemmas.List.{drop_all, drop_more, take_all, take_more}
+use Rattle.std.proofs.lemmas.List.{drop_all, drop_more}
 use Rattle.std.proofs.lemmas.Bool.Decides.{nat_tests}
-use Rattle.std.proofs.lemmas.List.Sorted.{IsNonDecreasingBy-push}
 use Rattle.std.proofs.lemmas.Option.{get_or_from_slice_get, slice_get_within}
 use Rattle.irig_codes.specs.declared.note.Note.TheVariants.{Fine, Field, SbsDisagrees, Stray}
 use Rattle.irig_recording.specs.declared.pulse.Pulse.{Pulse}
@@ -244,51 +242,6 @@ pub judged_fault : (o : OriginalView) (s : State) (new : List Seen) (r : Result 
 judged_fault o s new (Ok u) b is f e h = tt
 judged_fault o s new (Err why) b is f e h =
     (some_frame o s o.frames why b is f (subst (λ (l : List Seen). IsUnborneFrom o s None None o.frames l why) e h)).0
-
--- pulses that are copied so far, and the rise of the last
-pub record IsCopied (ps : List Pulse) (i : ℕ) (xs : List Pulse) (last end : ℕ) : Type 0 where
-  pub all : xs ≡ take i ps
-  pub rising : IsNonDecreasingBy (λ (p : Pulse). p.rise) xs
-  pub falling : IsNonDecreasingBy (λ (p : Pulse). p.fall) xs
-  pub last_is : (d : Pulse) → 0 < length xs → (get_or xs (length xs - 1) d).rise ≤ last
-  pub end_is : (d : Pulse) → 0 < length xs → (get_or xs (length xs - 1) d).fall ≤ end
-
-last_item : (xs : List Pulse) (y d : Pulse) → get_or (xs ++ y ∷ []) (length (xs ++ y ∷ []) - 1) d ≡ y
-last_item xs y d =
-    let n : length (xs ++ y ∷ []) - 1 ≡ length xs = omega (arith, length-append xs (y ∷ [])) in
-    ap (λ k. get_or (xs ++ y ∷ []) k d) n ∙ at_end xs
-  where
-    at_end : (xs : List Pulse) → get_or (xs ++ y ∷ []) (length xs) d ≡ y
-    at_end [] = refl
-    at_end (x ∷ xs) = at_end xs
-
-pub copied_none : (ps : List Pulse) → IsCopied ps 0 [] 0 0
-copied_none ps = record {
-  all = refl;
-  rising = λ i j d less within. absurd (omega (arith, within));
-  falling = λ i j d less within. absurd (omega (arith, within));
-  last_is = λ d some. absurd (omega (arith, some));
-  end_is = λ d some. absurd (omega (arith, some));
-}
-
-pub copied_more : (ps xs new : List Pulse) (i last end : ℕ) (y : Pulse) → slice_get ps i ≡ Some y → new ≡ xs ++ y ∷ [] → last ≤ y.rise → end ≤ y.fall
-    → IsCopied ps i xs last end → IsCopied ps (i + 1) new y.rise y.fall
-copied_more ps xs new i last end y here e least most h =
-    let within = slice_get_within ps i y here in
-    let more : take (i + 1) ps ≡ take i ps ++ y ∷ [] =
-        take_more ps i y within ∙ ap (λ (p : Pulse). take i ps ++ p ∷ []) (get_or_from_slice_get ps i y y here) in
-    subst (λ (l : List Pulse). IsCopied ps (i + 1) l y.rise y.fall) (sym e) (record {
-      all = ap (λ l. l ++ y ∷ []) h.all ∙ sym more;
-      rising = IsNonDecreasingBy-push (λ (p : Pulse). p.rise) xs y h.rising (λ d some. let low = h.last_is d some in omega (arith, low, least));
-      falling = IsNonDecreasingBy-push (λ (p : Pulse). p.fall) xs y h.falling (λ d some. let low = h.end_is d some in omega (arith, low, most));
-      end_is = λ d some. let same : (get_or (xs ++ y ∷ []) (length (xs ++ y ∷ []) - 1) d).fall
-          ≡ y.fall = ap (λ (p : Pulse). p.fall) (last_item xs y d) in omega (arith, same);
-      last_is = λ d some. let same : (get_or (xs ++ y ∷ []) (length (xs ++ y ∷ []) - 1) d).rise
-          ≡ y.rise = ap (λ (p : Pulse). p.rise) (last_item xs y d) in omega (arith, same);
-    })
-
-pub copied_all : (ps xs : List Pulse) (i last end : ℕ) → length ps ≤ i → IsCopied ps i xs last end → xs ≡ ps
-copied_all ps xs i last end past h = h.all ∙ take_all i ps past
 
 -- what is found of all that may stay
 pub stays_all : (o : OriginalView) (last : List Shown) (s : State) (now : List Shown) (r : Result Unit Fault) → now ≡ fine_frames s

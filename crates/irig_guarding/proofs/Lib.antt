@@ -12,4 +12,5 @@ pub mod PulseLemmas
 pub mod ReasonLemmas
 pub mod RepairLemmas
 pub mod RisingFrames
+pub mod RisingPulses
 pub mod TrialLemmas

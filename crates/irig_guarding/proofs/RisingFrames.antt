@@ -1,5 +1,5 @@
 -- The frames that read well are in rising order.
-use Rattle.std.proofs.Common.{◌≢◌, ◌+◌, ◌<◌, ◌≤◌, ◌++◌, ℕ, zero, suc, List, [], ◌∷◌, None, length, get_or, refl, subst, arith}
+use Rattle.std.proofs.Common.{◌≢◌, ◌+◌, ◌<◌, ◌++◌, ℕ, zero, suc, List, [], ◌∷◌, None, length, get_or, refl, subst, arith}
 use Rattle.std.specs.Prelude.{AllPairs}
 use Rattle.std.specs.List.{AllByRecursion, flat_map}
 use Rattle.std.proofs.lemmas.Option.{slice_get-get_or}
@@ -15,23 +15,17 @@ use Rattle.irig_script.proofs.PrintLemmas.FrameLines.{marker_within}
 use Rattle.irig_safety.specs.{Safety.IsSafe, Safety.IsSafeFrom, Meaning.AreRising, declared.shown.Shown.Shown}
 use Rattle.irig_safety.specs.{Moved.located, Original.others_of, Terms.OthersView}
 use Rattle.irig_guarding.specs.{Meaning.IsKeptAt, Meaning.SafeStatesMean, Reading.fine_frames, Reading.original_of, Reading.shown_at, Reading.shown_by}
+use Rattle.irig_guarding.proofs.RisingPulses.{at_least}
 use Rattle.irig_safety.proofs.{MeaningLemmas.safe_means, MovedLemmas.located_fields, MovedLemmas.located_some}
 
 -- pulses rise one after the other
-lower : (low : ℕ) (ps : List Pulse) (j : ℕ) (d : Pulse) → RisesFrom low (edges_of ps) → j < length ps → low ≤ (get_or ps j d).rise
-lower low [] j d h within = absurd (omega arith)
-lower low (p ∷ ps) zero d h within = h.0
-lower low (p ∷ ps) (suc j) d h within =
-    let more = lower (p.fall + 1) ps j d h.1.1 (omega arith) in
-    omega (arith, h.0, h.1.0, more)
-
 ordered : (low : ℕ) (ps : List Pulse) (i j : ℕ) (d : Pulse) → RisesFrom low (edges_of ps) → i < j → j < length ps
     → (get_or ps i d).rise < (get_or ps j d).rise
 ordered low [] i j d h less within = absurd (omega arith)
 ordered low (p ∷ ps) i zero d h less within = absurd (omega arith)
 ordered low (p ∷ ps) zero (suc j) d h less within =
-    let more = lower (p.fall + 1) ps j d h.1.1 (omega arith) in
-    omega (arith, h.1.0, more)
+    let more = at_least (p.fall + 1) ps j d h.1.1 (omega arith) in
+    omega (arith, h.1.0, more.0)
 ordered low (p ∷ ps) (suc i) (suc j) d h less within = ordered (p.fall + 1) ps i j d h.1.1 (omega arith) (omega arith)
 
 all_at : {X : Type 0} (P : X → Type 0) (xs : List X) → ((k : ℕ) (d : X) → k < length xs → P (get_or xs k d)) → AllByRecursion P xs

@@ -42,10 +42,8 @@ fn markers_of(alloc: Global, frames: &[Seen]) -> Result<Vec<usize>, AllocError>
     Ok(markers)
 }
 
-/// All pulses of a session, in their order; the session numbers them from 1. Neither their rises
-/// nor their falls go back from one pulse to the next. That is so in each session, but no clause
-/// says so: it is checked with the rise (`last`) and the fall (`end`) of the pulse before. `Err`
-/// means that memory ran out.
+/// All pulses of a session, in their order. Neither their rises nor their falls go back from one
+/// pulse to the next. `Err` means that memory ran out.
 pub fn pulses_of(alloc: Global, session: &Session) -> Result<Vec<Pulse>, AllocError>
     ensures all { IfOk result (λ pulses. pulses.items ≡ session.now.state.pulses) }
     ensures rising { IfOk result (λ pulses.
@@ -53,20 +51,5 @@ pub fn pulses_of(alloc: Global, session: &Session) -> Result<Vec<Pulse>, AllocEr
     ensures falling { IfOk result (λ pulses.
         IsNonDecreasingBy (λ (p : SomePulse). p.fall) pulses.items) }
 {
-    let mut pulses = Vec::new(alloc);
-    let (mut last, mut end) = (0, 0);
-    for index in 0..session.len() {
-        let pulse = session.pulse(index + 1);
-        if pulse.rise < last {
-            // Never, as the next case: no pulse of a session rises or falls before the one before
-            // it, but no clause says so.
-            return Err(AllocError);
-        }
-        if pulse.fall < end {
-            return Err(AllocError);
-        }
-        (last, end) = (pulse.rise, pulse.fall);
-        pulses.push(pulse)?;
-    }
-    Ok(pulses)
+    session.pulses(alloc)
 }

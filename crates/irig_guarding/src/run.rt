@@ -8,9 +8,9 @@
 //! how a run ended: whether all of the script was accepted, and how many frames have control
 //! functions that are not in the recording. `floor ≡ None` in a contract: no group is open.
 
-ghost use Rattle.std.specs.Prelude.{◌≡◌, ◌≤◌, ◌^◌, ℕ, Err, List, None, Option, length, Ok, IfErr, IfOk};
+ghost use Rattle.std.specs.Prelude.{◌≡◌, ◌≤◌, ◌^◌, ℕ, Err, List, None, Option, length, Ok};
 ghost use Rattle.std.specs.Prelude.{IfSome, OnErr, OnOk, [], ◌∷◌};
-ghost use Rattle.irig_edit.specs.Opened.Openings.{IsOpened, IsUnopened, MayBeShort};
+ghost use Rattle.irig_edit.specs.Opened.Openings.{MayBeShort};
 ghost use Rattle.irig_vcd.specs.{Answer.bytes_of, Parts.dump_parts};
 ghost use Rattle.irig_vcd.specs.declared.fault.VcdFault.TheVariants.{OutOfMemory};
 ghost use Rattle.irig_guarding.specs.declared.product.GuardFault.TheVariants.{Dump};
@@ -26,7 +26,6 @@ use irig_print::put_all;
 use irig_recording::Recording;
 use irig_safety::Terms;
 use irig_text::{Shelf, ShelfFault, Text};
-use irig_vcd::VcdFault;
 use std::alloc::Global;
 use std::io::{Read, Write};
 
@@ -59,39 +58,9 @@ pub fn guard_on_parts<R: Read, W: Write, S: Shelf>(
     ensures since { S.since shelf.old shelf.new }
     ensures nothing { product ≡ Product.Nothing → shelf.new ≡ shelf.old }
 {
-    match open_closed(alloc, recording, journal, format) {
+    match Session::open_parts(alloc, recording, journal, format) {
         Ok(mut session) => guard_session(alloc, &mut session, terms, product, script, out, shelf),
         Err(fault) => Err(GuardFault::Dump(fault)),
-    }
-}
-
-/// Opens a dump by what was read of it; `Err` says why it cannot be opened. No group is open in the
-/// session. No clause of `open_parts` says so: to prove it, an `end` is tried, which is refused and
-/// changes nothing.
-fn open_closed(
-    alloc: Global,
-    recording: Recording,
-    journal: Option<Vec<u8>>,
-    format: Format,
-) -> Result<Session, VcdFault>
-    requires { IfSome journal (λ text. length text.items ≤ 2 ^ 28) }
-    ensures closed { IfOk result (λ s. s.floor ≡ None) }
-    ensures opened { IfOk result (λ s. (wire : Option (List ℕ)) (bytes : List ℕ)
-        → dump_parts wire bytes ≡ Ok (recording, bytes_of journal)
-        → IsOpened wire bytes format s) }
-    ensures fault { IfErr result (λ e. (wire : Option (List ℕ)) (bytes : List ℕ)
-        → dump_parts wire bytes ≡ Ok (recording, bytes_of journal)
-        → IsUnopened wire bytes e) }
-    ensures memory { result ≡ Err OutOfMemory
-        → MayBeShort (Ok (recording, bytes_of journal)) }
-{
-    match Session::open_parts(alloc, recording, journal, format) {
-        Ok(mut session) => {
-            // Refused: a dump opens with no group.
-            let _ = session.end();
-            Ok(session)
-        }
-        Err(fault) => Err(fault),
     }
 }
 
