@@ -33,17 +33,17 @@ abbrev pub track : Rule
 track = needed (codes "TRACK")
 
 -- which part of which wire is read
-abbrev pub taking : App
-taking = with_window (with_rule (new_app (codes "irig_ed")) (option (codes "wire") None))
+abbrev pub part_command : App
+part_command = with_window (with_rule (new_app (codes "irig_ed")) (option (codes "wire") None))
 
 -- how the track is read: that, the format and its expression
-abbrev pub reading_with : Rule → Rule → App
-reading_with format expression = with_rule (with_rule taking format) expression
+abbrev pub format_command_with : Rule → Rule → App
+format_command_with format expression = with_rule (with_rule part_command format) expression
 
 -- the command: how the track is read, the path to write, and the track
 abbrev pub command_with : Rule → Rule → App
 command_with format expression =
-    with_rule (with_rule (reading_with format expression) (option (codes "out") None)) track
+    with_rule (with_rule (format_command_with format expression) (option (codes "out") None)) track
 
 -- it has the choices of a letter and of a digit
 pub record HasChoices (with_choices : Rule → Rule → App) (app : App) : Type 0 where
@@ -54,12 +54,12 @@ pub record HasChoices (with_choices : Rule → Rule → App) (app : App) : Type 
   pub shape : app ≡ with_choices format expression
 
 -- it says which part of which wire is read
-abbrev pub IsTaking : App → Type 0
-IsTaking app = app ≡ taking
+abbrev pub IsPartCommand : App → Type 0
+IsPartCommand app = app ≡ part_command
 
 -- it says how the track is read
-abbrev pub IsReading : App → Type 0
-IsReading app = HasChoices reading_with app
+abbrev pub IsFormatCommand : App → Type 0
+IsFormatCommand app = HasChoices format_command_with app
 
 -- it is the command line of the program
 abbrev pub IsCommand : App → Type 0

@@ -1,17 +1,20 @@
-//! The command line, read by `clap`. Its matches are what `clap` found in its words. Only memory
-//! can run out for a `Command`, which is what `clap` knows of a command line, or an `Arg`. Each
-//! function that gives a `Command` adds some options to those of the next one below it. An `Arg`
-//! that is `global` would be one of subcommands, too. In a contract, `IsTaking`, `IsReading` and
-//! `IsCommand` say that a command has just the arguments that the function of that name gives it,
-//! `IsChoice` that an option takes one of these values, `IsParsed` and `MayRefuse` that `clap` may
-//! give these matches or this error for the words.
+//! The command line, read by `clap`. A `Command` is what `clap` knows of a command line, an `Arg`
+//! is an option or a word of it, and matches are what `clap` found in the words. Only memory can
+//! run out for a `Command` or an `Arg`. `option_arg` makes an option with a value, and `needed_arg`
+//! a word that has to be there, each by its name and its text in the help. The options are added in
+//! this order: `part_command`, `letter_command`, `format_command`, `command`.
+//!
+//! In a contract, `IsPartCommand`, `IsFormatCommand` and `IsCommand` say that a command has just
+//! the arguments that the function of that name gives it, `IsChoice` that an option takes one of
+//! these values, `IsParsed` and `MayRefuse` that `clap` may give these matches or this error for
+//! the words. An `Arg` that is `global` would be one of subcommands, too.
 //!
 //! Where `let Ok(..) else` returns an error, `?` would do the same; the proof of it takes longer.
 
 ghost use Rattle.std.specs.Prelude.{◌≡◌, IfErr, IfOk, false, codes, map, string_bytes};
 ghost use Rattle.clap.specs.Words.{Rule, app_of, found_of, rule_of, with_rule};
-ghost use Rattle.irig_settings.specs.Options.{IsChoice, IsCommand, IsParsed, IsReading, IsTaking};
-ghost use Rattle.irig_settings.specs.Options.{letters, taking, track};
+ghost use Rattle.irig_settings.specs.Options.{IsChoice, IsCommand, IsFormatCommand, IsParsed};
+ghost use Rattle.irig_settings.specs.Options.{IsPartCommand, letters, part_command, track};
 ghost use Rattle.irig_settings.specs.Errors.{MayRefuse};
 ghost use Rattle.irig_settings.specs.Settings.{Chooses, Reads};
 
@@ -27,9 +30,9 @@ static LETTERS: [&str; 4] = ["A", "B", "E", "G"];
 /// The digits that `--expression` takes; some formats permit fewer.
 static DIGITS: [&str; 8] = ["0", "1", "2", "3", "4", "5", "6", "7"];
 
-/// What the words of a command line ask for, the program's name being the first. An error says
-/// which mistake they have (`Words`, or `Value` of an option), that they ask for help, or that
-/// memory ran out (`Words`, both).
+/// What the words of a command line ask for, the program's name being the first. The error is
+/// `Words` if `clap` does not accept the words, they ask for help, or memory runs out, and `Value`
+/// if an option has a value that it cannot have.
 pub fn settings<'a>(
     alloc: Global,
     words: &'a [String],
@@ -42,11 +45,11 @@ pub fn settings<'a>(
     }
 }
 
-/// What the matches of a command line that `clap` accepts ask for. The first fault is the error:
-/// `Window` if its times are wrong, `Out` if there is a window and no `--out`, or `BadExpression`.
-/// `clap` has tested the letter, so of the format only the expression can be wrong: one that the
-/// format does not permit. A window is the part of the dump that is read. Without `--out` texts are
-/// written to the track's path.
+/// What the matches of a command line that `clap` accepts ask for. Without `--out` texts are
+/// written to the track's path. The first fault is the error, a `Value`: `Window` if a time of the
+/// window is wrong, `Out` if there is a window and no `--out`, or `BadExpression` if the format
+/// does not permit the expression. `clap` has tested the letter and the digit, so nothing else of
+/// the format can be wrong.
 fn chosen_of<'a>(matches: &ArgMatches<'a>) -> Result<Settings<'a>, UsageFault<OptionFault>>
     ensures { Chooses (found_of matches.now) result }
 {
@@ -71,8 +74,8 @@ fn chosen_of<'a>(matches: &ArgMatches<'a>) -> Result<Settings<'a>, UsageFault<Op
     })
 }
 
-/// The matches of a command line that is accepted. An error is a mistake in its words, the help
-/// that they ask for, or that memory ran out, which `?` makes an error of `clap`.
+/// The matches of a command line that `clap` accepts. `Err` if it does not accept the words, they
+/// ask for help, or memory ran out, which `?` makes an error of `clap`.
 fn parse_words<'a>(alloc: Global, words: &'a [String]) -> Result<ArgMatches<'a>, Error>
     ensures parsed { IfOk result (IsParsed (map string_bytes words.entry.now)) }
     ensures refused { IfErr result (MayRefuse (map string_bytes words.entry.now)) }
@@ -80,12 +83,13 @@ fn parse_words<'a>(alloc: Global, words: &'a [String]) -> Result<ArgMatches<'a>,
     matches_of(command(alloc)?, words)
 }
 
-/// The command line of the program: the options of `reading`, where to write, and the track. It
-/// fails only if memory runs out.
+/// The command line of the program: the options of `format_command`, the path to write (`--out`),
+/// and the path of the track. `Err` means in this function and in the next three that memory ran
+/// out.
 pub fn command<'a>(alloc: Global) -> Result<Command<'a>, AllocError>
     ensures { IfOk result (λ c. IsCommand (app_of c)) }
 {
-    reading(alloc)?
+    format_command(alloc)?
         .arg(option_arg(
             alloc,
             "out",
@@ -95,15 +99,15 @@ pub fn command<'a>(alloc: Global) -> Result<Command<'a>, AllocError>
         .arg(track_arg(alloc))
 }
 
-/// The command with all options that say how the track is read: those of `lettered`, and the digit
-/// of the expression.
-fn reading<'a>(alloc: Global) -> Result<Command<'a>, AllocError>
-    ensures { IfOk result (λ c. IsReading (app_of c)) }
+/// The command with the options of `letter_command`, and the digit of the expression
+/// (`--expression`).
+fn format_command<'a>(alloc: Global) -> Result<Command<'a>, AllocError>
+    ensures { IfOk result (λ c. IsFormatCommand (app_of c)) }
 {
-    let Ok(lettered) = lettered(alloc) else {
+    let Ok(command) = letter_command(alloc) else {
         return Err(AllocError);
     };
-    lettered.arg(choice_arg(
+    command.arg(choice_arg(
         alloc,
         "expression",
         "NUMBER",
@@ -112,15 +116,16 @@ fn reading<'a>(alloc: Global) -> Result<Command<'a>, AllocError>
     ))
 }
 
-/// The command with the options of `taking`, and the letter of the format.
-fn lettered<'a>(alloc: Global) -> Result<Command<'a>, AllocError>
+/// The command with the options of `part_command`, and the letter of the format (`--format`). In
+/// the contract, `format` is what `clap` accepts for that option: one of the letters.
+fn letter_command<'a>(alloc: Global) -> Result<Command<'a>, AllocError>
     ensures { IfOk result (λ c. (format : Rule) × IsChoice (codes "format") letters format
-        × (app_of c ≡ with_rule taking format)) }
+        × (app_of c ≡ with_rule part_command format)) }
 {
-    let Ok(taking) = taking(alloc) else {
+    let Ok(command) = part_command(alloc) else {
         return Err(AllocError);
     };
-    taking.arg(choice_arg(
+    command.arg(choice_arg(
         alloc,
         "format",
         "FORMAT",
@@ -129,10 +134,10 @@ fn lettered<'a>(alloc: Global) -> Result<Command<'a>, AllocError>
     ))
 }
 
-/// The command with the options that say which part of which wire is read: `--wire`, and `--from`
-/// and `--to` of `windowed`.
-fn taking<'a>(alloc: Global) -> Result<Command<'a>, AllocError>
-    ensures { IfOk result (λ c. IsTaking (app_of c)) }
+/// The command with the options that say which part of the dump is read: its wire (`--wire`), and
+/// the window (`--from` and `--to`), which `windowed` adds.
+fn part_command<'a>(alloc: Global) -> Result<Command<'a>, AllocError>
+    ensures { IfOk result (λ c. IsPartCommand (app_of c)) }
 {
     let wire = option_arg(alloc, "wire", "NAME", "the wire of the dump");
     let Ok(wired) = Command::new(alloc, "irig_ed").arg(wire) else {
@@ -141,8 +146,8 @@ fn taking<'a>(alloc: Global) -> Result<Command<'a>, AllocError>
     windowed(alloc, wired)
 }
 
-/// An option `--name` with one of these values: `clap` refuses any other. `help` is its text in the
-/// help, which calls its value `value`.
+/// An option `--name` with one of these values: `clap` refuses any other. `value` is what its value
+/// is called in the help, and `help` says what it is for.
 fn choice_arg<'a>(
     alloc: Global,
     name: &'a str,

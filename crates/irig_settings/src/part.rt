@@ -10,9 +10,10 @@ use clap::ArgMatches;
 use irig_vcd::Window;
 use irig_words::window_named;
 
-/// The window that the matches ask for; `None` if they ask for none. An error is `Window` if a text
-/// is no time, or the times are in the wrong order; and `Out` if there is a window and no path is
-/// given for what is written: a part must not replace the whole.
+/// The window that the matches ask for (`--from` and `--to`); `None` if they ask for none. The
+/// error is `Window` if a text is no time, or the window ends before it begins, and `Out` if there
+/// is a window and no path is given for what is written (`--out`): a part must not replace the
+/// whole.
 pub fn window_of(matches: &ArgMatches<'_>) -> Result<Option<Window>, OptionFault>
     ensures part { IfOk result (IsPart (found_of matches.now)) }
     ensures fault { IfErr result (HasFault (found_of matches.now)) }
@@ -30,7 +31,8 @@ pub fn window_of(matches: &ArgMatches<'_>) -> Result<Option<Window>, OptionFault
     Ok(window)
 }
 
-/// Whether there is a window, and no path for what is written of it.
+/// Whether a path to write is missing: there is a window, and no `--out`. Without a window none is
+/// needed.
 fn lacks_path(window: Option<Window>, out: Option<&str>) -> bool
     ensures { result ≡ (is_some window && not (is_some out.entry)) }
 {

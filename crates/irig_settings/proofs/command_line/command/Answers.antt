@@ -5,7 +5,7 @@ use Rattle.irig_settings.proofs.command_line.command.Goals as goal
 
 pub returns : goal.returns
 returns c =
-    let read = c.in_ok-reading.ensures in
+    let read = c.in_ok-format_command.ensures in
     let out = c.in_ok-arg.ensures.shape c.option_arg.ensures.local ∙ ap₂ with_rule read.shape c.option_arg.ensures.rule in
     IfOk-weaker c.arg-2.result _ _ (λ cmd added. record {
       format = read.format;

@@ -2,7 +2,7 @@ use Rattle.std.proofs.Common.{rules, ap₂, refl, codes, List, ◌∙◌, subst}
 use Rattle.std.proofs.lemmas.Result.{IfOk-weaker}
 use Rattle.clap.specs.Words.{Text, rule_of, with_rule}
 use Rattle.irig_settings.specs.Options.{IsChoice, letters}
-use Rattle.irig_settings.proofs.command_line.lettered.Goals as goal
+use Rattle.irig_settings.proofs.command_line.letter_command.Goals as goal
 
 pub returns : goal.returns
 returns c =

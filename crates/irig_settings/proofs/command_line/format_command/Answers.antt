@@ -2,7 +2,7 @@ use Rattle.std.proofs.Common.{rules, ap₂, refl, codes, List, ◌∙◌, subst}
 use Rattle.std.proofs.lemmas.Result.{IfOk-weaker}
 use Rattle.clap.specs.Words.{Text, rule_of, with_rule}
 use Rattle.irig_settings.specs.Options.{IsChoice, digits}
-use Rattle.irig_settings.proofs.command_line.reading.Goals as goal
+use Rattle.irig_settings.proofs.command_line.format_command.Goals as goal
 
 pub returns : goal.returns
 returns c =
