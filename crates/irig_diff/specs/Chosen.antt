@@ -4,20 +4,21 @@ use Rattle.irig_codes.specs.Format.{FormatView}
 use Rattle.irig_words.specs.Formats.{HasFormatFault, IsFormat, given}
 use Rattle.irig_words.specs.Windows.{HasWindowFault, IsWindow}
 use Rattle.irig_diff.specs.declared.chosen.OptionFault.{OptionFault}
-use Rattle.irig_diff.specs.{declared.asked.Asked.Asked, declared.chosen.Settings.Settings}
+use Rattle.irig_diff.specs.declared.raw_values.RawValues.{RawValues}
+use Rattle.irig_diff.specs.declared.chosen.Settings.{Settings}
 use Rattle.irig_diff.specs.declared.chosen.OptionFault.TheVariants as fault
 
 -- an option is given that says how frames are read
-abbrev pub names_format : Asked → Bool
+abbrev pub names_format : RawValues → Bool
 names_format a = is_some a.format || is_some a.expression
 
 -- frames are shown in this format; or none are, and no option says how they are read
-abbrev pub AreFrames : Asked → Option FormatView → Type 0
+abbrev pub AreFrames : RawValues → Option FormatView → Type 0
 AreFrames a None = (a.frames ≡ false) × (names_format a ≡ false)
 AreFrames a (Some f) = (a.frames ≡ true) × IsFormat (given a.format) (given a.expression) f
 
 -- the values ask for this
-pub record IsChosen (a : Asked) (s : Settings) : Type 0 where
+pub record IsChosen (a : RawValues) (s : Settings) : Type 0 where
   pub before : s.before ≡ a.before
   pub wire : s.wire ≡ a.wire
   pub after : s.after ≡ a.after
@@ -26,7 +27,7 @@ pub record IsChosen (a : Asked) (s : Settings) : Type 0 where
   pub frames : AreFrames a s.frames
 
 -- this option has a value that it cannot have
-abbrev pub HasFault : Asked → OptionFault → Type 0
+abbrev pub HasFault : RawValues → OptionFault → Type 0
 HasFault a (fault.Window of_window) = HasWindowFault (given a.from) (given a.to) of_window
 HasFault a (fault.Format of_format) =
     (a.frames ≡ true) × HasFormatFault (given a.format) (given a.expression) of_format

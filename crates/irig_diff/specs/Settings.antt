@@ -7,10 +7,11 @@ use Rattle.irig_words.specs.Usage as usage
 use Rattle.irig_words.specs.declared.usage.UsageFault.{UsageFault}
 use Rattle.irig_diff.specs.declared.chosen.OptionFault.{OptionFault}
 use Rattle.irig_diff.specs.{Chosen.HasFault, Chosen.IsChosen, Options.the_command}
-use Rattle.irig_diff.specs.{declared.asked.Asked.Asked, declared.chosen.Settings.Settings}
+use Rattle.irig_diff.specs.declared.raw_values.RawValues.{RawValues}
+use Rattle.irig_diff.specs.declared.chosen.Settings.{Settings}
 
 -- the values are those of the matches
-pub record AreValues (f : Found) (a : Asked) : Type 0 where
+pub record AreValues (f : Found) (a : RawValues) : Type 0 where
   pub before : first_value f (codes "BEFORE") ≡ Some a.before.now
   pub after : first_value f (codes "AFTER") ≡ Some a.after.now
   pub wire : first_value f (codes "wire") ≡ option_map (λ w. w.now) a.wire

@@ -1,23 +1,27 @@
-//! The command line, read by `clap`. Its matches are what `clap` found in its words. Only memory
-//! can run out for a `Command` or an `Arg`. `option_arg` makes an option with a value, `flag_arg`
-//! one without, and `needed_arg` a word that has to be there, each by its name and its text in the
-//! help. What is after the last colon of that text is the value without the option. An `Arg` that
-//! is `global` would be one of subcommands, too. In a contract, `IsWired`, `IsTaking`, `IsShowing`
-//! and `IsCommand` say that a command has just the arguments that the function of that name gives
-//! it; `MayRefuse` says that `clap` may give this error for the words, `WantsMemory` that memory
-//! ran out.
+//! The command line, read by `clap`. A `Command` is what `clap` knows of a command line, an `Arg`
+//! is an option or a word of it, and matches are what `clap` found in the words. Only memory can
+//! run out for a `Command` or an `Arg`. `option_arg` makes an option with a value, `flag_arg` one
+//! without, and `needed_arg` a word that has to be there, each by its name and its text in the
+//! help. What is after the last colon of that text is the value without the option. The options are
+//! added in this order: `wires_command`, `part_command`, `frames_command`, `command`.
+//!
+//! In a contract, `IsWiresCommand` and the like say that a command has just the arguments that the
+//! function of that name gives it; `MayRefuse` says that `clap` may give this error for the words,
+//! `WantsMemory` that memory ran out, `AreValues` that these are the values of the matches. An
+//! `Arg` that is `global` would be one of subcommands, too.
 
 ghost use Rattle.std.specs.Prelude.{◌≡◌, IfErr, IfOk, None, false, map, string_bytes};
 ghost use Rattle.clap.specs.Words.{HasMatchesOf, app_of, found_of, rule_of};
-ghost use Rattle.irig_diff.specs.Options.{IsCommand, IsShowing, IsTaking, IsWired, the_command};
+ghost use Rattle.irig_diff.specs.Options.{IsCommand, IsFramesCommand, IsPartCommand};
+ghost use Rattle.irig_diff.specs.Options.{IsWiresCommand, the_command};
 ghost use Rattle.irig_diff.specs.Settings.{AreValues, Reads};
 ghost use Rattle.irig_words.specs.Arguments.{option};
 ghost use Rattle.irig_words.specs.Errors.{MayRefuse, WantsMemory};
 ghost use Rattle.irig_words.specs.Usage.{Values};
 
-use crate::asked::Asked;
 use crate::chosen::{OptionFault, Settings};
 use crate::options::settings_of;
+use crate::raw_values::RawValues;
 use clap::{Arg, ArgMatches, Command, Error};
 use irig_words::{UsageFault, flag_arg, matches_of, needed_arg, option_arg, windowed};
 use std::alloc::{AllocError, Global};
@@ -31,19 +35,19 @@ pub fn settings<'a>(
 ) -> Result<Settings<'a>, UsageFault<OptionFault>>
     ensures { Reads (map string_bytes words.entry.now) result }
 {
-    let asked = match asked(alloc, words) {
-        Ok(asked) => asked,
+    let raw = match raw_values(alloc, words) {
+        Ok(raw) => raw,
         Err(error) => return Err(UsageFault::Words(error)),
     };
-    match settings_of(&asked) {
+    match settings_of(&raw) {
         Ok(chosen) => Ok(chosen),
         Err(fault) => Err(UsageFault::Value(fault)),
     }
 }
 
-/// The values of a command line: the words, as `clap` takes them apart. `Err` if `clap` does not
-/// accept them, they ask for help, or memory ran out.
-fn asked<'a>(alloc: Global, words: &'a [String]) -> Result<Asked<'a>, Error>
+/// The values of a command line as text: the words, as `clap` takes them apart. `Err` if `clap`
+/// does not accept them, they ask for help, or memory ran out.
+fn raw_values<'a>(alloc: Global, words: &'a [String]) -> Result<RawValues<'a>, Error>
     ensures values { IfOk result (Values the_command AreValues
         (map string_bytes words.entry.now)) }
     ensures refused { IfErr result (MayRefuse the_command (map string_bytes words.entry.now)) }
@@ -54,9 +58,9 @@ fn asked<'a>(alloc: Global, words: &'a [String]) -> Result<Asked<'a>, Error>
     }
 }
 
-/// The values of the matches, each as it was written; `None` for an option that is not given. `Err`
-/// means that memory ran out.
-fn values_of<'a>(matches: &ArgMatches<'a>) -> Result<Asked<'a>, Error>
+/// The values of the matches, each as it was written; for an option that is not given, `None`, or
+/// `false` if it has no value. `Err` means that memory ran out.
+fn values_of<'a>(matches: &ArgMatches<'a>) -> Result<RawValues<'a>, Error>
     ensures values { IfOk result (AreValues (found_of matches.now)) }
     ensures memory { IfErr result WantsMemory }
 {
@@ -67,7 +71,7 @@ fn values_of<'a>(matches: &ArgMatches<'a>) -> Result<Asked<'a>, Error>
     let Some(after) = matches.get_str("AFTER") else {
         return Err(AllocError.into());
     };
-    Ok(Asked {
+    Ok(RawValues {
         before,
         after,
         wire: matches.get_str("wire"),
@@ -89,18 +93,20 @@ fn parse_words<'a>(alloc: Global, words: &'a [String]) -> Result<ArgMatches<'a>,
     matches_of(command(alloc)?, words)
 }
 
-/// The command line of the program: all options, and the paths of the two dumps.
+/// The command line of the program: the options of `frames_command`, and the paths of the two
+/// dumps.
 pub fn command<'a>(alloc: Global) -> Result<Command<'a>, AllocError>
     ensures { IfOk result (λ c. IsCommand (app_of c)) }
 {
     let before = needed_arg(alloc, "BEFORE", "the dump of the track before");
     let after = needed_arg(alloc, "AFTER", "the dump of the track after");
-    showing(alloc)?.arg(before)?.arg(after)
+    frames_command(alloc)?.arg(before)?.arg(after)
 }
 
-/// The command with all options: those of `taking`, and how frames are shown in comments.
-fn showing<'a>(alloc: Global) -> Result<Command<'a>, AllocError>
-    ensures { IfOk result (λ c. IsShowing (app_of c)) }
+/// The command with the options of `part_command`, and those that say how frames are shown in
+/// comments: `--frames`, `--format` and `--expression`.
+fn frames_command<'a>(alloc: Global) -> Result<Command<'a>, AllocError>
+    ensures { IfOk result (λ c. IsFramesCommand (app_of c)) }
 {
     let frames = flag_arg(
         alloc,
@@ -109,30 +115,33 @@ fn showing<'a>(alloc: Global) -> Result<Command<'a>, AllocError>
     );
     let format = option_arg(alloc, "format", "FORMAT", "A, B, E or G: B");
     let expression = option_arg(alloc, "expression", "NUMBER", "of the format: 2");
-    taking(alloc)?.arg(frames)?.arg(format)?.arg(expression)
+    part_command(alloc)?
+        .arg(frames)?
+        .arg(format)?
+        .arg(expression)
 }
 
-/// The command with the options of `wired`, and those of the window, `--from` and `--to`: which
-/// part of the wires is read.
-fn taking<'a>(alloc: Global) -> Result<Command<'a>, AllocError>
-    ensures { IfOk result (λ c. IsTaking (app_of c)) }
+/// The command with the options of `wires_command`, and those of the window, the part of both dumps
+/// that is read: `--from` and `--to`, which `windowed` adds.
+fn part_command<'a>(alloc: Global) -> Result<Command<'a>, AllocError>
+    ensures { IfOk result (λ c. IsPartCommand (app_of c)) }
 {
-    let Ok(wired) = wired(alloc) else {
+    let Ok(wired) = wires_command(alloc) else {
         return Err(AllocError);
     };
     windowed(alloc, wired)
 }
 
-/// The command with the options that name the wires.
-fn wired<'a>(alloc: Global) -> Result<Command<'a>, AllocError>
-    ensures { IfOk result (λ c. IsWired (app_of c)) }
+/// The command with the options that name the wires: `--wire` and `--wire-after`.
+fn wires_command<'a>(alloc: Global) -> Result<Command<'a>, AllocError>
+    ensures { IfOk result (λ c. IsWiresCommand (app_of c)) }
 {
     let wire = wire_arg(alloc, "wire", "the wire of BEFORE");
     let wire_after = wire_arg(alloc, "wire-after", "the wire of AFTER");
     Command::new(alloc, "irig_diff").arg(wire)?.arg(wire_after)
 }
 
-/// An option `--name` whose value is the name of a wire; `help` says whose wire.
+/// An option `--name` whose value is the name of a wire. `help` says of which dump.
 fn wire_arg<'a>(alloc: Global, name: &'a str, help: &'a str) -> Arg<'a>
     ensures rule { rule_of result ≡ option name.entry.now None }
     ensures local { result.global ≡ false }

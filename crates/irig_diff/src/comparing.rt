@@ -3,8 +3,12 @@
 //! printed by a block: memory in which its parts wait, and which is taken before the tracks are
 //! read. The ending says whether the two tracks are the same. A window is the part of both that is
 //! read. If memory runs out, that is reported as a fault of a file, `File`; `Dump` is a fault of
-//! the dump in it. In a contract, `held` is what each file holds, if that is known, `unread` for
-//! which faults a file is not read, and `contents` what came to an output.
+//! the dump in it.
+//!
+//! In a contract, `held` is what each file holds, if that is known, `unread` for which faults a
+//! file is not read, and `contents` what came to an output. `EndsBy`, `Obeys`, `PrintsIfRoom` and
+//! `PrintsText` say what was done: for the words, for the settings, for two recordings, and for the
+//! text of a patch.
 
 ghost use Rattle.std.specs.Prelude.{◌≡◌, map, option_map, string_bytes};
 ghost use Rattle.irig_comments.specs.{Framed.framed, Parts.commented_text};
@@ -85,10 +89,10 @@ fn compare_with_block<'a, D: Disk, W: Write>(
     compare_recordings(alloc, chosen, before, after, out, block)
 }
 
-/// Prints the patch between two recordings: with comments if frames are asked for
-/// (`compare_frames`), else without (`print_patch`). `Compared` says whether the two are the same.
-/// `Unprinted` if the output fails or memory runs out for the block: a front of the patch may be
-/// printed then. `Unread` if memory runs out for the frames: nothing is printed then. Of the
+/// Prints the patch between two recordings, with comments if frames are asked for
+/// (`compare_with_frames`), else without (`print_patch`). `Compared` says whether the two are the
+/// same. `Unprinted` if the output fails or memory runs out for the block: a front of the patch may
+/// be printed then. `Unread` if memory runs out for the frames: nothing is printed then. Of the
 /// settings it uses the format, and the paths for `Unread`.
 fn compare_recordings<'a, W: Write>(
     alloc: Global,
@@ -103,14 +107,14 @@ fn compare_recordings<'a, W: Write>(
 {
     match chosen.frames {
         None => print_patch(&before, &after, out, block),
-        Some(format) => compare_frames(alloc, chosen, format, before, after, out, block),
+        Some(format) => compare_with_frames(alloc, chosen, format, before, after, out, block),
     }
 }
 
-/// Prints the patch between two recordings with comments that show their frames in this format. If
-/// memory runs out for the frames of one of them, that track is reported as not read (`Unread`).
-/// Else the ending is that of `print_frames`.
-fn compare_frames<'a, W: Write>(
+/// Prints the patch between two recordings with comments that show their frames in this format. The
+/// frames of both are found first: if memory runs out for those of one, that track is reported as
+/// not read (`Unread`), and nothing is printed. Else the ending is that of `print_commented_patch`.
+fn compare_with_frames<'a, W: Write>(
     alloc: Global,
     chosen: &Settings<'a>,
     format: Format,
@@ -128,13 +132,13 @@ fn compare_frames<'a, W: Write>(
     let Ok(after) = Framed::new(alloc, after, format) else {
         return Ending::Unread(chosen.after, TrackFault::File(DumpFileFault::OutOfMemory));
     };
-    print_frames(&before, &after, out, block)
+    print_commented_patch(&before, &after, out, block)
 }
 
-/// Prints the patch with comments between two recordings, whose frames have one format. It has no
-/// byte exactly if they are the same: the ending is `Compared(true)` then, else `Compared(false)`.
-/// `Unprinted` if the output fails, or memory runs out for the block.
-fn print_frames<'a, W: Write>(
+/// Prints the patch with comments between two recordings, whose frames are found and have the same
+/// format. It has no byte exactly if the recordings are the same: the ending is `Compared(true)`
+/// then, else `Compared(false)`. `Unprinted` if the output fails, or memory runs out for the block.
+fn print_commented_patch<'a, W: Write>(
     before: &Framed,
     after: &Framed,
     out: &mut W,
@@ -150,9 +154,9 @@ fn print_frames<'a, W: Write>(
     }
 }
 
-/// Prints the patch between two recordings. It has no byte exactly if they are the same: the ending
-/// is `Compared(true)` then, else `Compared(false)`. `Unprinted` if the output fails, or memory
-/// runs out for the block.
+/// Prints the patch without comments between two recordings. It has no byte exactly if they are the
+/// same: the ending is `Compared(true)` then, else `Compared(false)`. `Unprinted` if the output
+/// fails, or memory runs out for the block.
 fn print_patch<'a, W: Write>(
     before: &Recording,
     after: &Recording,

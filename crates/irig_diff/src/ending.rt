@@ -11,7 +11,8 @@ pub enum Ending<'a> {
     Usage(UsageFault<OptionFault>),
     /// The track at this path was not read.
     Unread(&'a str, TrackFault),
-    /// The patch between the two tracks was printed. True if they are the same.
+    /// The patch between the two tracks was printed. True if they are the same: then it has no
+    /// byte.
     Compared(bool),
     /// The output failed, or memory ran out for what is printed.
     Unprinted,

@@ -1,13 +1,12 @@
-//! What differs between two recorded time tracks, as a script that makes the one of the other: the
-//! patch. The status is the number with which the program ends: 0 if the tracks are the same, 1 if
-//! they differ, and 2 for any fault, as a mistake in the command line, a track that was not read,
-//! or an output that failed. Help that was asked for ends with 0, or with 2 if it cannot be
-//! printed. In a contract, `held` is what each file holds, if that is known, `unread` for which
-//! faults a file is not read, and `contents` what came to an output; `Serves` says that the words
-//! were obeyed, and what the output of help and the status are then.
+//! What differs between two recorded time tracks, before and after, as a script that makes the one
+//! after of the one before: the patch. The status is the number with which the program ends: 0 if
+//! the tracks are the same, 1 if they differ, and 2 for any fault, as a mistake in the command
+//! line, a track that was not read, or an output that failed. Help that was asked for ends with 0,
+//! or with 2 if it cannot be printed. In a contract, `held` is what each file holds, if that is
+//! known, `unread` for which faults a file is not read, and `contents` what came to an output;
+//! `Serves` says that the words were obeyed, and what the output of help and the status are then.
 #![tactic(auto)]
 
-mod asked;
 mod chosen;
 mod command_line;
 mod comparing;
@@ -15,6 +14,7 @@ mod ending;
 mod help;
 mod options;
 mod printing;
+mod raw_values;
 mod statuses;
 
 ghost use Rattle.std.specs.Prelude.{map, string_bytes};
@@ -31,9 +31,10 @@ use std::process::ExitCode;
 use std::rt::Runtime;
 use std::{env, io};
 
-// Gets the files of the system and the words of the command line; then the tracks are compared, and
-// the status is that of `start`. If one of these cannot be had, `tell` or `tell_no_words` prints
-// why on the standard error, and the status is 2. The tracks were not looked for then.
+// Gets the files of the system and the words of the command line, and compares the tracks as
+// `start` does, which gives the status. `system_files` of irig_files takes the memory for the paths
+// of files, and fails only if there is none: that is printed on the standard error, with status 2.
+// If the words cannot be had, `tell_no_words` prints why, with status 2, too.
 fn main(rt: HostRuntime) -> ExitCode {
     let Ok(files) = system_files(&rt) else {
         return program().tell(&rt, 2, &io::Error::from(io::ErrorKind::OutOfMemory));

@@ -1,30 +1,33 @@
-//! What the values of a command line mean. The window is the part of both dumps that is read,
-//! between the times of `--from` and `--to`.
+//! What the values of a command line mean. `raw` has them as text, as they are written. The window
+//! is the part of both dumps that is read, between the times of `--from` and `--to`. In a contract,
+//! `IsChosen` says that the settings are what the values mean, `AreFrames` that the format of the
+//! frames is, `HasFault` that this option has a value that it cannot have.
 
 ghost use Rattle.std.specs.Prelude.{◌≡◌, IfErr, IfOk};
 ghost use Rattle.irig_diff.specs.Chosen.{AreFrames, HasFault, IsChosen, names_format};
 
-use crate::asked::Asked;
 use crate::chosen::{OptionFault, Settings};
+use crate::raw_values::RawValues;
 use irig_codes::Format;
 use irig_words::{format_named, window_named};
 
-/// What the values of a command line ask for; or the first fault: `Window` if a time of the window
-/// is wrong, `Format` if an option of the format is, or `Alone` if one is given without `--frames`.
-pub fn settings_of<'a>(asked: &Asked<'a>) -> Result<Settings<'a>, OptionFault>
-    ensures chosen { IfOk result (IsChosen asked.now) }
-    ensures fault { IfErr result (HasFault asked.now) }
+/// What the values of a command line ask for. The error is the first of these faults: `Window` if a
+/// time of the window is wrong, or it ends before it begins; `Format` if `--format` or
+/// `--expression` is wrong; `Alone` if one of these two is given without `--frames`.
+pub fn settings_of<'a>(raw: &RawValues<'a>) -> Result<Settings<'a>, OptionFault>
+    ensures chosen { IfOk result (IsChosen raw.now) }
+    ensures fault { IfErr result (HasFault raw.now) }
 {
-    let window = match window_named(asked.from, asked.to) {
+    let window = match window_named(raw.from, raw.to) {
         Ok(window) => window,
         Err(fault) => return Err(OptionFault::Window(fault)),
     };
-    match frames_of(asked) {
+    match frames_of(raw) {
         Ok(frames) => Ok(Settings {
-            before: asked.before,
-            wire: asked.wire,
-            after: asked.after,
-            wire_after: asked.wire_after,
+            before: raw.before,
+            wire: raw.wire,
+            after: raw.after,
+            wire_after: raw.wire_after,
             window,
             frames,
         }),
@@ -32,27 +35,28 @@ pub fn settings_of<'a>(asked: &Asked<'a>) -> Result<Settings<'a>, OptionFault>
     }
 }
 
-/// The format of the frames that are shown; `None` if they are not asked for (`--frames`). `Format`
-/// if an option of the format has a wrong value, and `Alone` if one is given without `--frames`.
-fn frames_of(asked: &Asked<'_>) -> Result<Option<Format>, OptionFault>
-    ensures frames { IfOk result (AreFrames asked.now) }
-    ensures fault { IfErr result (HasFault asked.now) }
+/// The format of the frames that are shown; `None` if they are not asked for (`--frames`). The
+/// error is `Format` if `--format` or `--expression` is wrong, and `Alone` if one of them is given
+/// without `--frames`.
+fn frames_of(raw: &RawValues<'_>) -> Result<Option<Format>, OptionFault>
+    ensures frames { IfOk result (AreFrames raw.now) }
+    ensures fault { IfErr result (HasFault raw.now) }
 {
-    if asked.frames {
-        return match format_named(asked.format, asked.expression) {
+    if raw.frames {
+        return match format_named(raw.format, raw.expression) {
             Ok(format) => Ok(Some(format)),
             Err(fault) => Err(OptionFault::Format(fault)),
         };
     }
-    if names_format(asked) {
+    if names_format(raw) {
         return Err(OptionFault::Alone);
     }
     Ok(None)
 }
 
-/// Whether an option is given that says how frames are read: `--format` or `--expression`.
-fn names_format(asked: &Asked<'_>) -> bool
-    ensures { result ≡ names_format asked.now }
+/// Whether an option of the format of frames is given: `--format` or `--expression`.
+fn names_format(raw: &RawValues<'_>) -> bool
+    ensures { result ≡ names_format raw.now }
 {
-    asked.format.is_some() || asked.expression.is_some()
+    raw.format.is_some() || raw.expression.is_some()
 }

@@ -1,6 +1,7 @@
-//! A text in parts is printed, block by block: a block is memory for at least 64 KiB, in which
-//! parts wait. In a contract, `T.rest` is the bytes of a text that are still to come, `Appends`
-//! says that these bytes came to an output, `AppendsFront` that a front of them did, maybe none.
+//! A text is printed block by block. It gives its bytes in parts (`Text`); a block is memory for at
+//! least 64 KiB, in which parts wait until they are written. In a contract, `T.rest` is the bytes
+//! of a text that are still to come, `Appends` says that these bytes came to an output,
+//! `AppendsFront` that a front of them did, maybe none.
 
 ghost use Rattle.std.specs.Prelude.{◌≡◌, ◌≤◌, ◌↔◌, ◌+◌, ◌++◌, ℕ, List, [], false, true, length};
 ghost use Rattle.std.specs.Prelude.{IfOk, OnOk, OnErr};

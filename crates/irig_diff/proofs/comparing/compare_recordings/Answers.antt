@@ -10,4 +10,4 @@ returns-in-None g c =
 pub returns : goal.returns
 returns g c =
     printed-frames c.args.chosen.now c.in-Some.format c.args.before c.args.after (g.W.Write.contents c.args.out.now)
-    (g.W.Write.contents c.compare_frames.new.out) c.compare_frames.result c.in-Some.is c.compare_frames.ensures
+    (g.W.Write.contents c.compare_with_frames.new.out) c.compare_with_frames.result c.in-Some.is c.compare_with_frames.ensures

@@ -1,13 +1,14 @@
-//! The values of a command line.
+//! The values of a command line as text, before it is tested what they mean. `Settings` (`chosen`)
+//! has their meanings.
 
-/// The values of a command line, as they are written.
+/// The values of a command line, as they are written; `None` for an option that is not given.
 #[derive(Clone, Copy)]
-pub struct Asked<'a> {
+pub struct RawValues<'a> {
     /// The path of the dump before.
     pub before: &'a str,
     /// The path of the dump after.
     pub after: &'a str,
-    /// The values of the options that are given.
+    /// The values of the options of the same names; `wire` is that of the dump before.
     pub wire: Option<&'a str>,
     pub wire_after: Option<&'a str>,
     pub from: Option<&'a str>,
