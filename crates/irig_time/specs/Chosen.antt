@@ -11,15 +11,15 @@ use Rattle.irig_time.specs.Values.{whole_between}
 use Rattle.irig_words.specs.Formats.{IsFormat, given, text_or}
 use Rattle.irig_words.specs.Windows.{IsWindow}
 use Rattle.irig_time.specs.declared.samples.Column.{Column}
-use Rattle.irig_time.specs.{declared.asked.Asked.Asked, declared.chosen.Chosen.Chosen}
+use Rattle.irig_time.specs.{declared.raw_values.RawValues.RawValues, declared.chosen.Chosen.Chosen}
 
 -- whether each fine frame is believed
-abbrev pub stands_alone : Asked → Bool
-stands_alone a = bytes_eq (text_or a.alone (codes "false")) (codes "true")
+abbrev pub wants_alone : RawValues → Bool
+wants_alone a = bytes_eq (text_or a.alone (codes "false")) (codes "true")
 
 -- whether a word says why a line has no time
-abbrev pub asks_why : Asked → Bool
-asks_why a = bytes_eq (text_or a.why (codes "false")) (codes "true")
+abbrev pub wants_why : RawValues → Bool
+wants_why a = bytes_eq (text_or a.why (codes "false")) (codes "true")
 
 -- the recorder's time at the start of the track
 abbrev pub start_of : Settings → Picos
@@ -30,14 +30,14 @@ abbrev pub column_of : Settings → Column
 column_of s = record { number = s.column; named = s.named }
 
 -- how lines are read and stamped; a column with a name needs a header
-pub record HasSettings (a : Asked) (s : Settings) : Type 0 where
+pub record HasSettings (a : RawValues) (s : Settings) : Type 0 where
   pub columns : HasColumns a s.places (start_of s) (column_of s) s.comma
   pub header : whole_between 0 4294967296 (text_or a.header (codes "0")) ≡ Some s.header
   pub headed : IfSome s.named (λ n. 0 < s.header)
   pub name : HasName a s.comma s.header s.name.now
   pub dates : HasDates a s.century s.year s.form
-  pub alone : s.alone ≡ stands_alone a
-  pub why : s.why ≡ asks_why a
+  pub alone : s.alone ≡ wants_alone a
+  pub why : s.why ≡ wants_why a
 
 -- the values are within their limits
 abbrev pub IsSound : Settings → Type 0
@@ -54,16 +54,16 @@ abbrev pub lacks_year : FormatView → Settings → Bool
 lacks_year f s = is_calendar s.form && (not (is_some s.year) && nat_lt f.expression 4)
 
 -- whether the table is asked for
-abbrev pub wants_table : Asked → Bool
+abbrev pub wants_table : RawValues → Bool
 wants_table a = bytes_eq (text_or a.table (codes "false")) (codes "true")
 
 -- whether an option is given that says how lines are read, or printed
-abbrev pub tells_of_lines : Asked → Bool
-tells_of_lines a = is_some a.unit || (is_some a.offset || (is_some a.column
-    || (is_some a.header || (is_some a.name || asks_why a))))
+abbrev pub has_line_option : RawValues → Bool
+has_line_option a = is_some a.unit || (is_some a.offset || (is_some a.column
+    || (is_some a.header || (is_some a.name || wants_why a))))
 
 -- the values ask for this
-pub record IsChosen (a : Asked) (c : Chosen) : Type 0 where
+pub record IsChosen (a : RawValues) (c : Chosen) : Type 0 where
   pub track : c.track ≡ a.track
   pub wire : c.wire ≡ a.wire
   pub window : IsWindow (given a.from) (given a.to) c.window
@@ -71,4 +71,4 @@ pub record IsChosen (a : Asked) (c : Chosen) : Type 0 where
   pub settings : HasSettings a c.settings
   pub year : lacks_year c.format c.settings ≡ false
   pub table : c.table ≡ wants_table a
-  pub alone : (wants_table a && tells_of_lines a) ≡ false
+  pub alone : (wants_table a && has_line_option a) ≡ false

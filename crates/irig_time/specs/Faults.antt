@@ -2,19 +2,19 @@
 use Rattle.std.specs.Prelude.{◌≡◌, ◌&&◌, ℕ, true, false, Option, Some, None, codes, is_some}
 use Rattle.irig_codes.specs.Format.{FormatView}
 use Rattle.irig_stamps.specs.declared.settings.Settings.{Settings}
-use Rattle.irig_time.specs.Chosen.{HasSettings, lacks_year, tells_of_lines, wants_table}
+use Rattle.irig_time.specs.Chosen.{HasSettings, has_line_option, lacks_year, wants_table}
 use Rattle.irig_time.specs.Units.{places_named}
 use Rattle.irig_time.specs.Values.{comma_named, form_named, offset_named}
 use Rattle.irig_time.specs.{Names.is_name, Samples.IsComma, Samples.names_column}
 use Rattle.irig_time.specs.Values.{whole_between}
 use Rattle.irig_words.specs.Formats.{HasFormatFault, IsFormat, given, text_or}
 use Rattle.irig_words.specs.Windows.{HasWindowFault}
-use Rattle.irig_time.specs.declared.asked.Asked.{Asked}
+use Rattle.irig_time.specs.declared.raw_values.RawValues.{RawValues}
 use Rattle.irig_time.specs.declared.chosen.OptionFault.{OptionFault}
 use Rattle.irig_time.specs.declared.chosen.OptionFault.TheVariants as fault
 
 -- this option has a value that it cannot have
-abbrev pub HasFault : Asked → OptionFault → Type 0
+abbrev pub HasFault : RawValues → OptionFault → Type 0
 HasFault a (fault.Window of_window) = HasWindowFault (given a.from) (given a.to) of_window
 HasFault a (fault.Format of_format) =
     HasFormatFault (given a.format) (given a.expression) of_format
@@ -36,4 +36,4 @@ HasFault a fault.Form = form_named (text_or a.form (codes "ordinal")) ≡ None
 HasFault a fault.NoYear =
     (f : FormatView) × (s : Settings) × IsFormat (given a.format) (given a.expression) f
     × HasSettings a s × (lacks_year f s ≡ true)
-HasFault a fault.Table = (wants_table a && tells_of_lines a) ≡ true
+HasFault a fault.Table = (wants_table a && has_line_option a) ≡ true

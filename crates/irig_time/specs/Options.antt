@@ -5,51 +5,52 @@ use Rattle.irig_words.specs.Arguments.{flag, needed, option}
 use Rattle.irig_words.specs.Windows.{with_window}
 
 -- which part of the dump is read
-abbrev pub taking : App
-taking =
+abbrev pub part_command : App
+part_command =
     with_window (with_rule (new_app (codes "irig_time")) (option (codes "wire") None))
 
 -- and how the track is read
-abbrev pub reading : App
-reading =
-    with_rule (with_rule taking (option (codes "format") None)) (option (codes "expression") None)
+abbrev pub format_command : App
+format_command =
+    with_rule (with_rule part_command (option (codes "format") None))
+    (option (codes "expression") None)
 
 -- and where the recorder's time is in a line
-abbrev pub placing : App
-placing =
-    with_rule (with_rule (with_rule (with_rule reading (option (codes "unit") None))
+abbrev pub column_command : App
+column_command =
+    with_rule (with_rule (with_rule (with_rule format_command (option (codes "unit") None))
     (option (codes "offset") None)) (option (codes "column") None)) (option (codes "comma") None)
 
 -- and what the header is, and how a time is written
-abbrev pub writing : App
-writing =
-    with_rule (with_rule (with_rule (with_rule placing (option (codes "header") None))
+abbrev pub output_command : App
+output_command =
+    with_rule (with_rule (with_rule (with_rule column_command (option (codes "header") None))
     (option (codes "name") None)) (option (codes "year") None)) (option (codes "form") None)
 
 -- and which frames are taken, and what is printed of them
-abbrev pub marking : App
-marking =
-    with_rule (with_rule (with_rule writing (flag (codes "alone"))) (flag (codes "why")))
+abbrev pub flags_command : App
+flags_command =
+    with_rule (with_rule (with_rule output_command (flag (codes "alone"))) (flag (codes "why")))
     (flag (codes "table"))
 
 -- the command
 abbrev pub the_command : App
-the_command = with_rule marking (needed (codes "TRACK"))
+the_command = with_rule flags_command (needed (codes "TRACK"))
 
-abbrev pub IsTaking : App → Type 0
-IsTaking app = app ≡ taking
+abbrev pub IsPartCommand : App → Type 0
+IsPartCommand app = app ≡ part_command
 
-abbrev pub IsReading : App → Type 0
-IsReading app = app ≡ reading
+abbrev pub IsFormatCommand : App → Type 0
+IsFormatCommand app = app ≡ format_command
 
-abbrev pub IsPlacing : App → Type 0
-IsPlacing app = app ≡ placing
+abbrev pub IsColumnCommand : App → Type 0
+IsColumnCommand app = app ≡ column_command
 
-abbrev pub IsWriting : App → Type 0
-IsWriting app = app ≡ writing
+abbrev pub IsOutputCommand : App → Type 0
+IsOutputCommand app = app ≡ output_command
 
-abbrev pub IsMarking : App → Type 0
-IsMarking app = app ≡ marking
+abbrev pub IsFlagsCommand : App → Type 0
+IsFlagsCommand app = app ≡ flags_command
 
 -- it is the command line of the program
 abbrev pub IsCommand : App → Type 0

@@ -6,10 +6,10 @@ use Rattle.irig_words.specs.Usage as usage
 use Rattle.irig_words.specs.declared.usage.UsageFault.{UsageFault}
 use Rattle.irig_time.specs.declared.chosen.OptionFault.{OptionFault}
 use Rattle.irig_time.specs.{Faults.HasFault, Chosen.IsChosen, Options.the_command}
-use Rattle.irig_time.specs.{declared.asked.Asked.Asked, declared.chosen.Chosen.Chosen}
+use Rattle.irig_time.specs.{declared.raw_values.RawValues.RawValues, declared.chosen.Chosen.Chosen}
 
 -- the values are those of the matches
-pub record AreValues (f : Found) (a : Asked) : Type 0 where
+pub record AreValues (f : Found) (a : RawValues) : Type 0 where
   pub track : first_value f (codes "TRACK") ≡ Some a.track.now
   pub wire : first_value f (codes "wire") ≡ option_map (λ w. w.now) a.wire
   pub from : first_value f (codes "from") ≡ option_map (λ w. w.now) a.from

@@ -1,4 +1,5 @@
-//! What a command line asks for.
+//! What a command line asks for: what the values of its options mean (`Chosen`), or which value is
+//! wrong (`OptionFault`). The values as text are `RawValues`.
 
 use irig_codes::Format;
 use irig_stamps::Settings;

@@ -1,25 +1,29 @@
-//! The command line, read by `clap`. Its matches are what `clap` found in its words. `option_arg`
-//! makes an option with a value, `flag_arg` one without, and `needed_arg` a word that has to be
-//! there, each by its name and its text in the help; what is after the last colon of that text is
-//! the value without the option. Only memory can run out for a `Command` or an `Arg`. The options
-//! come in this order: `taking`, `reading`, `placing`, `writing`, `marking`, and each adds some to
-//! those before, and `command` adds the track. In a contract, `IsTaking` and the like say that a
-//! command has just the arguments that the function of that name gives it; `MayRefuse` says that
-//! `clap` may give this error for the words, `WantsMemory` that memory ran out, `IsSound` that the
-//! values are within their limits.
+//! The command line, read by `clap`. A `Command` is what `clap` knows of a command line, an `Arg`
+//! is an option or a word of it, and matches are what `clap` found in the words. Only memory can
+//! run out for a `Command` or an `Arg`. `option_arg` makes an option with a value, `flag_arg` one
+//! without, and `needed_arg` a word that has to be there, each by its name and its text in the
+//! help. What is after the last colon of that text is the value without the option. The options are
+//! added in this order: `part_command`, `format_command`, `column_command`, `output_command`,
+//! `flags_command`, `command`.
+//!
+//! In a contract, `IsPartCommand` and the like say that a command has just the arguments that the
+//! function of that name gives it; `MayRefuse` says that `clap` may give this error for the words,
+//! `WantsMemory` that memory ran out, `AreValues` that these are the values of the matches,
+//! `IsSound` that the values are within their limits.
 
 ghost use Rattle.std.specs.Prelude.{◌≡◌, IfErr, IfOk, map, string_bytes};
 ghost use Rattle.clap.specs.Words.{HasMatchesOf, app_of, found_of};
 ghost use Rattle.irig_time.specs.Chosen.{IsSound};
-ghost use Rattle.irig_time.specs.Options.{IsCommand, IsMarking, IsPlacing, IsReading, IsTaking};
-ghost use Rattle.irig_time.specs.Options.{IsWriting, the_command};
+ghost use Rattle.irig_time.specs.Options.{IsColumnCommand, IsCommand, IsFlagsCommand};
+ghost use Rattle.irig_time.specs.Options.{IsFormatCommand, IsOutputCommand, IsPartCommand};
+ghost use Rattle.irig_time.specs.Options.{the_command};
 ghost use Rattle.irig_time.specs.Settings.{AreValues, Reads};
 ghost use Rattle.irig_words.specs.Errors.{MayRefuse, WantsMemory};
 ghost use Rattle.irig_words.specs.Usage.{Values};
 
-use crate::asked::Asked;
 use crate::chosen::{Chosen, OptionFault};
 use crate::options::chosen_of;
+use crate::raw_values::RawValues;
 use clap::{ArgMatches, Command, Error};
 use irig_words::{UsageFault, flag_arg, matches_of, needed_arg, option_arg, windowed};
 use std::alloc::{AllocError, Global};
@@ -31,19 +35,19 @@ pub fn chosen<'a>(alloc: Global, words: &'a [String]) -> Result<Chosen<'a>, Usag
     ensures reads { Reads (map string_bytes words.entry.now) result }
     ensures sound { IfOk result (λ c. IsSound c.settings) }
 {
-    let asked = match asked(alloc, words) {
-        Ok(asked) => asked,
+    let raw = match raw_values(alloc, words) {
+        Ok(raw) => raw,
         Err(error) => return Err(UsageFault::Words(error)),
     };
-    match chosen_of(&asked) {
+    match chosen_of(&raw) {
         Ok(chosen) => Ok(chosen),
         Err(fault) => Err(UsageFault::Value(fault)),
     }
 }
 
-/// The values of a command line: the words, as `clap` takes them apart. `Err` if `clap` does not
-/// accept them, they ask for help, or memory ran out.
-fn asked<'a>(alloc: Global, words: &'a [String]) -> Result<Asked<'a>, Error>
+/// The values of a command line as text: the words, as `clap` takes them apart. `Err` if `clap`
+/// does not accept them, they ask for help, or memory ran out.
+fn raw_values<'a>(alloc: Global, words: &'a [String]) -> Result<RawValues<'a>, Error>
     ensures values { IfOk result (Values the_command AreValues
         (map string_bytes words.entry.now)) }
     ensures refused { IfErr result (MayRefuse the_command (map string_bytes words.entry.now)) }
@@ -57,7 +61,7 @@ fn asked<'a>(alloc: Global, words: &'a [String]) -> Result<Asked<'a>, Error>
 /// The values of the matches, each as it was written; `None` for an option that is not given. An
 /// option without a value, as `--why`, has `true` if it is given, and else `false`. `Err` means
 /// that memory ran out.
-fn values_of<'a>(matches: &ArgMatches<'a>) -> Result<Asked<'a>, Error>
+fn values_of<'a>(matches: &ArgMatches<'a>) -> Result<RawValues<'a>, Error>
     ensures values { IfOk result (AreValues (found_of matches.now)) }
     ensures memory { IfErr result WantsMemory }
 {
@@ -65,7 +69,7 @@ fn values_of<'a>(matches: &ArgMatches<'a>) -> Result<Asked<'a>, Error>
         // `clap` accepts no line without the track, so this does not come.
         return Err(AllocError.into());
     };
-    Ok(Asked {
+    Ok(RawValues {
         track,
         wire: matches.get_str("wire"),
         from: matches.get_str("from"),
@@ -95,32 +99,20 @@ fn parse_words<'a>(alloc: Global, words: &'a [String]) -> Result<ArgMatches<'a>,
     matches_of(command(alloc)?, words)
 }
 
-/// The command line of the program: all options, and the path of the track.
+/// The command line of the program: the options of `flags_command`, and the path of the track.
 pub fn command<'a>(alloc: Global) -> Result<Command<'a>, AllocError>
     ensures { IfOk result (λ c. IsCommand (app_of c)) }
 {
-    let Ok(marking) = marking(alloc) else {
+    let Ok(command) = flags_command(alloc) else {
         return Err(AllocError);
     };
-    marking.arg(needed_arg(alloc, "TRACK", "the dump; lines come on standard input"))
+    command.arg(needed_arg(alloc, "TRACK", "the dump; lines come on standard input"))
 }
 
-/// The command with the options of `placing`, and those that say what the header is, and how a time
-/// is written.
-fn writing<'a>(alloc: Global) -> Result<Command<'a>, AllocError>
-    ensures { IfOk result (λ c. IsWriting (app_of c)) }
-{
-    let header = option_arg(alloc, "header", "NUMBER", "lines of the header: 0");
-    let name = option_arg(alloc, "name", "NAME", "of the new column: time");
-    let year = option_arg(alloc, "year", "YEAR", "the year of the first fine frame");
-    let form = option_arg(alloc, "form", "FORM", "ordinal, calendar or seconds");
-    placing(alloc)?.arg(header)?.arg(name)?.arg(year)?.arg(form)
-}
-
-/// The command with all options: those of `writing`, which frames are taken (`--alone`), and what
-/// is printed (`--why`, `--table`).
-fn marking<'a>(alloc: Global) -> Result<Command<'a>, AllocError>
-    ensures { IfOk result (λ c. IsMarking (app_of c)) }
+/// The command with the options of `output_command`, and those without a value: which frames are
+/// taken (`--alone`), and what is printed (`--why` and `--table`).
+fn flags_command<'a>(alloc: Global) -> Result<Command<'a>, AllocError>
+    ensures { IfOk result (λ c. IsFlagsCommand (app_of c)) }
 {
     let alone = flag_arg(
         alloc,
@@ -137,14 +129,30 @@ fn marking<'a>(alloc: Global) -> Result<Command<'a>, AllocError>
         "table",
         "print a table of the frames; no lines are read",
     );
-    writing(alloc)?.arg(alone)?.arg(why)?.arg(table)
+    output_command(alloc)?.arg(alone)?.arg(why)?.arg(table)
 }
 
-/// The command with the options of `reading`, and those of the recorder's time, which each line
-/// has in a column: which column it is, in which unit the time is, and what it was when the track
-/// began.
-fn placing<'a>(alloc: Global) -> Result<Command<'a>, AllocError>
-    ensures { IfOk result (λ c. IsPlacing (app_of c)) }
+/// The command with the options of `column_command`, and those of the header and of the new column
+/// of times: `--header`, `--name`, `--year` and `--form`.
+fn output_command<'a>(alloc: Global) -> Result<Command<'a>, AllocError>
+    ensures { IfOk result (λ c. IsOutputCommand (app_of c)) }
+{
+    let header = option_arg(alloc, "header", "NUMBER", "lines of the header: 0");
+    let name = option_arg(alloc, "name", "NAME", "of the new column: time");
+    let year = option_arg(alloc, "year", "YEAR", "the year of the first fine frame");
+    let form = option_arg(alloc, "form", "FORM", "ordinal, calendar or seconds");
+    column_command(alloc)?
+        .arg(header)?
+        .arg(name)?
+        .arg(year)?
+        .arg(form)
+}
+
+/// The command with the options of `format_command`, and those of the recorder's time, which each
+/// line has in a column: its unit (`--unit`), what it was when the track began (`--offset`), which
+/// column it is (`--column`), and what parts columns (`--comma`).
+fn column_command<'a>(alloc: Global) -> Result<Command<'a>, AllocError>
+    ensures { IfOk result (λ c. IsColumnCommand (app_of c)) }
 {
     let unit = option_arg(alloc, "unit", "UNIT", "s, ms, us, ns, ps; 10ns, 100ns: us");
     let offset = option_arg(
@@ -165,26 +173,27 @@ fn placing<'a>(alloc: Global) -> Result<Command<'a>, AllocError>
         "CHARACTER",
         "parts columns, if not white space",
     );
-    reading(alloc)?
+    format_command(alloc)?
         .arg(unit)?
         .arg(offset)?
         .arg(column)?
         .arg(comma)
 }
 
-/// The command with the options of `taking`, and those that say how the track is read.
-fn reading<'a>(alloc: Global) -> Result<Command<'a>, AllocError>
-    ensures { IfOk result (λ c. IsReading (app_of c)) }
+/// The command with the options of `part_command`, and those of the format of frames: `--format`
+/// and `--expression`.
+fn format_command<'a>(alloc: Global) -> Result<Command<'a>, AllocError>
+    ensures { IfOk result (λ c. IsFormatCommand (app_of c)) }
 {
     let format = option_arg(alloc, "format", "FORMAT", "A, B, E or G: B");
     let expression = option_arg(alloc, "expression", "NUMBER", "of the format: 2");
-    taking(alloc)?.arg(format)?.arg(expression)
+    part_command(alloc)?.arg(format)?.arg(expression)
 }
 
-/// The command with the options that say which part of the dump is read: its wire, and the window,
-/// `--from` and `--to`, which `windowed` adds.
-fn taking<'a>(alloc: Global) -> Result<Command<'a>, AllocError>
-    ensures { IfOk result (λ c. IsTaking (app_of c)) }
+/// The command with the options that say which part of the dump is read: its wire (`--wire`), and
+/// the window (`--from` and `--to`), which `windowed` adds.
+fn part_command<'a>(alloc: Global) -> Result<Command<'a>, AllocError>
+    ensures { IfOk result (λ c. IsPartCommand (app_of c)) }
 {
     let wire = option_arg(alloc, "wire", "NAME", "the wire of the dump");
     let Ok(wired) = Command::new(alloc, "irig_time").arg(wire) else {

@@ -1,11 +1,14 @@
 //! Lines are aligned with the track of a dump, of up to 2^26 pulses, as the words of a command line
-//! ask: each is printed with the time of year that the track has at the line's recorder's time. A
-//! frame is believed if another one near it supports its time: moments have their times from such
-//! frames alone. `doubted` is how many others have a time, and `timed` whether some frame is
-//! believed. An `Ending` says how the program ends. In a contract, `held` is what each file holds,
-//! if that is known, `unread` for which faults a file is not read, `remaining` what is left of an
-//! input, and `contents` what came to an output; `IsSound` says that the settings are within their
-//! limits.
+//! ask: each line has a recorder's time, and is printed with the time of year that the track has
+//! then. A frame is believed if another one near it supports its time: moments have their times
+//! from such frames alone. `standing` is what was found of the frames: `timed` says whether some is
+//! believed, `doubted` how many have a time and are not. An `Ending` says how the program ends.
+//!
+//! In a contract, `EndsBy`, `Obeys`, `RunsAs`, `AlignsAs` and `ListsAs` say what was done: for the
+//! words, for what is chosen, for a recording, for its lines, and for its table; `held` is what
+//! each file holds, if that is known, `unread` for which faults a file is not read, `remaining`
+//! what is left of an input, and `contents` what came to an output; `IsSound` says that the
+//! settings are within their limits.
 
 ghost use Rattle.std.specs.Prelude.{map, string_bytes};
 ghost use Rattle.irig_time.specs.Ending.{AlignsAs, EndsBy, ListsAs, Obeys, RunsAs};

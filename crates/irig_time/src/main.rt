@@ -2,15 +2,14 @@
 //! number with which the program ends: 0 if each line had a number or the table was printed, 1 if a
 //! line had none, if frames are not believed or if none has a time, 2 for a mistake in the command
 //! line, 3 for a track that was not read, and 4 if the run was broken off. Help that was asked for
-//! ends with 0, or with 4 if it cannot be printed. `tell` and `tell_no_words` print on the standard
-//! error why the program ends, and return the status.
+//! ends with 0, or with 4 if it cannot be printed. A frame is believed if another one near it
+//! supports its time.
 //!
 //! In a contract, `held` is what each file holds, if that is known, `unread` for which faults a
 //! file is not read, `remaining` what is left of an input, and `contents` what came to an output;
 //! `Serves` says that the words were obeyed, and what the output of help and the status are then.
 #![tactic(auto)]
 
-mod asked;
 mod chosen;
 mod command_line;
 mod ending;
@@ -18,6 +17,7 @@ mod file_run;
 mod help;
 mod naming;
 mod options;
+mod raw_values;
 mod samples;
 mod statuses;
 mod units;
@@ -37,9 +37,10 @@ use std::process::ExitCode;
 use std::rt::Runtime;
 use std::{env, io};
 
-// Gets the files of the system and the words of the command line; then the lines on the input are
-// aligned with the track that the words name, and the status is that of `start`. It is 2 if one of
-// these cannot be had: the track was not looked for then.
+// Gets the files of the system and the words of the command line, and aligns the lines on the input
+// with the track as `start` does, which gives the status. `system_files` of irig_files takes the
+// memory for the paths of files, and fails only if there is none: that is printed on the standard
+// error, with status 2. If the words cannot be had, `tell_no_words` prints why, with status 2, too.
 fn main(rt: HostRuntime) -> ExitCode {
     let Ok(files) = system_files(&rt) else {
         return program().tell(&rt, 2, &io::Error::from(io::ErrorKind::OutOfMemory));

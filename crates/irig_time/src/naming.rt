@@ -1,6 +1,7 @@
 //! The name of the column of times, which the program adds before each line. It is printed in the
-//! last line of the header. `asked` has the values of the command line as they are written, and an
-//! `OptionFault` names the option whose value is wrong.
+//! last line of the header. `raw` has the values of the command line as text, as they are written,
+//! and an `OptionFault` names the option whose value is wrong. In a contract, `HasName` says that
+//! the name is what the options mean, `HasFault` that this option has a value that it cannot have.
 
 ghost use Rattle.std.specs.Prelude.{◌≡◌, IfErr, IfOk, Some, codes};
 ghost use Rattle.irig_time.specs.Faults.{HasFault};
@@ -9,37 +10,38 @@ ghost use Rattle.irig_time.specs.Names.{has, has_comma, is_name};
 ghost use Rattle.irig_time.specs.Values.{whole_between};
 ghost use Rattle.irig_words.specs.Formats.{text_or};
 
-use crate::asked::Asked;
 use crate::chosen::OptionFault;
+use crate::raw_values::RawValues;
 use irig_words::text_or;
 
-/// The name of the column of times, `time` if none is given. `comma` parts columns, or white space
-/// without it, and the header has `header` lines: what `--header` says, at most 2^32, or 0 without
-/// it. The error is `Name` if a column cannot have the name, `Unnamed` if it is given and there is
-/// no header to write it in.
+/// The name of the column of times (`--name`), `time` if none is given. `comma` is the byte that
+/// parts columns, `None` if white space does; `header` is how many lines the header has. The error
+/// is `Name` if a column cannot have the name, and `Unnamed` if it is given and there is no header
+/// (`header` is 0) to write it in.
 pub fn name_of<'a>(
-    asked: &Asked<'a>,
+    raw: &RawValues<'a>,
     comma: Option<u8>,
     header: u64,
 ) -> Result<&'a [u8], OptionFault>
-    requires comma { IsComma asked.now comma }
-    requires header { whole_between 0 4294967296 (text_or asked.now.header (codes "0"))
+    requires comma { IsComma raw.now comma }
+    requires header { whole_between 0 4294967296 (text_or raw.now.header (codes "0"))
         ≡ Some header }
-    ensures name { IfOk result (λ name. HasName asked.now comma header name.now) }
-    ensures fault { IfErr result (HasFault asked.now) }
+    ensures name { IfOk result (λ name. HasName raw.now comma header name.now) }
+    ensures fault { IfErr result (HasFault raw.now) }
 {
-    let name = text_or(asked.name, "time");
+    let name = text_or(raw.name, "time");
     if !is_name(comma, name) {
         return Err(OptionFault::Name);
     }
-    if asked.name.is_some() && header == 0 {
+    if raw.name.is_some() && header == 0 {
         return Err(OptionFault::Unnamed);
     }
     Ok(name)
 }
 
-/// Whether a column can have a name: it has a byte, and no quote, end of a line or separator, with
-/// which it would not be one name in one column.
+/// Whether a column can have this name: it has at least a byte, and no quote, no end of a line and
+/// nothing that parts columns (`has_comma`). With one of these it could not be read as one name of
+/// one column.
 fn is_name(comma: Option<u8>, name: &[u8]) -> bool
     ensures { result ≡ is_name comma name.now }
 {

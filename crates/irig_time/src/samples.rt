@@ -1,7 +1,9 @@
 //! How the lines that a recorder wrote, its samples, are read, and how a time is written: by the
-//! values of the options. `text_or` gives the value of an option, or the text after it if the
-//! option is not given. `asked` has the values as they are written. An error, an `OptionFault`, has
-//! the name of the option that is wrong.
+//! values of the options. `raw` has the values as text, as they are written. `text_or` gives the
+//! value of an option, or its second argument if the option is not given. An error, an
+//! `OptionFault`, has the name of the option that is wrong. In a contract, `HasFault` says that
+//! this option has a value that it cannot have, `names_column` that `--column` is a name, and
+//! `HasColumns`, `HasDates`, `IsColumn` and `IsComma` that the result is what the options mean.
 
 ghost use Rattle.std.specs.Prelude.{◌≡◌, ◌≤◌, ◌<◌, ◌^◌, IfErr, IfOk, IfSome, Some, codes, true};
 ghost use Rattle.irig_time.specs.Faults.{HasFault};
@@ -11,8 +13,8 @@ ghost use Rattle.irig_time.specs.Values.{whole_between};
 ghost use Rattle.irig_words.specs.Formats.{text_or};
 ghost use Rattle.irig_time.specs.declared.chosen.OptionFault.TheVariants.{Comma};
 
-use crate::asked::Asked;
 use crate::chosen::OptionFault;
+use crate::raw_values::RawValues;
 use crate::units::places_named;
 use crate::values::{comma_named, form_named, offset_named, whole_between};
 use irig_stamps::{Form, Picos, whole};
@@ -30,47 +32,46 @@ const CENTURY: u32 = 20;
 /// The last year: a track can reach into the next one, which has four digits, too.
 const YEAR_LIMIT: u128 = 9_998;
 
-/// Where the recorder's time is in a line.
+/// Where the recorder's time is in a line, and what it means.
 #[derive(Clone, Copy)]
 pub struct Columns<'a> {
-    /// 10^`places` picoseconds are a unit of it.
+    /// Its unit is 10^`places` picoseconds.
     pub places: usize,
-    /// The time at the start of the track, in picoseconds from the recorder's zero.
+    /// Its value at the start of the track, in picoseconds from the recorder's zero.
     pub offset: Picos,
-    /// Its column.
+    /// The column of a line that it is in.
     pub column: Column<'a>,
-    /// The byte that parts columns; white space, if it is missing.
+    /// The byte that parts columns; `None` is white space.
     pub comma: Option<u8>,
 }
 
-/// A column.
+/// A column of a line: by its number, or by its name, if it has to be looked up in the header.
 #[derive(Clone, Copy)]
 pub struct Column<'a> {
-    /// Its number, from 0; 0, if it is not known.
+    /// Its number, from 0. It is 0, without a meaning, if there is a name.
     pub number: usize,
-    /// Its name, if its number is not known.
+    /// Its name, if it is given by that.
     pub named: Option<&'a [u8]>,
 }
 
-/// Where the recorder's time is in a line: its unit, its offset, its column and what parts columns.
-/// Without the options: microseconds, no offset, column 1 and white space. `Unit`, `Offset`,
-/// `Column` or `Comma` if that option has a value that it cannot have, the first in this order. An
-/// offset is at most 2^119 picoseconds from zero.
-pub fn columns_of<'a>(asked: &Asked<'a>) -> Result<Columns<'a>, OptionFault>
-    ensures columns { IfOk result (λ c. HasColumns asked.now c.places c.offset c.column c.comma) }
+/// Where the recorder's time is in a line, and what it means, by four options: `--unit`,
+/// microseconds if it is not given; `--offset`, 0; `--column`, the first; and `--comma`, white
+/// space. The error names the first of them, in this order, with a value that it cannot have.
+pub fn columns_of<'a>(raw: &RawValues<'a>) -> Result<Columns<'a>, OptionFault>
+    ensures columns { IfOk result (λ c. HasColumns raw.now c.places c.offset c.column c.comma) }
     ensures sound { IfOk result (λ c. c.offset.size ≤ 2 ^ 119) }
     ensures named { IfOk result (λ c.
-        IfSome c.column.named (λ n. names_column asked.now ≡ true)) }
-    ensures fault { IfErr result (HasFault asked.now) }
+        IfSome c.column.named (λ n. names_column raw.now ≡ true)) }
+    ensures fault { IfErr result (HasFault raw.now) }
 {
-    let Some(places) = places_named(text_or(asked.unit, "us")) else {
+    let Some(places) = places_named(text_or(raw.unit, "us")) else {
         return Err(OptionFault::Unit);
     };
-    let Some(offset) = offset_named(places, text_or(asked.offset, "0")) else {
+    let Some(offset) = offset_named(places, text_or(raw.offset, "0")) else {
         return Err(OptionFault::Offset);
     };
-    let column = column_of(asked)?;
-    let Ok(comma) = comma_of(asked) else {
+    let column = column_of(raw)?;
+    let Ok(comma) = comma_of(raw) else {
         return Err(OptionFault::Comma);
     };
     Ok(Columns {
@@ -84,12 +85,12 @@ pub fn columns_of<'a>(asked: &Asked<'a>) -> Result<Columns<'a>, OptionFault>
 /// The column that is asked for, the first if none is: a number from 1, which becomes one from 0,
 /// or a name if the text is no number. `Column` if it is a number that is not from 1 to 65,536, or
 /// the text is empty.
-fn column_of<'a>(asked: &Asked<'a>) -> Result<Column<'a>, OptionFault>
-    ensures column { IfOk result (IsColumn asked.now) }
-    ensures named { IfOk result (λ c. IfSome c.named (λ n. names_column asked.now ≡ true)) }
-    ensures fault { IfErr result (HasFault asked.now) }
+fn column_of<'a>(raw: &RawValues<'a>) -> Result<Column<'a>, OptionFault>
+    ensures column { IfOk result (IsColumn raw.now) }
+    ensures named { IfOk result (λ c. IfSome c.named (λ n. names_column raw.now ≡ true)) }
+    ensures fault { IfErr result (HasFault raw.now) }
 {
-    let text = text_or(asked.column, "1");
+    let text = text_or(raw.column, "1");
     if is_column_name(text) {
         return Ok(Column {
             number: 0,
@@ -114,18 +115,18 @@ fn is_column_name(text: &[u8]) -> bool
     !text.is_empty() && whole(text).is_none()
 }
 
-/// How many lines are the header: 0 if that is not given. `Header` if it is no whole number up to
-/// 2^32; `Headless` if it is 0 and a column is given by its name (`named`), which is looked for in
-/// the header.
-pub fn header_of(asked: &Asked<'_>, named: Option<&[u8]>) -> Result<u64, OptionFault>
-    requires { IfSome named (λ n. names_column asked.now ≡ true) }
+/// How many lines are the header (`--header`): 0 if that is not given. The error is `Header` if it
+/// is no whole number up to 2^32, and `Headless` if it is 0 and the column of the recorder's time
+/// is given by its name (`named`), which has to be looked up in the header.
+pub fn header_of(raw: &RawValues<'_>, named: Option<&[u8]>) -> Result<u64, OptionFault>
+    requires { IfSome named (λ n. names_column raw.now ≡ true) }
     ensures header { IfOk result (λ header.
-        whole_between 0 4294967296 (text_or asked.now.header (codes "0")) ≡ Some header) }
+        whole_between 0 4294967296 (text_or raw.now.header (codes "0")) ≡ Some header) }
     ensures headed { IfOk result (λ header. IfSome named.entry (λ n. 0 < header)) }
     ensures sound { IfOk result (λ header. header < 2 ^ 64) }
-    ensures fault { IfErr result (HasFault asked.now) }
+    ensures fault { IfErr result (HasFault raw.now) }
 {
-    let Some(header) = whole_between(0, HEADER_LIMIT, text_or(asked.header, "0")) else {
+    let Some(header) = whole_between(0, HEADER_LIMIT, text_or(raw.header, "0")) else {
         return Err(OptionFault::Header);
     };
     let Some(_) = named else {
@@ -137,13 +138,13 @@ pub fn header_of(asked: &Asked<'_>, named: Option<&[u8]>) -> Result<u64, OptionF
     Ok(header as u64)
 }
 
-/// The byte that parts columns; `None` if it is not given, which is white space. `Comma`, the only
-/// fault here, if the text is no byte that can part them.
-fn comma_of(asked: &Asked<'_>) -> Result<Option<u8>, OptionFault>
-    ensures comma { IfOk result (IsComma asked.now) }
-    ensures fault { IfErr result (λ fault. HasFault asked.now Comma) }
+/// The byte that parts columns (`--comma`); `Ok(None)` if it is not given: then white space does.
+/// The error is `Comma`, if the text is not one byte that can part them.
+fn comma_of(raw: &RawValues<'_>) -> Result<Option<u8>, OptionFault>
+    ensures comma { IfOk result (IsComma raw.now) }
+    ensures fault { IfErr result (λ fault. HasFault raw.now Comma) }
 {
-    let Some(text) = asked.comma else {
+    let Some(text) = raw.comma else {
         return Ok(None);
     };
     match comma_named(text.as_bytes()) {
@@ -152,28 +153,29 @@ fn comma_of(asked: &Asked<'_>) -> Result<Option<u8>, OptionFault>
     }
 }
 
-/// How a time is written.
+/// How a time is written, and what completes its year.
 #[derive(Clone, Copy)]
 pub struct Dates {
     /// The century of years of two digits.
     pub century: u32,
-    /// The year of the first frame, if it is given.
+    /// The year of the first fine frame, if it is given.
     pub year: Option<u32>,
-    /// The form.
+    /// Whether as a day of the year, a date, or seconds.
     pub form: Form,
 }
 
-/// How a time is written. The century is that of the year, if one is given, else 20, for 2000 to
-/// 2099. `Form` if there is no such form, `Year` if it is no year from 1 to 9998.
-pub fn dates_of(asked: &Asked<'_>) -> Result<Dates, OptionFault>
-    ensures dates { IfOk result (λ d. HasDates asked.now d.century d.year d.form) }
+/// How a time is written (`--form`, `ordinal` if it is not given), and its year (`--year`). The
+/// century is that of the year, if one is given, else 20, for 2000 to 2099. The error is `Form` if
+/// there is no such form, tested first, and `Year` if it is no year from 1 to 9998.
+pub fn dates_of(raw: &RawValues<'_>) -> Result<Dates, OptionFault>
+    ensures dates { IfOk result (λ d. HasDates raw.now d.century d.year d.form) }
     ensures sound { IfOk result (λ d. (d.century ≤ 99) × IfSome d.year (λ y. y ≤ 9998)) }
-    ensures fault { IfErr result (HasFault asked.now) }
+    ensures fault { IfErr result (HasFault raw.now) }
 {
-    let Some(form) = form_named(text_or(asked.form, "ordinal")) else {
+    let Some(form) = form_named(text_or(raw.form, "ordinal")) else {
         return Err(OptionFault::Form);
     };
-    let Some(text) = asked.year else {
+    let Some(text) = raw.year else {
         return Ok(Dates {
             century: CENTURY,
             year: None,

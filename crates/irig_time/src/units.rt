@@ -1,12 +1,13 @@
 //! The units of the recorder's time, by their names: s, ms, us, ns and ps. A unit is 10^n
-//! picoseconds: n is 12, 9, 6, 3 and 0. Each function returns such an n, and `None` if the text is
-//! no unit. It may have 1, 10 or 100 before it, as `100ns`, which adds 0, 1 or 2 to n.
+//! picoseconds: n, its `places`, is 12, 9, 6, 3 and 0. Each function returns such an n, and `None`
+//! if the text is no unit. A name may have 1, 10 or 100 before it, as `100ns`, which adds 0, 1 or 2
+//! to n.
 
 ghost use Rattle.std.specs.Prelude.{◌≡◌, ◌≤◌, IfSome};
 ghost use Rattle.irig_time.specs.Units.{places_after_one, places_after_ten, places_named};
 ghost use Rattle.irig_time.specs.Units.{prefix_places, unit_places, with_places};
 
-/// The n of a unit, or of 1, 10 or 100 of it, as 5 for `100ns`: that is 10^5 picoseconds.
+/// The n of a unit, with 1, 10, 100 or nothing before it: 5 for `100ns`, which is 10^5 picoseconds.
 pub fn places_named(name: &[u8]) -> Option<usize>
     ensures { result ≡ places_named name.now }
 {
@@ -16,7 +17,8 @@ pub fn places_named(name: &[u8]) -> Option<usize>
     }
 }
 
-/// The n of a text by what comes after its 1: one zero, two zeros or none, and the unit.
+/// The n of a name that begins with 1. `rest` is what comes after the 1: no, one or two zeros, and
+/// the unit.
 fn places_after_one(rest: &[u8]) -> Option<usize>
     ensures { result ≡ places_after_one rest.now }
 {
@@ -26,7 +28,8 @@ fn places_after_one(rest: &[u8]) -> Option<usize>
     }
 }
 
-/// The n of a text by what comes after its 10: another zero or none, and the unit.
+/// The n of a name that begins with 10. `rest` is what comes after the 10: a zero or none, and the
+/// unit.
 fn places_after_ten(rest: &[u8]) -> Option<usize>
     ensures { result ≡ places_after_ten rest.now }
 {
@@ -36,8 +39,8 @@ fn places_after_ten(rest: &[u8]) -> Option<usize>
     }
 }
 
-/// An n, and `more` added to it for the zeros before the unit; `None` if there is no n. The n of a
-/// unit is at most 12.
+/// `places`, the n of a unit, at most 12, and `more` added to it: the count of zeros before the
+/// unit. `None` if there is no n.
 fn with_places(more: usize, places: Option<usize>) -> Option<usize>
     requires few { more ≤ 2 }
     requires range { IfSome places (λ n. n ≤ 12) }

@@ -1,6 +1,6 @@
-//! What the texts of single values mean. Each function that gives an option returns `None` if a
+//! What the texts of single values mean. Each function that returns an `Option` gives `None` if a
 //! text means no such value. A `Picos` is a time of the recorder in picoseconds from its zero, as a
-//! sign and a size.
+//! sign and a size. In a contract, a function of the same name says what the result is.
 
 ghost use Rattle.std.specs.Prelude.{◌≡◌, ◌≤◌, ◌<◌, ◌^◌, IfSome, Some};
 ghost use Rattle.std.specs.Str.{bytes_eq};
@@ -26,7 +26,7 @@ pub fn whole_between(first: u128, last: u128, text: &[u8]) -> Option<u128>
     }
 }
 
-/// A number, if it is one from `first` to `last`, both included; else `None`.
+/// A number, if it is from `first` to `last`, both included; else `None`.
 fn within(first: u128, last: u128, number: u128) -> Option<u128>
     ensures value { result ≡ within first last (Some number) }
     ensures range { IfSome result (λ v. (first ≤ v) × (v ≤ last)) }
@@ -38,8 +38,9 @@ fn within(first: u128, last: u128, number: u128) -> Option<u128>
     }
 }
 
-/// The time that a text means, as a number of units of 10^`places` picoseconds: in picoseconds,
-/// rounded down. `None` if it is no number, or is further than 2^119 picoseconds from zero.
+/// The time that a text means: the text is a number of units, each of 10^`places` picoseconds, and
+/// the time is in picoseconds, rounded down. `None` if the text is no number, or the time is
+/// further than 2^119 picoseconds from zero.
 pub fn offset_named(places: usize, text: &[u8]) -> Option<Picos>
     ensures value { result ≡ offset_named places text.now }
     ensures range { IfSome result (λ v. v.size ≤ 2 ^ 119) }
@@ -73,8 +74,8 @@ pub fn comma_named(text: &[u8]) -> Option<u8>
     }
 }
 
-/// Whether a byte is one of ASCII, which ends with 127, that can part columns: none of a number, a
-/// time, a word or a name, and no end of a line. A byte above 127 is only a part of a character.
+/// Whether a byte can part columns: it is a character of ASCII (up to 127; a greater byte is only a
+/// part of a character), none of a number, a time, a word or a name, and no end of a line.
 fn is_parting(byte: u8) -> bool
     ensures { result ≡ is_parting byte }
 {
@@ -94,19 +95,19 @@ fn is_of_text(byte: u8) -> bool
 pub fn form_named(name: &[u8]) -> Option<Form>
     ensures { result ≡ form_named name.now }
 {
-    if is_text(name, b"ordinal") {
+    if is_same(name, b"ordinal") {
         Some(Form::Ordinal)
-    } else if is_text(name, b"calendar") {
+    } else if is_same(name, b"calendar") {
         Some(Form::Calendar)
-    } else if is_text(name, b"seconds") {
+    } else if is_same(name, b"seconds") {
         Some(Form::Seconds)
     } else {
         None
     }
 }
 
-/// Whether two texts are the same.
-pub fn is_text(text: &[u8], word: &[u8]) -> bool
+/// Whether a text is this word, byte for byte.
+pub fn is_same(text: &[u8], word: &[u8]) -> bool
     ensures { result ≡ bytes_eq text.now word.now }
 {
     text == word

@@ -1,8 +1,9 @@
-//! The values of a command line.
+//! The values of a command line as text, before it is tested what they mean. `Chosen` (`chosen`)
+//! has their meanings.
 
-/// The values of a command line, as they are written.
+/// The values of a command line, as they are written; `None` for an option that is not given.
 #[derive(Drop)]
-pub struct Asked<'a> {
+pub struct RawValues<'a> {
     /// The path of the track.
     pub track: &'a str,
     /// The name of its wire.
