@@ -21,7 +21,7 @@ pub enum Ending<'a> {
     Unknown,
     /// A window is asked for of the dump at this path, which holds a saved session.
     Saved(&'a str),
-    /// The script ran on the dump at this path, and so the run ended. Also if the dump is no
-    /// recording: then the fault is `Dump`.
+    /// The script ran on the dump at this path, and this is how the run ended. If the dump is no
+    /// recording, that is its fault `Dump`, and no line of the script was read.
     Ran(&'a str, Result<Status, DumpRunFault>),
 }

@@ -52,11 +52,12 @@ fn start_in_memory<P: Eprint + AllocGlobal>(
 static DUMP: &[u8] = b"$timescale 1 us $end $var wire 1 ! code $end $enddefinitions $end\n\
     #100 1!\n#120 0!\n#200 1!\n#280 0!\n#1000\n";
 
-/// A run that writes twice: the track, the path of the writes, the exit status, what is printed,
-/// and how many calls change the folders. The status is 0, or 1 if a line was refused, 2 for a
-/// mistake in the command line, 3 for a track that cannot be used. A dump of two pulses, as it is
-/// written, has 163 bytes. A write to a new regular file is five calls: make, append, sync the
-/// file, rename, sync the folder. If the file is there, the new one also takes its mode, a sixth.
+/// What a run that writes twice has to do: the track, the path of the writes, the exit status, what
+/// is printed, and how many calls change the folders. The status is 0, or 1 if a line was refused,
+/// 2 for a mistake in the command line, 3 for a track that cannot be used. A dump of two pulses, as
+/// it is written, has 163 bytes. A write to a new regular file is five calls: make, append, sync
+/// the file, rename, sync the folder. If the file is there, the new one also takes its mode, a
+/// sixth.
 type Row = (&'static str, &'static str, u8, &'static [u8], usize);
 
 /// What is no regular file, and the standard output, are written in place, also through a link.
@@ -102,9 +103,9 @@ fn folder(alloc: Global) -> Result<Tree, MemoryFault> {
     Ok(tree)
 }
 
-/// The words of a row: the program's name, `--from 0` if a window is asked for, `--out` with its
-/// path, and the track; `None` if memory runs out. The places 1 and 2 are those of `--from 0`,
-/// which are left out without a window.
+/// The words of a command line: the program's name, `--from 0` if a window is asked for, `--out`
+/// with its path, and the track; `None` if memory runs out. The places 1 and 2 of `all` are those
+/// of `--from 0`.
 fn words(alloc: Global, window: bool, track: &str, out: &str) -> Option<Vec<String>> {
     let mut words = Vec::new(alloc);
     let all = ["irig_ed", "--from", "0", "--out", out, track];
@@ -117,10 +118,11 @@ fn words(alloc: Global, window: bool, track: &str, out: &str) -> Option<Vec<Stri
     Some(words)
 }
 
-/// Whether the run of a row ends, prints and writes as the row says, and prints no help. Its script
-/// is `write`, twice. The row counts the calls of the run alone, not those that made the folder
-/// before. It is false, too, if memory runs out for the words.
-fn is_run<R: Eprint + AllocGlobal>(rt: &R, tree: Tree, window: bool, row: Row) -> bool {
+/// Whether the program, run in the folders of `tree` with the words of a row, ends, prints and
+/// writes as the row says, and prints no help. Its script is `write`, twice. The row counts the
+/// calls of the run alone, not those that made the folders before. It is false, too, if memory runs
+/// out for the words.
+fn runs_as_row_says<R: Eprint + AllocGlobal>(rt: &R, tree: Tree, window: bool, row: Row) -> bool {
     let (track, out, status, printed, calls) = row;
     let alloc = rt.alloc();
     let Some(words) = words(alloc, window, track, out) else {
@@ -141,11 +143,11 @@ fn is_run<R: Eprint + AllocGlobal>(rt: &R, tree: Tree, window: bool, row: Row) -
         && disk.system().memory.calls().len().saturating_sub(before) == calls
 }
 
-/// Whether the run of a row in a new `folder`, with a window or without one, is as the row says. It
-/// is false, too, if memory runs out for the folder.
-fn is_run_in_folder<R: Eprint + AllocGlobal>(rt: &R, window: bool, row: Row) -> bool {
+/// Whether the program, run in a new `folder`, does what a row says (`runs_as_row_says`). It is
+/// false, too, if memory runs out for the folder.
+fn runs_in_folder<R: Eprint + AllocGlobal>(rt: &R, window: bool, row: Row) -> bool {
     match folder(rt.alloc()) {
-        Ok(tree) => is_run(rt, tree, window, row),
+        Ok(tree) => runs_as_row_says(rt, tree, window, row),
         Err(_) => false,
     }
 }
@@ -155,7 +157,7 @@ fn is_run_in_folder<R: Eprint + AllocGlobal>(rt: &R, window: bool, row: Row) -> 
 #[test]
 fn the_standard_output_is_written_in_place(rt: HostRuntime) {
     for row in ROWS.iter() {
-        assert!(rt; is_run_in_folder(&rt, false, *row));
+        assert!(rt; runs_in_folder(&rt, false, *row));
     }
 }
 
@@ -163,6 +165,6 @@ fn the_standard_output_is_written_in_place(rt: HostRuntime) {
 #[test]
 fn a_window_is_not_written_over_its_track(rt: HostRuntime) {
     for row in WINDOW_ROWS.iter() {
-        assert!(rt; is_run_in_folder(&rt, true, *row));
+        assert!(rt; runs_in_folder(&rt, true, *row));
     }
 }

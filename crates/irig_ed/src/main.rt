@@ -16,6 +16,7 @@ mod file_run;
 mod help;
 #[cfg(test)]
 mod in_memory;
+mod script_run;
 mod statuses;
 
 ghost use Rattle.std.specs.Prelude.{◌≡◌, IfOk, OnErr, map, string_bytes};
@@ -35,8 +36,10 @@ use std::process::ExitCode;
 use std::rt::Runtime;
 use std::{env, io};
 
-// Gets the files of the system, and serves the words of the command line: the status is that of
-// `serve`. It is 2 if memory runs out for the files.
+// Gets the files of the system and the words of the command line, and runs the script on the input
+// as `serve` does, which gives the status. `system_files` of irig_files takes the memory for the
+// paths of files, and fails only if there is none: that is printed on the standard error, with
+// status 2.
 fn main(rt: HostRuntime) -> ExitCode {
     let Ok(mut files) = system_files(&rt) else {
         return program().tell(&rt, 2, &io::Error::from(io::ErrorKind::OutOfMemory));
@@ -52,8 +55,8 @@ fn main(rt: HostRuntime) -> ExitCode {
     )
 }
 
-/// The words of the command line, the program's name being the first. An error if one is not UTF-8,
-/// the system gives none, or memory runs out.
+/// The words of the command line, the program's name being the first. `Err` if one of them is not
+/// UTF-8, the system gives none, or memory runs out.
 fn arguments<R: Runtime + AllocGlobal>(rt: &R) -> io::Result<Vec<String>> {
     let words = env::args(rt)?.collect(rt.alloc())?;
     Ok(words)

@@ -44,15 +44,16 @@ fn unread_text<'a>(fault: DumpFileFault) -> &'a str
     }
 }
 
-/// The exit status for how a run on the dump at the path `name` ended; a fault is printed on the
-/// standard error. `Dump` is that the dump is no recording, `Run` that the run was broken off.
-fn tell_ended<R: Eprint>(rt: &R, name: &str, outcome: Result<Status, DumpRunFault>) -> ExitCode
+/// The exit status for how a run on the dump at this path ended: 0 if all lines were accepted, 1 if
+/// some were refused, 3 if the dump is no recording (`Dump`), 4 if the run was broken off (`Run`).
+/// A fault is printed on the standard error.
+fn tell_ended<R: Eprint>(rt: &R, path: &str, outcome: Result<Status, DumpRunFault>) -> ExitCode
     ensures { exit_status result ≡ status_number outcome }
 {
     match outcome {
         Ok(Status::AllAccepted) => ExitCode::SUCCESS,
         Ok(Status::SomeRefused) => ExitCode::from(1),
-        Err(DumpRunFault::Dump(fault)) => program().tell_of(rt, 3, name, &fault),
+        Err(DumpRunFault::Dump(fault)) => program().tell_of(rt, 3, path, &fault),
         Err(DumpRunFault::Run(fault)) => program().tell(rt, 4, &fault),
     }
 }

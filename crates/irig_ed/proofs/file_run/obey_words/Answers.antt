@@ -18,7 +18,7 @@ ends_by words given old new chosen (Saved path) r o = (chosen, r, o)
 ends_by words given old new chosen (Ran path result) r o = (chosen, r, o)
 
 pub returns-in-Ok : goal.returns-in-Ok
-returns-in-Ok g c = ends_by _ _ _ _ c.in-Ok.chosen c.run_on_track.result c.in-Ok.ensures c.run_on_track.ensures
+returns-in-Ok g c = ends_by _ _ _ _ c.in-Ok.chosen c.run_if_apart.result c.in-Ok.ensures c.run_if_apart.ensures
 
 pub returns-in-Err : goal.returns-in-Err
 returns-in-Err g c = (

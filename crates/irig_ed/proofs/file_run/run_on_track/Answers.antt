@@ -1,28 +1,15 @@
-use Rattle.std.proofs.Common.{refl, rules}
+use Rattle.std.proofs.Common.{refl, inl}
 use Rattle.irig_files.proofs.Apart.{stays_here}
 use Rattle.irig_files.specs.Going.{leaves_nowhere}
 use Rattle.irig_ed.proofs.file_run.run_on_track.Goals as goal
 
-pub run_apart-requires : goal.run_apart-requires
-run_apart-requires g c = λ told. c.in-Ok-false.ensures.apart told c.in-Ok-false.field-0-test
-
-pub returns-in-Ok-true : goal.returns-in-Ok-true
-returns-in-Ok-true g c = (
+pub returns-in_default : goal.returns-in_default
+returns-in_default g c = (
+  refl,
   (
     refl,
     (λ to. (leaves_nowhere _ _ _ _ (g.met.D.Disk.only_now _))),
     (λ at told. stays_here (g.D.Disk.disk c.args.disk.now) at (g.met.D.Disk.only_now c.args.disk.now)),
   ),
-  search rules,
-  search rules,
-)
-
-pub returns-in-Err : goal.returns-in-Err
-returns-in-Err g c = (
-  (
-    refl,
-    (λ to. (leaves_nowhere _ _ _ _ (g.met.D.Disk.only_now _))),
-    (λ at told. stays_here (g.D.Disk.disk c.args.disk.now) at (g.met.D.Disk.only_now c.args.disk.now)),
-  ),
-  c.in-Err.ensures.unknown,
+  inl refl,
 )
