@@ -9,16 +9,16 @@ use Rattle.irig_files.specs.declared.dump_file.DumpFileFault.{DumpFileFault}
 use Rattle.std.proofs.lemmas.{List.drop_all, List.length-map, Option.get_or_from_slice_get, Option.slice_get_within}
 use denote.Ref.{Bor}
 use Rattle.irig_codes.specs.Format.{FormatView}
-use Rattle.irig_guard.specs.Others.{IsUnheard, IsUnheardOf, Shows, ShowsAll}
+use Rattle.irig_guard.specs.Others.{IsUnusable, IsUnusableDump, Shows, ShowsAll}
 use Rattle.irig_guard.specs.Settings.{paths}
-use Rattle.irig_guard.specs.declared.unheard.{Unheard.Unheard, Unheard.TheVariants.Dump, Unheard.TheVariants.File}
+use Rattle.irig_guard.specs.declared.other_fault.{OtherFault.OtherFault, OtherFault.TheVariants.Dump, OtherFault.TheVariants.File}
 use Rattle.irig_safety.specs.Terms.{TermsView}
 
 -- what the bytes of a file cannot be used for, the file cannot
-pub unheard_of : (held : Option (List ℕ)) (unread : DumpFileFault → Type 0) (source : List ℕ) (why : Unheard) → IfSome held (λ all. source ≡ all)
-    → IsUnheardOf source why → IsUnheard held unread why
-unheard_of held unread source (Dump fault) whole is = (source, whole, is)
-unheard_of held unread source (File fault) whole is = inl is
+pub unusable_by_dump : (held : Option (List ℕ)) (unread : DumpFileFault → Type 0) (source : List ℕ) (why : OtherFault) → IfSome held (λ all. source ≡ all)
+    → IsUnusableDump source why → IsUnusable held unread why
+unusable_by_dump held unread source (Dump fault) whole is = (source, whole, is)
+unusable_by_dump held unread source (File fault) whole is = inl is
 
 -- the path at a place
 pub path_at : (given : List (Bor (List ℕ))) (i : ℕ) (p : Bor (List ℕ)) → slice_get given i ≡ Some p → slice_get (paths given) i ≡ Some p.now

@@ -3,7 +3,7 @@ use Rattle.std.proofs.Common.{◌≡◌, ◌∙◌, ℕ, List, Option, Some, Non
 use Rattle.std.specs.Prelude.{IsOk}
 use Rattle.irig_codes.specs.Format.{FormatView}
 use Rattle.irig_edit.specs.Opened.Openings.{MayBeShort}
-use Rattle.irig_guard.specs.Windows.{GuardsIn, GuardsOnRead, MayRunShort, heeded}
+use Rattle.irig_guard.specs.Windows.{GuardsIn, GuardsOnRead, MayRunShort, used_journal}
 use Rattle.irig_guarding.specs.{GuardedRun.GuardsOnDump, declared.product.GuardFault.GuardFault, declared.product.GuardFault.TheVariants.Dump, declared.product.Kept.Kept}
 use Rattle.irig_guarding.specs.declared.product.Product.{Product}
 use Rattle.irig_recording.specs.{FileText.file_text, Recording.RecordingView}
@@ -20,7 +20,7 @@ module _ (wire : Option (List ℕ)) (f : FormatView) (terms : TermsView) (source
       → GuardsOnDump name f terms bytes asked script left from to result
 
   pub guards_in : (window : Option Window) (r : RecordingView) (journal : Option (List ℕ)) (result : Result Kept GuardFault)
-      → parts_in window wire source ≡ Ok (r, journal) → dump_parts None (file_text r) ≡ Ok (r, None) → GuardsOnEach r (heeded window journal) result
+      → parts_in window wire source ≡ Ok (r, journal) → dump_parts None (file_text r) ≡ Ok (r, None) → GuardsOnEach r (used_journal window journal) result
       → GuardsIn window wire f terms source asked script left from to result
   guards_in None r journal result is plain ran = ran wire source (sym (no_window_parts wire source) ∙ is)
   guards_in (Some w) r journal result is plain ran =
@@ -37,6 +37,6 @@ fails_in (Some w) wire f terms source asked script at fault is =
 
 -- memory ran out for the session of what was read
 pub runs_short : (window : Option Window) (wire : Option (List ℕ)) (source : List ℕ) (r : RecordingView) (journal : Option (List ℕ))
-    → parts_in window wire source ≡ Ok (r, journal) → MayBeShort (Ok (r, heeded window journal)) → MayRunShort window wire source
+    → parts_in window wire source ≡ Ok (r, journal) → MayBeShort (Ok (r, used_journal window journal)) → MayRunShort window wire source
 runs_short None wire source r journal is short = subst MayBeShort (sym (sym (no_window_parts wire source) ∙ is)) short
 runs_short (Some w) wire source r journal is short = subst IsOk (sym is) refl

@@ -6,7 +6,8 @@ use denote.Ref.{Bor}
 use Rattle.irig_words.specs.Formats.{HasFormatFault, IsFormat, given}
 use Rattle.irig_words.specs.Windows.{HasWindowFault, IsWindow}
 use Rattle.irig_guard.specs.declared.chosen.OptionFault.{OptionFault}
-use Rattle.irig_guard.specs.{declared.asked.Asked.Asked, declared.chosen.Settings.Settings}
+use Rattle.irig_guard.specs.declared.raw_values.RawValues.{RawValues}
+use Rattle.irig_guard.specs.declared.chosen.Settings.{Settings}
 use Rattle.irig_guard.specs.declared.chosen.OptionFault.TheVariants as fault
 
 -- what is to be written is the track
@@ -14,11 +15,11 @@ abbrev pub is_track : Option (Bor (List ℕ)) → List ℕ → Bool
 is_track None track = false
 is_track (Some out) track = bytes_eq out.now track
 
-abbrev pub is_over : Asked → Bool
-is_over a = is_track a.out a.track.now
+abbrev pub is_out_track : RawValues → Bool
+is_out_track a = is_track a.out a.track.now
 
 -- the values ask for this
-pub record IsChosen (a : Asked) (s : Settings) : Type 0 where
+pub record IsChosen (a : RawValues) (s : Settings) : Type 0 where
   pub track : s.track ≡ a.track
   pub wire : s.wire ≡ a.wire
   pub window : IsWindow (given a.from) (given a.to) s.window
@@ -27,13 +28,13 @@ pub record IsChosen (a : Asked) (s : Settings) : Type 0 where
   pub save : s.save ≡ a.save
   pub moved : s.moved ≡ a.moved
   pub format : IsFormat (given a.format) (given a.expression) s.format
-  pub apart : is_over a ≡ false
+  pub apart : is_out_track a ≡ false
   pub saved : (a.save && not (is_some a.out)) ≡ false
 
 -- this option has a value that it cannot have
-abbrev pub HasFault : Asked → OptionFault → Type 0
+abbrev pub HasFault : RawValues → OptionFault → Type 0
 HasFault a (fault.Window of_window) = HasWindowFault (given a.from) (given a.to) of_window
 HasFault a (fault.Format of_format) =
     HasFormatFault (given a.format) (given a.expression) of_format
-HasFault a fault.Out = is_over a ≡ true
+HasFault a fault.Out = is_out_track a ≡ true
 HasFault a fault.Save = (a.save ≡ true) × (a.out ≡ None)

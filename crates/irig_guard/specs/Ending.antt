@@ -5,9 +5,9 @@ use Rattle.clap.specs.Words.{Text}
 use Rattle.irig_files.specs.Tracks.{IsUnreadOrShort}
 use Rattle.irig_guard.specs.declared.chosen.Settings.{Settings}
 use Rattle.irig_guard.specs.declared.ending.Ending.TheVariants.{Usage, Unread, Over, Unknown}
-use Rattle.irig_guard.specs.declared.ending.Ending.TheVariants.{OverOther, Ran, Unheard}
+use Rattle.irig_guard.specs.declared.ending.Ending.TheVariants.{OverOther, Ran, UnusableOther}
 use Rattle.irig_guard.specs.Given.{Ends, Files, IsRead, place_of}
-use Rattle.irig_guard.specs.{Others.IsOther, Others.IsUnheard, RunsBy.RunsBy}
+use Rattle.irig_guard.specs.{Others.IsOther, Others.IsUnusable, RunsBy.RunsBy}
 use Rattle.irig_guard.specs.{Settings.Reads, Statuses.Reports}
 use Rattle.irig_guard.specs.declared.ending.Ending.{Ending}
 
@@ -34,9 +34,9 @@ Obeys given old new chosen Unknown = IsUntouched given old new
 Obeys given old new chosen (OverOther path) =
     IsUntouched given old new × (is_some chosen.out ≡ true) × IsOther chosen path.now
     × given.same path.now (place_of chosen)
-Obeys given old new chosen (Unheard path why) =
+Obeys given old new chosen (UnusableOther path why) =
     IsUntouched given old new × IsOther chosen path.now
-    × IsUnheard (given.held path.now) (given.unread path.now) why
+    × IsUnusable (given.held path.now) (given.unread path.now) why
 Obeys given old new chosen (Usage fault) = ⊥
 
 -- The settings are those of the words, and they were obeyed. However that ended, a crash at any

@@ -14,35 +14,36 @@ beside = record (new_rule (codes "with")) {
 }
 
 -- which part of which wire is read
-abbrev pub taking : App
-taking = with_window (with_rule (new_app (codes "irig_guard")) (option (codes "wire") None))
+abbrev pub part_command : App
+part_command = with_window (with_rule (new_app (codes "irig_guard")) (option (codes "wire") None))
 
 -- and in which format
-abbrev pub reading : App
-reading =
-    with_rule (with_rule taking (option (codes "format") None)) (option (codes "expression") None)
+abbrev pub format_command : App
+format_command =
+    with_rule (with_rule part_command (option (codes "format") None))
+    (option (codes "expression") None)
 
 -- and by what repairs are judged besides: whether frames may move, and other recordings
-abbrev pub judging : App
-judging = with_rule (with_rule reading (flag (codes "moved"))) beside
+abbrev pub judging_command : App
+judging_command = with_rule (with_rule format_command (flag (codes "moved"))) beside
 
 -- the command: how the track is read, by what repairs are judged, what is written, and the track
 abbrev pub the_command : App
 the_command =
-    with_rule (with_rule (with_rule judging (option (codes "out") None)) (flag (codes "save")))
-    (needed (codes "TRACK"))
+    with_rule (with_rule (with_rule judging_command (option (codes "out") None))
+    (flag (codes "save"))) (needed (codes "TRACK"))
 
 -- it says which part of which wire is read
-abbrev pub IsTaking : App → Type 0
-IsTaking app = app ≡ taking
+abbrev pub IsPartCommand : App → Type 0
+IsPartCommand app = app ≡ part_command
 
 -- and in which format
-abbrev pub IsReading : App → Type 0
-IsReading app = app ≡ reading
+abbrev pub IsFormatCommand : App → Type 0
+IsFormatCommand app = app ≡ format_command
 
 -- and by what repairs are judged besides
-abbrev pub IsJudging : App → Type 0
-IsJudging app = app ≡ judging
+abbrev pub IsJudgingCommand : App → Type 0
+IsJudgingCommand app = app ≡ judging_command
 
 -- it is the command line of the program
 abbrev pub IsCommand : App → Type 0

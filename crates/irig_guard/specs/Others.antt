@@ -6,8 +6,8 @@ use Rattle.irig_files.specs.declared.dump_file.DumpFileFault.{DumpFileFault}
 use Rattle.irig_files.specs.declared.dump_file.DumpFileFault.TheVariants as file
 use Rattle.irig_files.specs.Tracks.{IsUnreadOrShort}
 use Rattle.irig_guard.specs.declared.chosen.Settings.{Settings}
-use Rattle.irig_guard.specs.declared.unheard.Unheard.{Unheard}
-use Rattle.irig_guard.specs.declared.unheard.Unheard.TheVariants.{Dump, File}
+use Rattle.irig_guard.specs.declared.other_fault.OtherFault.{OtherFault}
+use Rattle.irig_guard.specs.declared.other_fault.OtherFault.TheVariants.{Dump, File}
 use Rattle.irig_guard.specs.Settings.{paths}
 use Rattle.irig_guarding.specs.Others.{Adds}
 use Rattle.irig_safety.specs.Terms.{TermsView}
@@ -36,12 +36,12 @@ FailsToOpen source fault = IsUnopened None source fault
     × (fault ≡ OutOfMemory → MayBeShort (dump_parts None source))
 
 -- the bytes of a dump cannot be used: it is not opened, or memory ran out
-abbrev pub IsUnheardOf : List ℕ → Unheard → Type 0
-IsUnheardOf source (Dump fault) = FailsToOpen source fault
-IsUnheardOf source (File fault) = fault ≡ file.OutOfMemory
+abbrev pub IsUnusableDump : List ℕ → OtherFault → Type 0
+IsUnusableDump source (Dump fault) = FailsToOpen source fault
+IsUnusableDump source (File fault) = fault ≡ file.OutOfMemory
 
 -- a file cannot be used: it is not read, or its dump is not opened, or memory ran out
-abbrev pub IsUnheard : Option (List ℕ) → (DumpFileFault → Type 0) → Unheard → Type 0
-IsUnheard held unread (Dump fault) =
+abbrev pub IsUnusable : Option (List ℕ) → (DumpFileFault → Type 0) → OtherFault → Type 0
+IsUnusable held unread (Dump fault) =
     (source : List ℕ) × IfSome held (λ all. source ≡ all) × FailsToOpen source fault
-IsUnheard held unread (File fault) = IsUnreadOrShort None held unread fault
+IsUnusable held unread (File fault) = IsUnreadOrShort None held unread fault

@@ -7,7 +7,8 @@ use Rattle.clap.specs.declared.parser.matches.Found.{Found}
 use Rattle.irig_guard.specs.Options.{the_command}
 use Rattle.irig_guard.specs.declared.chosen.Settings.{Settings}
 use Rattle.irig_guard.specs.declared.chosen.OptionFault.{OptionFault}
-use Rattle.irig_guard.specs.{Chosen.HasFault, Chosen.IsChosen, declared.asked.Asked.Asked}
+use Rattle.irig_guard.specs.{Chosen.HasFault, Chosen.IsChosen}
+use Rattle.irig_guard.specs.declared.raw_values.RawValues.{RawValues}
 use Rattle.irig_words.specs.Usage as usage
 use Rattle.irig_words.specs.declared.usage.UsageFault.{UsageFault}
 
@@ -20,7 +21,7 @@ abbrev pub all_values : Found → Text → List (List ℕ)
 all_values f name = unwrap_or (option_map raw_values (matched_of f name)) []
 
 -- the values are those of the matches
-pub record AreValues (f : Found) (a : Asked) : Type 0 where
+pub record AreValues (f : Found) (a : RawValues) : Type 0 where
   pub track : first_value f (codes "TRACK") ≡ Some a.track.now
   pub wire : first_value f (codes "wire") ≡ option_map (λ w. w.now) a.wire
   pub from : first_value f (codes "from") ≡ option_map (λ w. w.now) a.from

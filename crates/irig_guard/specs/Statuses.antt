@@ -6,7 +6,7 @@ use Rattle.irig_files.specs.declared.dump_file.DumpFileFault.TheVariants.{Cannot
 use Rattle.irig_files.specs.declared.dump_file.DumpFileFault.TheVariants.{OutOfMemory}
 use Rattle.irig_guard.specs.{Help.help_text, declared.ending.Ending.Ending}
 use Rattle.irig_guard.specs.declared.ending.Ending.TheVariants.{Usage, Unread, Over, Unknown}
-use Rattle.irig_guard.specs.declared.ending.Ending.TheVariants.{OverOther, Ran, Unheard}
+use Rattle.irig_guard.specs.declared.ending.Ending.TheVariants.{OverOther, Ran, UnusableOther}
 use Rattle.irig_script.specs.declared.obey.status.Status.{Status}
 use Rattle.irig_script.specs.declared.obey.status.Status.TheVariants.{AllAccepted, SomeRefused}
 use Rattle.irig_guarding.specs.{declared.product.GuardFault.GuardFault, declared.product.Kept.Kept}
@@ -38,5 +38,5 @@ Reports (Unread path fault) old new status = EndsWith 3 old new status
 Reports Over old new status = EndsWith 2 old new status
 Reports Unknown old new status = EndsWith 4 old new status
 Reports (OverOther path) old new status = EndsWith 2 old new status
-Reports (Unheard path why) old new status = EndsWith 3 old new status
+Reports (UnusableOther path why) old new status = EndsWith 3 old new status
 Reports (Ran path result) old new status = EndsWith (status_number result) old new status

@@ -13,9 +13,9 @@ use Rattle.irig_vcd.specs.{Parts.dump_parts, Window.parts_in, declared.fault.Vcd
 use Rattle.irig_vcd.specs.declared.window.Window.{Window}
 
 -- the journal that a session is opened with: in a window none
-abbrev pub heeded : Option Window → Option (List ℕ) → Option (List ℕ)
-heeded None journal = journal
-heeded (Some w) journal = None
+abbrev pub used_journal : Option Window → Option (List ℕ) → Option (List ℕ)
+used_journal None journal = journal
+used_journal (Some w) journal = None
 
 -- The script ran under guard on the dump that is written of the recording that was read, without
 -- its journal. Or the dump has a fault, and nothing was done.

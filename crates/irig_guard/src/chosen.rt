@@ -1,4 +1,5 @@
-//! What a command line asks for.
+//! What a command line asks for: what the values of its options mean (`Settings`), or which value
+//! is wrong (`OptionFault`). The values as text are `RawValues`.
 
 use irig_codes::Format;
 use irig_vcd::Window;
@@ -14,11 +15,11 @@ pub struct Settings<'a> {
     pub wire: Option<&'a str>,
     /// The window of the dump that is read, if not all is.
     pub window: Option<Window>,
-    /// The paths of other recordings of the same code.
+    /// The paths of other recordings of the same code (`--with`), in their order.
     pub others: Vec<&'a str>,
     /// The path at which the track is written that the kept repairs leave, if one is given.
     pub out: Option<&'a str>,
-    /// Whether the journal is written with it.
+    /// Whether the journal, the history of the edits, is written with it.
     pub save: bool,
     /// Whether frames that are fine may move.
     pub moved: bool,

@@ -1,46 +1,51 @@
-//! The command line, read by `clap`. Its matches are what `clap` found in its words. Only memory
-//! can run out for a `Command` or an `Arg`; an `Arg` reports that when it is added to a command. A
-//! `UsageFault` is `Words` if `clap` does not accept the words, or they ask for help, and `Value`
-//! if an option has a value that it cannot have. In a text of the help, what is after the last
-//! colon is the value without the option.
+//! The command line, read by `clap`. A `Command` is what `clap` knows of a command line, an `Arg`
+//! is an option or a word of it, and matches are what `clap` found in the words. Only memory can
+//! run out for a `Command` or an `Arg`. `option_arg` makes an option with a value, `flag_arg` one
+//! without, and `needed_arg` a word that has to be there, each by its name and its text in the
+//! help. What is after the last colon of that text is the value without the option. The options are
+//! added in this order: `part_command`, `format_command`, `judging_command`, `command`.
+//!
+//! In a contract, `IsPartCommand` and the like say that a command has just the arguments that the
+//! function of that name gives it; `MayRefuse` says that `clap` may give this error for the words,
+//! `WantsMemory` that memory ran out, `AreValues` that these are the values of the matches.
 
 ghost use Rattle.std.specs.Prelude.{◌≡◌, IfErr, IfOk, None, codes, false, map, string_bytes};
 ghost use Rattle.clap.specs.Words.{HasMatchesOf, app_of, found_of, rule_of};
-ghost use Rattle.irig_guard.specs.Options.{IsCommand, IsJudging, IsReading, IsTaking, beside};
-ghost use Rattle.irig_guard.specs.Options.{the_command};
+ghost use Rattle.irig_guard.specs.Options.{IsCommand, IsFormatCommand, IsJudgingCommand};
+ghost use Rattle.irig_guard.specs.Options.{IsPartCommand, beside, the_command};
 ghost use Rattle.irig_guard.specs.Settings.{AreValues, Reads, all_values, paths};
 ghost use Rattle.irig_words.specs.Errors.{MayRefuse, WantsMemory};
 ghost use Rattle.irig_words.specs.Usage.{Values};
 
-use crate::asked::Asked;
 use crate::chosen::{OptionFault, Settings};
 use crate::options::settings_of;
+use crate::raw_values::RawValues;
 use clap::{Arg, ArgAction, ArgMatches, Command, Error};
 use irig_words::{UsageFault, flag_arg, matches_of, needed_arg, option_arg, windowed};
 use std::alloc::{AllocError, Global};
 
-/// What the words of a command line ask for, the program's name being the first. `Words` if they
-/// ask for help, `clap` does not accept them or memory runs out (`asked`); `Value` if an option has
-/// a value that it cannot have (`settings_of`).
+/// What the words of a command line ask for, the program's name being the first. The error is
+/// `Words` if `clap` does not accept the words, they ask for help, or memory runs out, and `Value`
+/// if an option has a value that it cannot have.
 pub fn settings<'a>(
     alloc: Global,
     words: &'a [String],
 ) -> Result<Settings<'a>, UsageFault<OptionFault>>
     ensures { Reads (map string_bytes words.entry.now) result }
 {
-    let asked = match asked(alloc, words) {
-        Ok(asked) => asked,
+    let raw = match raw_values(alloc, words) {
+        Ok(raw) => raw,
         Err(error) => return Err(UsageFault::Words(error)),
     };
-    match settings_of(asked) {
+    match settings_of(raw) {
         Ok(chosen) => Ok(chosen),
         Err(fault) => Err(UsageFault::Value(fault)),
     }
 }
 
-/// The values of a command line: the words, as `clap` takes them apart. `Err` is what `clap` says
-/// of words that it does not accept, or of a request for help; or memory ran out.
-fn asked<'a>(alloc: Global, words: &'a [String]) -> Result<Asked<'a>, Error>
+/// The values of a command line as text: the words, as `clap` takes them apart. `Err` if `clap`
+/// does not accept them, they ask for help, or memory ran out.
+fn raw_values<'a>(alloc: Global, words: &'a [String]) -> Result<RawValues<'a>, Error>
     ensures values { IfOk result (Values the_command AreValues
         (map string_bytes words.entry.now)) }
     ensures refused { IfErr result (MayRefuse the_command (map string_bytes words.entry.now)) }
@@ -51,9 +56,9 @@ fn asked<'a>(alloc: Global, words: &'a [String]) -> Result<Asked<'a>, Error>
     }
 }
 
-/// The values of the matches, each as it was written; `None` for an option that is not given, and
-/// false for a flag. `Err` means that memory ran out.
-fn values_of<'a>(alloc: Global, matches: &ArgMatches<'a>) -> Result<Asked<'a>, Error>
+/// The values of the matches, each as it was written; for an option that is not given, `None`, or
+/// `false` if it has no value. `Err` means that memory ran out.
+fn values_of<'a>(alloc: Global, matches: &ArgMatches<'a>) -> Result<RawValues<'a>, Error>
     ensures values { IfOk result (AreValues (found_of matches.now)) }
     ensures memory { IfErr result WantsMemory }
 {
@@ -62,7 +67,7 @@ fn values_of<'a>(alloc: Global, matches: &ArgMatches<'a>) -> Result<Asked<'a>, E
         return Err(AllocError.into());
     };
     let others = others_of(alloc, matches)?;
-    Ok(Asked {
+    Ok(RawValues {
         track,
         wire: matches.get_str("wire"),
         from: matches.get_str("from"),
@@ -76,8 +81,8 @@ fn values_of<'a>(alloc: Global, matches: &ArgMatches<'a>) -> Result<Asked<'a>, E
     })
 }
 
-/// The values of `--with`, in their order; none if the option is not given. `Err` means that memory
-/// ran out.
+/// The values of `--with`, in their order; an empty list if the option is not given. `Err` means
+/// that memory ran out.
 fn others_of<'a>(alloc: Global, matches: &ArgMatches<'a>) -> Result<Vec<&'a str>, AllocError>
     ensures { IfOk result (λ others. paths others.items
         ≡ all_values (found_of matches.now) (codes "with")) }
@@ -89,8 +94,8 @@ fn others_of<'a>(alloc: Global, matches: &ArgMatches<'a>) -> Result<Vec<&'a str>
     Ok(others)
 }
 
-/// The matches of a command line that `clap` accepts. `Err` is what `clap` says of one that it does
-/// not accept, or of a request for help; or memory ran out.
+/// The matches of a command line that `clap` accepts. `Err` if it does not accept the words, they
+/// ask for help, or memory ran out.
 fn parse_words<'a>(alloc: Global, words: &'a [String]) -> Result<ArgMatches<'a>, Error>
     ensures parsed { IfOk result (HasMatchesOf the_command (map string_bytes words.entry.now)) }
     ensures refused { IfErr result (MayRefuse the_command (map string_bytes words.entry.now)) }
@@ -98,45 +103,44 @@ fn parse_words<'a>(alloc: Global, words: &'a [String]) -> Result<ArgMatches<'a>,
     matches_of(command(alloc)?, words)
 }
 
-/// The command line of the program: the options of `judging`, those of the output (`--out`,
-/// `--save`), and the track. `Err` means in this function and in the next three that memory ran
-/// out.
+/// The command line of the program: the options of `judging_command`, those of what is written
+/// (`--out` and `--save`), and the path of the track.
 pub fn command<'a>(alloc: Global) -> Result<Command<'a>, AllocError>
     ensures { IfOk result (λ c. IsCommand (app_of c)) }
 {
     let out = option_arg(alloc, "out", "PATH", "where the mended track is written");
     let track = needed_arg(alloc, "TRACK", "the dump; repairs come on standard input");
     let save = flag_arg(alloc, "save", "write the journal with the track");
-    judging(alloc)?.arg(out)?.arg(save)?.arg(track)
+    judging_command(alloc)?.arg(out)?.arg(save)?.arg(track)
 }
 
-/// The command with the options of `reading`, and those that say by what repairs are judged besides
-/// the recording: whether frames may move (`--moved`), and other recordings (`--with`).
-fn judging<'a>(alloc: Global) -> Result<Command<'a>, AllocError>
-    ensures { IfOk result (λ c. IsJudging (app_of c)) }
+/// The command with the options of `format_command`, and those that say by what repairs are judged
+/// besides the recording: whether frames may move (`--moved`), and other recordings (`--with`).
+fn judging_command<'a>(alloc: Global) -> Result<Command<'a>, AllocError>
+    ensures { IfOk result (λ c. IsJudgingCommand (app_of c)) }
 {
     let moved = flag_arg(
         alloc,
         "moved",
         "frames that are fine may move, in their order",
     );
-    reading(alloc)?.arg(moved)?.arg(with_arg(alloc))
+    format_command(alloc)?.arg(moved)?.arg(with_arg(alloc))
 }
 
-/// The command with the options of `taking`, and those that say how the wire is read: `--format`
+/// The command with the options of `part_command`, and those of the format of frames: `--format`
 /// and `--expression`.
-fn reading<'a>(alloc: Global) -> Result<Command<'a>, AllocError>
-    ensures { IfOk result (λ c. IsReading (app_of c)) }
+fn format_command<'a>(alloc: Global) -> Result<Command<'a>, AllocError>
+    ensures { IfOk result (λ c. IsFormatCommand (app_of c)) }
 {
     let format = option_arg(alloc, "format", "FORMAT", "A, B, E or G: B");
     let expression = option_arg(alloc, "expression", "NUMBER", "of the format: 2");
-    taking(alloc)?.arg(format)?.arg(expression)
+    part_command(alloc)?.arg(format)?.arg(expression)
 }
 
-/// The command with the options that say which part of which wire is read: `--wire`, and `--from`
-/// and `--to`, which `windowed` adds.
-fn taking<'a>(alloc: Global) -> Result<Command<'a>, AllocError>
-    ensures { IfOk result (λ c. IsTaking (app_of c)) }
+/// The command with the options that say which part of the dump is read: its wire (`--wire`), and
+/// the window (`--from` and `--to`), which `windowed` adds.
+fn part_command<'a>(alloc: Global) -> Result<Command<'a>, AllocError>
+    ensures { IfOk result (λ c. IsPartCommand (app_of c)) }
 {
     let wire = option_arg(alloc, "wire", "NAME", "the wire of the dump");
     let Ok(wired) = Command::new(alloc, "irig_guard").arg(wire) else {
@@ -145,8 +149,9 @@ fn taking<'a>(alloc: Global) -> Result<Command<'a>, AllocError>
     windowed(alloc, wired)
 }
 
-/// The option `--with` for other recordings of the same code, which can come more than once. In the
-/// contract this option is named `beside`; it is not `global`, so no subcommand would take it over.
+/// The option `--with` for another recording of the same code, which can come more than once. In
+/// the contract `beside` is what `clap` accepts for it. It is not `global`: it is no option of
+/// subcommands, of which there are none.
 fn with_arg<'a>(alloc: Global) -> Arg<'a>
     ensures rule { rule_of result ≡ beside }
     ensures local { result.global ≡ false }

@@ -1,7 +1,7 @@
 //! How the program ends.
 
 use crate::chosen::OptionFault;
-use crate::unheard::Unheard;
+use crate::other_fault::OtherFault;
 use irig_files::DumpFileFault;
 use irig_guarding::{GuardFault, Kept};
 use irig_words::UsageFault;
@@ -20,8 +20,8 @@ pub enum Ending<'a> {
     /// The path to write leads to the other recording at this path.
     OverOther(&'a str),
     /// The other recording at this path cannot be used.
-    Unheard(&'a str, Unheard),
-    /// The script ran under guard on the dump at this path, and so the run ended. Also if the dump
-    /// is no recording: then the fault is `Dump`.
+    UnusableOther(&'a str, OtherFault),
+    /// The script ran under guard on the dump at this path, and this is how the run ended. If the
+    /// dump is no recording, that is its fault `Dump`, and no line of the script was read.
     Ran(&'a str, Result<Kept, GuardFault>),
 }

@@ -1,53 +1,56 @@
-//! What the values of a command line mean.
+//! What the values of a command line mean. `raw` has them as text, as they are written. In a
+//! contract, `IsChosen` says that the settings are what the values mean, `HasFault` that this
+//! option has a value that it cannot have, `is_out_track` that `--out` is written as the track is.
 
 ghost use Rattle.std.specs.Prelude.{◌≡◌, ◌↔◌, IfErr, IfOk, IsTrue};
-ghost use Rattle.irig_guard.specs.Chosen.{HasFault, IsChosen, is_over};
+ghost use Rattle.irig_guard.specs.Chosen.{HasFault, IsChosen, is_out_track};
 
-use crate::asked::Asked;
 use crate::chosen::{OptionFault, Settings};
+use crate::raw_values::RawValues;
 use irig_words::{format_named, window_named};
 
-/// What the values of a command line ask for. `Err` is the first of these faults: the window has a
-/// time that it cannot have, or ends before it begins (`Window`), `--format` or `--expression` has
-/// a value that it cannot have (`Format`), `--out` is written as the track is (`Out`), or `--save`
-/// is given without `--out` (`Save`).
-pub fn settings_of<'a>(asked: Asked<'a>) -> Result<Settings<'a>, OptionFault>
-    ensures chosen { IfOk result (IsChosen asked.entry) }
-    ensures fault { IfErr result (HasFault asked.entry) }
+/// What the values of a command line ask for. The error is the first of these faults: `Window` if a
+/// time of the window is wrong, or it ends before it begins; `Format` if `--format` or
+/// `--expression` is wrong; `Out` if the path of `--out` is the text of the track's path; `Save` if
+/// `--save` is given without `--out`.
+pub fn settings_of<'a>(raw: RawValues<'a>) -> Result<Settings<'a>, OptionFault>
+    ensures chosen { IfOk result (IsChosen raw.entry) }
+    ensures fault { IfErr result (HasFault raw.entry) }
 {
-    let window = match window_named(asked.from, asked.to) {
+    let window = match window_named(raw.from, raw.to) {
         Ok(window) => window,
         Err(fault) => return Err(OptionFault::Window(fault)),
     };
-    let format = match format_named(asked.format, asked.expression) {
+    let format = match format_named(raw.format, raw.expression) {
         Ok(format) => format,
         Err(fault) => return Err(OptionFault::Format(fault)),
     };
-    if is_over(&asked) {
+    if is_out_track(&raw) {
         return Err(OptionFault::Out);
     }
-    if asked.save && asked.out.is_none() {
+    if raw.save && raw.out.is_none() {
         return Err(OptionFault::Save);
     }
     Ok(Settings {
-        track: asked.track,
-        wire: asked.wire,
+        track: raw.track,
+        wire: raw.wire,
         window,
-        out: asked.out,
-        others: asked.others,
-        save: asked.save,
-        moved: asked.moved,
+        out: raw.out,
+        others: raw.others,
+        save: raw.save,
+        moved: raw.moved,
         format,
     })
 }
 
-/// Whether the path to write is written like that of the track; false if none is given. Whether two
-/// other paths lead to one file is found out later, when the disk is looked at.
-fn is_over(asked: &Asked<'_>) -> bool
-    ensures { result ≡ is_over asked.now }
+/// Whether the path of `--out` and that of the track are the same text; false if no `--out` is
+/// given. Whether two paths of other texts lead to one file is found out later, from the disk
+/// (`is_over` of `written`).
+fn is_out_track(raw: &RawValues<'_>) -> bool
+    ensures { result ≡ is_out_track raw.now }
 {
-    match asked.out {
-        Some(out) => out == asked.track,
+    match raw.out {
+        Some(out) => out == raw.track,
         None => false,
     }
 }

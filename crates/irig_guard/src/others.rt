@@ -2,25 +2,26 @@
 //! frame next to it agrees with it, so that damage did not make it alone: the two are near enough
 //! for their distance to say how many frame periods it is, and their times are as many apart. A
 //! dump that is read has two faults: the outer one is of its file, the inner one of the dump in it.
-//! In contracts `IsOther` is a path of the settings (`--with`), `Shows` and `Adds` say that `shown`
-//! grew by just the frames of a recording that say something, `HasFewBytes` that its journal has at
-//! most 2^28 bytes, as a dump, `held` is what a file holds, `unread` why it is not read, and
-//! `D.is_told` whether the contracts know where paths lead: true of folders in memory, false of the
-//! system.
+//!
+//! In a contract, `IsOther` says that a path is one of `--with`, `Shows` and `Adds` that `terms`
+//! grew by just the frames of a recording that say something, `IsUnusable` that a recording cannot
+//! be used for this fault, `HasFewBytes` that its journal has at most 2^28 bytes, as a dump. `held`
+//! is what a file holds, `unread` why it is not read, and `is_told` whether the contracts know
+//! where paths lead: true of folders in memory, false of the system.
 
 ghost use Rattle.std.specs.Prelude.{◌≡◌, ◌<◌, ◌^◌, ℕ, List, None, IfErr, IfOk, IfSome, IsTrue, OnOk};
 ghost use Rattle.std.specs.Prelude.{false, is_some, true};
 ghost use Rattle.irig_files.specs.Apart.{LeadToOneFile};
 ghost use Rattle.irig_files.specs.Reads.{HasFewBytes, parts_of};
 ghost use Rattle.irig_guard.specs.Given.{AreOthersApart, place_of};
-ghost use Rattle.irig_guard.specs.Others.{IsOther, IsUnheard, IsUnheardOf, Shows, ShowsAll};
+ghost use Rattle.irig_guard.specs.Others.{IsOther, IsUnusable, IsUnusableDump, Shows, ShowsAll};
 ghost use Rattle.irig_guard.specs.Settings.{paths};
 ghost use Rattle.irig_guarding.specs.Others.{Adds};
 ghost use Rattle.irig_safety.specs.Terms.{without_others};
 ghost use Rattle.irig_vcd.specs.{Answer.Gives, Parts.dump_parts};
 
 use crate::chosen::Settings;
-use crate::unheard::Unheard;
+use crate::other_fault::OtherFault;
 use irig_codes::Format;
 use irig_files::{Disk, DumpFileFault, Parts};
 use irig_guarding::{GuardFault, add_frames};
@@ -29,9 +30,9 @@ use irig_text::ShelfFault;
 use irig_vcd::VcdFault;
 use std::alloc::Global;
 
-/// The path of the first other recording to whose file the path to write leads, too
-/// (`Disk::is_same`); `None` if there is no such recording, or no path to write. The recordings are
-/// looked at in their order. `Err` if it cannot be found out of one of them, before such a one is
+/// The first path of another recording that leads to the file to which the path to write leads,
+/// too; `None` if there is no such recording, or no path to write. The recordings are looked at in
+/// their order. `Err` if the system does not say where one of them leads, before such a one is
 /// found.
 pub fn over_other<'a, D: Disk>(
     chosen: &Settings<'a>,
@@ -66,11 +67,11 @@ pub fn terms_of<'a, D: Disk>(
     alloc: Global,
     chosen: &Settings<'a>,
     disk: &D,
-) -> Result<Terms, (&'a str, Unheard)>
+) -> Result<Terms, (&'a str, OtherFault)>
     ensures shown { IfOk result (λ terms. ShowsAll (D.held disk.now) chosen.now.format
         (paths chosen.now.others.items) (without_others chosen.now.moved) terms) }
-    ensures unheard { IfErr result (λ e. IsOther chosen.now e.0.now
-        × IsUnheard (D.held disk.now e.0.now) (D.unread disk.now e.0.now) e.1) }
+    ensures unusable { IfErr result (λ e. IsOther chosen.now e.0.now
+        × IsUnusable (D.held disk.now e.0.now) (D.unread disk.now e.0.now) e.1) }
 {
     let mut terms = Terms::new(alloc, chosen.moved);
     let others = chosen.others.as_slice();
@@ -94,40 +95,40 @@ fn add_frames_of<D: Disk>(
     format: Format,
     disk: &D,
     terms: &mut Terms,
-) -> Result<(), Unheard>
+) -> Result<(), OtherFault>
     ensures added { OnOk result (Shows (D.held disk.now path.now) format terms.old terms.new) }
-    ensures unheard { IfErr result (IsUnheard (D.held disk.now path.now)
+    ensures unusable { IfErr result (IsUnusable (D.held disk.now path.now)
         (D.unread disk.now path.now)) }
 {
     match disk.read(alloc, path, None) {
         Ok(read) => add_read(alloc, read, format, terms),
-        Err(fault) => Err(Unheard::File(fault)),
+        Err(fault) => Err(OtherFault::File(fault)),
     }
 }
 
 /// Adds to `terms` the frames of a recording that say something of the track, by what was read of
-/// its dump. `Dump` if the dump has a fault or is not opened. After it was opened, memory can run
-/// out: that is `File`, with `OutOfMemory`. `add_frames` has no other fault.
+/// its dump. `Dump` if the dump has a fault or is not opened as a session. If memory runs out after
+/// that, the only other fault of `add_frames`, the error is `File`, with `OutOfMemory`.
 fn add_read(
     alloc: Global,
     read: Result<Parts, VcdFault>,
     format: Format,
     terms: &mut Terms,
-) -> Result<(), Unheard>
+) -> Result<(), OtherFault>
     requires { HasFewBytes read }
     ensures added { OnOk result ((source : List ℕ)
         → Gives parts_of read (dump_parts None source)
         → Adds None source format terms.old terms.new) }
-    ensures unheard { IfErr result (λ why. (source : List ℕ)
-        → Gives parts_of read (dump_parts None source) → IsUnheardOf source why) }
+    ensures unusable { IfErr result (λ why. (source : List ℕ)
+        → Gives parts_of read (dump_parts None source) → IsUnusableDump source why) }
 {
     let (recording, journal) = match read {
         Ok(parts) => parts,
-        Err(fault) => return Err(Unheard::Dump(fault)),
+        Err(fault) => return Err(OtherFault::Dump(fault)),
     };
     match add_frames(alloc, recording, journal, format, terms) {
         Ok(()) => Ok(()),
-        Err(GuardFault::Dump(fault)) => Err(Unheard::Dump(fault)),
-        Err(_) => Err(Unheard::File(DumpFileFault::OutOfMemory)),
+        Err(GuardFault::Dump(fault)) => Err(OtherFault::Dump(fault)),
+        Err(_) => Err(OtherFault::File(DumpFileFault::OutOfMemory)),
     }
 }

@@ -1,8 +1,10 @@
 //! The statuses of the program as a process, and what it says of faults. 0 is that all repairs were
 //! kept, 1 that some were not, 2 a mistake in the command line, 3 a dump that cannot be used, and 4
-//! that something could not be written, or other troubles of the run. `tell` and `tell_of` print a
-//! fault on the standard error, the latter with a path, and return the status that they get.
-//! `explain` prints the help with status 0, or with 2 what is wrong with the words.
+//! that the run was broken off, or that the system does not say where a path leads. `tell` and
+//! `tell_of` print a fault on the standard error, the latter with a path, and return the status
+//! that they get. `explain` prints the help with status 0, or with 2 what is wrong with the words;
+//! the status is 4 if the help cannot be printed. In a contract, `contents` is what came to an
+//! output, and `Reports` says what the output of help and the status are for an ending.
 
 ghost use Rattle.std.specs.Prelude.{◌≡◌};
 ghost use Rattle.std.specs.Process.{exit_status};
@@ -11,17 +13,15 @@ ghost use Rattle.irig_guard.specs.Statuses.{Reports, kept_number, status_number,
 use crate::chosen::OptionFault;
 use crate::ending::Ending;
 use crate::help::program;
-use crate::unheard::Unheard;
+use crate::other_fault::OtherFault;
 use irig_files::DumpFileFault;
 use irig_guarding::{GuardFault, Kept};
 use irig_script::Status;
 use std::io::Write;
 use std::process::ExitCode;
 
-/// The status of the process for how the program ended. A fault is reported on the standard error.
-/// Help that was asked for is printed on its output (`help`), with status 0, or 4 if that fails. A
-/// path to write that leads to the track is 2, and 4 if that cannot be found out. The other
-/// statuses are at the functions below.
+/// The status of the process for how the program ended. A fault is printed on the standard error,
+/// and help that was asked for on its output, `help`.
 pub fn report<R: Eprint, H: Write>(rt: &R, ending: &Ending<'_>, help: &mut H) -> ExitCode
     ensures { Reports ending.now (H.contents help.old) (H.contents help.new) (exit_status result) }
 {
@@ -32,35 +32,35 @@ pub fn report<R: Eprint, H: Write>(rt: &R, ending: &Ending<'_>, help: &mut H) ->
         Ending::Over => program.tell(rt, 2, &OptionFault::Out),
         Ending::Unknown => program.tell(rt, 4, &"--out: cannot find out whether it is TRACK"),
         Ending::OverOther(path) => tell_over(rt, path),
-        Ending::Unheard(path, why) => tell_unheard(rt, path, *why),
+        Ending::UnusableOther(path, why) => tell_unusable(rt, path, *why),
         Ending::Ran(path, outcome) => tell_ended(rt, path, *outcome),
     }
 }
 
-/// Says why the recording at the path `name` was not read, on the standard error. The status is 3.
-fn tell_unread<R: Eprint>(rt: &R, name: &str, fault: DumpFileFault) -> ExitCode
+/// Says on the standard error why the recording at this path was not read. The status is 3.
+fn tell_unread<R: Eprint>(rt: &R, path: &str, fault: DumpFileFault) -> ExitCode
     ensures { exit_status result ≡ 3 }
 {
-    program().tell_of(rt, 3, name, &unread_text(fault))
+    program().tell_of(rt, 3, path, &unread_text(fault))
 }
 
-/// Says that the path to write leads to another recording, at the path `name`, which is not written
-/// over. The status is 2, also if that cannot be printed.
-fn tell_over<R: Eprint>(rt: &R, name: &str) -> ExitCode
+/// Says on the standard error that the path to write leads to another recording, that at `path`,
+/// which is not written over. The status is 2, also if that cannot be printed.
+fn tell_over<R: Eprint>(rt: &R, path: &str) -> ExitCode
     ensures { exit_status result ≡ 2 }
 {
-    let _ = eprintln!(rt; "irig_guard: --out: is {name}, which is not written over");
+    let _ = eprintln!(rt; "irig_guard: --out: is {path}, which is not written over");
     ExitCode::from(2)
 }
 
-/// Says why another recording, at the path `name`, cannot be used: its file, or the dump in it. The
-/// status is 3.
-fn tell_unheard<R: Eprint>(rt: &R, name: &str, why: Unheard) -> ExitCode
+/// Says on the standard error why another recording, that at `path`, cannot be used: for a fault of
+/// its file, or of the dump in it. The status is 3.
+fn tell_unusable<R: Eprint>(rt: &R, path: &str, why: OtherFault) -> ExitCode
     ensures { exit_status result ≡ 3 }
 {
     match why {
-        Unheard::File(fault) => tell_unread(rt, name, fault),
-        Unheard::Dump(fault) => program().tell_of(rt, 3, name, &fault),
+        OtherFault::File(fault) => tell_unread(rt, path, fault),
+        OtherFault::Dump(fault) => program().tell_of(rt, 3, path, &fault),
     }
 }
 
@@ -76,40 +76,40 @@ fn unread_text<'a>(fault: DumpFileFault) -> &'a str
     }
 }
 
-/// The exit status for how a run ended on the track at the path `name`: 3 for a dump that cannot be
-/// used, 4 for another fault; both are printed on the standard error. Without a fault it is 0 if
-/// all repairs were kept, else 1 (`tell_kept`).
-fn tell_ended<R: Eprint>(rt: &R, name: &str, outcome: Result<Kept, GuardFault>) -> ExitCode
+/// The exit status for how a run ended on the dump at this path: 3 for a dump that cannot be used,
+/// 4 for another fault; both are printed on the standard error. Without a fault it is that of
+/// `tell_kept`.
+fn tell_ended<R: Eprint>(rt: &R, path: &str, outcome: Result<Kept, GuardFault>) -> ExitCode
     ensures { exit_status result ≡ status_number outcome }
 {
     match outcome {
-        Ok(kept) => tell_kept(rt, name, kept),
-        Err(GuardFault::Dump(fault)) => program().tell_of(rt, 3, name, &fault),
+        Ok(kept) => tell_kept(rt, path, kept),
+        Err(GuardFault::Dump(fault)) => program().tell_of(rt, 3, path, &fault),
         Err(fault) => program().tell(rt, 4, &fault),
     }
 }
 
-/// The exit status for a run that came to its end: 0 if all repairs were kept, else 1. How many
-/// frames have control functions that are not in the recording is printed on the standard error, if
-/// some have (`tell_filled`).
-fn tell_kept<R: Eprint>(rt: &R, name: &str, kept: Kept) -> ExitCode
+/// The exit status for a run that came to its end: 0 if all repairs were kept, else 1. Also says on
+/// the standard error how many frames have control functions that are not in the recording, if some
+/// have (`tell_filled`).
+fn tell_kept<R: Eprint>(rt: &R, path: &str, kept: Kept) -> ExitCode
     ensures { exit_status result ≡ kept_number kept.status }
 {
-    tell_filled(rt, name, kept.filled);
+    tell_filled(rt, path, kept.filled);
     match kept.status {
         Status::AllAccepted => ExitCode::SUCCESS,
         Status::SomeRefused => ExitCode::from(1),
     }
 }
 
-/// Says how many frames (`filled`) of the track at the path `name` have control functions that are
-/// not in the recording, on the standard error; nothing if none has. No status depends on it, since
-/// nothing says that they are wrong. So it does not matter if it cannot be printed.
-fn tell_filled<R: Eprint>(rt: &R, name: &str, filled: usize) {
+/// Says on the standard error how many frames of the track at this path have control functions that
+/// are not in the recording (`filled`); nothing if none has. The status does not depend on it,
+/// since nothing says that they are wrong: so it does not matter if it cannot be printed.
+fn tell_filled<R: Eprint>(rt: &R, path: &str, filled: usize) {
     let frames = if filled == 1 { "frame" } else { "frames" };
     if filled > 0 {
         let _ = eprintln!(rt;
-            "irig_guard: {name}: control functions of {filled} {frames} are not in the recording"
+            "irig_guard: {path}: control functions of {filled} {frames} are not in the recording"
         );
     }
 }

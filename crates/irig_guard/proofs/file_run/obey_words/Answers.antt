@@ -2,7 +2,7 @@ use Rattle.std.specs.Prelude.{ℕ, List, Ok}
 use Rattle.clap.specs.Words.{Text}
 use Rattle.irig_guard.specs.Ending.{EndsBy, Obeys}
 use Rattle.irig_guard.specs.Given.{Ends, Files, IsRead}
-use Rattle.irig_guard.specs.declared.ending.Ending.TheVariants.{Usage, Unread, Over, OverOther, Unheard, Unknown, Ran}
+use Rattle.irig_guard.specs.declared.ending.Ending.TheVariants.{Usage, Unread, Over, OverOther, UnusableOther, Unknown, Ran}
 use Rattle.irig_guard.specs.{Settings.Reads, declared.chosen.Settings.Settings, declared.ending.Ending.Ending}
 use Rattle.std.proofs.Common.{refl}
 use Rattle.irig_files.specs.Going.{leaves_nowhere}
@@ -15,7 +15,7 @@ ends_by words given old new chosen (Unread path fault) r o s = record { chosen =
 ends_by words given old new chosen Over r o s = record { chosen = chosen; reads = r; obeyed = o; stays = s }
 ends_by words given old new chosen Unknown r o s = record { chosen = chosen; reads = r; obeyed = o; stays = s }
 ends_by words given old new chosen (OverOther path) r o s = record { chosen = chosen; reads = r; obeyed = o; stays = s }
-ends_by words given old new chosen (Unheard path why) r o s = record { chosen = chosen; reads = r; obeyed = o; stays = s }
+ends_by words given old new chosen (UnusableOther path why) r o s = record { chosen = chosen; reads = r; obeyed = o; stays = s }
 ends_by words given old new chosen (Ran path result) r o s = record { chosen = chosen; reads = r; obeyed = o; stays = s }
 
 pub returns-in-Ok : goal.returns-in-Ok

@@ -6,7 +6,7 @@ use Rattle.irig_guard.proofs.file_run.run_with_room.Goals as goal
 pub returns-in-Ok-clause-obeyed : goal.returns-in-Ok-clause-obeyed
 returns-in-Ok-clause-obeyed g c =
     let read = c.in-Ok.ensures.read in
-    c.run_apart.ensures.obeyed read.source read.parts read.whole
+    c.run_if_apart.ensures.obeyed read.source read.parts read.whole
 
 pub returns-in-Err-clause-obeyed : goal.returns-in-Err-clause-obeyed
 returns-in-Err-clause-obeyed g c = (refl, (refl, (λ to. leaves_nowhere _ _ _ _ (g.met.D.Disk.only_now _))), inr c.in-Err.ensures.unread)

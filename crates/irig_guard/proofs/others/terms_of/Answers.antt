@@ -18,15 +18,15 @@ loop-place-preserved g c =
     ∙ slice_get-get_or c.as_slice-others.result.now c.loop-place.place _ c.loop-place-test.true)
     c.in-Ok.ensures.added c.loop-place.invariant
 
-pub returns-in-Err-clause-unheard : goal.returns-in-Err-clause-unheard
-returns-in-Err-clause-unheard g c = (
+pub returns-in-Err-clause-unusable : goal.returns-in-Err-clause-unusable
+returns-in-Err-clause-unusable g c = (
   (
     c.loop-place.place,
     path_at c.args.chosen.now.others.items c.loop-place.place _
         (ap (λ (l : List (Bor (List ℕ))). slice_get l c.loop-place.place) (sym c.as_slice-others.ensures.value)
         ∙ slice_get-get_or c.as_slice-others.result.now c.loop-place.place _ c.loop-place-test.true),
   ),
-  c.in-Err.ensures.unheard,
+  c.in-Err.ensures.unusable,
 )
 
 pub returns-clause-shown : goal.returns-clause-shown

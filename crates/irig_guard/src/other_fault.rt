@@ -5,7 +5,7 @@ use irig_vcd::VcdFault;
 
 /// Why another recording cannot be used.
 #[derive(Clone, Copy)]
-pub enum Unheard {
+pub enum OtherFault {
     /// Its file is no dump that can be read, or memory ran out.
     File(DumpFileFault),
     /// The dump in it is no recording, or was not opened.

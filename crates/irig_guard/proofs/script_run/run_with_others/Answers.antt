@@ -1,7 +1,7 @@
 use Rattle.std.proofs.Common.{refl, rules}
 use Rattle.irig_files.proofs.Apart.{stays_here}
 use Rattle.irig_files.specs.Going.{leaves_nowhere}
-use Rattle.irig_guard.proofs.file_run.run_beside.Goals as goal
+use Rattle.irig_guard.proofs.script_run.run_with_others.Goals as goal
 
 pub returns-in-Ok-Some-clause-obeyed : goal.returns-in-Ok-Some-clause-obeyed
 returns-in-Ok-Some-clause-obeyed g c = λ source is whole.

@@ -1,10 +1,10 @@
 use Rattle.std.proofs.Common.{refl, rules}
 use Rattle.irig_files.specs.Going.{leaves_nowhere}
 use Rattle.irig_files.proofs.Apart.{stays_here}
-use Rattle.irig_guard.proofs.file_run.run_apart.Goals as goal
+use Rattle.irig_guard.proofs.script_run.run_if_apart.Goals as goal
 
 pub returns-in-Ok-false-clause-obeyed : goal.returns-in-Ok-false-clause-obeyed
-returns-in-Ok-false-clause-obeyed g c = λ source is whole. c.run_beside.ensures.obeyed source is whole
+returns-in-Ok-false-clause-obeyed g c = λ source is whole. c.run_with_others.ensures.obeyed source is whole
 
 pub returns-in-Ok-true-clause-obeyed : goal.returns-in-Ok-true-clause-obeyed
 returns-in-Ok-true-clause-obeyed g c = λ source is whole.

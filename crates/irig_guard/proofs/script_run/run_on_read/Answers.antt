@@ -8,7 +8,7 @@ use Rattle.irig_files.specs.{Going.leaves_nowhere, Puts.texts_at, Puts.writes_on
 use Rattle.irig_guard.specs.Given.{AreSpared, files, place_of, product_of}
 use Rattle.irig_guard.proofs.{RunsBy.apart_from, RunsBy.fails_by, RunsBy.path_stays, RunsBy.runs_by, Windows.guards_in, Windows.runs_short}
 use Rattle.irig_guarding.specs.declared.product.Product.TheVariants as product
-use Rattle.irig_guard.proofs.file_run.run_on_read.Goals as goal
+use Rattle.irig_guard.proofs.script_run.run_on_read.Goals as goal
 
 pub returns-in-Err-clause-ran : goal.returns-in-Err-clause-ran
 returns-in-Err-clause-ran g c = λ source is. fails_by _ c.args.chosen.now source _ c.in-Err.fault (leaves_nowhere _ _ _ _ (g.met.D.Disk.only_now _))
@@ -46,11 +46,12 @@ returns-clause-ran g c = λ source is.
     (λ j. texts_at ((disk (c.new-shelf.ensures.disk j)).paths (path j)) (writes_on told (disk (c.new-shelf.ensures.disk j))))
     (texts_where told (disk c.args.disk.now) (disk new.disk.now) (place_of chosen) new.path.now same_path (λ is_told. (kept is_told).paths))
     c.new-shelf.ensures.none_failed (kept, barred)
-    (λ memory. runs_short chosen.window (name_in chosen.wire) source _ _ read (rw c.heeded-journal.ensures.heeded at c.guard_on_parts.ensures.memory memory))
+    (λ memory. runs_short chosen.window (name_in chosen.wire) source _ _ read
+    (rw c.used_journal-journal.ensures.used at c.guard_on_parts.ensures.memory memory))
     c.args.terms c.requires.shown
     (guards_in (name_in chosen.wire) chosen.format _ source (product_of chosen) _ _ _ _ chosen.window recording journal
     c.guard_on_parts.result read c.read_back_parts.ensures.plain
-    (rw (c.heeded-journal.ensures.heeded, c.product_of.ensures) at c.guard_on_parts.ensures.ends)) in
+    (rw (c.used_journal-journal.ensures.used, c.product_of.ensures) at c.guard_on_parts.ensures.ends)) in
     search (rules, done)
 
 pub returns-clause-spared : goal.returns-clause-spared
