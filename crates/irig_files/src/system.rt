@@ -66,7 +66,8 @@ impl<'a, R: Files + Print + AllocGlobal> PlainCalls for SystemFolder<'a, R> {
         }
     }
 
-    // Whether an open file is a regular one, its mode and its numbers, as the system says.
+    // Whether an open file is a regular one, its mode, and the numbers of its device and in it, as
+    // the system says.
     fn seen(&self, file: &SystemSeen<R::File>) -> Result<Described, SystemFault> {
         match file.0.metadata() {
             Ok(found) => Ok(described(&found)),

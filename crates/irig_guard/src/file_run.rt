@@ -70,9 +70,11 @@ fn run_on_track<'a, D: Disk, R: Read, W: Write>(
     run_with_room(alloc, chosen, &mut room, disk, script, out)
 }
 
-/// Reads the dump of the settings, and runs a script under guard on it. Each write uses the room.
-/// `Unread` if the file could not be read, is too long, or memory ran out for it; else the ending
-/// is that of `run_if_apart`, also if the dump in the file is no recording.
+/// Reads the dump of the settings, and runs a script under guard on it: each repair is tried, and
+/// undone if it is not safe. Each write uses the room. `Unread` if the file could not be read, is
+/// too long, or memory ran out for it. Else the ending is that of `run_if_apart`, which first tests
+/// that the path to write leads to no file that is read; also if the dump in the file is no
+/// recording.
 fn run_with_room<'a, D: Disk, R: Read, W: Write>(
     alloc: Global,
     chosen: &Settings<'a>,

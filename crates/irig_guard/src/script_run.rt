@@ -107,7 +107,8 @@ fn run_with_others<'a, D: Disk, R: Read, W: Write>(
 }
 
 /// Runs a script under guard on what was read of a dump. Repairs are judged by `terms`, which have
-/// the frames of the other recordings. In a window the journal is left out (`used_journal`). `Ok`
+/// the frames of the other recordings. In a window the journal is left out (`used_journal`). What
+/// the settings want written (`product_of`) is written with `room`, the memory for paths. `Ok`
 /// says whether all repairs were kept. `Dump` if `read` is an `Err`, or no session can be made of
 /// what was read; any other fault is one of the run (`guard_on_parts`).
 fn run_on_read<D: Disk, R: Read, W: Write>(

@@ -90,7 +90,8 @@ fn is_mean(format: Format, sides: &Sides) -> bool
     apart(found, wanted) <= scale * u128::from(format.interval())
 }
 
-/// Whether the clock changes evenly from that of the two before to that of the two after
+/// Whether the clock changes evenly from that of the two before to that of the two after: then
+/// `before` and `after` are as far apart as the mean of both clocks says, to half an interval
 /// (`is_mean`). False if the distance of one of these pairs does not fit its times, or its clock is
 /// off by more than 8 in 100 (`shows_any_clock`). False also if `after` is not whole frame periods
 /// after `before` (`is_later`), or if a frame is more than 500 periods before the next (`are_few`).

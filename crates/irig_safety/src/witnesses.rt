@@ -78,10 +78,11 @@ fn sides_suffice(near: &Witnesses, frame: &Shown) -> bool
     frame.fields.seconds <= 59 || near.before.is_some() && near.after.is_some()
 }
 
-/// Whether the frames next to a frame bear out its time. It needs enough sides (`sides_suffice`),
-/// and one of two. Either the recording's own clock has it there: that of the frames on both sides
-/// (`is_on_own_clock`). Or the nearest ones do not contradict it, and one leads to it or it to one
-/// (`is_led`), or it is in time by a clock of theirs (`is_timed`).
+/// Whether the frames next to a frame bear out its time. There have to be enough sides
+/// (`sides_suffice`). Then it is enough that it is where the recording's own clock has it, which is
+/// that of the frames on both sides (`is_on_own_clock`). Without that, the nearest frames must not
+/// contradict it, and it must be in step with one of them (`is_led`) or in time by a clock that
+/// they show (`is_timed`).
 fn bears(format: Format, near: &Witnesses, frame: &Shown) -> bool
     ensures { result ≡ bears format near.now frame.now }
 {

@@ -65,7 +65,8 @@ pub fn end_before(pulses: &mut Lens<'_>, format: Format, to: &Part) -> Option<(P
 }
 
 /// The pair of a part and an empty one after it; `None` if the part cannot have its time
-/// (`is_borne_out`).
+/// (`is_borne_out`). Between two frames there are two parts, one counted from each frame; at an end
+/// of the recording there is one, and the empty one takes the place of the other.
 fn possible_pair(pulses: &mut Lens<'_>, format: Format, part: Part) -> Option<(Part, Part)>
     requires few { part.element + part.count ≤ 100 }
     requires small { (part.number < 2 ^ 31) × (part.time.micros < 2 ^ 60) }
