@@ -58,8 +58,13 @@ pub is_read_of : (before after wire : Option (List ℕ)) (some : List ℕ) (at :
     → IfOk result (λ read. (w : Option (List ℕ)) (bytes : List ℕ) → HasTaken w bytes at → Gives parts_of read (extent_parts at.extent w bytes))
     → IfOk result (HasBytes (extent_bytes at.extent)) → IfOk result (λ _. 0 < at.left) → IfOk result (IsReadBy at.extent before wire)
 is_read_of before after wire some at (Ok read) took used end gives few short =
-    record { source = some; whole = all_used before after some used (end short); most = omega (arith, took.left, short); parts = gives wire some took;
-        few = few }
+    record {
+      source = some;
+      whole = all_used before after some used (end short);
+      most = omega (arith, took.left, short);
+      parts = gives wire some took;
+      few = few;
+    }
 is_read_of before after wire some at (Err fault) took used end gives few short = tt
 
 -- what has no place left is too long

@@ -88,7 +88,7 @@ still_kept a b c target ab bc w after (Some m) k = record {
   seen = seen_then a b c target bc after w.place (Some w.held) (inl k.there) k.seen;
   left = λ x l. ⊎_elim
       (λ was. ⊎_elim (λ is. inl is) (λ later. inr
-          (left_front after (writes_in bc.more) w.place x later)) (k.left x was))
+      (left_front after (writes_in bc.more) w.place x later)) (k.left x was))
       (λ now. inr (left_back after (writes_in bc.more) w.place x now))
       (bc.before m w.place x k.ended (inl k.there) l);
 }
@@ -115,16 +115,17 @@ each_still_kept : (a b c : Disk) (target : Option (List ℕ)) → Goes a b targe
     → EachIsKept a b ws → EachIsKept a c (ws ++ writes_in bc.more)
 each_still_kept a b c target ab bc le [] each =
     each_begun_later a b c le (writes_in bc.more) bc.kept
-each_still_kept a b c target ab bc le (w ∷ ws) each =
-    (still_kept a b c target ab bc w ws w.kept_at each.0,
-        each_still_kept a b c target ab bc le ws each.1)
+each_still_kept a b c target ab bc le (w ∷ ws) each = (
+  still_kept a b c target ab bc w ws w.kept_at each.0,
+  each_still_kept a b c target ab bc le ws each.1,
+)
 
 -- writes, and then others
 pub goes_on : (a b c : Disk) (target : Option (List ℕ)) → Goes a b target → Goes b c target
     → Goes a c target
 goes_on a b c target ab bc =
     let both : writes_in (ab.more ++ bc.more) ≡ writes_in ab.more ++ writes_in bc.more =
-        writes_more ab.more bc.more bc.begins in
+    writes_more ab.more bc.more bc.begins in
     record {
       more = ab.more ++ bc.more;
       grows = bc.grows ∙ ap (λ l. l ++ bc.more) ab.grows ∙ append_assoc a.log ab.more bc.more;
@@ -146,21 +147,21 @@ goes_on a b c target ab bc =
           (sym both) done;
       any_moment = λ place x meant l.
           let done : MayLeave a place x
-              ⊎ IsLeftBy (writes_in ab.more ++ writes_in bc.more) place x = ⊎_elim
+          ⊎ IsLeftBy (writes_in ab.more ++ writes_in bc.more) place x = ⊎_elim
           (λ mid. ⊎_elim (λ was. inl was) (λ by. inr
-              (left_front (writes_in ab.more) (writes_in bc.more) place x by))
+          (left_front (writes_in ab.more) (writes_in bc.more) place x by))
           (ab.any_moment place x meant mid))
           (λ by. inr (left_back (writes_in ab.more) (writes_in bc.more) place x by))
           (bc.before a.moment place x ab.later (⊎_elim (λ is. inl (ab.there place is))
-              (λ at. inr at) meant) l) in
+          (λ at. inr at) meant) l) in
           subst (λ ws. MayLeave a place x ⊎ IsLeftBy ws place x) (sym both) done;
       before = λ t place x le meant l.
           let meant_then : IsMeant b target place =
-              ⊎_elim (λ is. inl (ab.there place is)) (λ at. inr at) meant in
+          ⊎_elim (λ is. inl (ab.there place is)) (λ at. inr at) meant in
           let done : a.left_since t place x
-              ⊎ IsLeftBy (writes_in ab.more ++ writes_in bc.more) place x = ⊎_elim
+          ⊎ IsLeftBy (writes_in ab.more ++ writes_in bc.more) place x = ⊎_elim
           (λ mid. ⊎_elim (λ was. inl was) (λ by. inr
-              (left_front (writes_in ab.more) (writes_in bc.more) place x by))
+          (left_front (writes_in ab.more) (writes_in bc.more) place x by))
           (ab.before t place x le meant mid))
           (λ by. inr (left_back (writes_in ab.more) (writes_in bc.more) place x by))
           (bc.before t place x (omega (arith, le, ab.later)) meant_then l) in

@@ -79,7 +79,7 @@ abbrev pub steps_in : List Call → List Step
 steps_in [] = []
 steps_in (Rename «from» to ∷ calls) = steps_in calls ++ Moved to.items
     (elim (leads_in calls «from».items) [ None ↦ None | Some file ↦ Some (holds_in calls file) ]) ∷
-        []
+    []
 steps_in (SyncNames front ∷ calls) =
     steps_in calls ++ Synced (length (SyncNames front ∷ calls)) ∷ []
 steps_in (Make name mode ∷ calls) = steps_in calls

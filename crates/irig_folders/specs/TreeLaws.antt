@@ -23,7 +23,7 @@ one_more texts zero path e is =
     (λ t none. absurd (cc none)) (texts path) is
 one_more texts (suc n) path e is = end_stays path e (λ t. end_of texts n (followed path t))
     (λ t. end_of texts (suc n) (followed path t)) (λ t. one_more texts n (followed path t) e)
-        (texts path) is
+    (texts path) is
 
 -- a link has the end of what it leads to
 step : (texts : List ℕ → Option (List ℕ)) (n : ℕ) (path t e : List ℕ) → texts path ≡ Some t
@@ -56,12 +56,13 @@ module _ (w : Layout) (o : List ℕ → Option Other) where
   -- a link leads where its text leads
   pub follows_link : (path t : List ℕ) → link_at w o path ≡ Some t
       → (path_to w o (followed path t) ≡ path_to w o path)
-          × (IsOther w o (followed path t) → IsOther w o path)
+      × (IsOther w o (followed path t) → IsOther w o path)
   follows_link path t link =
       let same : ends w o (followed path t) ≡ ends w o path =
-          link_end path t (ends w o path) refl link in
-      (ap (path_by w.folders.items o) same,
-          λ other. subst (IsOtherEnd w.folders.items o) same other)
+      link_end path t (ends w o path) refl link in (
+        ap (path_by w.folders.items o) same,
+        λ other. subst (IsOtherEnd w.folders.items o) same other,
+      )
 
   -- a path whose end is a place with no other file
   pub at_regular : (path e place : List ℕ) → ends w o path ≡ Some e
@@ -90,7 +91,7 @@ module _ (w : Layout) (o : List ℕ → Option Other) where
       → o place ≡ Some x → IsOther w o path
   is_other path e place x ended placed some =
       subst (IsOtherEnd w.folders.items o) (sym ended)
-          (subst IsOdd (sym (ap (at_place o) placed ∙ some)) tt)
+      (subst IsOdd (sym (ap (at_place o) placed ∙ some)) tt)
 
   -- an open folder is the one of each path to a name in it
   module _ (folder front : List ℕ) (fronted : front_in w.folders.items folder ≡ Some front)
@@ -113,7 +114,7 @@ module _ (w : Layout) (o : List ℕ → Option Other) where
     by_end None t is text = absurd (not_other (subst (IsOtherEnd w.folders.items o) (sym is) tt))
     by_end (Some e) t is text =
         let clash : None ≡ Some t =
-            sym no_link ∙ ap (λ x. link_by x (text_at w.folders.items o path)) is ∙ text in
+        sym no_link ∙ ap (λ x. link_by x (text_at w.folders.items o path)) is ∙ text in
         absurd (cc clash)
 
     by_text : (x : Option (List ℕ)) → text_at w.folders.items o path ≡ x
@@ -126,4 +127,4 @@ module _ (w : Layout) (o : List ℕ → Option Other) where
       → IsFolderOf (link_at w o) (IsOther w o) (path_to w o) (λ name. front ++ name) folder
   opens folder front fronted path name in_folder named no_link not_other =
       by_text folder front fronted path name in_folder named no_link not_other
-          (text_at w.folders.items o path) refl
+      (text_at w.folders.items o path) refl

@@ -66,7 +66,7 @@ not_as : (o : OriginalView) (s : State) (k : ℕ) (x : Shown) (y : Seen) (rest :
     → (IsAs o s (behind (k - 1) o.frames) (behind k o.frames) x (drop (k + 1) o.frames) y → ⊥) → ControlsAt o s k (y ∷ rest) (Some (Unrecorded y.shown))
 not_as o s k x y rest e same other =
     subst (λ (l : List Shown). IsUnborneFrom o s (behind (k - 1) o.frames) (behind k o.frames) l (y ∷ rest) (Unrecorded y.shown))
-        (sym (drop-item o.frames k x e))
+    (sym (drop-item o.frames k x e))
     (inl (same, inl (other, refl)))
 
 -- one that is passed
@@ -181,7 +181,7 @@ none_left o s a2 a (x ∷ old) = tt
 pub judge_end : (o : OriginalView) (s : State) (new : List Seen) (k i : ℕ) → length new ≤ i → JudgesAll o s new k i → AreBorneFrom o s None None o.frames new
 judge_end o s new k i past h =
     h.1 None (subst (λ (l : List Seen). ControlsAt o s k l None) (sym (drop_all i new past))
-        (none_left o s (behind (k - 1) o.frames) (behind k o.frames) (drop k o.frames)))
+    (none_left o s (behind (k - 1) o.frames) (behind k o.frames) (drop k o.frames)))
 
 pub unborne_all : (o : OriginalView) (s : State) (new : List Seen) (why : Fault) → IsUnborneFrom o s None None o.frames new why
     → AreBorneFrom o s None None o.frames new → ⊥

@@ -147,7 +147,7 @@ pub stands_guarded : (terms m : TermsView) (first now : Machine) (script : List 
 stands_guarded terms m first now script e s safe =
     let each = obeyed_goes first s.left s.lines s.plain s.obeyed in
     let lines : script_lines script ≡ s.lines =
-        ap script_lines (s.cut ∙ sym (append-nil (unlines s.lines))) ∙ (lines_and s.lines [] each ∙ append-nil s.lines) in
+    ap script_lines (s.cut ∙ sym (append-nil (unlines s.lines))) ∙ (lines_and s.lines [] each ∙ append-nil s.lines) in
     record {
       left = s.left;
       runs = subst (λ (l : List (List ℕ)). Runs first l (map silence l) [] s.left) (sym lines) (runs_of first s.left s.lines s.obeyed);

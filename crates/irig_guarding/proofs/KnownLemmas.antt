@@ -138,7 +138,7 @@ known_after o ps qs place before after old new i change b a end h known = λ p m
     some at come p m (Some l) is change follows =
         still_known o.pulses ps qs (get_or o.markers p 0) at come l m change
         (subst (λ x. Follows at come x (length qs) (Some l) (Some m)) (sym b) (subst (λ x. Follows at come before x (Some l) (Some m)) (sym a) follows))
-            (known p l is)
+        (known p l is)
 
     go : (p m : ℕ) (place : Option Place) → IfSome place (λ p. Became p.at p.come ps qs) → IsFollowed place before after (get_or old p None) m
         → KeepsRises o.pulses (get_or o.markers p 0) qs m

@@ -67,7 +67,7 @@ pub stands_at : (o : OriginalView) (s : State) (k : ℕ) (x : Shown) (y : Seen) 
     → x.rise ≡ y.shown.rise → StandsAs o s (drop k o.markers) y → PulsesAt o s (k + 1) rest found → PulsesAt o s k (y ∷ rest) found
 stands_at o s k x y rest found e same told h =
     subst (λ (l : List Shown). PulsesFrom o s (drop k o.markers) (behind (k - 1) o.frames) (behind k o.frames) l (y ∷ rest) found)
-        (sym (drop-item o.frames k x e))
+    (sym (drop-item o.frames k x e))
     (as_on o s (drop k o.markers) (behind (k - 1) o.frames) (behind k o.frames) x y (drop (k + 1) o.frames) rest found same told
     (subst (λ (T : Type 0). T) (next_at o s k x rest found e) h))
 
@@ -75,7 +75,7 @@ pub strays_at : (o : OriginalView) (s : State) (k : ℕ) (x : Shown) (y : Seen) 
     → (StandsAs o s (drop k o.markers) y → ⊥) → PulsesAt o s k (y ∷ rest) (Some (Moved y.shown))
 strays_at o s k x y rest e same other =
     subst (λ (l : List Shown). StrayFrom o s (drop k o.markers) (behind (k - 1) o.frames) (behind k o.frames) l (y ∷ rest) (Moved y.shown))
-        (sym (drop-item o.frames k x e))
+    (sym (drop-item o.frames k x e))
     (inl (same, inl (other, refl)))
 
 -- one that is passed
@@ -83,7 +83,7 @@ pub lost_at : (o : OriginalView) (s : State) (k : ℕ) (x : Shown) (y : Seen) (r
     → PulsesAt o s k (y ∷ rest) (Some (Lost x))
 lost_at o s k x y rest e less =
     subst (λ (l : List Shown). StrayFrom o s (drop k o.markers) (behind (k - 1) o.frames) (behind k o.frames) l (y ∷ rest) (Lost x))
-        (sym (drop-item o.frames k x e))
+    (sym (drop-item o.frames k x e))
     (inr (inr (less, refl)))
 
 -- a frame before the former that are left

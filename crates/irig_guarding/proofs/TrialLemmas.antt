@@ -68,7 +68,7 @@ tried_none opened known rest script are e = record {
 -- one more repair
 pub tried_more : (terms : TermsView) (opened : Machine) (lines front rest : List (List ℕ)) (old new : List ℕ) (status : Status) (a b : Machine)
     (dropped : Option Reason) → IsTriedBefore terms opened lines (front ++ rest) old status a → IsCutBefore front rest
-        → Tries (original_of terms opened.state) a front dropped b
+    → Tries (original_of terms opened.state) a front dropped b
     → Shows front dropped old new
     → IsTriedBefore terms opened (lines ++ front) rest new (if is_none dropped then status else SomeRefused) b
 tried_more terms opened lines front rest old new status a b dropped h cut tries shown =
@@ -91,7 +91,7 @@ tried_more terms opened lines front rest old new status a b dropped h cut tries 
 pub texts_from : (xs : List Line) (at end : ℕ) → at < end → texts (drop at xs) ≡ texts (take (end - at) (drop at xs)) ++ texts (drop end xs)
 texts_from xs at end less =
     let there : drop (end - at) (drop at xs) ≡ drop end xs =
-        let e : at + (end - at) ≡ end = omega arith in drop-drop (end - at) at xs ∙ ap (λ n. drop n xs) e in
+    let e : at + (end - at) ≡ end = omega arith in drop-drop (end - at) at xs ∙ ap (λ n. drop n xs) e in
     ap texts (sym (take-append-drop (end - at) (drop at xs)) ∙ ap (λ l. take (end - at) (drop at xs) ++ l) there)
     ∙ map-append (λ line. line.bytes.items) (take (end - at) (drop at xs)) (drop end xs)
 
@@ -110,7 +110,7 @@ cut_lines : (ls : List (List ℕ)) (last : List ℕ) → AllByRecursion IsPlain 
 cut_lines [] last h = refl
 cut_lines (l ∷ ls) last h =
     let cut : unlines (l ∷ ls) ++ last ≡ l ++ 10 ∷ (unlines ls ++ last) =
-        append_assoc (l ++ 10 ∷ []) (unlines ls) last ∙ append_assoc l (10 ∷ []) (unlines ls ++ last) in
+    append_assoc (l ++ 10 ∷ []) (unlines ls) last ∙ append_assoc l (10 ∷ []) (unlines ls ++ last) in
     ap lines_of cut ∙ first_line l (unlines ls ++ last) h.0 ∙ ap (λ k. l ∷ k) (cut_lines ls last h.1)
 
 pub lines_read : (script bytes : List ℕ) (lines new : List Line) (i : ℕ) → length script ≤ i → take i script ≡ unlines (texts lines) ++ bytes

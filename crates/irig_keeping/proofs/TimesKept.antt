@@ -159,7 +159,7 @@ told_times_stay old new is_old is_new safe century d n x some has still which =
     } in
     let next = after old new century d n x has still which each in
     moment f century new.micros new.pulses is_new d n
-        (still.marker + e) e has.point.rise has.to has.fields x some p.0 next.0 p.1 next.1 rise next.2 element next.3
+    (still.marker + e) e has.point.rise has.to has.fields x some p.0 next.0 p.1 next.1 rise next.2 element next.3
     (known f century old.micros old.pulses is_old d n x has) has.before has.is
   where
     -- the next pulse
@@ -176,9 +176,12 @@ told_times_stay old new is_old is_new safe century d n x some has still which =
         let place : still.marker + (has.element + 1) ≡ still.marker + has.element + 1 = omega arith in
         let old_place : has.is_element.one.marker + (has.element + 1) ≡ has.number + 1 = (let at = has.is_element.place in omega (arith, at)) in
         let was = rise_there old.pulses has.is_element.one.marker (has.element + 1) (has.number + 1) to.next old_place to.stands in
-        let now = rise_there new.pulses still.marker (has.element + 1) (still.marker + (has.element + 1)) q.0 refl q.1 in
-        (q.0, ap (slice_get new.pulses) (sym place) ∙ q.1, (let is = to.is in omega (arith, was, now, is, each (has.element + 1) (omega (arith, few)))),
-            inl few)
+        let now = rise_there new.pulses still.marker (has.element + 1) (still.marker + (has.element + 1)) q.0 refl q.1 in (
+          q.0,
+          ap (slice_get new.pulses) (sym place) ∙ q.1,
+          (let is = to.is in omega (arith, was, now, is, each (has.element + 1) (omega (arith, few)))),
+          inl few,
+        )
     after old new century d n x has still (inr (last, followed)) each =
         let f = old.format in
         let q = marker-stands f new.pulses (still.marker + 99 + 1) followed.after.next followed.after.begins in
@@ -205,4 +208,4 @@ unfolding times_stay told_times_stay moment
 counted_times_stay old new is_old is_new safe alone century d n x some has still held which steady goes =
     keeps_times old.format alone century new.micros new.pulses d n x
     (times_stay old new is_old is_new safe (believed old.format alone old.pulses)
-        (believed old.format alone new.pulses) century d n x some has still held which) steady goes
+    (believed old.format alone new.pulses) century d n x some has still held which) steady goes

@@ -42,8 +42,8 @@ ToldTimesStay = (old new : State) → IsTrack old.micros old.pulses → IsTrack 
     → (has : TellsTime old.format century old.pulses d n x)
     → (still : IsStill old.format old.pulses new.pulses has.is_element.one.marker has.fields)
     → (has.element < 99) ⊎ ((has.element ≡ 99)
-        × IsFollowedStill old.format century old.pulses new.pulses has.number still.marker
-            has.fields)
+    × IsFollowedStill old.format century old.pulses new.pulses has.number still.marker
+    has.fields)
     → TellsTime old.format century new.pulses d n x
 
 -- so a moment that has a time by a frame that is believed, of those that `before` says, has the
@@ -53,11 +53,11 @@ TimesStay = (old new : State) → IsTrack old.micros old.pulses → IsTrack new.
     → IsSafeUnmoved old new → (before after : List Bool) (century d n : ℕ) (x : Time) → 0 < d
     → (has : HasTime old.format century old.pulses before d n x)
     → (still : IsStill old.format old.pulses new.pulses
-        has.told.is_element.one.marker has.told.fields)
+    has.told.is_element.one.marker has.told.fields)
     → slice_get after still.begins.at ≡ Some true
     → (has.told.element < 99) ⊎ ((has.told.element ≡ 99)
-        × IsFollowedStill old.format century old.pulses new.pulses
-            has.told.number still.marker has.told.fields)
+    × IsFollowedStill old.format century old.pulses new.pulses
+    has.told.number still.marker has.told.fields)
     → HasTime old.format century new.pulses after d n x
 
 -- so by counting: a moment that has a time by a frame that is believed is timed after the repair,
@@ -68,11 +68,11 @@ CountedTimesStay = (old new : State) → IsTrack old.micros old.pulses → IsTra
     → IsSafeUnmoved old new → (alone : Bool) (century d n : ℕ) (x : Time) → 0 < d
     → (has : HasTime old.format century old.pulses (believed old.format alone old.pulses) d n x)
     → (still : IsStill old.format old.pulses new.pulses
-        has.told.is_element.one.marker has.told.fields)
+    has.told.is_element.one.marker has.told.fields)
     → slice_get (believed old.format alone new.pulses) still.begins.at ≡ Some true
     → (has.told.element < 99) ⊎ ((has.told.element ≡ 99)
-        × IsFollowedStill old.format century old.pulses new.pulses
-            has.told.number still.marker has.told.fields)
+    × IsFollowedStill old.format century old.pulses new.pulses
+    has.told.number still.marker has.told.fields)
     → IsSteady old.format alone century new.pulses still.begins.one.marker
     → HeldGoesOn old.format alone century new.pulses (still.marker + has.told.element)
     has.told.element has.told.fields

@@ -94,7 +94,7 @@ others f ws passed [] (n ∷ new) h former rising below = (
 )
 others f ws passed (o ∷ old) (n ∷ new) (inl k) former rising below =
     let over : AllByRecursion (λ m. o.rise < m.rise) new =
-        all_map (λ m. n.rise < m.rise) (λ m. o.rise < m.rise) (λ m less. omega (arith, k.0, less)) new rising.0 in
+    all_map (λ m. n.rise < m.rise) (λ m. o.rise < m.rise) (λ m less. omega (arith, k.0, less)) new rising.0 in
     let all : AllByRecursion (λ m. AllByRecursion (λ p. p.rise < m.rise) (passed ++ o ∷ [])) new =
     all_both (λ m. AllByRecursion (λ p. p.rise < m.rise) passed) (λ m. o.rise < m.rise) (λ m. AllByRecursion (λ p. p.rise < m.rise) (passed ++ o ∷ []))
     (λ m p q. all_one_more (λ x. x.rise < m.rise) passed o p q) new below.1 over in (
@@ -135,7 +135,7 @@ former_rise f ws a2 a [] new h rising = tt
 former_rise f ws a2 a (o ∷ old) [] h rising = absurd h
 former_rise f ws a2 a (o ∷ old) (n ∷ new) (inl k) rising =
     let over : AllByRecursion (λ m. o.rise < m.rise) new =
-        all_map (λ m. n.rise < m.rise) (λ m. o.rise < m.rise) (λ m less. omega (arith, k.0, less)) new rising.0 in
+    all_map (λ m. n.rise < m.rise) (λ m. o.rise < m.rise) (λ m less. omega (arith, k.0, less)) new rising.0 in
     (all_above f ws a (Some o) old new o.rise k.2 over, former_rise f ws a (Some o) old new k.2 rising.1)
 former_rise f ws a2 a (o ∷ old) (n ∷ new) (inr k) rising = former_rise f ws a2 a (o ∷ old) new k.2 rising.1
 

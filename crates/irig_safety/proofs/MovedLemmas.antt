@@ -51,7 +51,7 @@ pub moves_on : (old new moved more : List Shown) (k i place next : ℕ) (x y : S
     → y ≡ moved_to x at → at ≡ slice_get new place → Moves old new moved k i → Moves old new more next (i + 1)
 moves_on old new moved more k i place next x y at here first most rest e made there h =
     let added : more ≡ moved ++ moved_to x (slice_get new place) ∷ [] =
-        e ∙ ap (λ (z : Shown). moved ++ z ∷ []) (made ∙ ap (λ (a : Option Shown). moved_to x a) there) in
+    e ∙ ap (λ (z : Shown). moved ++ z ∷ []) (made ∙ ap (λ (a : Option Shown). moved_to x a) there) in
     let one : moved_in (drop i old) (drop k new) ≡ moved_to x (slice_get new place) ∷ moved_in (drop (i + 1) old) (drop next new) =
     ap (λ l. moved_in l (drop k new)) (drop-item old i x here)
     ∙ (ap (λ l. moved_to x (slice_get l 0) ∷ moved_in (drop (i + 1) old) (rest_of l (drop k new))) (sym first)

@@ -68,7 +68,7 @@ none_later f any xs p place tenth high x rising here is h over none found = elim
       let up = rising place found.place x from within in
       let one : (get_or xs place x).rise ≡ x.rise = ap (λ (q : Pulse). q.rise) (get_or_from_slice_get xs place x x here) in
       let two : (get_or xs found.place x).rise ≡ found.other.rise =
-          ap (λ (q : Pulse). q.rise) (get_or_from_slice_get xs found.place found.other x found.there) in
+      ap (λ (q : Pulse). q.rise) (get_or_from_slice_get xs found.place found.other x found.there) in
       let near = found.near in
       omega (arith, up, one, two, is, h, over, near)
 ]

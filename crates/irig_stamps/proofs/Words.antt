@@ -62,7 +62,7 @@ module _ (f : FormatView) (ps : List Pulse) (s : Settings) where
       → add ≡ min ((if negative then 0 else min size (2 ^ 120)) + (if early then offset else 0)) (2 ^ 128 - 1)
       → take ≡ min ((if negative then min size (2 ^ 120) else 0) + (if early then 0 else offset)) (2 ^ 128 - 1)
       → 2 ^ 62 ≤ add - take
-          → ((if negative then 0 else size) + (if early then offset else 0)) - ((if negative then size else 0) + (if early then 0 else offset)) < 2 ^ 61 → ⊥
+      → ((if negative then 0 else size) + (if early then offset else 0)) - ((if negative then size else 0) + (if early then 0 else offset)) < 2 ^ 61 → ⊥
   late-late true true size offset add take small a t late less = omega (arith, small, a, t, late, less)
   late-late true false size offset add take small a t late less = omega (arith, small, a, t, late, less)
   late-late false true size offset add take small a t late less = omega (arith, small, a, t, late, less)

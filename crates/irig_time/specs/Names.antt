@@ -16,4 +16,4 @@ has_comma (Some c) text = has c text
 abbrev pub is_name : Option ℕ → List ℕ → Bool
 is_name comma name = not (length name == 0)
     && (not (has 34 name) && (not (has 10 name) &&
-        (not (has 13 name) && not (has_comma comma name))))
+    (not (has 13 name) && not (has_comma comma name))))

@@ -104,9 +104,10 @@ module _ (f : FormatView) (century : ℕ) where
   more-end None y hx hy = tt
   more-end (Some x) None hx hy = tt
   more-end (Some x) (Some y) hx hy = cond-holds (λ o. IfSome o BothEnd) (ends_in_minute period x && ends_in_minute period y) _ _
-      (λ on. let both = and_parts (ends_in_minute period x) _ on in
-      (record { minute = whole-ends period x both.0; calendar = hx.0; year = hx.1 },
-          record { minute = whole-ends period y both.1; calendar = hy.0; year = hy.1 }))
+      (λ on. let both = and_parts (ends_in_minute period x) _ on in (
+        record { minute = whole-ends period x both.0; calendar = hx.0; year = hx.1 },
+        record { minute = whole-ends period y both.1; calendar = hy.0; year = hy.1 },
+      ))
       (λ off. tt)
 
   missing-ends : (n : ℕ) (a b : Time) → IsFrameTime f a → IsFrameTime f b → IfSome (missing_in century period n a b) BothEnd
@@ -235,7 +236,7 @@ module _ (f : FormatView) (ps : List Pulse) where
       let few = ahead-few f ps 100 (a.number + a.count) in
       let within = ahead-within 100 (a.number + a.count) le in
       pair-fits (a.number + a.count) (length ps) (head_of a (ahead f ps (a.number + a.count) 100) x) (omega arith) (omega (arith, few))
-          (omega (arith, within)) cal
+      (omega (arith, within)) cal
 
   first-fits : (b : Part) (o : Option Time) → IfSome o (λ x. IsOfCalendar x × (is_some x.year ≡ has_year f.expression))
       → IfSome (before_first f ps b o) (Fit f 0 b.number)
@@ -306,8 +307,13 @@ module _ (f : FormatView) where
   after-cut false b is = all-cut b is
   after-cut true b is =
       let few = min-few b.count (time_elements f.kind) in
-      record { low = omega arith; high = omega (arith, few); place = omega arith; same = refl;
-          is = record { few = omega (arith, few, is.few); time = is.time } }
+      record {
+        low = omega arith;
+        high = omega (arith, few);
+        place = omega arith;
+        same = refl;
+        is = record { few = omega (arith, few, is.few); time = is.time };
+      }
 
   pub kept-cut : (century : ℕ) (ps : List Pulse) (before : Option Part) (b : Part) (next : Option Part) → IsPart f b
       → Cut f b (kept_at f century ps before b next)
@@ -352,9 +358,11 @@ module _ (f : FormatView) (century micros : ℕ) (ps : List Pulse) where
   with-fit : (s : Option (Part × Part)) (from : ℕ) (b q : Part) (parts : List Part) → IfSome s (Fit f from b.number) → from ≤ b.number
       → Cut f b q → AreParts f (b.number + b.count) n parts → AreParts f from n (with_sides s (q ∷ parts))
   with-fit None from b q parts fits le cut are = (omega (arith, le, cut.low), cut.is, from-less (b.number + b.count) (q.number + q.count) parts cut.high are)
-  with-fit (Some s) from b q parts fits le cut are =
-      (fits.first, fits.one,
-          (fits.middle, fits.two, (omega (arith, fits.last, cut.low), cut.is, from-less (b.number + b.count) (q.number + q.count) parts cut.high are)))
+  with-fit (Some s) from b q parts fits le cut are = (
+    fits.first,
+    fits.one,
+    (fits.middle, fits.two, (omega (arith, fits.last, cut.low), cut.is, from-less (b.number + b.count) (q.number + q.count) parts cut.high are)),
+  )
 
   without-fit : (jumps : Bool) (before : Option Part) (from : ℕ) (b : Part) → Ends before from → from ≤ b.number → IsPart f b
       → IfSome (sides_unless_jump jumps f century ps before b) (Fit f from b.number)

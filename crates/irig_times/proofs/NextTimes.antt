@@ -53,7 +53,7 @@ module _ (century : ℕ) (a b : Time) (period : ℕ) (ey : a.year ≡ b.year) (e
       both _ _ (less a.micros n (omega (arith, lt)))
       (if-true _ _ _ (less (a.micros + period) n lt)
       (both _ _ (both _ _ (both _ _ (day-same a b ey ed) (eq-eqb a.hours b.hours eh)) (eq-eqb a.minutes b.minutes em))
-          (eq-eqb b.micros (a.micros + period) eu)))
+      (eq-eqb b.micros (a.micros + period) eu)))
 
   -- over the end of a minute of 60 seconds
   over-minute : a.micros < 60000000 → 60000000 ≤ a.micros + period → b.micros + 60000000 ≡ a.micros + period → minute_follows century a b ≡ true
@@ -83,16 +83,16 @@ module _ (f : FormatView) (century : ℕ) where
       (λ usual. (let low = not-le 60000000 t.micros usual in
       cond-holds (λ o. IfSome o (IsNextOf t)) (nat_lt (t.micros + period) 60000000) _ _
       (λ on. either-left _ _ (same-minute-later century t (at_micros t (t.micros + period)) period refl refl 60000000 refl refl refl
-          (ltb-true (t.micros + period) 60000000 on)))
+      (ltb-true (t.micros + period) 60000000 on)))
       (λ off. (let ge = not-lt (t.micros + period) 60000000 off in
       cond-holds (λ o. IfSome o (IsNextOf t)) (nat_lt t.minutes 59) _ _
       (λ on. (let x = at_minute t t.hours (t.minutes + 1) (t.micros + period - 60000000) in
       either-left _ _ (over-minute century t x period refl refl low ge (omega (arith, ge))
-          (next-minute century t x period refl refl (ltb-true t.minutes 59 on) refl refl))))
+      (next-minute century t x period refl refl (ltb-true t.minutes 59 on) refl refl))))
       (λ full. cond-holds (λ o. IfSome o (IsNextOf t)) (nat_lt t.hours 23) _ _
       (λ on. (let x = at_minute t (t.hours + 1) 0 (t.micros + period - 60000000) in
       either-left _ _ (over-minute century t x period refl refl low ge (omega (arith, ge))
-          (next-hour century t x period refl refl (not-lt t.minutes 59 full) (ltb-true t.hours 23 on) refl refl))))
+      (next-hour century t x period refl refl (not-lt t.minutes 59 full) (ltb-true t.hours 23 on) refl refl))))
       (λ midnight. tt))))))
 
   abbrev IsBeforeOf : Time → Time → Type 0
@@ -104,7 +104,7 @@ module _ (f : FormatView) (century : ℕ) where
       cond-holds (λ o. IfSome o (IsBeforeOf t)) (nat_le period t.micros) _ _
       (λ on. (let le = leb-true period t.micros on in
       either-right _ _ (same-minute-later century (at_micros t (t.micros - period)) t period refl refl 61000000 refl refl (omega (arith, le))
-          (omega (arith, le, h.minute, few.0)))))
+      (omega (arith, le, h.minute, few.0)))))
       (λ off. (let lt = not-le period t.micros off in
       cond-holds (λ o. IfSome o (IsBeforeOf t)) (nat_lt 0 t.minutes) _ _
       (λ on. (let x = at_minute t t.hours (t.minutes - 1) (t.micros + 60000000 - period) in
@@ -116,7 +116,7 @@ module _ (f : FormatView) (century : ℕ) where
       let some = ltb-true 0 t.hours on in
       either-left _ _ (over-minute century x t period refl refl (omega (arith, lt, few.1)) (omega (arith, few.1)) (omega (arith, few.1))
       (next-hour century x t period refl refl (omega arith) (omega (arith, some, h.calendar.hours)) (omega (arith, not-lt 0 t.minutes full))
-          (omega (arith, some))))))
+      (omega (arith, some))))))
       (λ midnight. tt))))
 
   -- the first missing frame is one period after the one before, and the last one before the one after
@@ -134,7 +134,7 @@ module _ (f : FormatView) (century : ℕ) where
       (λ on. let it = and_parts (is_later century period a x) _ on in (it.0, (and_parts (is_later century period x b) _ it.1).0))
       (λ off. cond-holds (λ o. IfSome o (IsBetween a b)) (nat_le period b.micros && is_middle century period a y b) _ _
       (λ on. let it = and_parts (is_later century period a y) _ (and_parts (nat_le period b.micros) _ on).1 in
-          (it.0, (and_parts (is_later century period y b) _ it.1).0))
+      (it.0, (and_parts (is_later century period y b) _ it.1).0))
       (λ none. tt))
 
   one-later : (a b : Time) (o : Option Time) → IfSome o (IsBetween a b) → IfSome (missing_one o) (AreNext a b)

@@ -148,7 +148,7 @@ module _ (f : FormatView) (alone_frames : Bool) (century : ℕ) (ps : List Pulse
   tail-counted b h n c x later few within some skip lt =
       let less = behind-few f ps n b.number in
       inr (inr (back-counted b h n _ _ x later (omega (arith, lt, some, few, within, less)) (omega (arith, lt, some, few, less))
-          (omega (arith, lt, some, few, less))))
+      (omega (arith, lt, some, few, less))))
 
   none-counted : (a : Part) (x : Time) → EachCounted (head_of a 0 x)
   none-counted a x skip lt = absurd (omega (arith, lt))
@@ -176,7 +176,7 @@ module _ (f : FormatView) (alone_frames : Bool) (century : ℕ) (ps : List Pulse
           let count : a.count ≡ 100 = ap (λ (p : Part). p.count) ha.is in
           let last = subst (λ (x : Time). is_later century (frame_period_of f.kind) x b.time ≡ true) (sym (h.2 one)) h.1 in
           inr (inr (back-counted b hb (min (gap a b) 100) (a.number + a.count + skip) (0 + skip) t.first last (omega (arith, whole, count)) (omega (arith, lt))
-              (omega (arith, off, many, lt))))
+          (omega (arith, off, many, lt))))
     ]
 
     tail-within : (g : ℕ) → min g 100 ≤ g → g ≡ gap a b → min g 100 ≤ b.number
@@ -231,7 +231,7 @@ module _ (f : FormatView) (alone_frames : Bool) (century : ℕ) (ps : List Pulse
   first-counted b hb None h = tt
   first-counted b hb (Some x) h =
       pair-counted (tail_of b (behind f ps b.number (min b.number 100)) x)
-          (tail-counted b hb (min b.number 100) _ x h (at-most b.number 100).0 (at-most b.number 100).1 (omega arith))
+      (tail-counted b hb (min b.number 100) _ x h (at-most b.number 100).0 (at-most b.number 100).1 (omega arith))
 
   before-counted : (before : Option Part) (b : Part) → IfSome before IsSeen → IsSeen b → IfSome (sides_before f century ps before b) BothCounted
   before-counted None b ha hb = heard-before-holds BothCounted f ps (end_before f ps b) (cond-holds (λ o. IfSome o BothCounted) (is_empty b) _ _ (λ none. tt)

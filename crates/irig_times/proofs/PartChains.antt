@@ -45,7 +45,7 @@ module _ (f : FormatView) (century : ℕ) (n : ℕ) (parts : List Part) (are : A
   -- the pulses after the next one
   rest : (k number e d : ℕ) (t s : Time) → IsPoint parts (number + 1) e t → IsPoint parts (number + suc k) d s → GoOn number (number + suc k)
       → ((number e d : ℕ) (t s : Time) → IsPoint parts number e t → IsPoint parts (number + k) d s → GoOn number (number + k)
-          → IsAfter century (k * i) (at t e) (at s d))
+      → IsAfter century (k * i) (at t e) (at s d))
       → IsAfter century (k * i) (at t e) (at s d)
   rest k number e d t s a b goes more =
       let place : number + suc k ≡ number + 1 + k = omega arith in
@@ -64,7 +64,7 @@ module _ (f : FormatView) (century : ℕ) (n : ℕ) (parts : List Part) (are : A
         | inl same ↦ after-add century i (k * i) (at t e) (at t (e + 1)) (at s d) (step-same t e) (rest k number (e + 1) d t s same b goes (walk k))
         | inr next ↦
             let first : IsAfter century i (at t e) (at next.1 0) =
-                subst (λ c. IsAfter century i (at t c) (at next.1 0)) (sym next.0) (step-next t next.1 next.3) in
+            subst (λ c. IsAfter century i (at t c) (at next.1 0)) (sym next.0) (step-next t next.1 next.3) in
             after-add century i (k * i) (at t e) (at next.1 0) (at s d) first (rest k number 0 d next.1 s next.2 b goes (walk k))
       ])
 
@@ -91,7 +91,7 @@ module _ (f : FormatView) (century micros : ℕ) (ps : List Pulse) (parts : List
     | inr ge ↦
         let en : a.number ≡ b.number = omega (arith, ge, up) in
         let at = one-part f (length ps) parts are b.number a.element b.element a.start b.start
-            (subst (λ k. IsPoint parts k a.element a.start) en a.is_point) b.is_point in
+        (subst (λ k. IsPoint parts k a.element a.start) en a.is_point) b.is_point in
         let same = same-pulse f century micros ps parts are track d some n m x y a b le at en in
         let start = starts f century micros ps parts are track d some n m x y a b le at in
         let element : a.element ≡ b.element = omega (arith, en, elements f century micros ps parts are track d some n m x y a b le at) in

@@ -37,8 +37,11 @@ module _ (f : FormatView) (n : ℕ) where
   parted from [] are number =
       (0, omega arith, record { before = λ k q here lt. absurd (none-some q here); after = λ k q here le. absurd (none-some q here) })
   parted from (p ∷ parts) are number = elim (cases_lt number p.number) [
-    | inl lt ↦ (0, omega arith,
-        record { before = λ k q here less. absurd (omega (arith, less)); after = λ k q here le. all-later from p parts are number lt k q here })
+    | inl lt ↦ (
+      0,
+      omega arith,
+      record { before = λ k q here less. absurd (omega (arith, less)); after = λ k q here le. all-later from p parts are number lt k q here },
+    )
     | inr le ↦
         let rest = parted (p.number + p.count) parts are.2 number in
         (suc rest.0, omega (arith, rest.1), one-more p parts number rest.0 le rest.2)

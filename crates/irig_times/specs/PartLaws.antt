@@ -104,7 +104,7 @@ NeverFallsByParts = (f : FormatView) (century micros : ℕ) (ps : List Pulse) (p
     → AreParts f 0 (length ps) parts → IsLongTrack micros ps → (d : ℕ) → 0 < d
     → (n m : ℕ) (x y : Time)
     → (a : TellsByParts f century ps parts d n x) (b : TellsByParts f century ps parts d m y)
-        → n ≤ m
+    → n ≤ m
     → ((j e : ℕ) (t : Time) → a.number ≤ j → j < b.number → IsPoint parts j e t
     → GoesOn f century parts j e t)
     → (since : ℕ) × (since < (b.number - a.number + 1) * interval_of f.kind)

@@ -150,8 +150,11 @@ followed_apart cs s old new rise fall on is first second top edges time before n
     ∙ on.low) before edges a in
     record {
       upto = rw time (both_upto cs rise fall old.time h.upto (omega (arith, first, second)) (omega (arith, second)));
-      traces = rw (same, both-push w cs (change rise true) (change fall false),
-          sym (append_assoc (within w cs) (change (moved w rise) true ∷ []) (change (moved w fall) false ∷ []))) b;
+      traces = rw (
+        same,
+        both-push w cs (change rise true) (change fall false),
+        sym (append_assoc (within w cs) (change (moved w rise) true ∷ []) (change (moved w fall) false ∷ [])),
+      ) b;
     }
 
 -- a stretch goes on after a pulse

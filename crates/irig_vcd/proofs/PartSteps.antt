@@ -320,7 +320,7 @@ last_fault wire bytes s whole e all fails r =
     let stage = subst (λ (w : Option (List ℕ)). Stage w (words_of r.front) s.unit s.code.items s.reading) (sym r.name) r.stage in
     subst (λ (w : Option (List ℕ)). StopsAt s.unit s.code w (words_of bytes) e) r.name
     (subst (λ (l : List Word). StopsAt s.unit s.code (bytes_of s.wire) l e) (sym (all_words wire bytes s whole all r r))
-        (fails (words_of r.front) stage r.none))
+    (fails (words_of r.front) stage r.none))
 
 pub last_read : (wire : Option (List ℕ)) (bytes : List ℕ) (s : Progress) (whole unit : ℕ) (code : List ℕ) (reading : Reading)
     → take whole s.held.items ≡ s.held.items

@@ -55,7 +55,7 @@ on_edge base code unit last s at high e from fine k was is none lt top =
     let mid : Scan = record from { last = now } in
     let time = fine_time unit e.time fine top k.rest in
     let read = later_read unit last e.time (rest_of k.sign.bytes) (base + k.sign.offset)
-        (shown_time unit (rest_of k.sign.bytes) e.time top k.rest k.digits k.value) was time lt in
+    (shown_time unit (rest_of k.sign.bytes) e.time top k.rest k.digits k.value) was time lt in
     let one = own (code ∷ []) unit from sign hash none k.is_hash ∙ rw (sym is, read) refl in
     let two = own (code ∷ []) unit mid level scalar none k.is_scalar
     ∙ ap (λ r. r >>= λ l. Ok (given unit mid l)) (bit_level high (code ∷ []) level (omega arith) k.bytes) in

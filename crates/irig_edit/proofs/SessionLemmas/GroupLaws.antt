@@ -125,7 +125,7 @@ accepted_in Undo old w v stays inside is = undone_in old w v inside is
 accepted_in Redo old w v stays inside is = redone_in old w v inside is
 accepted_in (Go i) old w v stays inside is =
     moved_in old w v inside.beyond inside (ap (λ (x : Work). x.floor) is) (ap (λ (x : Work). (grouped_in x).floor) is)
-        (ap (λ (x : Work). x.past) is ∙ inside.past)
+    (ap (λ (x : Work). x.past) is ∙ inside.past)
 accepted_in Begin old w v stays inside is = begun_never old w v inside is
 accepted_in End old w v stays inside is = absurd stays
 accepted_in Abort old w v stays inside is = absurd stays

@@ -107,9 +107,9 @@ pub ended_moves : (s : State) (cursor : ℕ) (i j : journal.Steps Turn) → ende
 ended_moves s cursor i j states past future closed = record { states = states; steps = by_floor i.floor states past } where
   by_floor : (floor : Option Opening)
       → ended (over (option_map (floor_at turned s (deltas_of i.past)) floor) (machine turned (history_in (work_at s cursor i))))
-          ≡ Some (grouped_in (work_at s cursor j))
+      ≡ Some (grouped_in (work_at s cursor j))
       → IfSome floor (λ o. deltas_of j.past ≡ joined_beyond gathered o.steps (deltas_of i.past))
-          → joined_since floor (work_at s cursor i) ≡ Some (work_at s cursor j)
+      → joined_since floor (work_at s cursor i) ≡ Some (work_at s cursor j)
   by_floor None states past = absurd (cc)
   by_floor (Some o) states past =
       (λ k. Some (record { state = s; cursor = cursor; past = sym past k; future = deltas_of (sym future k); floor = sym closed k }))
@@ -130,7 +130,7 @@ pub aborted_moves : (s t : State) (cursor place : ℕ) (i j : journal.Steps Turn
 aborted_moves s t cursor place i j states left past future closed = record { states = states; steps = by_floor i.floor states left past } where
   by_floor : (floor : Option Opening)
       → aborted (over (option_map (floor_at turned s (deltas_of i.past)) floor) (machine turned (history_in (work_at s cursor i))))
-          ≡ Some (grouped_in (work_at t place j))
+      ≡ Some (grouped_in (work_at t place j))
       → IfSome floor (λ o. (t ≡ left_by turned s (changes_of (beyond o.steps (deltas_of i.past)))) × (place ≡ o.cursor))
       → IfSome floor (λ o. deltas_of j.past ≡ farthest o.steps (deltas_of i.past)) → dropped_since floor (work_at s cursor i) ≡ Some (work_at t place j)
   by_floor None states left past = absurd (cc)

@@ -213,7 +213,7 @@ pub obeyed_end : (screen : Shown) (t u : Shelved) (st : Status) (text : List ℕ
 obeyed_end screen t u st text s m line plain q e p =
     subst (λ (k : Shelved). Obeyed true (desk_at screen t) (desk_at screen k) st st s m (text ++ 10 ∷ []) line) (sym p)
     (subst (λ (k : Machine). Obeyed true (desk_at screen t) (desk_at screen t) st st s k (text ++ 10 ∷ []) line) (sym e)
-        (obeyed_quit (desk_at screen t) st text s line plain q))
+    (obeyed_quit (desk_at screen t) st text s line plain q))
 
 pub broke_line : (a b : Desk) (text : List ℕ) (s t : Machine) (front back : List ℕ) (answer : Answer) (texts : List (List ℕ)) → IsPlain text
     → is_quit text ≡ false → Answered s text answer texts t

@@ -31,7 +31,7 @@ returns-in-Ok-true-clause-printed g c =
     let done = c.in-Ok-true.ensures.ok in
     let whole = more inv.0 done.0 _ _ _ inv.1 done.1 in
     let end =
-        sym (append-nil (inv.0 ++ done.0)) ∙ ap (λ (l : List ℕ). (inv.0 ++ done.0) ++ l) (sym (c.in-Ok-true.ensures.end c.in-Ok-true.field-0-test)) ∙ whole in
+    sym (append-nil (inv.0 ++ done.0)) ∙ ap (λ (l : List ℕ). (inv.0 ++ done.0) ++ l) (sym (c.in-Ok-true.ensures.end c.in-Ok-true.field-0-test)) ∙ whole in
     rw end at (Appends-trans _ _ _ inv.0 done.0 inv.3 done.3)
 
 pub returns-in-Ok-true-clause-empty : goal.returns-in-Ok-true-clause-empty
@@ -40,5 +40,5 @@ returns-in-Ok-true-clause-empty g c =
     let done = c.in-Ok-true.ensures.ok in
     let whole = more inv.0 done.0 _ _ _ inv.1 done.1 in
     let end =
-        sym (append-nil (inv.0 ++ done.0)) ∙ ap (λ (l : List ℕ). (inv.0 ++ done.0) ++ l) (sym (c.in-Ok-true.ensures.end c.in-Ok-true.field-0-test)) ∙ whole in
+    sym (append-nil (inv.0 ++ done.0)) ∙ ap (λ (l : List ℕ). (inv.0 ++ done.0) ++ l) (sym (c.in-Ok-true.ensures.end c.in-Ok-true.field-0-test)) ∙ whole in
     rw end at (none_in_both _ _ inv.0 done.0 inv.2 done.2)

@@ -9,7 +9,7 @@ pub returns-then-was-now-clause-next : goal.returns-then-was-now-clause-next
 returns-then-was-now-clause-next c =
     rw c.pass.ensures (sym c.loop-was.invariant.same
     ∙ before_next _ _ c.loop-was.before c.loop-was.after (sym c.in-Some-Some.ensures)
-        (sym c.in-Some-Some.ensures') c.if-was-now.true c.loop-was.invariant.after)
+    (sym c.in-Some-Some.ensures') c.if-was-now.true c.loop-was.invariant.after)
 
 pub returns-then-now-was-clause-after : goal.returns-then-now-was-clause-after
 returns-then-now-was-clause-after c = rw c.pass-in-Some-Some.ensures (rises_past c.loop-was.after c.loop-was.invariant.after)

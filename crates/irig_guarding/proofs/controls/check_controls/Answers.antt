@@ -13,17 +13,17 @@ pub returns-in-Err-clause-unborne : goal.returns-in-Err-clause-unborne
 returns-in-Err-clause-unborne c =
     unborne_all (with_frames c.args.former.now c.args.opened.now) c.args.session.now.state c.args.frames.now c.in-Err.why
     (judge_none
-        (with_frames c.args.former.now c.args.opened.now) c.args.session.now.state c.args.frames.now c.loop-frame.passed c.loop-frame.frame-index _ c.in-Err.why
+    (with_frames c.args.former.now c.args.opened.now) c.args.session.now.state c.args.frames.now c.loop-frame.passed c.loop-frame.frame-index _ c.in-Err.why
     (slice_get-get_or c.args.frames.now c.loop-frame.frame-index _ c.loop-frame-test.true) c.in-Err.ensures.fault c.loop-frame.invariant)
 
 pub returns-in-Err-clause-fault : goal.returns-in-Err-clause-fault
 returns-in-Err-clause-fault c =
     judge_none
-        (with_frames c.args.former.now c.args.opened.now) c.args.session.now.state c.args.frames.now c.loop-frame.passed c.loop-frame.frame-index _ c.in-Err.why
+    (with_frames c.args.former.now c.args.opened.now) c.args.session.now.state c.args.frames.now c.loop-frame.passed c.loop-frame.frame-index _ c.in-Err.why
     (slice_get-get_or c.args.frames.now c.loop-frame.frame-index _ c.loop-frame-test.true) c.in-Err.ensures.fault c.loop-frame.invariant
 
 pub returns-clause-borne : goal.returns-clause-borne
 returns-clause-borne c =
     judge_end (with_frames c.args.former.now c.args.opened.now) c.args.session.now.state c.args.frames.now c.loop-frame.passed c.loop-frame.frame-index
-        c.loop-frame-test.false
+    c.loop-frame-test.false
     c.loop-frame.invariant

@@ -13,7 +13,7 @@ loop-place-init c = unclosed_none c.args.lines.now (c.args.at + 1) (c.args.at + 
 pub returns-then-closes-clause-cut : goal.returns-then-closes-clause-cut
 returns-then-closes-clause-cut c =
     cut_closed c.args.lines.now c.args.at c.loop-place.place _ _ _ _ c.loop-place.auto.place c.loop-place-test.true refl c.index-lines-at.is
-        c.index-lines-place.is
+    c.index-lines-place.is
     (c.begins.ensures.0 c.if-not-begins.false) (c.closes.ensures.0 c.if-closes.true) c.loop-place.invariant
 
 pub loop-place-preserved : goal.loop-place-preserved
@@ -25,4 +25,4 @@ pub returns-clause-cut : goal.returns-clause-cut
 returns-clause-cut c =
     let end : c.loop-place.place ≡ length c.args.lines.now = omega (arith, c.loop-place-test.false, c.loop-place.auto.place-end, c.requires) in
     cut_open c.args.lines.now c.args.at c.loop-place.place _ c.requires end c.index-lines-at.is
-        (c.begins.ensures.0 c.if-not-begins.false) c.loop-place.invariant
+    (c.begins.ensures.0 c.if-not-begins.false) c.loop-place.invariant

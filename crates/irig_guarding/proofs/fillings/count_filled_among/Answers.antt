@@ -18,7 +18,7 @@ loop-frame-preserved c = elim c.if-not-has_all_recorded.branch [
       (sym w.many-is)
       (counts_same c.args.opened.now c.args.session.now.state c.args.frames.now c.loop-frame.many c.loop-frame.frame-index _
       (slice_get-get_or c.args.frames.now c.loop-frame.frame-index _ c.loop-frame-test.true)
-          (c.has_all_recorded.ensures.0 w.if-not-has_all_recorded.false) c.loop-frame.invariant)
+      (c.has_all_recorded.ensures.0 w.if-not-has_all_recorded.false) c.loop-frame.invariant)
 ]
 
 pub returns : goal.returns

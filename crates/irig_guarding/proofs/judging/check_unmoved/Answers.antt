@@ -12,5 +12,5 @@ returns-in-Err-clause-sways c = (
       (unmoved_last c.args.opened.now _ _ c.requires.unmoved) c.in-Err.ensures.unsafe_so,
   found_fault c.args.opened.now c.args.before.now _ _ c.args.session.now.state c.in-Err.why
       (unmoved_at c.args.opened.now _ _ c.requires.unmoved c.frames-former.ensures)
-          (unmoved_last c.args.opened.now _ _ c.requires.unmoved) c.in-Err.ensures.fault,
+      (unmoved_last c.args.opened.now _ _ c.requires.unmoved) c.in-Err.ensures.fault,
 )

@@ -8,9 +8,11 @@ returns-in-Err-clause-drops c = λ line asks. line_stopped c.args.opened.now c.a
 
 pub returns-in-Err-check-clause-drops : goal.returns-in-Err-check-clause-drops
 returns-in-Err-check-clause-drops c = λ line asks.
-    line_swayed c.args.opened.now c.args.before.now c.args.session.now c.obey_edit.new.session line _
-    (c.obey_edit.new.session, (c.args.command, asks, printed_repair c.args.command c.requires.one, c.in_default.ensures.made),
-        refl) c.in-Err-check.ensures.sways
+    line_swayed c.args.opened.now c.args.before.now c.args.session.now c.obey_edit.new.session line _ (
+      c.obey_edit.new.session,
+      (c.args.command, asks, printed_repair c.args.command c.requires.one, c.in_default.ensures.made),
+      refl,
+    ) c.in-Err-check.ensures.sways
 
 pub returns-in-Err-check-clause-undone : goal.returns-in-Err-check-clause-undone
 returns-in-Err-check-clause-undone c = undone_agrees c.args.command _ _ _ _ c.requires.one c.requires.closed c.in_default.ensures.made c.undo.ensures.step
@@ -19,4 +21,4 @@ pub returns-in-Err-check-clause-format : goal.returns-in-Err-check-clause-format
 returns-in-Err-check-clause-format c =
     ap (λ (s : State). s.format)
     (undone_agrees c.args.command c.args.session.now c.obey_edit.new.session c.undo.new.self c.undo.result c.requires.one c.requires.closed
-        c.in_default.ensures.made c.undo.ensures.step).state
+    c.in_default.ensures.made c.undo.ensures.step).state

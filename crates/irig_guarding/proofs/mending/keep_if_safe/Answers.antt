@@ -27,7 +27,7 @@ returns-else-not-ends-clause-made c =
     let all = texts_of_ends xs _ c.first-item.result c.last-item.result cut in
     subst (λ (l : List (List ℕ)). OnOk c.keep_group_if_safe.result (ObeyedAll c.args.session.now l c.keep_group_if_safe.new.session)) (sym all)
     (on_ok c.keep_group_if_safe.result c.keep_group_if_safe.ensures.made
-        (λ g. group_obeyed _ _ _ _ _ (c.begins.ensures.0 c.if-not-begins.false) (c.ends.ensures.0 c.if-not-ends.false) g))
+    (λ g. group_obeyed _ _ _ _ _ (c.begins.ensures.0 c.if-not-begins.false) (c.ends.ensures.0 c.if-not-ends.false) g))
 
 pub returns-else-not-ends-clause-drops : goal.returns-else-not-ends-clause-drops
 returns-else-not-ends-clause-drops c = λ other.

@@ -11,5 +11,5 @@ returns c = λ moment control new h.
     subst (λ k. Became k (100 * c.from.result) c.args.session.now.state.pulses new.state.pulses)
     (ap (λ t. length (rising_before t c.args.session.now.state.pulses)) (sym c.time.ensures) ∙ sym c.rising_before.ensures)
     (subst (λ k. Became (length (rising_before
-        (time_of c.args.start.now (present_in c.args.session.now)) c.args.session.now.state.pulses)) k c.args.session.now.state.pulses new.state.pulses) come
-        (generated c.args.start.now c.args.frames moment control c.args.session.now new h))
+    (time_of c.args.start.now (present_in c.args.session.now)) c.args.session.now.state.pulses)) k c.args.session.now.state.pulses new.state.pulses) come
+    (generated c.args.start.now c.args.frames moment control c.args.session.now new h))

@@ -8,4 +8,4 @@ pub returns : goal.returns
 returns c =
     let same = c.marker.ensures ∙ sym (first_marker c.args.opened.now.markers c.args.place) in
     subst (λ m.
-        IsTrue c.keeps_rises.result ↔ KeepsRises c.args.opened.now.pulses m c.args.session.now.state.pulses c.args.frame.now.marker) same c.keeps_rises.ensures
+    IsTrue c.keeps_rises.result ↔ KeepsRises c.args.opened.now.pulses m c.args.session.now.state.pulses c.args.frame.now.marker) same c.keeps_rises.ensures

@@ -27,7 +27,7 @@ returns-then-is_alike c =
     let low = c.saturating_sub-low.result in
     let parted = IsPartitionedBy-ltb (λ (q : Pulse). q.rise) _ low c.requires in
     let point =
-        IsPartitionPoint-from_clause (λ (q : Pulse). ltb q.rise low) _ _ c.partition_point-first.ensures.partitioned parted (λ a r q k. search rules) in (
+    IsPartitionPoint-from_clause (λ (q : Pulse). ltb q.rise low) _ _ c.partition_point-first.ensures.partitioned parted (λ a r q k. search rules) in (
       λ t. found_here c.args.format c.args.any_class c.args.recorded.now c.args.pulse c.loop-place.place c.reach_of-reach.result low c.saturating_sub.result _
           (slice_get-get_or c.args.recorded.now c.loop-place.place _ c.loop-place-test.true) c.reach_of-reach.ensures
           c.saturating_sub-low.ensures (λ d. ltb-false _ _ (point.1 c.loop-place.place d c.loop-place.auto.place c.loop-place-test.true))

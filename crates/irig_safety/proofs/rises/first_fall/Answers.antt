@@ -9,14 +9,14 @@ pub returns-clause-before : goal.returns-clause-before
 returns-clause-before c =
     let parted = IsPartitionedBy-ltb (λ (q : Pulse). q.fall) _ c.args.time c.requires in
     let point =
-        IsPartitionPoint-from_clause (λ (q : Pulse). ltb q.fall c.args.time) _ _ c.partition_point.ensures.partitioned parted (λ a r q k. search rules) in
+    IsPartitionPoint-from_clause (λ (q : Pulse). ltb q.fall c.args.time) _ _ c.partition_point.ensures.partitioned parted (λ a r q k. search rules) in
     λ j d less within. ltb-true _ _ (point.0 j d (omega arith) less)
 
 pub returns-clause-after : goal.returns-clause-after
 returns-clause-after c =
     let parted = IsPartitionedBy-ltb (λ (q : Pulse). q.fall) _ c.args.time c.requires in
     let point =
-        IsPartitionPoint-from_clause (λ (q : Pulse). ltb q.fall c.args.time) _ _ c.partition_point.ensures.partitioned parted (λ a r q k. search rules) in
+    IsPartitionPoint-from_clause (λ (q : Pulse). ltb q.fall c.args.time) _ _ c.partition_point.ensures.partitioned parted (λ a r q k. search rules) in
     λ d within. ltb-false _ _ (point.1 c.partition_point.result d (omega arith) within)
 
 pub returns-then-pulses-place-clause-before : goal.returns-then-pulses-place-clause-before

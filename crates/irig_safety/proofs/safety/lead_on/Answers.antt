@@ -16,5 +16,5 @@ loop-place-preserved c =
 pub returns : goal.returns
 returns c =
     let last : LeadOn c.args.format (drop (c.loop-place.place - 1) c.args.frames.now) =
-        lead_last c.args.format c.args.frames.now (c.loop-place.place - 1) (omega (arith, c.loop-place-test.false)) in
+    lead_last c.args.format c.args.frames.now (c.loop-place.place - 1) (omega (arith, c.loop-place-test.false)) in
     (λ t. c.loop-place.invariant.1 last, λ s. refl)

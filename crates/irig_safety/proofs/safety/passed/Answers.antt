@@ -11,14 +11,14 @@ returns-in_default-clause-safe c = λ rest found.
     let none : slice_get c.args.old.now c.args.kept ≡ None = sym c.frame_at.ensures ∙ c.in_default.is in
     passes_ok c.args.format c.args.others.now c.args.old.now c.args.kept c.args.frame.now c.passed_between.result rest found
     (comes_on c.args.format c.args.others.now c.args.old.now c.args.kept c.args.frame.now c.passed_between.result rest
-        (none_before c.args.old.now c.args.kept c.args.frame.now none) _ refl c.passed_between.ensures)
+    (none_before c.args.old.now c.args.kept c.args.frame.now none) _ refl c.passed_between.ensures)
 
 pub returns-in_default-clause-fault : goal.returns-in_default-clause-fault
 returns-in_default-clause-fault c = λ rest.
     let none : slice_get c.args.old.now c.args.kept ≡ None = sym c.frame_at.ensures ∙ c.in_default.is in
     passes_err c.args.format c.args.others.now c.args.old.now c.args.kept c.args.frame.now c.passed_between.result rest
     (comes_on c.args.format c.args.others.now c.args.old.now c.args.kept c.args.frame.now c.passed_between.result rest
-        (none_before c.args.old.now c.args.kept c.args.frame.now none) _ refl c.passed_between.ensures)
+    (none_before c.args.old.now c.args.kept c.args.frame.now none) _ refl c.passed_between.ensures)
 
 pub returns-then-frame-former-clause-within : goal.returns-then-frame-former-clause-within
 returns-then-frame-former-clause-within c =

@@ -163,5 +163,5 @@ returns-clause-pulses c =
 pub returns-clause-looked : goal.returns-clause-looked
 returns-clause-looked c digits few =
     let all = through-next _ _ _ (digits + 1)
-        (through-next _ _ _ digits (c.find-risen.ensures.looked digits few) c.pulse-from.ensures.counted) c.pulse-to.ensures.counted in
+    (through-next _ _ _ digits (c.find-risen.ensures.looked digits few) c.pulse-from.ensures.counted) c.pulse-to.ensures.counted in
     record { made = all.made; few = omega (arith, all.few); lens = all.lens }

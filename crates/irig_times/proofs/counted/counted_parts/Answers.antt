@@ -23,7 +23,7 @@ add_frame-requires-clause-next c =
     let whole = c.args.whole.now in
     let here = slice_get-get_or whole c.loop-place.place none-part c.loop-place-test.true in
     known-next c.args.format
-        (length c.args.pulses.now.track.pulses) whole c.requires.whole c.len-count.ensures.track.few c.loop-place.place _ here c.part_at-next.result
+    (length c.args.pulses.now.track.pulses) whole c.requires.whole c.len-count.ensures.track.few c.loop-place.place _ here c.part_at-next.result
     c.part_at-next.ensures
 
 pub add_frame-requires-clause-order : goal.add_frame-requires-clause-order
@@ -31,7 +31,7 @@ add_frame-requires-clause-order c =
     let whole = c.args.whole.now in
     let here = slice_get-get_or whole c.loop-place.place none-part c.loop-place-test.true in
     known-order c.args.format
-        (length c.args.pulses.now.track.pulses) whole c.requires.whole c.len-count.ensures.track.few c.loop-place.place _ here c.part_at-next.result
+    (length c.args.pulses.now.track.pulses) whole c.requires.whole c.len-count.ensures.track.few c.loop-place.place _ here c.part_at-next.result
     c.part_at-next.ensures
 
 pub loop-place-preserved : goal.loop-place-preserved
@@ -53,5 +53,5 @@ loop-place-preserved c =
 pub counted_after-sides-requires : goal.counted_after-sides-requires
 counted_after-sides-requires c =
     low c.args.format
-        (length c.args.pulses.now.track.pulses) c.args.whole.now c.requires.whole c.len-count.ensures.track.few c.loop-place.place c.loop-place.before
+    (length c.args.pulses.now.track.pulses) c.args.whole.now c.requires.whole c.len-count.ensures.track.few c.loop-place.place c.loop-place.before
     c.loop-place.invariant.before

@@ -19,6 +19,6 @@ loop-place-preserved c =
           c.contradicts-here.result c.loop-place-test.true
           (c.contradicts-here.ensures.answer
           ∙ ap (λ t. contradicts c.args.format (part.element + place) (slice_get t.pulses (part.number + place))
-              (slice_get c.args.wanted.now (part.element + place))) before.track)
+          (slice_get c.args.wanted.now (part.element + place))) before.track)
           c.more-count.ensures before.left;
     }

@@ -8,7 +8,7 @@ loop-count-preserved c =
     let before = c.loop-count.invariant in
     let on : is_in_step_at c.args.format c.args.pulses.now.track.pulses (c.args.number + c.loop-count.count) ≡ true =
     ap (λ t. is_in_step_at c.args.format t.pulses (c.args.number + c.loop-count.count)) (sym before.track)
-        ∙ (sym c.is_in_step_at.ensures.step ∙ c.if-not-is_in_step_at.false) in
+    ∙ (sym c.is_in_step_at.ensures.step ∙ c.if-not-is_in_step_at.false) in
     record {
       track = c.is_in_step_at.ensures.pulses ∙ before.track;
       few = omega (arith, c.loop-count-test.true);
@@ -20,6 +20,6 @@ returns-then-not-is_in_step_at-clause-count c =
     let before = c.loop-count.invariant in
     let off : is_in_step_at c.args.format c.args.pulses.now.track.pulses (c.args.number + c.loop-count.count) ≡ false =
     ap (λ t. is_in_step_at c.args.format t.pulses (c.args.number + c.loop-count.count)) (sym before.track)
-        ∙ (sym c.is_in_step_at.ensures.step ∙ c.if-not-is_in_step_at.true) in
+    ∙ (sym c.is_in_step_at.ensures.step ∙ c.if-not-is_in_step_at.true) in
     let none = ahead-stop c.args.format c.args.pulses.now.track.pulses (c.args.most - c.loop-count.count) (c.args.number + c.loop-count.count) off in
     omega (arith, before.left, none)

@@ -8,7 +8,7 @@ loop-count-preserved c =
     let before = c.loop-count.invariant in
     let on : follows_at c.args.format c.args.pulses.now.track.pulses (c.args.number + c.loop-count.count) ≡ true =
     ap (λ t. follows_at c.args.format t.pulses (c.args.number + c.loop-count.count)) (sym before.track)
-        ∙ (sym c.follows_at.ensures.step ∙ c.if-not-follows_at.false) in
+    ∙ (sym c.follows_at.ensures.step ∙ c.if-not-follows_at.false) in
     record {
       track = c.follows_at.ensures.pulses ∙ before.track;
       few = omega (arith, c.loop-count-test.true);

@@ -7,8 +7,10 @@ use Rattle.irig_vcd.proofs.changes.resume.Goals as goal
 pub returns-in_err-high-clause-scans : goal.returns-in_err-high-clause-scans
 returns-in_err-high-clause-scans c =
     let p = err_from_is_err_and c.from_residual.result c.from_residual.ensures.1 in
-    rw (p.1,
-        p.2) (λ s at. fails_at c.args.code.now c.args.unit s c.args.tokens.now c.in_err-high.field-0.0 (c.in_err-high.ensures.takes c.args.unit s at.keeps))
+    rw (
+      p.1,
+      p.2,
+    ) (λ s at. fails_at c.args.code.now c.args.unit s c.args.tokens.now c.in_err-high.field-0.0 (c.in_err-high.ensures.takes c.args.unit s at.keeps))
 
 pub returns-in_err-put-clause-scans : goal.returns-in_err-put-clause-scans
 returns-in_err-put-clause-scans c =

@@ -23,7 +23,7 @@ returns-in_err-high-clause-scans c =
     rw (p.1, p.2) (λ end l.
     let none = at_word c.args.code.now c.args.unit end c.args.trace.now c.args.clock c.args.journals.now c.args.pending.now w c.args.tokens.now l in
     fails_in c.args.code.now c.args.unit l.s (w ∷ c.args.tokens.now) end c.in_err-high.field-0.0 l.left
-        (c.in_err-high.ensures.takes c.args.unit l.s none l.here.keeps))
+    (c.in_err-high.ensures.takes c.args.unit l.s none l.here.keeps))
 
 pub returns-in_err-put-clause-scans : goal.returns-in_err-put-clause-scans
 returns-in_err-put-clause-scans c =

@@ -19,7 +19,7 @@ stops c wire bytes r =
     let s = c.args.progress.now in
     let stage = subst (λ (w : Option (List ℕ)). Stage w (words_of r.front) s.unit s.code.items s.reading) (sym r.name) r.stage in
     subst (λ (w : Option (List ℕ)). StopsAt s.unit s.code w
-        (words_of r.front ++ words_from s.gone false (take c.whole_len-whole.result s.held.items)) c.in-Err.fault)
+    (words_of r.front ++ words_from s.gone false (take c.whole_len-whole.result s.held.items)) c.in-Err.fault)
     r.name (c.in-Err.ensures.fault (words_of r.front) stage r.none)
 
 pub returns-in-Err-clause-fault : goal.returns-in-Err-clause-fault
@@ -80,7 +80,7 @@ returns-in_err-gather-in-Ok-Ok-clause-memory c = λ memory wire bytes r.
     let next = next_bytes wire bytes s n (outside (goal.at.returns-in_err-gather-in-Ok-Ok-clause-memory c).After-whole_len-whole) r in
     let stage = subst (λ (w : Option (List ℕ)). Stage w (words_of r.front) s.unit s.code.items s.reading) (sym r.name) r.stage in
     let got =
-        subst (λ (w : Option (List ℕ)). HasReadWords w (words_of r.front ++ words_from s.gone false (take n s.held.items)) unit mid.code.items mid.reading)
+    subst (λ (w : Option (List ℕ)). HasReadWords w (words_of r.front ++ words_from s.gone false (take n s.held.items)) unit mid.code.items mid.reading)
     r.name ((rw c.in-Ok-Ok.field-0-is at c.in-Ok-Ok.ensures.read) (words_of r.front) stage r.none) in
     let within : n ≤ length s.held.items = subst (λ (l : List ℕ). n ≤ length l) c.as_slice.ensures.value c.whole_len-whole.ensures.within in
     let kept = c.in-Ok-Ok.ensures.kept in

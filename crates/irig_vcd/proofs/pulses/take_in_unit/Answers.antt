@@ -23,5 +23,5 @@ loop-at-preserved c =
           let p = i.passes s none traced in
           passes_then _ c.args.unit s _ _ _ _ _ _ _ p (passes_pulse b c.args.code c.args.unit c.loop-at.clock c.loop-at.trace c.put_pulse.new.self
           _ c.loop-at.at rise fall p.now c.requires.unit up down late.0 late.1 (omega (arith, late.2, i.here.short)) put.ok put.time
-              (p.opened ∙ none) p.traced);
+          (p.opened ∙ none) p.traced);
     }

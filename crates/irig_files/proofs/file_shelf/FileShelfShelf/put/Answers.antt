@@ -23,7 +23,7 @@ returns-in-Ok-clause-since g c = (
   (refl, c.put.ensures.still),
   λ told.
       goes_once _ _ _ c.args.self.now.path.now _ c.put.result (g.met.D.Disk.counts_now _) (g.met.D.Disk.only_now _) (g.met.D.Disk.only_now _) refl
-          (c.put.ensures.put told),
+      (c.put.ensures.put told),
 )
 
 pub returns-in-Err-clause-since : goal.returns-in-Err-clause-since
@@ -31,5 +31,5 @@ returns-in-Err-clause-since g c = (
   (refl, c.put.ensures.still),
   λ told.
       goes_once _ _ _ c.args.self.now.path.now _ c.put.result (g.met.D.Disk.counts_now _) (g.met.D.Disk.only_now _) (g.met.D.Disk.only_now _) refl
-          (c.put.ensures.put told),
+      (c.put.ensures.put told),
 )

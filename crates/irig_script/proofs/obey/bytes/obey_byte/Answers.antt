@@ -11,7 +11,7 @@ pub returns-in_default-clause-ok : goal.returns-in_default-clause-ok
 returns-in_default-clause-ok g c = λ text h.
     let a = c.in_default.ensures.answers in
     rw c.if-byte-ne10.false (obeyed_end c.args.screen.now (g.S.Shelf.known c.args.shelf.now)
-        (g.S.Shelf.known c.obey_line.new.shelf) c.args.status.now text _ _ _ h.plain (a.0 text h) a.1 a.2)
+    (g.S.Shelf.known c.obey_line.new.shelf) c.args.status.now text _ _ _ h.plain (a.0 text h) a.1 a.2)
 
 pub returns-in_default-answer-clause-err : goal.returns-in_default-answer-clause-err
 returns-in_default-answer-clause-err g c = λ text h.

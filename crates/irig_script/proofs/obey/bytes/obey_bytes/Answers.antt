@@ -22,7 +22,7 @@ returns-in-Ok-true-clause-ok g c = λ text h.
     let i = c.loop-byte.byte-index in
     let l = c.args.bytes.now in
     let upto =
-        obeyed_more true _ _ _ _ _ _ _ _ _ (text ++ take i l) (get_or l i 0 ∷ []) c.loop-byte.line c.obey_byte.new.line (c.loop-byte.invariant.so_far text h)
+    obeyed_more true _ _ _ _ _ _ _ _ _ (text ++ take i l) (get_or l i 0 ∷ []) c.loop-byte.line c.obey_byte.new.line (c.loop-byte.invariant.so_far text h)
     step in
     rw (← whole_text text l i c.loop-byte-test.true) (obeyed_rest _ _ _ _ _ _ _ (drop (i + 1) l) c.obey_byte.new.line upto)
 

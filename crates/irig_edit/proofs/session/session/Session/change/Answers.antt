@@ -61,5 +61,5 @@ returns-in-Ok-clause-looks c =
     let new = c.record.new.state.index.looks in
     let within = shown most old new c.looks-before.result looks c.in-Ok.ensures.once c.looks-before.ensures (omega arith) c.looks_since-self-inside.ensures in
     λ edit same. subst (λ (x : Change). (c.args.self.now.looks ≤ new) × (looks ≡ new - c.args.self.now.looks)
-        × Within (looks_of c.args.self.now.state x) looks) same
+    × Within (looks_of c.args.self.now.state x) looks) same
     (subst (λ (v : SessionView). (v.looks ≤ new) × (looks ≡ new - v.looks) × Within (looks_of v.state d) looks) c.self.view_is within)
