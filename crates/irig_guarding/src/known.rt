@@ -155,14 +155,14 @@ fn still_known(
     }
 }
 
-/// The marker of a frame after an edit, if its pulses did not change. The edit made `changed.come`
-/// pulses of some from the place `changed.at` on; how many went follows from the two counts of all
-/// pulses. A frame whose 100 pulses are all before the change keeps its marker. If a frame
-/// begins after the pulses that went, its marker moves by as many places as there are more pulses
-/// now, or fewer. The test of that has each number on the side on which it is added, so that
-/// nothing is below 0. `None` for any other frame, since its pulses may have changed. `None` also
-/// if `come` is more than a `u64` holds, since the sums could be too large for their type, or if
-/// the marker is too large (`as_place`).
+/// The marker of a frame after an edit, if its pulses did not change. The edit took some pulses
+/// away from the place `changed.at` on, and put `changed.come` pulses there; how many it took
+/// follows from the two counts of all pulses. A frame whose 100 pulses are all before the change
+/// keeps its marker. If a frame begins after the pulses that went, its marker moves by as many
+/// places as there are more pulses now, or fewer. The test of that has each number on the side on
+/// which it is added, so that nothing is below 0. `None` for any other frame, since its pulses may
+/// have changed. `None` also if `come` is more than a `u64` holds, since the sums could be too
+/// large for their type, or if the marker is too large (`as_place`).
 fn marker_still_known(
     marker: usize,
     changed: &Place,

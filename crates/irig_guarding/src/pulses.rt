@@ -83,9 +83,9 @@ fn is_unmoved(former: &[Shown], known_markers: &[Option<usize>], place: usize, f
 /// the frame is new (`judge_new_frame`), and no former one is passed. If the next one begins
 /// earlier, it is `Lost`. If both begin at the same time, the pulses of the frame have to rise as
 /// those of the former one (`rises_as_former`): then the former one is passed, else the frame is
-/// `Moved`. `near_in` gives the two former frames before a new one and the two after it. In the
-/// clauses `rest` is any frames after `frame`, and `found` the fault of these, if they have one,
-/// from a place of `former` on (`PulsesAt`).
+/// `Moved`. The former frames next to a new one are the two before the place `passed` and the two
+/// from it on (`near_in`). In the clauses `rest` is any frames after `frame`, and `found` their
+/// fault, if they have one, when former frames are compared from some place on (`PulsesAt`).
 fn judge_next(
     session: &Session,
     opened: &Original,

@@ -59,10 +59,10 @@ pub fn is_straight(format: Format, before: &Anchor, micros: u128, after: &Anchor
     apart(found, wanted) <= whole * tenth(format)
 }
 
-/// Whether a rise, in microseconds, is on the line between two anchors, to a tenth of an interval
-/// (`is_straight`). Or it is on the curve that pulses are on if the clock of the frames before
-/// becomes evenly that of the frames after (`near`), as on a tape (`is_on_curve`). A rise before
-/// the first anchor counts as at it.
+/// Whether a rise, in microseconds, is on the straight line between two anchors, to a tenth of an
+/// interval (`is_straight`; a rise before `before` counts as at it). Or it is on a curve
+/// (`is_on_curve`): that of a clock that changes evenly, as on a tape that slows down, from the
+/// clock of the two frames before to that of the two after (`near`).
 fn is_on_line_between(
     format: Format,
     near: &Witnesses,

@@ -74,8 +74,8 @@ pub fn has_odd(odd: &[Odd], frame: &Shown, function: u32) -> bool
     false
 }
 
-/// Whether `odd` is this control function of a frame that rises when `frame` does and has the same
-/// time (`is_of_time`). Other control functions do not matter. The rise alone is not enough: if
+/// Whether `odd` is the odd pulse of this control function (`function`) of this frame: its frame
+/// rises when `frame` does and has the same time (`is_of_time`). The rise alone is not enough: if
 /// frames may move, another frame can begin when the one in `odd` did.
 fn is_odd_of(odd: &Odd, frame: &Shown, function: u32) -> bool
     ensures { result ≡ is_odd_of odd.now frame.now function }
