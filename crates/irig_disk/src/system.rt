@@ -77,8 +77,8 @@ impl<F: Drop> SystemDir<F> {
 
     /// Opens the folder at a path, instead of the one that was open before. Its path is kept for
     /// the calls on names in it. An error is that of the system, or that memory ran out for the
-    /// path. After an error the kept path need not be that of the folder that is still open, so
-    /// call `open` again, and nothing else before it succeeds.
+    /// path. After an error the kept path can be another one than that of the folder that is still
+    /// open, so call `open` again, and nothing else before it succeeds.
     pub fn open<R: Files<File = F>>(&mut self, runtime: &R, path: &str) -> Result<(), SystemFault>
         ensures { OnOk result (IsSome self.new.file) }
     {
