@@ -93,7 +93,7 @@ pub trait FileSystem: PlainCalls {
         ensures id { IsTrue Self.is_told → IfOk result (λ found. HasId (Self.disk self.now)
             (id_of self.now) path.now (option_map (λ d. d.id) found)) };
 
-    /// The two numbers, of the device and in it, that only the file has to which the program's
+    /// The numbers of device and inode, which no other file has, of the file to which the program's
     /// answers (its standard output) go. `None` if that output is closed.
     fn output(&self) -> Result<Option<(u64, u64)>, Self::Fault>
         ensures { IsTrue Self.is_told → IfOk result (λ found. found ≡ output_id self.now) };

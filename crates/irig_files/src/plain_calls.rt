@@ -48,8 +48,8 @@ pub trait PlainCalls: Folder {
         ensures allowed { IsTrue Self.is_told → IfOk result
             (λ file. may_write self.now (seen_number file)) };
 
-    /// Whether an open file is a regular one, its mode, and the two numbers (of the device and in
-    /// it) that no other file has.
+    /// Whether an open file is a regular one, its mode, and the numbers of its device and inode,
+    /// which no other file has.
     fn seen(&self, file: &Self::Seen) -> Result<Described, Self::Fault>
         ensures { IsTrue Self.is_told → IfOk result (λ d. d.is_file ≡ true
             → HasMode (Self.disk self.now) (seen_number file.now) d.mode) };

@@ -66,7 +66,7 @@ impl<'a, R: Files + Print + AllocGlobal> PlainCalls for SystemFolder<'a, R> {
         }
     }
 
-    // Whether an open file is a regular one, its mode, and the numbers of its device and in it, as
+    // Whether an open file is a regular one, its mode, and the numbers of its device and inode, as
     // the system says.
     fn seen(&self, file: &SystemSeen<R::File>) -> Result<Described, SystemFault> {
         match file.0.metadata() {
