@@ -6,7 +6,8 @@ use Rattle.irig_recording.specs.{declared.pulse.Pulse.Pulse}
 use Rattle.irig_difference.specs.{PatchText.length_note, Stretches.stretches_between}
 use Rattle.irig_comments.specs.{Comments.comment_text, Counts.counts_between, Counts.counts_text, Framed.FramedView}
 use Rattle.irig_comments.specs.Left.{first_change, last_counts, last_if, last_left, lines_text, text_left, with_change, with_stretch}
-use Rattle.irig_comments.specs.Parts.{comment_part, commented_text, has_some, is_other, joined, last_text, parts_of, stretch_line}
+use Rattle.irig_comments.specs.Parts.{comment_part, joined, parts_of, stretch_line}
+use Rattle.irig_comments.specs.Commented.{commented_text, has_some, is_other, last_text}
 use Rattle.irig_comments.specs.{Sides.changes, Sides.place, declared.counts.Counts.Counts, declared.sides.Sides.Sides}
 use Rattle.irig_comments.proofs.PartSteps.{joined-append, line_first, line_only, note_first, note_only}
 

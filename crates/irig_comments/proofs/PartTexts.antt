@@ -7,7 +7,8 @@ use Rattle.irig_difference.specs.{PatchText.length_note, PatchText.patch_text, P
 use Rattle.irig_difference.proofs.PatchTexts.{no_patch, patch-same}
 use Rattle.irig_comments.specs.{Counts.counts_between, Counts.counts_text, Framed.FramedView, Framed.IsFramed, Framed.framed}
 use Rattle.irig_comments.specs.{Framed.shown_frames, Sides.changes, declared.sides.Sides.Sides}
-use Rattle.irig_comments.specs.Parts.{AreComments, Part, begun_by, comment_part, commented_parts, commented_text, comments, has_some, is_other, joined, last_text}
+use Rattle.irig_comments.specs.Parts.{AreComments, Part, begun_by, comment_part, comments, joined}
+use Rattle.irig_comments.specs.Commented.{commented_parts, commented_text, has_some, is_other, last_text}
 use Rattle.irig_comments.specs.Parts.{line_part, lines, not_begun_by, notes, parts_of, stretch_line}
 use Rattle.irig_comments.specs.Comments.{IsComment}
 use Rattle.irig_comments.proofs.{FramedViews.frames_rise, FramedViews.framed-by, PlainTexts.comment_is, PlainTexts.counts_are, SameFrames.none_change}

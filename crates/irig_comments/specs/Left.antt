@@ -4,7 +4,7 @@ use Rattle.std.specs.Prelude.{if◌then◌else◌, is_none}
 use Rattle.irig_recording.specs.declared.pulse.Pulse.{Pulse}
 use Rattle.irig_difference.specs.PatchText.{length_note}
 use Rattle.irig_comments.specs.Counts.{counts_between, counts_text}
-use Rattle.irig_comments.specs.{Framed.FramedView, Parts.is_other, Parts.joined, Parts.parts_of}
+use Rattle.irig_comments.specs.{Framed.FramedView, Commented.is_other, Parts.joined, Parts.parts_of}
 use Rattle.irig_comments.specs.{Sides.place, declared.counts.Counts.Counts}
 use Rattle.irig_comments.specs.declared.sides.Sides.{Sides}
 

@@ -1,13 +1,11 @@
 -- The patch with comments: lines, some of them comments. This project's own.
-use Rattle.std.specs.Prelude.{◌==◌, ◌||◌, ◌++◌, ℕ, Bool, true, false, not, List, [], ◌∷◌, codes}
+use Rattle.std.specs.Prelude.{◌++◌, ℕ, List, [], ◌∷◌, codes}
 use Rattle.std.specs.Prelude.{map, nat_le, if◌then◌else◌}
 use Rattle.std.specs.List.{AllByRecursion}
 use Rattle.irig_recording.specs.declared.pulse.Pulse.{Pulse}
-use Rattle.irig_difference.specs.PatchText.{length_note, line_of}
-use Rattle.irig_difference.specs.Stretches.{stretches_between}
-use Rattle.irig_recording.specs.Recording.{RecordingView}
-use Rattle.irig_comments.specs.{Comments.IsComment, Comments.comment_text, Counts.counts_between}
-use Rattle.irig_comments.specs.{Counts.counts_text, Framed.FramedView, Sides.changes, Sides.place}
+use Rattle.irig_difference.specs.PatchText.{line_of}
+use Rattle.irig_comments.specs.{Comments.IsComment, Comments.comment_text}
+use Rattle.irig_comments.specs.{Sides.place}
 use Rattle.irig_comments.specs.declared.sides.Sides.{Sides}
 
 -- a comment on frames, or a line of the patch
@@ -48,28 +46,6 @@ parts_of cs (p ∷ ps) =
     notes (begun_by p.fall cs)
     ++ line_part (stretch_line p) ∷ parts_of (not_begun_by p.fall cs) ps
 
--- there is a stretch
-abbrev pub has_some : List Pulse → Bool
-has_some [] = false
-has_some (p ∷ ps) = true
-
--- two recordings differ, in their lengths or in a stretch
-abbrev pub is_other : RecordingView → RecordingView → Bool
-is_other b a = not (b.micros == a.micros) || has_some (stretches_between b a)
-
--- the last line, if the recordings differ
-abbrev pub last_text : FramedView → FramedView → List ℕ
-last_text b a =
-    if is_other b.recording a.recording then counts_text (counts_between b a) else []
-
--- the patch: the comment with two lengths, if they differ, the stretches with the frames that
--- differ, and the numbers
-abbrev pub commented_parts : FramedView → FramedView → List Part
-commented_parts b a =
-    line_part (length_note b.recording.micros a.recording.micros)
-    ∷ parts_of (changes b a) (stretches_between b.recording a.recording)
-    ++ comment_part (last_text b a) ∷ []
-
 -- all of it
 abbrev pub joined : List Part → List ℕ
 joined [] = []
@@ -88,7 +64,3 @@ comments (x ∷ xs) = x.comment ++ comments xs
 -- each comment is one, or nothing
 abbrev pub AreComments : List Part → Type 0
 AreComments parts = AllByRecursion (λ x. IsComment x.comment) parts
-
--- the text of the patch with comments
-abbrev pub commented_text : FramedView → FramedView → List ℕ
-commented_text b a = joined (commented_parts b a)

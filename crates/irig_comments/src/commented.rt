@@ -14,8 +14,8 @@
 ghost use Rattle.std.specs.Prelude.{◌≡◌, ◌↔◌, ◌≤◌, ◌<◌, ◌++◌, [], true, false, IfOk, OnOk};
 ghost use Rattle.std.specs.Prelude.{vec_len};
 ghost use Rattle.irig_difference.specs.PatchText.{length_note, patch_text};
-ghost use Rattle.irig_comments.specs.{Parts.AreComments, Parts.commented_parts, Parts.comments};
-ghost use Rattle.irig_comments.specs.{Parts.commented_text, Parts.last_text, Parts.lines};
+ghost use Rattle.irig_comments.specs.Parts.{AreComments, comments, lines};
+ghost use Rattle.irig_comments.specs.Commented.{commented_parts, commented_text, last_text};
 ghost use Rattle.irig_comments.specs.{Parts.notes, Sides.changes};
 
 use crate::framed::Framed;

@@ -1,10 +1,11 @@
 -- What is printed of two recordings, and what of the tracks of two files.
 use Rattle.std.proofs.Common.{◌≡◌, ℕ, List, Option, Some, None, ap, sym, subst, inl, inr}
 use Rattle.irig_codes.specs.Format.{FormatView}
-use Rattle.irig_comments.specs.{Framed.framed, Parts.commented_text}
+use Rattle.irig_diff.specs.Patches.{PrintsIfRoom, PrintsText, text_between}
+use Rattle.irig_comments.specs.{Framed.framed, Commented.commented_text}
+use Rattle.irig_diff.specs.Ending.{Held, Obeys}
 use Rattle.irig_difference.specs.PatchText.{patch_text}
 use Rattle.irig_recording.specs.Recording.{RecordingView}
-use Rattle.irig_diff.specs.Ending.{Held, Obeys, PrintsIfRoom, PrintsText, text_between}
 use Rattle.irig_files.specs.Tracks.{Says, Unreadable, name_in}
 use Rattle.irig_diff.specs.{declared.chosen.Settings.Settings, declared.ending.Ending.Ending}
 use Rattle.irig_diff.specs.declared.ending.Ending.TheVariants as ending

@@ -1,7 +1,8 @@
-pub mod Options
 pub mod Chosen
-pub mod Settings
-pub mod Printing
-pub mod Help
 pub mod Ending
+pub mod Help
+pub mod Options
+pub mod Patches
+pub mod Printing
+pub mod Settings
 pub mod Statuses

@@ -11,10 +11,11 @@
 //! text of a patch.
 
 ghost use Rattle.std.specs.Prelude.{◌≡◌, map, option_map, string_bytes};
-ghost use Rattle.irig_comments.specs.{Framed.framed, Parts.commented_text};
+ghost use Rattle.irig_diff.specs.Patches.{PrintsIfRoom, PrintsText, text_between};
+ghost use Rattle.irig_comments.specs.{Framed.framed, Commented.commented_text};
+ghost use Rattle.irig_diff.specs.Ending.{EndsBy, Obeys};
 ghost use Rattle.irig_difference.specs.PatchText.{patch_text};
 ghost use Rattle.irig_vcd.specs.Answer.{name_of};
-ghost use Rattle.irig_diff.specs.Ending.{EndsBy, Obeys, PrintsIfRoom, PrintsText, text_between};
 
 use crate::chosen::Settings;
 use crate::command_line::settings;

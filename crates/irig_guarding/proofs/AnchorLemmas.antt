@@ -4,9 +4,10 @@ use Rattle.std.specs.Prelude.{◌⊎◌, IfSome, if◌then◌else◌}
 use Rattle.std.proofs.lemmas.Bool.{cases_lt}
 use Rattle.irig_codes.specs.Format.{FormatView}
 use Rattle.irig_recording.specs.declared.pulse.Pulse.{Pulse}
-use Rattle.irig_safety.specs.Anchors.{anchors_among, is_anchored, is_held, is_placed, last_anchor, next_anchor}
+use Rattle.irig_safety.specs.Anchors.{anchors_among, is_anchored, last_anchor, next_anchor}
+use Rattle.irig_safety.specs.{Placed.is_held, Placed.is_placed, Calendar.periods, declared.lines.Anchor.Anchor, declared.shown.Shown.Shown}
+use Rattle.irig_safety.specs.declared.witnesses.Witnesses.{Witnesses}
 use Rattle.irig_safety.specs.Lines.{from_after, from_before, is_counted}
-use Rattle.irig_safety.specs.{Bearing.periods, declared.lines.Anchor.Anchor, declared.shown.Shown.Shown, declared.witnesses.Witnesses.Witnesses}
 
 module _ (recorded pulses : List Pulse) (marker : ℕ) where
   -- the first anchor from an element on that is one

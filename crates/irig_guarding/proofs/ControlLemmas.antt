@@ -20,8 +20,8 @@ use Rattle.irig_safety.specs.declared.fault.Fault.TheVariants.{Lost, Unrecorded}
 use Rattle.irig_safety.specs.Terms.{TermsView}
 use Rattle.irig_safety.proofs.SafetyLemmas.{drop-item, drop_past, next_behind}
 use Rattle.irig_guarding.specs.Controls.{AreBorneBy, AreBorneFrom, ControlsAt, ControlsFrom, IsAs, IsBorne, IsUnborneBy, IsUnborneFrom, Judges}
-use Rattle.irig_guarding.specs.Pulses.{StandBy, StrayBy}
-use Rattle.irig_guarding.specs.Trials.{HasFault, HasFaultAt, MayStay, StaysAt}
+use Rattle.irig_guarding.specs.Stays.{HasFault, HasFaultAt, MayStay, StaysAt}
+use Rattle.irig_guarding.specs.Standing.{StandBy, StrayBy}
 use Rattle.irig_guarding.specs.Reading.{fine_frames, original_of, seen_at, seen_by, seen_frames, shown_at, shown_by}
 use Rattle.irig_guarding.specs.declared.seen.Seen.{Seen}
 

@@ -11,8 +11,9 @@ use Rattle.irig_lines.proofs.LineOrders.{means_one}
 use Rattle.irig_script.specs.{Obey.Machine.Machine, Obey.Obeying.Obeys, Obey.Replies.Calls, Obey.Replies.Makes, declared.print.reply.Reply.Reply}
 use Rattle.irig_script.specs.declared.print.reply.Reply.TheVariants as told
 use Rattle.irig_guarding.specs.Repair.{Asks, IsBeyond, IsRepair, Obeyed, ObeyedAll, texts}
-use Rattle.irig_guarding.specs.Trials.{AsksFor, Drops, IsClosing, Holds, IsInner, IsRefusedAt, MayBeKept}
-use Rattle.irig_guarding.specs.Trials.{StopsAt, StopsIn, Sways}
+use Rattle.irig_guarding.specs.RepairLines.{AsksFor, IsInner, MayBeKept}
+use Rattle.irig_guarding.specs.Drops.{Drops, Holds, IsRefusedAt, StopsAt, StopsIn, Sways}
+use Rattle.irig_guarding.specs.Cutting.{IsClosing}
 use Rattle.irig_guarding.specs.declared.reason.Reason.TheVariants.{NoRepair, NotSafe, OutOfMemory, Refused}
 use Rattle.irig_guarding.specs.{declared.reason.Reason.Reason, declared.line.Line.Line}
 use Rattle.irig_safety.specs.{Original.OriginalView, declared.shown.Shown.Shown}

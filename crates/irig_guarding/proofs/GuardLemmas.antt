@@ -11,10 +11,12 @@ use Rattle.irig_lines.specs.{Lines.script_lines, declared.command.Command.Comman
 use Rattle.irig_lines.specs.declared.command.Command.TheVariants as command
 use Rattle.irig_script.specs.{Obey.Machine.Machine, Obey.Run.IsObeyed, Obey.Run.IsPlain, Obey.Run.Runs, Obey.Run.unlines}
 use Rattle.irig_script.proofs.{ObeyLemmas.Lines.lines_and, ObeyLemmas.Quits.other_goes_on}
-use Rattle.irig_guarding.specs.{Controls.IsSafeAt, Controls.IsSafeBy, Guarded.IsGuarded, Guarded.IsRemark, Guarded.IsSafeAfter, Guarded.Reaches, Guarded.silence, Reading.fine_frames}
+use Rattle.irig_guarding.specs.Guarded.{IsGuarded, IsRemark, IsSafeAfter, Reaches, silence}
+use Rattle.irig_guarding.specs.Repair.{Asks, IsGroup, IsPrinted, ObeyedAll, texts}
+use Rattle.irig_guarding.specs.Printed.{AreRemarksOf, IsRemarkOf, Prints, Shows}
+use Rattle.irig_guarding.specs.{SafeBy.IsSafeAt, SafeBy.IsSafeBy, Reading.fine_frames, RepairLines.IsIdle, Trial.Tries, declared.reason.Reason.Reason}
+use Rattle.irig_guarding.specs.declared.line.Line.{Line}
 use Rattle.irig_guarding.specs.{Reading.original_of, Repair.Agrees}
-use Rattle.irig_guarding.specs.{Repair.Asks, Repair.IsGroup, Repair.IsPrinted, Repair.ObeyedAll, Repair.texts, Trials.AreRemarksOf, Trials.IsIdle}
-use Rattle.irig_guarding.specs.{Trials.IsRemarkOf, Trials.Prints, Trials.Shows, Trials.Tries, declared.reason.Reason.Reason, declared.line.Line.Line}
 use Rattle.irig_guarding.specs.Reasons.{head_lines, reason_line}
 use Rattle.irig_safety.specs.{Moved.located, Original.others_of, Original.with_frames}
 use Rattle.irig_safety.proofs.MovedLemmas.{located_self}

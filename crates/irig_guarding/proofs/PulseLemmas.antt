@@ -17,7 +17,8 @@ use Rattle.irig_safety.specs.{Rises.KeepsRises, declared.witnesses.Witnesses.Wit
 use Rattle.irig_safety.specs.declared.fault.Fault.TheVariants.{Lost, Misplaced, Moved}
 use Rattle.irig_safety.specs.Terms.{TermsView}
 use Rattle.irig_safety.proofs.SafetyLemmas.{drop-item, drop_past, next_behind}
-use Rattle.irig_guarding.specs.Pulses.{Comes, IsRooted, PulsesAt, PulsesFrom, StandBy, StandFrom, Stands, StandsAs, StrayBy, StrayFrom, UnrootedFrom}
+use Rattle.irig_guarding.specs.Pulses.{Comes, PulsesAt, PulsesFrom, StandFrom, Stands, StandsAs, StrayFrom}
+use Rattle.irig_guarding.specs.Standing.{IsRooted, StandBy, StrayBy, UnrootedFrom}
 use Rattle.irig_guarding.specs.Reading.{fine_frames, original_of, seen_at, seen_by, seen_frames, shown_at, shown_by}
 use Rattle.irig_guarding.specs.declared.seen.Seen.{Seen}
 use Rattle.irig_guarding.proofs.ControlLemmas.{IsBeforeAll, after_all, before_next, drop_seen}

@@ -9,7 +9,10 @@ use Rattle.irig_lines.specs.Lines.{lines_of}
 use Rattle.irig_script.specs.declared.obey.status.Status.TheVariants.{AllAccepted, SomeRefused}
 use Rattle.irig_script.specs.{Obey.Machine.Machine, Obey.Run.IsPlain, Obey.Run.unlines, declared.obey.status.Status.Status}
 use Rattle.irig_script.proofs.ObeyLemmas.Lines.{first_line, last_line}
-use Rattle.irig_guarding.specs.Trials.{IsClosing, IsCut, IsCutBefore, IsTried, IsTriedBefore, PrintsAll, Shows, Trial, Tries, TriesAll, proposed, status_of}
+use Rattle.irig_guarding.specs.Cutting.{IsClosing, IsCut, IsCutBefore}
+use Rattle.irig_guarding.specs.Trials.{IsTried, IsTriedBefore, status_of}
+use Rattle.irig_guarding.specs.Trial.{Trial, Tries, TriesAll, proposed}
+use Rattle.irig_guarding.specs.Printed.{PrintsAll, Shows}
 use Rattle.irig_guarding.specs.{Reading.fine_frames, Reading.original_of, Reasons.head_lines, Repair.Asks, Repair.texts, declared.line.Line.Line, declared.reason.Reason.Reason}
 use Rattle.irig_lines.specs.declared.command.Command.TheVariants as command
 use Rattle.irig_safety.specs.Original.{OriginalView}

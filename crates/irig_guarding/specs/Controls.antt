@@ -4,12 +4,12 @@ use Rattle.std.specs.Prelude.{◌≡◌, ◌<◌, ◌⊎◌, ◌-◌, ℕ, List,
 use Rattle.std.specs.Prelude.{drop}
 use Rattle.irig_edit.specs.State.State.{State}
 use Rattle.irig_safety.specs.{Controls.AreFunctionsBorne, Faults.NextOrLater}
-use Rattle.irig_safety.specs.Original.{OriginalView, near_by, others_of, with_frames}
-use Rattle.irig_safety.specs.{Moved.located, Safety.IsSafe, Safety.behind, declared.fault.Fault.Fault}
+use Rattle.irig_safety.specs.Original.{OriginalView, near_by}
+use Rattle.irig_safety.specs.{Safety.behind, declared.fault.Fault.Fault}
 use Rattle.irig_safety.specs.declared.fault.Fault.TheVariants.{Lost, Unrecorded}
 use Rattle.irig_safety.specs.declared.shown.Shown.{Shown}
 use Rattle.irig_safety.specs.declared.witnesses.Witnesses.{Witnesses}
-use Rattle.irig_guarding.specs.{Pulses.StandBy, Reading.fine_frames, Reading.seen_frames}
+use Rattle.irig_guarding.specs.{Reading.seen_frames}
 use Rattle.irig_guarding.specs.declared.seen.Seen.{Seen}
 
 -- the control functions of a frame are borne out, next to these frames of the recording
@@ -75,17 +75,3 @@ AreBorneBy (x ∷ frames) o s = AreBorneFrom o s None None (x ∷ frames) (seen_
 abbrev pub IsUnborneBy : List Shown → OriginalView → State → Fault → Type 0
 IsUnborneBy [] o s why = ⊥
 IsUnborneBy (x ∷ frames) o s why = IsUnborneFrom o s None None (x ∷ frames) (seen_frames s) why
-
--- the frames of a state are safe by those of the recording at some places: their times, their
--- control functions, and their pulses
-abbrev pub IsSafeAt : OriginalView → State → Type 0
-IsSafeAt o s = IsSafe s.format (others_of o) o.frames (fine_frames s)
-    × AreBorneBy o.frames o s × StandBy o.frames o s
-
--- the recording, its frames where they are in a state if they may move
-abbrev pub located_by : OriginalView → State → OriginalView
-located_by o s = with_frames (located o.terms.moved o.frames (fine_frames s)) o
-
--- the frames of a state are safe by those of the recording
-abbrev pub IsSafeBy : OriginalView → State → Type 0
-IsSafeBy o s = IsSafeAt (located_by o s) s

@@ -9,7 +9,7 @@ use Rattle.irig_lines.specs.Lines.{script_lines}
 use Rattle.irig_lines.specs.declared.command.Command.TheVariants as command
 use Rattle.irig_edit.specs.{Session.Session.work_in, State.State.State}
 use Rattle.irig_safety.specs.Terms.{TermsView}
-use Rattle.irig_guarding.specs.{Controls.IsSafeBy, Reading.original_of}
+use Rattle.irig_guarding.specs.{SafeBy.IsSafeBy, Reading.original_of}
 use Rattle.irig_guarding.specs.Repair.{Agrees, Asks, ObeyedAll}
 
 -- the line is accepted, and prints nothing

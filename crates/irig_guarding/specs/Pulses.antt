@@ -1,16 +1,15 @@
 -- When the pulses of the frames of a state stay where they were, by a recording as it was opened.
 -- This project's own.
-use Rattle.std.specs.Prelude.{◌≡◌, ◌≤◌, ◌<◌, ◌⊎◌, ◌-◌, ℕ, List, [], ◌∷◌, Option, Some, None, drop, get_or}
+use Rattle.std.specs.Prelude.{◌≡◌, ◌<◌, ◌⊎◌, ◌-◌, ℕ, List, [], ◌∷◌, Option, Some, None, drop, get_or}
 use Rattle.std.specs.Prelude.{Result, Ok, Err}
-use Rattle.std.specs.List.{AllByRecursion}
 use Rattle.irig_edit.specs.State.State.{State}
-use Rattle.irig_safety.specs.Anchors.{ArePlaced, anchors_among}
+use Rattle.irig_safety.specs.Placed.{ArePlaced}
 use Rattle.irig_safety.specs.{Faults.NextOrLater, Original.OriginalView, Original.near_by}
 use Rattle.irig_safety.specs.{Rises.KeepsRises, Safety.behind, declared.fault.Fault.Fault}
 use Rattle.irig_safety.specs.declared.fault.Fault.TheVariants.{Lost, Misplaced, Moved}
 use Rattle.irig_safety.specs.declared.shown.Shown.{Shown}
 use Rattle.irig_safety.specs.declared.witnesses.Witnesses.{Witnesses}
-use Rattle.irig_guarding.specs.{Reading.seen_frames, declared.seen.Seen.Seen}
+use Rattle.irig_guarding.specs.{declared.seen.Seen.Seen}
 
 -- the pulses of a frame rise as those of the former one with the first of these markers
 abbrev pub StandsAs : OriginalView → State → List ℕ → Seen → Type 0
@@ -64,24 +63,3 @@ PulsesAt o s k new found = PulsesFrom o s (drop k o.markers) (behind (k - 1) o.f
 abbrev pub Comes : OriginalView → State → Witnesses → Seen → ℕ → Result ℕ Fault → Type 0
 Comes o s w y passed (Ok place) = (place ≡ passed) × Stands o s w y
 Comes o s w y passed (Err why) = (Stands o s w y → ⊥) × (why ≡ Misplaced y.shown)
-
--- at least 60 pulses of a frame are anchors
-abbrev pub IsRooted : OriginalView → State → Seen → Type 0
-IsRooted o s y = 60 ≤ anchors_among o.pulses s.pulses y.marker 100
-
--- the first frame of which that does not hold
-abbrev pub UnrootedFrom : OriginalView → State → List Seen → Fault → Type 0
-UnrootedFrom o s [] why = ⊥
-UnrootedFrom o s (y ∷ new) why =
-    NextOrLater (IsRooted o s y) (Misplaced y.shown) why (UnrootedFrom o s new why)
-
--- the pulses of all frames are where they may be. If no frame of the recording reads well, most of
--- each are anchors
-abbrev pub StandBy : List Shown → OriginalView → State → Type 0
-StandBy [] o s = AllByRecursion (IsRooted o s) (seen_frames s)
-StandBy (x ∷ frames) o s = StandFrom o s o.markers None None (x ∷ frames) (seen_frames s)
-
--- the first frame of which they do not
-abbrev pub StrayBy : List Shown → OriginalView → State → Fault → Type 0
-StrayBy [] o s why = UnrootedFrom o s (seen_frames s) why
-StrayBy (x ∷ frames) o s why = StrayFrom o s o.markers None None (x ∷ frames) (seen_frames s) why

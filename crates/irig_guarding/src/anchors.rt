@@ -7,7 +7,7 @@
 
 ghost use Rattle.std.specs.Prelude.{◌≡◌, ◌↔◌, ◌-◌, ◌≤◌, ◌<◌, IfSome, IsTrue, Some};
 ghost use Rattle.irig_safety.specs.Anchors.{is_anchored, next_anchor};
-ghost use Rattle.irig_guarding.specs.Pulses.{IsRooted, Stands};
+ghost use Rattle.irig_guarding.specs.{Standing.IsRooted, Pulses.Stands};
 
 use crate::elements::pulse_at;
 use crate::holding::{is_held, near_markers_of};

@@ -6,7 +6,7 @@
 
 ghost use Rattle.std.specs.Prelude.{◌≡◌, ◌↔◌, ◌⊎◌, IsTrue, MatchOption};
 ghost use Rattle.irig_guarding.specs.Repair.{Asks, IsRepair, texts};
-ghost use Rattle.irig_guarding.specs.Trials.{IsClosing, IsIdle};
+ghost use Rattle.irig_guarding.specs.{Cutting.IsClosing, RepairLines.IsIdle};
 ghost use Rattle.irig_lines.specs.declared.command.Command.{Command as SomeCommand};
 ghost use Rattle.irig_lines.specs.declared.command.Command.TheVariants as command;
 

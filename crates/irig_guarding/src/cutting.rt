@@ -2,7 +2,7 @@
 //! `begin` to the first `end` or `abort` after it. `texts` in a contract is the bytes of lines.
 
 ghost use Rattle.std.specs.Prelude.{◌<◌, ◌≤◌, ◌-◌, drop, length, take};
-ghost use Rattle.irig_guarding.specs.{Repair.texts, Trials.IsCutBefore};
+ghost use Rattle.irig_guarding.specs.{Repair.texts, Cutting.IsCutBefore};
 
 use crate::commands::{begins, closes};
 use crate::line::Line;

@@ -11,8 +11,8 @@
 
 ghost use Rattle.std.specs.Prelude.{◌≡◌, [], IfOk, None, OnOk, is_none, if◌then◌else◌};
 ghost use Rattle.irig_guarding.specs.Guarded.{IsGuarded, IsSafeAfter, Reaches};
-ghost use Rattle.irig_guarding.specs.Trials.{IsTried, IsTriedBefore, Shows, Tries};
-ghost use Rattle.irig_guarding.specs.{Controls.IsSafeBy, Fillings.Fills, Known.AreKnown};
+ghost use Rattle.irig_guarding.specs.{Trials.IsTried, Trials.IsTriedBefore, Printed.Shows};
+ghost use Rattle.irig_guarding.specs.{Trial.Tries, SafeBy.IsSafeBy, Fillings.Fills, Known.AreKnown};
 ghost use Rattle.irig_guarding.specs.Reading.{Lists, original_of};
 ghost use Rattle.irig_guarding.specs.{Reasons.head_lines, Repair.texts};
 ghost use Rattle.irig_script.specs.Obey.Run.{unlines};

@@ -9,7 +9,7 @@
 //! keep sums in their types.
 
 ghost use Rattle.std.specs.Prelude.{◌≡◌, ◌≤◌, ◌<◌, ◌^◌, IfSome};
-ghost use Rattle.irig_safety.specs.Anchors.{held_after, held_before, is_held};
+ghost use Rattle.irig_safety.specs.Placed.{held_after, held_before, is_held};
 ghost use Rattle.irig_safety.specs.Lines.{marker_after, marker_before};
 ghost use Rattle.irig_safety.specs.declared.shown.Shown.{Shown as ShownFrame};
 ghost use Rattle.irig_safety.specs.declared.witnesses.Witnesses.{Witnesses as SomeWitnesses};

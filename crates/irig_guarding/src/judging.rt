@@ -14,8 +14,8 @@ ghost use Rattle.std.specs.Prelude.{◌≡◌, IfErr, IfOk, OnErr, OnOk, false, 
 ghost use Rattle.irig_safety.specs.Original.{with_frames};
 ghost use Rattle.irig_guarding.specs.Controls.{AreBorneBy, IsUnborneBy};
 ghost use Rattle.irig_guarding.specs.Known.{AreKnown};
-ghost use Rattle.irig_guarding.specs.Pulses.{StandBy, StrayBy};
-ghost use Rattle.irig_guarding.specs.Trials.{HasFaultAt, MayStay, StaysAt, Sways};
+ghost use Rattle.irig_guarding.specs.Stays.{HasFaultAt, MayStay, StaysAt};
+ghost use Rattle.irig_guarding.specs.{Standing.StandBy, Standing.StrayBy, Drops.Sways};
 ghost use Rattle.irig_guarding.specs.Reading.{Lists, fine_frames, seen_frames};
 
 use crate::controls::check_controls;

@@ -15,7 +15,7 @@ ghost use Rattle.irig_edit.specs.{Session.Calls.Call, Session.Session.work_in};
 ghost use Rattle.irig_guarding.specs.{Known.AreKnown, Reading.Lists};
 ghost use Rattle.irig_guarding.specs.Repair.{Agrees, Asks, IsGroup, IsRepair, Obeyed, ObeyedAll};
 ghost use Rattle.irig_guarding.specs.Repair.{texts};
-ghost use Rattle.irig_guarding.specs.Trials.{Drops, Holds, IsIdle, MayStay};
+ghost use Rattle.irig_guarding.specs.{Drops.Drops, Drops.Holds, RepairLines.IsIdle, Stays.MayStay};
 ghost use Rattle.irig_lines.specs.declared.command.Command.TheVariants as command;
 ghost use Rattle.irig_script.specs.declared.print.reply.Reply.TheVariants.{Silent};
 ghost use Rattle.irig_script.specs.{Obey.Obeying.Obeys, Obey.Replies.Calls};

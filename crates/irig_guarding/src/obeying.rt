@@ -11,7 +11,7 @@ ghost use Rattle.std.specs.Prelude.{◌≡◌, ◌≢◌, ℕ, List, IfErr, OnEr
 ghost use Rattle.irig_edit.specs.Session.Session.{work_in};
 ghost use Rattle.irig_guarding.specs.Known.{AreKnown};
 ghost use Rattle.irig_guarding.specs.Repair.{Asks, IsBeyond, IsRepair, Obeyed, ObeyedAll, texts};
-ghost use Rattle.irig_guarding.specs.Trials.{StopsAt, StopsIn};
+ghost use Rattle.irig_guarding.specs.Drops.{StopsAt, StopsIn};
 ghost use Rattle.irig_safety.specs.Original.{OriginalView};
 ghost use Rattle.irig_script.specs.Obey.Obeying.{Obeys};
 ghost use Rattle.irig_script.specs.declared.print.reply.Reply.TheVariants.{Silent};

@@ -6,7 +6,7 @@
 
 ghost use Rattle.std.specs.Prelude.{◌≡◌, ◌++◌, ◌∷◌, [], ℕ, List, OnOk, Some};
 ghost use Rattle.std.specs.List.{AllByRecursion};
-ghost use Rattle.irig_guarding.specs.Trials.{AreRemarksOf, IsRemarkOf, Shows};
+ghost use Rattle.irig_guarding.specs.Printed.{AreRemarksOf, IsRemarkOf, Shows};
 ghost use Rattle.irig_guarding.specs.{Guarded.IsRemark, Reasons.head_lines, Repair.Asks};
 ghost use Rattle.irig_guarding.specs.Repair.{texts};
 ghost use Rattle.irig_lines.specs.declared.command.Command.TheVariants as command;

@@ -16,8 +16,8 @@ ghost use Rattle.std.specs.Prelude.{IfErr, IfOk, OnErr, OnOk, drop, get_or, leng
 ghost use Rattle.irig_safety.specs.Original.{with_frames};
 ghost use Rattle.irig_safety.specs.Rises.{KeepsRises};
 ghost use Rattle.irig_safety.specs.declared.fault.Fault.{Fault as SomeFault};
-ghost use Rattle.irig_guarding.specs.Pulses.{Comes, IsRooted, PulsesAt, StandFrom, StandsAs};
-ghost use Rattle.irig_guarding.specs.Pulses.{StrayFrom, UnrootedFrom};
+ghost use Rattle.irig_guarding.specs.Pulses.{Comes, PulsesAt, StandFrom, StandsAs, StrayFrom};
+ghost use Rattle.irig_guarding.specs.Standing.{IsRooted, UnrootedFrom};
 ghost use Rattle.irig_guarding.specs.Known.{AreKnown};
 ghost use Rattle.std.specs.List.{AllByRecursion};
 ghost use Rattle.irig_guarding.specs.declared.seen.Seen.{Seen as SeenFrame};

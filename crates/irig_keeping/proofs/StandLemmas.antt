@@ -10,7 +10,7 @@ use Rattle.irig_index.specs.declared.record.Verdict.TheVariants.{Broken, Read}
 use Rattle.irig_index.specs.{declared.record.Record.Record, declared.record.Verdict.Verdict}
 use Rattle.irig_edit.specs.State.State.{State, frames_of}
 use Rattle.irig_safety.specs.{Meaning.AreRising, Original.OriginalView, Rises.KeepsRises, declared.shown.Shown.Shown}
-use Rattle.irig_guarding.specs.{Pulses.StandBy, Pulses.StandFrom}
+use Rattle.irig_guarding.specs.{Standing.StandBy, Pulses.StandFrom}
 use Rattle.irig_keeping.specs.Kept.{IsSafeUnmoved}
 use Rattle.irig_guarding.specs.Reading.{fine_frames, original_of, seen_at, seen_by, seen_frames, shown_at, shown_by}
 use Rattle.irig_guarding.specs.declared.seen.Seen.{Seen}

@@ -6,7 +6,8 @@ use Rattle.irig_recording.specs.declared.pulse.Pulse.{Pulse}
 use Rattle.irig_track.specs.Track.{IsTrack}
 use Rattle.irig_index.specs.Frames.{frames}
 use Rattle.irig_times.specs.{Elements.IsElement, Elements.IsFollowed, Elements.TellsTime, Held.HasTime}
-use Rattle.irig_times.specs.{Counted.IsTimed, PartLaws.HeldGoesOn, PartLaws.IsSteady, Support.believed}
+use Rattle.irig_times.specs.{Counted.IsTimed, KeptTimes.HeldGoesOn, KeptTimes.IsSteady}
+use Rattle.irig_times.specs.Support.{believed}
 use Rattle.irig_times.specs.declared.time.Time.{Time}
 use Rattle.irig_edit.specs.State.State.{State}
 use Rattle.irig_safety.specs.{Rises.rise_in, declared.shown.Shown.Shown}

@@ -19,8 +19,8 @@ use Rattle.irig_script.proofs.{ObeyLemmas.Lines.first_line, ObeyLemmas.Lines.unt
 use Rattle.irig_difference.specs.{PatchText.length_note, PatchText.line_of, PatchText.patch_text, Stretches.pairs, Stretches.stretches_between}
 use Rattle.irig_difference.proofs.Patches.{edges_of-pairs}
 use Rattle.irig_comments.specs.{Comments.IsComment, Framed.IsFramed, Framed.framed, Sides.changes, declared.sides.Sides.Sides}
-use Rattle.irig_comments.specs.Parts.{AreComments, Part, begun_by, comment_part, commented_parts, joined, last_text, line_part, lines, not_begun_by, notes, parts_of}
-use Rattle.irig_comments.specs.Parts.{stretch_line}
+use Rattle.irig_comments.specs.Commented.{commented_parts, last_text}
+use Rattle.irig_comments.specs.Parts.{stretch_line, AreComments, Part, begun_by, comment_part, joined, line_part, lines, not_begun_by, notes, parts_of}
 use Rattle.irig_comments.proofs.PartTexts.{comments_are, lines-commented_parts}
 use Rattle.irig_patch.specs.Commented.{CommentsMake, CommentsStop, CommentsWrite, commented, commented_and_write}
 use Rattle.irig_patch.specs.Scripts.{IsGranted, MayStop, RunOf, patch_and_write}

@@ -6,7 +6,7 @@ use Rattle.irig_codes.specs.Format.{FormatView}
 use Rattle.irig_recording.specs.FileText.{file_text}
 use Rattle.irig_recording.specs.Recording.{RecordingView}
 use Rattle.irig_difference.specs.Stretches.{stretches_between}
-use Rattle.irig_comments.specs.{Framed.framed, Parts.commented_text}
+use Rattle.irig_comments.specs.{Framed.framed, Commented.commented_text}
 use Rattle.irig_edit.specs.State.State.{recording_of}
 use Rattle.irig_patch.specs.Joined.{JoinedRun, WritesMade}
 use Rattle.irig_patch.specs.Patched.{Patches, made_of}

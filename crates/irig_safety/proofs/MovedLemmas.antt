@@ -1,11 +1,11 @@
 -- Frames of a recording where they are now.
 use Rattle.std.proofs.Common.{◌≡◌, ◌==◌, ◌∙◌, ◌+◌, ◌<◌, ◌≤◌, ◌++◌, ℕ, zero, suc, Bool, true, false, List, [], ◌∷◌, Option, Some, None, length, drop, map, slice_get}
-use Rattle.std.proofs.Common.{refl, ap, sym, subst, arith, append_assoc}
+use Rattle.std.proofs.Common.{refl, ap, sym, arith, append_assoc}
 use Rattle.std.specs.Prelude.{if◌then◌else◌}
 use Rattle.std.proofs.lemmas.Bool.Decides.{nat_tests}
 use Rattle.std.proofs.lemmas.List.{append-nil, drop_all}
 use Rattle.irig_safety.specs.Moved.{from_time, located, moved_in, moved_to, rest_of}
-use Rattle.irig_safety.specs.{Bearing.clock_of, declared.shown.Shown.Shown}
+use Rattle.irig_safety.specs.{Calendar.clock_of, declared.shown.Shown.Shown}
 use Rattle.irig_safety.proofs.SafetyLemmas.{drop-item, first_from}
 
 -- a place that is looked at

@@ -1,5 +1,5 @@
 -- A search among the rises of pulses.
-use Rattle.std.proofs.Common.{◌≡◌, ◌==◌, ◌&&◌, ◌<◌, ◌≤◌, ◌-◌, ◌∙◌, ℕ, Bool, true, false, List, Some, ap, arith, get_or, inl, inr, length, nat_lt, refl, slice_get, sym}
+use Rattle.std.proofs.Common.{◌≡◌, ◌==◌, ◌<◌, ◌≤◌, ◌-◌, ◌∙◌, ℕ, true, false, List, ap, arith, get_or, inl, inr, length, nat_lt, sym}
 use Rattle.std.specs.List.{list_any}
 use Rattle.std.specs.List.Sorted.{IsNonDecreasingBy}
 use Rattle.std.proofs.lemmas.List.Folds.{list_any_at, list_any_none}

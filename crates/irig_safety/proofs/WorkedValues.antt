@@ -5,7 +5,8 @@ use Rattle.std.specs.List.{range_with_len}
 use Rattle.irig_codes.specs.{Format.FormatView, Format.control_count_of, declared.fields.Fields.Fields, declared.format.Kind.Kind}
 use Rattle.irig_codes.specs.{Layout.control, Layout.rows_of, declared.format.Kind.TheVariants.A, declared.format.Kind.TheVariants.B}
 use Rattle.irig_codes.specs.declared.format.Kind.TheVariants.{E, G}
-use Rattle.irig_safety.specs.Bearing.{clock_of, is_far, is_later, leads, periods, slack, stray}
+use Rattle.irig_safety.specs.Calendar.{clock_of, is_later, periods}
+use Rattle.irig_safety.specs.Bearing.{is_far, leads, slack, stray}
 use Rattle.irig_safety.specs.{Clocks.shows_clock, OwnClock.is_by_own_clock}
 use Rattle.irig_recording.specs.declared.pulse.Pulse.{Pulse}
 use Rattle.irig_safety.specs.{Anchors.is_anchor, Curves.is_on_curve_by, Lines.fits_nominal, Rises.rise_in, Straight.is_straight}

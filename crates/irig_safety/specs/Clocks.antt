@@ -1,7 +1,8 @@
 -- When a frame begins by the clock that other frames show. This project's own.
 use Rattle.std.specs.Prelude.{◌*◌, ◌==◌, ◌&&◌, ◌||◌, Bool, nat_le}
 use Rattle.irig_codes.specs.Format.{FormatView, frame_period_of, interval_of}
-use Rattle.irig_safety.specs.Bearing.{apart, distance, is_later, is_shown, periods, stray}
+use Rattle.irig_safety.specs.Bearing.{apart, distance, is_shown, stray}
+use Rattle.irig_safety.specs.Calendar.{is_later, periods}
 use Rattle.irig_safety.specs.declared.shown.Shown.{Shown}
 
 -- the frames agree, and so show by how much the clock is off: by a fortieth at most, or by 8 in 100

@@ -1,9 +1,9 @@
 -- When a pulse is on the curve on which the clock of two frames becomes that of two others. This
 -- project's own.
 use Rattle.std.specs.Prelude.{◌+◌, ◌-◌, ◌*◌, ◌/◌, ◌==◌, ◌&&◌, ℕ, Bool, false, nat_le, nat_lt}
-use Rattle.std.specs.Prelude.{Option, Some, None, if◌then◌else◌}
+use Rattle.std.specs.Prelude.{Option, Some, if◌then◌else◌}
 use Rattle.irig_codes.specs.Format.{FormatView, interval_of}
-use Rattle.irig_safety.specs.Bearing.{apart, distance, is_later, periods}
+use Rattle.irig_safety.specs.{Bearing.apart, Bearing.distance, Calendar.is_later, Calendar.periods}
 use Rattle.irig_safety.specs.Clocks.{shows_any_clock}
 use Rattle.irig_safety.specs.{Straight.is_straight, declared.turning.Sides.Sides}
 use Rattle.irig_safety.specs.{declared.lines.Anchor.Anchor, declared.shown.Shown.Shown}

@@ -1,5 +1,6 @@
 pub mod Anchors
 pub mod Bearing
+pub mod Calendar
 pub mod Clocks
 pub mod Controls
 pub mod Curves
@@ -16,6 +17,7 @@ pub mod Original
 pub mod Others
 pub mod OwnClock
 pub mod Parity
+pub mod Placed
 pub mod Rises
 pub mod Safety
 pub mod Straight

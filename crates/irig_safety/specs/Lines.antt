@@ -2,7 +2,8 @@
 use Rattle.std.specs.Prelude.{◌+◌, ◌-◌, ◌*◌, ◌/◌, ◌&&◌, ◌||◌, ℕ, Bool, false, nat_le}
 use Rattle.std.specs.Prelude.{Option, Some, None, if◌then◌else◌}
 use Rattle.irig_codes.specs.Format.{FormatView, interval_of}
-use Rattle.irig_safety.specs.{Bearing.agrees, Bearing.apart, Bearing.distance, Bearing.periods}
+use Rattle.irig_safety.specs.Bearing.{agrees, apart, distance}
+use Rattle.irig_safety.specs.Calendar.{periods}
 use Rattle.irig_safety.specs.{Clocks.shows_clock, Curves.is_on_curve, OwnClock.is_on_own_clock}
 use Rattle.irig_safety.specs.{Straight.is_straight}
 use Rattle.irig_safety.specs.declared.lines.Anchor.{Anchor}

@@ -1,7 +1,7 @@
 -- Where the frames of a recording are after an edit that moves them. This project's own.
-use Rattle.std.specs.Prelude.{◌==◌, Bool, List, [], ◌∷◌, Option, Some, None, if◌then◌else◌, drop}
+use Rattle.std.specs.Prelude.{◌==◌, Bool, List, [], ◌∷◌, Option, Some, None, if◌then◌else◌}
 use Rattle.std.specs.Prelude.{slice_get}
-use Rattle.irig_safety.specs.{Bearing.clock_of, declared.shown.Shown.Shown}
+use Rattle.irig_safety.specs.{Calendar.clock_of, declared.shown.Shown.Shown}
 
 -- the frames from the first one on that has the time of a frame
 abbrev pub from_time : Shown → List Shown → List Shown

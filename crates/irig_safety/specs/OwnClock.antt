@@ -3,7 +3,8 @@
 use Rattle.std.specs.Prelude.{◌+◌, ◌-◌, ◌*◌, ◌/◌, ◌==◌, ◌&&◌, ◌||◌, ℕ, Bool, false, nat_le}
 use Rattle.std.specs.Prelude.{Option, Some, None, if◌then◌else◌}
 use Rattle.irig_codes.specs.Format.{FormatView, frame_period_of, interval_of}
-use Rattle.irig_safety.specs.Bearing.{apart, distance, is_later, periods, stray}
+use Rattle.irig_safety.specs.Bearing.{apart, distance, stray}
+use Rattle.irig_safety.specs.Calendar.{is_later, periods}
 use Rattle.irig_safety.specs.Clocks.{is_in_time, shows_any_clock}
 use Rattle.irig_safety.specs.declared.shown.Shown.{Shown}
 

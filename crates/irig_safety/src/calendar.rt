@@ -5,8 +5,8 @@
 //! small enough for their types.
 
 ghost use Rattle.std.specs.Prelude.{◌≡◌, ◌+◌, ◌%◌, ◌==◌, ◌^◌, ◌<◌};
-ghost use Rattle.irig_safety.specs.Bearing.{clock_after, clock_of, goes_back, inserted_of};
-ghost use Rattle.irig_safety.specs.Bearing.{is_later, is_near_year, periods, turn_of, year_of};
+ghost use Rattle.irig_safety.specs.Calendar.{clock_after, clock_of, goes_back, inserted_of};
+ghost use Rattle.irig_safety.specs.Calendar.{is_later, is_near_year, periods, turn_of, year_of};
 ghost use Rattle.irig_moment.specs.Generated.{period_of};
 
 use crate::shown::Shown;

@@ -10,7 +10,7 @@
 
 ghost use Rattle.std.specs.Prelude.{◌≡◌, ◌≤◌, ◌<◌, ◌*◌, ◌^◌};
 ghost use Rattle.irig_codes.specs.Format.{interval_of};
-ghost use Rattle.irig_safety.specs.Bearing.{apart, periods};
+ghost use Rattle.irig_safety.specs.{Bearing.apart, Calendar.periods};
 ghost use Rattle.irig_safety.specs.Curves.{bend, bend_divisor, is_on_curve, is_on_curve_by};
 ghost use Rattle.irig_safety.specs.Curves.{period_after, period_before, straightened};
 

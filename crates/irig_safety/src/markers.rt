@@ -7,7 +7,7 @@
 //! types: 500 frames have 50,000 elements, which is less than 2^16.
 
 ghost use Rattle.std.specs.Prelude.{◌≡◌, ◌≤◌, ◌<◌, ◌+◌, ◌*◌, ◌^◌, IfSome, IsTrue};
-ghost use Rattle.irig_safety.specs.Bearing.{periods};
+ghost use Rattle.irig_safety.specs.Calendar.{periods};
 ghost use Rattle.irig_safety.specs.Lines.{is_counted, marker_after, marker_before};
 
 use crate::bearing::agrees;

@@ -6,7 +6,7 @@
 //! keep numbers small enough for their types; `are_few` tests that of 500 periods.
 
 ghost use Rattle.std.specs.Prelude.{◌≡◌, ◌≤◌, ◌<◌, ◌^◌, IsTrue};
-ghost use Rattle.irig_safety.specs.Bearing.{periods};
+ghost use Rattle.irig_safety.specs.Calendar.{periods};
 ghost use Rattle.irig_safety.specs.Curves.{are_few, changes_evenly, clock_scale, is_mean};
 ghost use Rattle.irig_safety.specs.Curves.{period_after, period_before};
 

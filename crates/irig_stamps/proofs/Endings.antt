@@ -2,7 +2,7 @@
 use Rattle.std.proofs.Common.{◌≡◌, ◌≢◌, ◌==◌, ℕ, Bool, true, false, not, ◌++◌, List, [], ◌∷◌, refl, ap, ◌∙◌}
 use Rattle.std.proofs.lemmas.{Bool.and_parts, Bool.false≢true, List.append-nil}
 use Rattle.std.specs.Prelude.{if◌then◌else◌}
-use Rattle.irig_stamps.specs.Runs.{ending_of, is_plain, unlines}
+use Rattle.irig_stamps.specs.{Runs.ending_of, Stamped.is_plain, Stamped.unlines}
 
 -- it is that of the bytes after a front
 ending-append : (xs : List ℕ) (y : ℕ) (ys : List ℕ) → ending_of (xs ++ y ∷ ys) ≡ ending_of (y ∷ ys)

@@ -8,7 +8,7 @@ use Rattle.std.specs.List.{flat_map}
 use Rattle.irig_codes.specs.Format.{FormatView}
 use Rattle.irig_recording.specs.declared.pulse.Pulse.{Pulse}
 use Rattle.irig_track.specs.Looks.{counted}
-use Rattle.irig_stamps.specs.Runs.{AreOut, Stamped, are_numbered, is_plain, unlines}
+use Rattle.irig_stamps.specs.Stamped.{AreOut, Stamped, are_numbered, is_plain, unlines}
 use Rattle.irig_stamps.specs.{Stamps.IsOut, Stamps.header_word, Stamps.is_header, Stamps.is_numbered, Stamps.picos_in, declared.settings.Settings.Settings}
 
 pub plain-append : (xs ys : List ℕ) → is_plain xs ≡ true → is_plain ys ≡ true → is_plain (xs ++ ys) ≡ true

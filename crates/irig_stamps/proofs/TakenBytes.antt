@@ -6,7 +6,9 @@ use Rattle.std.proofs.lemmas.{Bool.and_from, Bool.eqb-true, List.append-nil, Lis
 use Rattle.irig_codes.specs.Format.{FormatView}
 use Rattle.irig_recording.specs.declared.pulse.Pulse.{Pulse}
 use Rattle.irig_track.specs.Looks.{counted}
-use Rattle.irig_stamps.specs.{Runs.Stamped, Runs.is_plain, Stamps.IsOut, Stamps.header_word, Stamps.is_numbered, Steps.PushesAs, Steps.Takes, Steps.TakesAs}
+use Rattle.irig_stamps.specs.Stamps.{IsOut, header_word, is_numbered}
+use Rattle.irig_stamps.specs.Steps.{PushesAs, Takes, TakesAs}
+use Rattle.irig_stamps.specs.Stamped.{Stamped, is_plain}
 use Rattle.irig_stamps.specs.{declared.fault.TakeFault.TakeFault, declared.progress.Progress.Progress, declared.settings.Settings.Settings}
 use Rattle.irig_stamps.specs.declared.fault.TakeFault.TheVariants as take_fault
 use Rattle.irig_stamps.proofs.StampedLines.{stamped-line, stamped-part}

@@ -1,51 +1,15 @@
 -- A run over a text of lines: what it reads and what it prints. This project's own.
-use Rattle.std.specs.Prelude.{◌≡◌, ◌≢◌, ◌⊎◌, ◌≤◌, ◌==◌, ◌^◌, ◌-◌, ◌&&◌, ℕ, suc, Bool, true, not}
-use Rattle.std.specs.Prelude.{if◌then◌else◌, List, [], ◌∷◌, ◌++◌, length, min, Option, Result, Ok}
+use Rattle.std.specs.Prelude.{◌≡◌, ◌≢◌, ◌⊎◌, ◌≤◌, ◌==◌, ◌^◌, ℕ, Bool}
+use Rattle.std.specs.Prelude.{if◌then◌else◌, List, [], ◌∷◌, ◌++◌, length, Option, Result, Ok}
 use Rattle.std.specs.Prelude.{Err}
-use Rattle.std.specs.List.{list_all, flat_map}
 use Rattle.std.specs.Io.KnownBytes.{Appends, Consumes, IsAtEnd}
 use Rattle.irig_codes.specs.Format.{FormatView}
 use Rattle.irig_recording.specs.declared.pulse.Pulse.{Pulse}
 use Rattle.irig_track.specs.Looks.{counted}
-use Rattle.irig_stamps.specs.Stamps.{IsOut, header_word, is_numbered}
 use Rattle.irig_stamps.specs.declared.fault.RunFault.TheVariants.{ReadFailed, TooManyReads}
 use Rattle.irig_stamps.specs.declared.fault.RunFault.TheVariants.{PrintFailed, TooLong, OutOfMemory}
 use Rattle.irig_stamps.specs.{declared.fault.RunFault.RunFault, declared.settings.Settings.Settings}
-
--- the text has no newline in it
-abbrev pub is_plain : List ℕ → Bool
-is_plain text = list_all (λ b. not (b == 10)) text
-
--- each line has its own text, in order, and there are as many lines as texts; n lines are before
-abbrev pub AreOut : FormatView → List Pulse → Settings → ℕ → List (List ℕ) → List (List ℕ) → Type 0
-AreOut f ps s n [] [] = Unit {0}
-AreOut f ps s n (line ∷ lines) (out ∷ outs) =
-    (is_plain line ≡ true)
-    × (IsOut f ps s (header_word s n) line out × AreOut f ps s (suc n) lines outs)
-AreOut f ps s n [] (out ∷ outs) = ⊥
-AreOut f ps s n (line ∷ lines) [] = ⊥
-
--- whether the column of each line has a number, but for the header; n lines are before
-abbrev pub are_numbered : Settings → ℕ → List (List ℕ) → Bool
-are_numbered s n [] = true
-are_numbered s n (line ∷ lines) = is_numbered s n line && are_numbered s (suc n) lines
-
--- lines with the newlines that end them
-abbrev pub unlines : List (List ℕ) → List ℕ
-unlines lines = flat_map (λ line. line ++ 10 ∷ []) lines
-
--- these bytes are whole lines and a rest, and the text is what comes out for just those lines.
--- `count` is their number, up to 2^64 - 1, and `all` whether each of them has a number
-pub record Stamped (f : FormatView) (ps : List Pulse) (s : Settings) (bytes text rest : List ℕ)
-    (count : ℕ) (all : Bool) : Type 0 where
-  pub lines : List (List ℕ)
-  pub outs : List (List ℕ)
-  pub cut : bytes ≡ unlines lines ++ rest
-  pub begun : is_plain rest ≡ true
-  pub each : AreOut f ps s 0 lines outs
-  pub whole : text ≡ flat_map (λ out. out) outs
-  pub counts : count ≡ min (length lines) (2 ^ 64 - 1)
-  pub numbers : all ≡ are_numbered s 0 lines
+use Rattle.irig_stamps.specs.Stamped.{Stamped}
 
 -- the newline that the last line of some bytes lacks
 abbrev pub ending_of : List ℕ → List ℕ

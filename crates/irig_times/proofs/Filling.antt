@@ -3,18 +3,20 @@ use Rattle.std.proofs.Common.{◌*◌, ◌≡◌, ◌<◌, ◌≤◌, ◌+◌, �
 use Rattle.std.proofs.Common.{refl, sym, ap, ◌∙◌, subst, append_assoc, arith}
 use Rattle.std.specs.Prelude.{IfSome, is_some, min}
 use Rattle.std.proofs.lemmas.Option.{none-some, same_Some, slice_get_within}
-use Rattle.irig_times.specs.Ends.{after_last, possible_pair, before_first, end_after, end_before, is_borne_out, time_elements}
+use Rattle.irig_times.specs.Ends.{after_last, possible_pair, before_first, end_after, end_before, is_borne_out}
+use Rattle.irig_times.specs.NextTimes.{at_micros, at_minute, day_micros, ends_in_minute, next_time, time_before}
+use Rattle.irig_times.specs.Between.{gap, head_of, head_left, is_seam, kept, sides, sides_at, sides_by, tail_left, tail_of}
+use Rattle.irig_times.specs.MissingTimes.{is_middle, middle, missing_by, missing_in, missing_more, missing_one, periods_between}
+use Rattle.irig_times.specs.AtJumps.{after_jump, before_jump, is_jump_between}
+use Rattle.irig_times.specs.OtherTimes.{time_elements}
 use Rattle.std.proofs.lemmas.Bool.{and_parts, eqb-true, leb-true, ltb-true}
 use Rattle.irig_codes.specs.Format.{FormatView, frame_period_of, has_year}
 use Rattle.irig_recording.specs.declared.pulse.Pulse.{Pulse}
 use Rattle.irig_times.specs.{declared.missing.Missing.Missing, declared.part.Part.Part, declared.time.Time.Time, Follows.same_day}
-use Rattle.irig_times.specs.Between.{at_micros, at_minute, day_micros, gap, head_of, is_middle, ends_in_minute, middle, missing_by, missing_in, missing_more, missing_one}
-use Rattle.irig_times.specs.Between.{head_left, is_seam, kept, next_time, periods_between, sides, sides_at, sides_by, tail_left, tail_of, time_before}
 use Rattle.irig_times.specs.Sides.{between, borne_out_at, side_after, side_before, side_of, sides_in, sides_of}
 use Rattle.irig_times.specs.Torn.{are_tens, is_torn, tenths_found}
-use Rattle.irig_times.specs.Counted.{filled, kept_at, kept_of_own, sides_before, sides_unless_jump, with_frame, with_sides}
+use Rattle.irig_times.specs.Counted.{filled, kept_at, kept_of_own, sides_before, sides_unless_jump, with_kept, with_sides}
 use Rattle.irig_times.specs.Tens.{front_of, loses_tens, loses_tens_to, sure_elements, up_to_loss}
-use Rattle.irig_times.specs.Jumps.{after_jump, before_jump, is_jump_between}
 use Rattle.irig_times.specs.Silence.{counted_after, counted_before, counts_before, has_its_time, heard_after, heard_before, precedes_silence, up_to_mark}
 use Rattle.irig_times.specs.Follows.{is_later}
 use Rattle.irig_times.specs.Parts.{AreParts, IsFrameTime, IsPart, is_empty}
@@ -444,7 +446,7 @@ module _ (f : FormatView) (century micros : ℕ) (ps : List Pulse) where
 
   -- one more frame
   frame-more : (before : Option Part) (b : Part) (next : Option Part) (xs : List Part)
-      → with_frame f century ps before b next xs ≡ with_frame f century ps before b next [] ++ xs
+      → with_kept f century ps before b next xs ≡ with_kept f century ps before b next [] ++ xs
   frame-more before b next xs =
       let s = sides_unless_jump (is_jump_between f century ps before (Some b)) f century ps before b in
       let kept = kept_at f century ps before b next in
@@ -452,14 +454,14 @@ module _ (f : FormatView) (century micros : ℕ) (ps : List Pulse) where
       ∙ (sym (append_assoc (with_sides s []) (kept ∷ []) xs) ∙ ap (λ l. l ++ xs) (sym (with-more s (kept ∷ []))))
 
   pub filled-more : (whole : List Part) (before : Option Part) (k : ℕ) (part : Part) (list new all : List Part)
-      → slice_get whole k ≡ Some part → new ≡ list ++ with_frame f century ps before part (slice_get whole (k + 1)) []
+      → slice_get whole k ≡ Some part → new ≡ list ++ with_kept f century ps before part (slice_get whole (k + 1)) []
       → list ++ filled f century micros ps before (drop k whole) ≡ all → new ++ filled f century micros ps (Some part) (drop (k + 1) whole) ≡ all
   filled-more whole before k part list new all here grows so_far =
       let rest = filled f century micros ps (Some part) (drop (k + 1) whole) in
       let next : slice_get (drop (k + 1) whole) 0 ≡ slice_get whole (k + 1) = first-of whole (k + 1) in
-      let step : filled f century micros ps before (drop k whole) ≡ with_frame f century ps before part (slice_get whole (k + 1)) [] ++ rest =
+      let step : filled f century micros ps before (drop k whole) ≡ with_kept f century ps before part (slice_get whole (k + 1)) [] ++ rest =
       ap (filled f century micros ps before) (from-at whole k part here)
-      ∙ (ap (λ o. with_frame f century ps before part o rest) next ∙ frame-more before part (slice_get whole (k + 1)) rest) in
+      ∙ (ap (λ o. with_kept f century ps before part o rest) next ∙ frame-more before part (slice_get whole (k + 1)) rest) in
       ap (λ l. l ++ rest) grows
-      ∙ (append_assoc list (with_frame f century ps before part (slice_get whole (k + 1)) []) rest
+      ∙ (append_assoc list (with_kept f century ps before part (slice_get whole (k + 1)) []) rest
       ∙ (ap (λ l. list ++ l) (sym step) ∙ so_far))

@@ -9,8 +9,10 @@ use Rattle.irig_codes.specs.{Format.FormatView, Format.has_year, Format.interval
 use Rattle.irig_recording.specs.declared.pulse.Pulse.{Pulse}
 use Rattle.irig_index.specs.{Frames.frames}
 use Rattle.irig_times.specs.{Counted.timed_parts, Elements.IntervalEnds, Elements.NextRises, Elements.share, Held.IsHeldElement}
-use Rattle.irig_times.specs.{Parts.GoesOn, Parts.IsPoint, Parts.plus, PartLaws.HeldGoesOn, PartLaws.IsSteady, PartLaws.KeepsTimes, PartLaws.TimedPartsAreParts, Support.believed, Times.minute_micros, Times.time_in, Whole.whole, Whole.whole_parts}
-use Rattle.irig_times.specs.{Jumps.is_jump_between, Tens.loses_tens_to, declared.part.Part.Part}
+use Rattle.irig_times.specs.Parts.{GoesOn, IsPoint, plus}
+use Rattle.irig_times.specs.KeptTimes.{HeldGoesOn, IsSteady, KeepsTimes, TimedPartsAreParts}
+use Rattle.irig_times.specs.{Support.believed, Times.minute_micros, Times.time_in, Whole.whole, Whole.whole_parts, AtJumps.is_jump_between, Tens.loses_tens_to}
+use Rattle.irig_times.specs.declared.part.Part.{Part}
 use Rattle.irig_times.specs.declared.time.Time.{Time}
 use Rattle.irig_times.proofs.{Filling.earlier, Filling.filled-are, Filling.filled-stays, WholeFrames.whole-are, WholeFrames.whole-there}
 

@@ -7,7 +7,8 @@ use Rattle.irig_codes.specs.{Format.FormatView, Format.frame_period_of, declared
 use Rattle.irig_recording.specs.declared.pulse.Pulse.{Pulse}
 use Rattle.irig_times.specs.{declared.missing.Missing.Missing, declared.time.Time.Time}
 use Rattle.irig_times.specs.Follows.{same_year, is_later, is_later_in, minute_follows, same_day}
-use Rattle.irig_times.specs.Between.{at_micros, at_minute, day_micros, is_middle, ends_in_minute, middle, missing_by, missing_in, missing_more, missing_one, next_time, periods_between, time_before}
+use Rattle.irig_times.specs.NextTimes.{at_micros, at_minute, day_micros, ends_in_minute, next_time, time_before}
+use Rattle.irig_times.specs.MissingTimes.{is_middle, middle, missing_by, missing_in, missing_more, missing_one, periods_between}
 use Rattle.irig_times.specs.Parts.{IsFrameTime}
 use Rattle.irig_times.proofs.{SideCounts.cond-holds, SameTimes.both, SameTimes.same-year}
 

@@ -12,7 +12,8 @@ use Rattle.irig_times.specs.{Follows.is_later, Parts.IsFrameTime, Parts.IsPart, 
 use Rattle.irig_times.specs.Between.{gap, head_left, head_of, is_seam, kept, sides, sides_by, tail_left, tail_of}
 use Rattle.irig_times.specs.Sides.{between, borne_out_at, side_after, side_before, side_of, sides_in, sides_of}
 use Rattle.irig_times.specs.Torn.{are_tens, is_torn, tenths_found}
-use Rattle.irig_times.specs.{Counted.filled, Counted.kept_at, Counted.sides_before, Counted.sides_unless_jump, Counted.with_sides, Jumps.is_jump_between}
+use Rattle.irig_times.specs.Counted.{filled, kept_at, sides_before, sides_unless_jump, with_sides}
+use Rattle.irig_times.specs.AtJumps.{is_jump_between}
 use Rattle.irig_times.specs.Ends.{after_last, possible_pair, before_first, end_after, end_before, is_borne_out}
 use Rattle.irig_times.specs.Silence.{counted_after, up_to_mark}
 use Rattle.irig_times.specs.Origins.{CountedBack, CountedOn, InFrame, IsBelieved, TimesAreCounted}

@@ -3,7 +3,7 @@ use Rattle.std.proofs.Common.{◌≡◌, ℕ, zero, suc, ◌+◌, ◌-◌, ◌<�
 use Rattle.std.specs.Prelude.{nat_lt}
 use Rattle.irig_codes.specs.{Format.FormatView, Encoding.encoded, Fields.fits_in, declared.width.Element.Element}
 use Rattle.irig_recording.specs.declared.pulse.Pulse.{Pulse}
-use Rattle.irig_times.specs.{Ends.fields_at, declared.time.Time.Time, declared.side.Side.Side}
+use Rattle.irig_times.specs.{OtherTimes.fields_at, declared.time.Time.Time, declared.side.Side.Side}
 use Rattle.irig_times.specs.Sides.{borne_out, borne_out_at, confirmed, can_confirm, undenied}
 use Rattle.irig_times.specs.Torn.{confirms, denies}
 

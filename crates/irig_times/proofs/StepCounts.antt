@@ -3,7 +3,7 @@ use Rattle.std.proofs.Common.{◌≡◌, ℕ, zero, suc, ◌+◌, ◌-◌, ◌<�
 use Rattle.irig_codes.specs.Format.{FormatView}
 use Rattle.irig_recording.specs.declared.pulse.Pulse.{Pulse}
 use Rattle.irig_codes.specs.declared.width.Element.{Element}
-use Rattle.irig_times.specs.Ends.{contradictions, contradicts}
+use Rattle.irig_times.specs.OtherTimes.{contradictions, contradicts}
 use Rattle.irig_times.specs.Steps.{ahead, all_follow, behind, follows_at, is_in_step_at}
 
 module _ (f : FormatView) (ps : List Pulse) where

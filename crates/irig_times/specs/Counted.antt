@@ -8,9 +8,9 @@ use Rattle.irig_codes.specs.Format.{FormatView}
 use Rattle.irig_recording.specs.declared.pulse.Pulse.{Pulse}
 use Rattle.irig_index.specs.Frames.{frames}
 use Rattle.irig_times.specs.{declared.part.Part.Part, Sides.between, Support.believed}
-use Rattle.irig_times.specs.{Jumps.after_jump, Jumps.before_jump}
+use Rattle.irig_times.specs.AtJumps.{after_jump, before_jump, is_jump_between}
+use Rattle.irig_times.specs.declared.time.Time.{Time}
 use Rattle.irig_times.specs.Silence.{counted_after, counted_before}
-use Rattle.irig_times.specs.{Jumps.is_jump_between, declared.time.Time.Time}
 use Rattle.irig_times.specs.Tens.{up_to_loss}
 use Rattle.irig_times.specs.{Parts.TellsByParts, Parts.is_empty, Whole.whole_in}
 
@@ -43,9 +43,9 @@ kept_at f century ps before b next =
     (kept_of_own f century ps b next)
 
 -- the same, and what is counted before them, before other parts
-abbrev pub with_frame : FormatView → ℕ → List Pulse → Option Part → Part → Option Part → List Part
+abbrev pub with_kept : FormatView → ℕ → List Pulse → Option Part → Part → Option Part → List Part
     → List Part
-with_frame f century ps before b next parts =
+with_kept f century ps before b next parts =
     with_sides
     (sides_unless_jump (is_jump_between f century ps before (Some b)) f century ps before b)
     (kept_at f century ps before b next ∷ parts)
@@ -55,7 +55,7 @@ with_frame f century ps before b next parts =
 abbrev pub filled : FormatView → ℕ → ℕ → List Pulse → Option Part → List Part → List Part
 filled f century micros ps before [] = with_sides (counted_after f micros ps before) []
 filled f century micros ps before (b ∷ parts) =
-    with_frame f century ps before b (slice_get parts 0) (filled f century micros ps (Some b) parts)
+    with_kept f century ps before b (slice_get parts 0) (filled f century micros ps (Some b) parts)
 
 -- all parts of a track that have a time, if of each record `held` says whether its frame is
 -- believed

@@ -2,15 +2,14 @@
 -- a clock was set, or a recorder lost whole frames. Nobody knows at which element. Both can be
 -- frames that are not believed: one that is damaged, or one that the jump is in. This project's
 -- own.
-use Rattle.std.specs.Prelude.{ℕ, ◌+◌, ◌-◌, ◌*◌, ◌/◌, ◌%◌, ◌==◌, ◌&&◌, ◌||◌, nat_le, Bool, false, true}
-use Rattle.std.specs.Prelude.{is_some, min, not, if◌then◌else◌, List, Option, Some, None, slice_get}
+use Rattle.std.specs.Prelude.{ℕ, ◌+◌, ◌-◌, ◌*◌, ◌/◌, ◌%◌, ◌==◌, ◌||◌, nat_le, Bool, false, true}
+use Rattle.std.specs.Prelude.{is_some, not, if◌then◌else◌, List, Option, Some, None, slice_get}
 use Rattle.irig_codes.specs.Format.{FormatView, frame_period_of, interval_of}
-use Rattle.irig_codes.specs.declared.format.Kind.{Kind}
 use Rattle.irig_recording.specs.declared.pulse.Pulse.{Pulse}
 use Rattle.irig_times.specs.{declared.part.Part.Part, declared.time.Time.Time}
-use Rattle.irig_times.specs.Between.{day_micros, middle, missing_in, next_time, periods_between, time_before}
-use Rattle.irig_times.specs.{Ends.end_after, Ends.end_before, Ends.time_elements}
-use Rattle.irig_times.specs.{Follows.is_later, Follows.same_day, Parts.is_empty, Steps.all_follow}
+use Rattle.irig_times.specs.MissingTimes.{middle, missing_in, periods_between}
+use Rattle.irig_times.specs.NextTimes.{day_micros}
+use Rattle.irig_times.specs.{Follows.is_later, Follows.same_day, Steps.all_follow}
 
 -- how many pulses are between two frames, believed or not
 abbrev pub pulses_between : Part → Part → ℕ
@@ -60,42 +59,3 @@ is_jump f century ps a b =
     if runs_on f century a b then false
     else (if are_joined f ps a b then true
     else misfits f century a.time b.time (slice_get ps a.number) (slice_get ps b.number))
-
--- the last frame is believed, and pulses that are in step after it say another time than one period
--- later; or the first one, and pulses before it say another time than one period earlier
-abbrev pub is_denied_after : FormatView → List Pulse → Part → Bool
-is_denied_after f ps a =
-    is_some (next_time (frame_period_of f.kind) a.time)
-    && (not (is_empty a) && not (is_some (end_after f ps (Some a))))
-
-abbrev pub is_denied_before : FormatView → List Pulse → Part → Bool
-is_denied_before f ps b =
-    is_some (time_before (frame_period_of f.kind) b.time)
-    && (not (is_empty b) && not (is_some (end_before f ps b)))
-
--- the time jumps between two frames, before the first one or after the last one
-abbrev pub is_jump_between : FormatView → ℕ → List Pulse → Option Part → Option Part → Bool
-is_jump_between f century ps None None = false
-is_jump_between f century ps None (Some b) = is_denied_before f ps b
-is_jump_between f century ps (Some a) None = is_denied_after f ps a
-is_jump_between f century ps (Some a) (Some b) = is_jump f century ps a b
-
--- of a frame before a jump the marker alone has its time
-abbrev pub before_jump : Bool → Part → Part
-before_jump false p = p
-before_jump true p = record {
-  number = p.number;
-  element = p.element;
-  count = min p.count 1;
-  time = p.time;
-}
-
--- of a frame after a jump the pulses after those that carry its time
-abbrev pub after_jump : Kind → Bool → Part → Part
-after_jump kind false p = p
-after_jump kind true p = record {
-  number = p.number + min p.count (time_elements kind);
-  element = p.element + min p.count (time_elements kind);
-  count = p.count - min p.count (time_elements kind);
-  time = p.time;
-}

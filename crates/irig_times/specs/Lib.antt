@@ -1,3 +1,4 @@
+pub mod AtJumps
 pub mod Between
 pub mod Chains
 pub mod Counted
@@ -8,9 +9,13 @@ pub mod FrameLooks
 pub mod Held
 pub mod Islands
 pub mod Jumps
+pub mod KeptTimes
 pub mod Laws
+pub mod MissingTimes
 pub mod Nearest
+pub mod NextTimes
 pub mod Origins
+pub mod OtherTimes
 pub mod PartLaws
 pub mod Parts
 pub mod Sides

@@ -4,8 +4,7 @@ use Rattle.std.specs.Prelude.{◌∷◌, is_some, slice_get, Some}
 use Rattle.irig_codes.specs.Format.{FormatView, frame_period_of, has_year, interval_of}
 use Rattle.irig_recording.specs.declared.pulse.Pulse.{Pulse}
 use Rattle.irig_track.specs.Splices.{risen_by}
-use Rattle.irig_times.specs.declared.part.Part.{Part}
-use Rattle.irig_times.specs.declared.time.Time.{Time}
+use Rattle.irig_times.specs.{declared.part.Part.Part, declared.time.Time.Time}
 use Rattle.irig_times.specs.{Elements.share, Follows.is_later, Laws.IsOfCalendar}
 
 -- the time some microseconds after another, in its minute

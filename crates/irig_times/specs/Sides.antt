@@ -8,8 +8,8 @@ use Rattle.irig_codes.specs.{Encoding.encoded, Fields.fits_in, declared.width.El
 use Rattle.irig_recording.specs.declared.pulse.Pulse.{Pulse}
 use Rattle.irig_times.specs.{declared.part.Part.Part, declared.missing.Missing.Missing}
 use Rattle.irig_times.specs.{declared.time.Time.Time, declared.side.Side.Side}
-use Rattle.irig_times.specs.Between.{gap, missing_by, sides_at}
-use Rattle.irig_times.specs.{Ends.fields_at, Steps.ahead, Steps.behind}
+use Rattle.irig_times.specs.{Between.gap, Between.sides_at, MissingTimes.missing_by}
+use Rattle.irig_times.specs.{OtherTimes.fields_at, Steps.ahead, Steps.behind}
 use Rattle.irig_times.specs.Torn.{are_tens, confirms, denies, is_torn, tenths_found}
 
 -- of n pulses of a side, from a place on, how many there are before the first that says another

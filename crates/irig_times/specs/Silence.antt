@@ -6,7 +6,8 @@ use Rattle.std.specs.Prelude.{if◌then◌else◌, List, Option, Some, None, len
 use Rattle.irig_codes.specs.Format.{FormatView, interval_of}
 use Rattle.irig_recording.specs.declared.pulse.Pulse.{Pulse}
 use Rattle.irig_times.specs.declared.part.Part.{Part}
-use Rattle.irig_times.specs.Ends.{end_after, end_before, uncut_pulses, time_elements}
+use Rattle.irig_times.specs.Ends.{end_after, end_before, uncut_pulses}
+use Rattle.irig_times.specs.OtherTimes.{time_elements}
 use Rattle.irig_times.specs.Sides.{borne_out_at, side_of}
 
 -- some microseconds without a rise are silence: more than two intervals

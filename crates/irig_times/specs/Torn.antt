@@ -8,8 +8,8 @@ use Rattle.irig_codes.specs.declared.width.Element.{Element}
 use Rattle.irig_index.specs.Marker.{class_at, is_position}
 use Rattle.irig_recording.specs.declared.pulse.Pulse.{Pulse}
 use Rattle.irig_times.specs.{declared.part.Part.Part, declared.side.Side.Side}
-use Rattle.irig_times.specs.Between.{gap, periods_between}
-use Rattle.irig_times.specs.Ends.{contradicts, is_identifier}
+use Rattle.irig_times.specs.{Between.gap, MissingTimes.periods_between, OtherTimes.contradicts}
+use Rattle.irig_times.specs.OtherTimes.{is_identifier}
 use Rattle.irig_times.specs.Steps.{apart}
 
 -- how long after one pulse another rises; 0 if one of them is not there

@@ -5,9 +5,8 @@ use Rattle.irig_codes.specs.Format.{FormatView, frame_period_of}
 use Rattle.irig_recording.specs.declared.pulse.Pulse.{Pulse}
 use Rattle.irig_times.specs.declared.why.Why.TheVariants.{After, Before, Hole, Set, Step, Unbelieved}
 use Rattle.irig_times.specs.{declared.part.Part.Part, declared.time.Time.Time, declared.why.Why.Why}
-use Rattle.irig_times.specs.{Between.periods_between, Jumps.are_apart}
-use Rattle.irig_times.specs.Ends.{time_elements}
-use Rattle.irig_times.specs.{Jumps.is_jump_between, Parts.is_empty}
+use Rattle.irig_times.specs.{MissingTimes.periods_between, Jumps.are_apart}
+use Rattle.irig_times.specs.{OtherTimes.time_elements, AtJumps.is_jump_between, Parts.is_empty}
 
 -- two times can be those of frames that begin with these pulses
 abbrev pub are_apart_by : ℕ → ℕ → Time → Time → Option Pulse → Option Pulse → Bool

@@ -8,7 +8,8 @@
 
 ghost use Rattle.std.specs.Prelude.{◌≡◌, ◌≤◌, ◌<◌, ◌+◌, ◌*◌, ◌^◌, IfSome, Some, slice_get};
 ghost use Rattle.irig_codes.specs.Format.{frame_period_of};
-ghost use Rattle.irig_times.specs.{Between.day_micros, Between.periods_between, Jumps.are_apart};
+ghost use Rattle.irig_times.specs.{NextTimes.day_micros, MissingTimes.periods_between};
+ghost use Rattle.irig_times.specs.Jumps.{are_apart};
 ghost use Rattle.irig_times.specs.{Jumps.is_whole_periods, Jumps.misfits, Whys.are_apart_by};
 
 use crate::follows::{is_later, same_day};

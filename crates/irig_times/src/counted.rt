@@ -13,7 +13,7 @@ ghost use Rattle.std.specs.Prelude.{[], ◌≡◌, ◌≤◌, ◌<◌, ◌++◌,
 ghost use Rattle.irig_index.specs.Frames.{frames};
 ghost use Rattle.std.specs.Prelude.{IfSome, MatchOption, ◌^◌, ◌+◌, slice_get};
 ghost use Rattle.irig_times.specs.Counted.{filled, kept_of_own, parts_by, sides_unless_jump};
-ghost use Rattle.irig_times.specs.Counted.{with_frame, with_sides};
+ghost use Rattle.irig_times.specs.Counted.{with_kept, with_sides};
 ghost use Rattle.irig_times.specs.Parts.{AreParts};
 
 use crate::between::sides_before;
@@ -118,7 +118,7 @@ fn add_frame(
     requires order { MatchOption next (part.number + part.count < 2 ^ 30)
         (λ b. part.number + part.count ≤ b.number) }
     ensures parts { OnOk result (list.new.items ≡ list.old.items
-        ++ with_frame format century pulses.old.track.pulses before part next []) }
+        ++ with_kept format century pulses.old.track.pulses before part next []) }
     ensures pulses { pulses.new.track ≡ pulses.old.track }
 {
     let follows_jump = is_jump_between(pulses, format, century, before, Some(part));

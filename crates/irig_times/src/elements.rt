@@ -7,8 +7,8 @@
 
 ghost use Rattle.std.specs.Prelude.{◌≡◌, ◌<◌, ◌^◌, slice_get};
 ghost use Rattle.irig_codes.specs.Fields.{part};
-ghost use Rattle.irig_times.specs.Ends.{contradicts, fields_at, is_identifier, is_other};
-ghost use Rattle.irig_times.specs.Ends.{time_elements};
+ghost use Rattle.irig_times.specs.OtherTimes.{contradicts, fields_at, is_identifier, is_other};
+ghost use Rattle.irig_times.specs.OtherTimes.{time_elements};
 
 use crate::steps::pulse_at;
 use crate::time::Time;

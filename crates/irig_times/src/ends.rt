@@ -11,7 +11,8 @@
 ghost use Rattle.std.specs.Prelude.{◌≡◌, ◌≤◌, ◌<◌, ◌+◌, ◌-◌, ◌^◌, IfSome, length, min};
 ghost use Rattle.std.specs.Prelude.{if◌then◌else◌};
 ghost use Rattle.irig_codes.specs.Format.{frame_period_of};
-ghost use Rattle.irig_times.specs.Ends.{after_last, before_first, contradictions, end_after};
+ghost use Rattle.irig_times.specs.Ends.{after_last, before_first, end_after};
+ghost use Rattle.irig_times.specs.OtherTimes.{contradictions};
 ghost use Rattle.irig_times.specs.Ends.{end_before, is_borne_out, possible_pair, uncut_pulses};
 
 use crate::elements::{contradicts, fields_at};

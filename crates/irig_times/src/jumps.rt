@@ -8,9 +8,9 @@
 //! `century` is 20 for 2000 to 2099. Bounds as 2 ^ 30 and 2 ^ 59 only keep sums in their types.
 
 ghost use Rattle.std.specs.Prelude.{◌≡◌, ◌≤◌, ◌<◌, ◌+◌, ◌^◌, IfSome, MatchOption};
-ghost use Rattle.irig_times.specs.Jumps.{after_jump, are_joined, before_jump, is_denied_after};
-ghost use Rattle.irig_times.specs.Jumps.{is_denied_before, is_jump, is_jump_between};
-ghost use Rattle.irig_times.specs.Jumps.{pulses_between, runs_on};
+ghost use Rattle.irig_times.specs.AtJumps.{after_jump, before_jump, is_denied_after};
+ghost use Rattle.irig_times.specs.AtJumps.{is_denied_before, is_jump_between};
+ghost use Rattle.irig_times.specs.Jumps.{pulses_between, runs_on, are_joined, is_jump};
 
 use crate::apart::misfits;
 use crate::elements::time_elements;

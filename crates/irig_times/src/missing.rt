@@ -8,8 +8,8 @@
 
 ghost use Rattle.std.specs.Prelude.{◌≡◌, ◌≤◌, ◌<◌, ◌+◌, ◌*◌, ◌^◌, IfSome, slice_get};
 ghost use Rattle.irig_codes.specs.Format.{frame_period_of};
-ghost use Rattle.irig_times.specs.Between.{is_middle, middle, missing_by, missing_in, missing_more};
-ghost use Rattle.irig_times.specs.Between.{missing_one};
+ghost use Rattle.irig_times.specs.MissingTimes.{is_middle, middle, missing_by, missing_in};
+ghost use Rattle.irig_times.specs.MissingTimes.{missing_more, missing_one};
 
 use crate::apart::{day_micros, later_micros, periods_between};
 use crate::follows::{is_later, same_day};
@@ -118,7 +118,8 @@ pub fn middle(century: u32, period: u64, from: &Time, to: &Time) -> Option<Time>
 fn is_middle(century: u32, period: u64, from: &Time, time: &Time, to: &Time) -> bool
     requires century { century ≤ 99 }
     requires small { period < 2 ^ 32 }
-    requires times { (from.now.micros < 2 ^ 60) × (time.now.micros < 2 ^ 60) × (to.now.micros < 2 ^ 60) }
+    requires times { (from.now.micros < 2 ^ 60) × (time.now.micros < 2 ^ 60)
+        × (to.now.micros < 2 ^ 60) }
     ensures { result ≡ is_middle century period from.now time.now to.now }
 {
     is_later(century, period, from, time)

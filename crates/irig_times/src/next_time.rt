@@ -4,8 +4,8 @@
 //! Bounds in `requires`, as 2 ^ 32, only keep sums in their types.
 
 ghost use Rattle.std.specs.Prelude.{◌≡◌, ◌<◌, ◌^◌, IfSome};
-ghost use Rattle.irig_times.specs.Between.{at_micros, at_minute, ends_in_minute, minute_end};
-ghost use Rattle.irig_times.specs.Between.{next_time, time_before};
+ghost use Rattle.irig_times.specs.NextTimes.{at_micros, at_minute, ends_in_minute, minute_end};
+ghost use Rattle.irig_times.specs.NextTimes.{next_time, time_before};
 
 use crate::time::Time;
 

@@ -5,9 +5,9 @@
 
 ghost use Rattle.irig_times.specs.PartLaws.{BeforeTheNextPoint, ExactAtParts, InMinuteByParts};
 ghost use Rattle.irig_times.specs.PartLaws.{NeverFallsInPart, OneTimeByParts, PicosecondsByParts};
-ghost use Rattle.irig_times.specs.PartLaws.{KeepsTimes, NeverFallsByParts, OfCalendarByParts};
+ghost use Rattle.irig_times.specs.KeptTimes.{KeepsTimes, TimedPartsAreParts};
+ghost use Rattle.irig_times.specs.PartLaws.{NeverFallsByParts, OfCalendarByParts};
 ghost use Rattle.irig_times.specs.Origins.{FramesAreSupported, TimesAreCounted};
-ghost use Rattle.irig_times.specs.PartLaws.{TimedPartsAreParts};
 
 /// Does nothing. Its contract is what holds of the times by the pulses that have one. The time of a
 /// pulse goes on if the next pulse has the time one interval later.

@@ -1,6 +1,6 @@
 use Rattle.std.proofs.Common.{◌+◌, ◌-◌, ℕ, List, drop, take}
 use Rattle.std.specs.List.{AllByRecursion}
-use Rattle.irig_guarding.specs.{Repair.texts, Trials.IsClosing}
+use Rattle.irig_guarding.specs.{Repair.texts, Cutting.IsClosing}
 use Rattle.irig_guarding.proofs.cutting.repair_end.Given as goal
 
 abbrev pub invariant-loop-place : goal.invariant-loop-place

@@ -1,5 +1,5 @@
 use Rattle.std.proofs.Common.{◌≡◌, ◌-◌, ◌≤◌, None, drop, length, take}
-use Rattle.irig_guarding.specs.{Controls.IsSafeBy, Guarded.Reaches, Known.AreKnown, Reading.Lists, Repair.texts, Trials.IsTriedBefore}
+use Rattle.irig_guarding.specs.{SafeBy.IsSafeBy, Guarded.Reaches, Known.AreKnown, Reading.Lists, Repair.texts, Trials.IsTriedBefore}
 use Rattle.irig_guarding.proofs.guarding.guard_lines.Given as goal
 
 abbrev pub decreases-loop-at : goal.decreases-loop-at

@@ -1,6 +1,6 @@
 use Rattle.std.proofs.Common.{◌≡◌, ◌∙◌, List, ℕ, true, false, subst, sym}
 use Rattle.std.specs.Prelude.{IfErr, OnOk}
-use Rattle.irig_guarding.specs.{Repair.ObeyedAll, Trials.Drops, Trials.MayBeKept}
+use Rattle.irig_guarding.specs.{Repair.ObeyedAll, Drops.Drops, RepairLines.MayBeKept}
 use Rattle.irig_guarding.proofs.{DropLemmas.group_no_repair, GuardLemmas.ends_of, GuardLemmas.group_obeyed, GuardLemmas.on_ok, GuardLemmas.texts_of_ends, RepairLemmas.one_obeyed}
 use Rattle.irig_guarding.proofs.mending.keep_if_safe.Goals as goal
 

@@ -1,5 +1,5 @@
 use Rattle.std.proofs.Common.{◌≡◌, ◌∙◌, true, false, sym}
-use Rattle.irig_guarding.specs.Trials.{IsInner}
+use Rattle.irig_guarding.specs.RepairLines.{IsInner}
 use Rattle.irig_guarding.proofs.DropLemmas.{beyond_result, not_for, not_inner, obeyed_result}
 use Rattle.irig_guarding.proofs.obeying.obey_inner_command.Goals as goal
 

@@ -1,6 +1,6 @@
 use Rattle.std.proofs.Common.{◌≡◌, ◌++◌, ℕ, List, take}
 use Rattle.std.specs.List.{AllByRecursion}
-use Rattle.irig_guarding.specs.{Guarded.IsRemark, Repair.texts, Trials.AreRemarksOf}
+use Rattle.irig_guarding.specs.{Guarded.IsRemark, Repair.texts, Printed.AreRemarksOf}
 use Rattle.irig_script.specs.Obey.Run.{unlines}
 use Rattle.irig_guarding.proofs.printing.put_comments.Given as goal
 

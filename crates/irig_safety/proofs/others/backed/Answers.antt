@@ -1,5 +1,4 @@
-use Rattle.std.proofs.Common.{◌≡◌, ◌∙◌, ◌+◌, ap, arith, false, refl, sym, true}
-use Rattle.std.proofs.lemmas.List.{append-nil}
+use Rattle.std.proofs.Common.{◌∙◌, ap, arith, sym}
 use Rattle.std.proofs.lemmas.Option.{slice_get-get_or}
 use Rattle.irig_safety.proofs.OtherLemmas.{back_all, back_more, back_none, back_same}
 use Rattle.irig_safety.proofs.others.backed.Goals as goal

@@ -1,4 +1,4 @@
-use Rattle.std.proofs.Common.{◌≡◌, ◌∙◌, ◌+◌, arith, false, refl, sym, true}
+use Rattle.std.proofs.Common.{◌∙◌, arith, false, sym, true}
 use Rattle.std.proofs.lemmas.Option.{slice_get-get_or}
 use Rattle.irig_safety.proofs.OtherLemmas.{vote_all, vote_none, vote_on, vote_same}
 use Rattle.irig_safety.proofs.others.votes.Goals as goal

@@ -1,7 +1,7 @@
 use Rattle.std.proofs.Common.{◌∙◌, arith, ltb, ltb-false, ltb-true, rules, sym}
 use Rattle.std.proofs.lemmas.List.Sorted.{IsPartitionPoint-from_clause, IsPartitionedBy-ltb}
 use Rattle.irig_recording.specs.declared.pulse.Pulse.{Pulse}
-use Rattle.irig_safety.proofs.RiseLemmas.{all_early, at_place}
+use Rattle.irig_safety.proofs.RiseLemmas.{all_early}
 use Rattle.irig_safety.proofs.rises.first_rise.Goals as goal
 use Rattle.irig_safety.proofs.rises.first_rise.Goals.{then-place-eq0, else-place-eq0}
 

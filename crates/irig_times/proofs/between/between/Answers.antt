@@ -1,6 +1,6 @@
 use Rattle.std.proofs.Common.{◌≡◌, ◌+◌, Option, Some, min, slice_get, ap, sym, ◌∙◌}
 use Rattle.irig_codes.specs.Format.{frame_period_of}
-use Rattle.irig_times.specs.Between.{gap, missing_by}
+use Rattle.irig_times.specs.{Between.gap, MissingTimes.missing_by}
 use Rattle.irig_times.specs.{Sides.sides_in, Sides.sides_of, Steps.ahead, Steps.behind}
 use Rattle.irig_times.proofs.between.between.Goals as goal
 

@@ -1,7 +1,7 @@
 use Rattle.std.proofs.Common.{◌≡◌, false, true, cond, ap, sym, ◌∙◌}
 use Rattle.std.specs.Prelude.{nat_lt}
 use Rattle.irig_codes.specs.{Encoding.encoded, Fields.fits_in}
-use Rattle.irig_times.specs.{Ends.fields_at, Sides.borne_out}
+use Rattle.irig_times.specs.{OtherTimes.fields_at, Sides.borne_out}
 use Rattle.irig_times.proofs.SideCounts.{lt-false}
 use Rattle.irig_times.proofs.borne_out.borne_out_at.Goals as goal
 

@@ -1,6 +1,6 @@
 use Rattle.std.proofs.Common.{[], ◌++◌, length, get_or, ◌∙◌, arith}
 use Rattle.std.proofs.lemmas.Option.{slice_get-get_or}
-use Rattle.irig_times.specs.Counted.{with_frame}
+use Rattle.irig_times.specs.Counted.{with_kept}
 use Rattle.irig_times.proofs.{Filling.filled-more, PartPlaces.known, PartPlaces.known-next, PartPlaces.known-order, PartPlaces.low}
 use Rattle.irig_times.proofs.PartPlaces.{none-part, part-of}
 use Rattle.irig_times.proofs.counted.counted_parts.Goals as goal
@@ -45,7 +45,7 @@ loop-place-preserved c =
           c.args.whole.now c.loop-place.before c.loop-place.place _
           c.loop-place.list.items _ _ here
           (c.in_ok-add_frame.ensures.parts
-          ∙ λ i. c.loop-place.list.items ++ with_frame c.args.format c.args.century (before.track i).pulses c.loop-place.before
+          ∙ λ i. c.loop-place.list.items ++ with_kept c.args.format c.args.century (before.track i).pulses c.loop-place.before
           (get_or c.args.whole.now c.loop-place.place none-part) (c.part_at-next.ensures i) [])
           before.left;
     }

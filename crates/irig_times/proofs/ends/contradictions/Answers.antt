@@ -1,5 +1,5 @@
 use Rattle.std.proofs.Common.{◌+◌, slice_get, ap, ◌∙◌, arith}
-use Rattle.irig_times.specs.Ends.{contradicts}
+use Rattle.irig_times.specs.OtherTimes.{contradicts}
 use Rattle.irig_times.proofs.StepCounts.{contradictions-more, counted-few}
 use Rattle.irig_times.proofs.ends.contradictions.Goals as goal
 

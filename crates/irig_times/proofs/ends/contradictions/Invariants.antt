@@ -1,5 +1,5 @@
 use Rattle.std.proofs.Common.{◌≡◌, ◌+◌, ◌-◌, ◌≤◌}
-use Rattle.irig_times.specs.Ends.{contradictions}
+use Rattle.irig_times.specs.OtherTimes.{contradictions}
 use Rattle.irig_times.proofs.ends.contradictions.Given as goal
 
 abbrev pub invariant-loop-place : goal.invariant-loop-place

@@ -1,7 +1,7 @@
 use Rattle.std.proofs.Common.{◌≡◌, ◌+◌, ◌<◌, ◌^◌, Bool, false, cond, Option, Some, None, ap, subst, sym, ◌∙◌, arith}
 use Rattle.std.specs.Prelude.{IfSome}
 use Rattle.irig_codes.specs.Format.{frame_period_of}
-use Rattle.irig_times.specs.Between.{head_of, next_time}
+use Rattle.irig_times.specs.{Between.head_of, NextTimes.next_time}
 use Rattle.irig_times.specs.Ends.{after_last, possible_pair, end_after}
 use Rattle.irig_times.specs.{declared.part.Part.Part, declared.time.Time.Time, Parts.is_empty, Steps.ahead}
 use Rattle.irig_times.proofs.ends.end_after.Goals as goal

@@ -1,6 +1,6 @@
 use Rattle.std.proofs.Common.{◌≡◌, Bool, false, cond, Some, None, min, ap, sym, ◌∙◌}
 use Rattle.irig_codes.specs.Format.{frame_period_of}
-use Rattle.irig_times.specs.Between.{tail_of, time_before}
+use Rattle.irig_times.specs.{Between.tail_of, NextTimes.time_before}
 use Rattle.irig_times.specs.Ends.{possible_pair, before_first}
 use Rattle.irig_times.specs.{Parts.is_empty, Steps.behind}
 use Rattle.irig_times.proofs.ends.end_before.Goals as goal

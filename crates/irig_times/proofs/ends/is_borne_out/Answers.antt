@@ -1,8 +1,7 @@
 use Rattle.std.proofs.Common.{◌≡◌, ◌==◌, ◌&&◌, true, ap, sym, ◌∙◌}
 use Rattle.irig_codes.specs.Format.{frame_period_of}
 use Rattle.irig_codes.specs.{Encoding.encoded, Fields.fits_in}
-use Rattle.irig_times.specs.Between.{ends_in_minute}
-use Rattle.irig_times.specs.Ends.{contradictions, fields_at, uncut_pulses}
+use Rattle.irig_times.specs.{NextTimes.ends_in_minute, OtherTimes.contradictions, OtherTimes.fields_at, Ends.uncut_pulses}
 use Rattle.irig_times.proofs.ends.is_borne_out.Goals as goal
 
 pub returns-clause-answer : goal.returns-clause-answer
