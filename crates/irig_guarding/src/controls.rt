@@ -83,22 +83,12 @@ fn judge_next(
         (Some why)) }
 {
     let Some(next) = frame_at(former, passed) else {
-        return judge_functions(
-            session,
-            opened,
-            &near_in(former, passed, passed),
-            frame,
-            passed,
-        );
+        let near = near_in(former, passed, passed);
+        return judge_functions(session, opened, &near, frame, passed);
     };
     if frame.shown.rise < next.rise {
-        return judge_functions(
-            session,
-            opened,
-            &near_in(former, passed, passed),
-            frame,
-            passed,
-        );
+        let near = near_in(former, passed, passed);
+        return judge_functions(session, opened, &near, frame, passed);
     }
     if next.rise < frame.shown.rise {
         return Err(Fault::Lost(next));
@@ -106,8 +96,8 @@ fn judge_next(
     if is_same(&next, &frame.shown) {
         return Ok(passed + 1);
     }
-    let near = near_in(former, passed, passed + 1);
-    judge_functions(session, opened, &near, frame, passed + 1)
+    let around = near_in(former, passed, passed + 1);
+    judge_functions(session, opened, &around, frame, passed + 1)
 }
 
 /// Judges a frame by its control functions (`are_functions_borne`). If all are borne out, `Ok` with

@@ -106,22 +106,12 @@ fn judge_next(
         (Some why)) }
 {
     let Some(next) = frame_at(former, passed) else {
-        return judge_new_frame(
-            session,
-            opened,
-            &near_in(former, passed, passed),
-            frame,
-            passed,
-        );
+        let near = near_in(former, passed, passed);
+        return judge_new_frame(session, opened, &near, frame, passed);
     };
     if frame.shown.rise < next.rise {
-        return judge_new_frame(
-            session,
-            opened,
-            &near_in(former, passed, passed),
-            frame,
-            passed,
-        );
+        let near = near_in(former, passed, passed);
+        return judge_new_frame(session, opened, &near, frame, passed);
     }
     if next.rise < frame.shown.rise {
         return Err(Fault::Lost(next));

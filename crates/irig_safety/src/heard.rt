@@ -5,7 +5,7 @@
 //! one first. One that is not there is `None`.
 
 ghost use Rattle.std.specs.Prelude.{◌≡◌};
-ghost use Rattle.irig_safety.specs.Heard.{heard, is_disputed, is_overruled};
+ghost use Rattle.irig_safety.specs.Heard.{heard, is_disputed, is_overruled, witnesses};
 
 use crate::bearing::allows;
 use crate::shown::Shown;
@@ -49,6 +49,23 @@ fn is_disputed(
     }
 }
 
+/// The frames next to a place, in the order of their rises: two before it and two after it.
+fn witnesses(
+    before2: Option<Shown>,
+    before: Option<Shown>,
+    after: Option<Shown>,
+    after2: Option<Shown>,
+) -> Witnesses
+    ensures { result ≡ witnesses before2 before after after2 }
+{
+    Witnesses {
+        before2,
+        before,
+        after,
+        after2,
+    }
+}
+
 /// The frames next to a place that are heard. If just one of the two nearest is overruled
 /// (`is_overruled`), it is left out, and the next one on its side replaces it. If one side has no
 /// frame, and the two of the other contradict each other (`is_disputed`), none is heard. Else all
@@ -60,28 +77,13 @@ pub fn heard(format: Format, near: &Witnesses) -> Witnesses
     let without_after = is_overruled(format, near.before, near.after, near.after2);
     let without_before = is_overruled(format, near.before2, near.before, near.after);
     if without_after && !without_before {
-        Witnesses {
-            before2: near.before2,
-            before: near.before,
-            after: near.after2,
-            after2: None,
-        }
+        witnesses(near.before2, near.before, near.after2, None)
     } else if without_before && !without_after {
-        Witnesses {
-            before2: None,
-            before: near.before2,
-            after: near.after,
-            after2: near.after2,
-        }
+        witnesses(None, near.before2, near.after, near.after2)
     } else if is_disputed(format, near.before, near.after, near.after2)
         || is_disputed(format, near.after, near.before2, near.before)
     {
-        Witnesses {
-            before2: None,
-            before: None,
-            after: None,
-            after2: None,
-        }
+        witnesses(None, None, None, None)
     } else {
         *near
     }

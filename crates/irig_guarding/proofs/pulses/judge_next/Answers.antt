@@ -10,14 +10,14 @@ returns-in_default-clause-stand c = λ rest found.
     let none : slice_get c.args.former.now c.args.passed ≡ None = sym c.frame_at.ensures ∙ c.in_default.is in
     passes_ok (with_frames c.args.former.now c.args.opened.now) c.args.session.now.state c.args.passed c.args.frame.now c.judge_new_frame.result rest found
     (comes_before (with_frames c.args.former.now c.args.opened.now) c.args.session.now.state c.args.passed _ c.args.frame.now c.judge_new_frame.result rest
-    (after_all (with_frames c.args.former.now c.args.opened.now) c.args.passed c.args.frame.now none) c.near_in.ensures c.judge_new_frame.ensures)
+    (after_all (with_frames c.args.former.now c.args.opened.now) c.args.passed c.args.frame.now none) c.near_in-near.ensures c.judge_new_frame.ensures)
 
 pub returns-in_default-clause-fault : goal.returns-in_default-clause-fault
 returns-in_default-clause-fault c = λ rest.
     let none : slice_get c.args.former.now c.args.passed ≡ None = sym c.frame_at.ensures ∙ c.in_default.is in
     passes_err (with_frames c.args.former.now c.args.opened.now) c.args.session.now.state c.args.passed c.args.frame.now c.judge_new_frame.result rest
     (comes_before (with_frames c.args.former.now c.args.opened.now) c.args.session.now.state c.args.passed _ c.args.frame.now c.judge_new_frame.result rest
-    (after_all (with_frames c.args.former.now c.args.opened.now) c.args.passed c.args.frame.now none) c.near_in.ensures c.judge_new_frame.ensures)
+    (after_all (with_frames c.args.former.now c.args.opened.now) c.args.passed c.args.frame.now none) c.near_in-near.ensures c.judge_new_frame.ensures)
 
 pub returns-then-frame-next-clause-stand : goal.returns-then-frame-next-clause-stand
 returns-then-frame-next-clause-stand c = λ rest found.
@@ -27,7 +27,7 @@ returns-then-frame-next-clause-stand c = λ rest found.
     (comes_before (with_frames c.args.former.now c.args.opened.now) c.args.session.now.state c.args.passed _ c.args.frame.now
     c.judge_new_frame-then-frame-next.result rest
     (before_next (with_frames c.args.former.now c.args.opened.now) c.args.passed c.in-Some.next c.args.frame.now here (omega (arith, c.if-frame-next.true)))
-    c.near_in-then-frame-next.ensures c.judge_new_frame-then-frame-next.ensures)
+    c.near_in-near-then-frame-next.ensures c.judge_new_frame-then-frame-next.ensures)
 
 pub returns-then-frame-next-clause-fault : goal.returns-then-frame-next-clause-fault
 returns-then-frame-next-clause-fault c = λ rest.
@@ -37,7 +37,7 @@ returns-then-frame-next-clause-fault c = λ rest.
     (comes_before (with_frames c.args.former.now c.args.opened.now) c.args.session.now.state c.args.passed _ c.args.frame.now
     c.judge_new_frame-then-frame-next.result rest
     (before_next (with_frames c.args.former.now c.args.opened.now) c.args.passed c.in-Some.next c.args.frame.now here (omega (arith, c.if-frame-next.true)))
-    c.near_in-then-frame-next.ensures c.judge_new_frame-then-frame-next.ensures)
+    c.near_in-near-then-frame-next.ensures c.judge_new_frame-then-frame-next.ensures)
 
 pub returns-then-next-frame-clause-fault : goal.returns-then-next-frame-clause-fault
 returns-then-next-frame-clause-fault c = λ rest.
