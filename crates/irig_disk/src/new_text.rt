@@ -258,7 +258,9 @@ fn keep<F: Folder>(folder: &mut F, dir: &F::Dir, count: u64) -> Result<Kept, Put
 }
 
 /// Removes the new file, `beside`, of a text that did not get its name, after a fault. The answer
-/// says what is left: `Failed` with the fault, or `LeftBehind` if the removal failed, too.
+/// says what is left: `Failed` with the fault, or `LeftBehind` if the removal failed, too. After a
+/// rename that failed a crash can still leave the new text at the target: nobody knows what of the
+/// call was done.
 fn clear<F: Folder>(
     folder: &mut F,
     dir: &F::Dir,

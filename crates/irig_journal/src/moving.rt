@@ -9,7 +9,9 @@
 //! changes are ready at a state (`AreReady`, `ReadyInTurn`) if they apply one after another from
 //! there, each with room for its turn. `steps_in` is a journal with these two sides. `LedByOneTurn`
 //! says that one turn, that of the nearest step, leads from the old state, cursor and steps to the
-//! new ones. `Moved` says that changes left one list, and what their turns left came to the other.
+//! new ones, as `stepped_back` moves them for an undo; and that the tally, which is what a state
+//! counts of its turns, grew by what `counted` says of one turn. `Moved` says that changes left one
+//! list, and what their turns left came to the other.
 
 ghost use Rattle.std.specs.Prelude.{◌≡◌, ◌+◌, ◌<◌, ◌≤◌, ◌∷◌, [], reverse, vec_capacity, vec_len};
 ghost use Rattle.irig_journal.specs.History.{step, stepped_back};
@@ -98,8 +100,7 @@ pub(crate) fn turn_nearest<R: Reversible>(
 /// Turns the nearest `count` changes of `from`, the nearest first, and moves each to the end of
 /// `to`. `from` has at least that many, so `unwrap` of the `pop` finds one, and `to` has places for
 /// them. Both lists end with their nearest change. So in `to` the changes are in the opposite
-/// order, as they have to be to be turned back. The tally is what a state counts of its turns;
-/// `counted` says how much one adds.
+/// order, as they have to be to be turned back.
 fn turn_changes<R: Reversible>(
     from: &mut Vec<R::Change>,
     to: &mut Vec<R::Change>,

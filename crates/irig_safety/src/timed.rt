@@ -8,7 +8,9 @@
 //! `after2`, the nearer one first. If both sides have a frame, the clock of `before` and `after` is
 //! asked, and also that of the two on one side, but only close to them (`is_by_near_clock_before`,
 //! `is_by_near_clock_after`). If one side has none, the clock of the two on the other is all there
-//! is, so it is asked at any distance (`is_by_clock_before`, `is_by_clock_after`).
+//! is, so it is asked at any distance (`is_by_clock_before`, `is_by_clock_after`). `is_by_clock`
+//! and `is_by_near_clock` take four frames: two that show the clock, and two whose distance has to
+//! fit it, each two in the order of their rises. The frame next to `frame` is often of both.
 
 ghost use Rattle.std.specs.Prelude.{◌≡◌, Some};
 ghost use Rattle.irig_safety.specs.Witnesses.{is_by_clock_after, is_by_clock_before};

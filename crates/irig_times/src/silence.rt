@@ -197,11 +197,11 @@ pub fn counted_before(pulses: &mut Lens<'_>, format: Format, to: &Part) -> Optio
     heard_before(pulses, format, sides)
 }
 
-/// The pulses after the last frame (`from`) that have a time, and an empty part: what `end_after`
-/// counts, as far as it counts next to silence (`heard_after`). `None` if the frame is not there,
-/// is not believed, ends the day or shows a second 60, if a pulse says another time, if no frame
-/// can have that time, or if silence is after the pulses and not all elements of the time are
-/// there.
+/// The pulses after the last frame (`from`) that have a time, and an empty part (the pair of the
+/// head). They are those that `end_after` counts, or if silence is after them those before their
+/// last position identifier (`heard_after`). `None` if the frame is not there, is not believed,
+/// ends the day or shows a second 60, if a pulse says another time, if no frame can have that time,
+/// or if silence is after the pulses and not all elements of the time are there.
 pub fn counted_after(
     pulses: &mut Lens<'_>,
     format: Format,

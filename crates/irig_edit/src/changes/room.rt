@@ -127,11 +127,10 @@ impl Present {
     /// change must be one that can be made.
     ///
     /// A frame begins with a marker, a position identifier after another one. So a change can bring
-    /// frames that begin in its new pulses, and two more: at its first new pulse, with the pulse
-    /// before it, and at the pulse after its last one. `markers_among` counts the markers of new
-    /// pulses as if they were a track of their own. A shift keeps the distances among its pulses,
-    /// so it brings only those two. A mark brings none. A format can change all frames, so they are
-    /// counted for it.
+    /// markers among its new pulses, each after another new one (`markers_among`), and two more:
+    /// its first new pulse, after the pulse before it, and the pulse after its last one. A shift
+    /// keeps the distances among its pulses, so it brings only those two. A mark brings none. A
+    /// format can change all frames, so they are counted for it.
     fn records_for(&self, single: &Single) -> usize
         requires fits { FitsSingle self.now.state single.now }
         ensures records { result ≡ records_for self.now.state single.now }
