@@ -1,5 +1,5 @@
--- When the pulses of a frame are where a recording has them: they rise when pulses of it do, or are
--- on the lines between those that do. This project's own.
+-- Which pulses of a frame are where a recording has them: those that rise when a pulse of it does.
+-- They hold the others in their places. This project's own.
 use Rattle.std.specs.Prelude.{◌+◌, ◌==◌, ◌&&◌, ◌||◌, ℕ, zero, suc, Bool, false, List}
 use Rattle.std.specs.Prelude.{Option, Some, None, if◌then◌else◌, slice_get}
 use Rattle.std.specs.List.{list_any}
