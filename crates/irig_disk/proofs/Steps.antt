@@ -2,9 +2,9 @@
 use Rattle.std.proofs.Common.{◌≡◌, ◌≢◌, ◌⊎◌, inl, inr, ⊎_elim, refl, sym, ◌∙◌, ap, subst, ℕ, List, [], ◌∷◌, ◌++◌, append_assoc, Option, Some, None, Result, Ok}
 use Rattle.std.proofs.Common.{Err, OnOk, OnErr, IfOk, IfErr, IsErrOf, MatchOption}
 use Rattle.irig_disk.specs.declared.fault.PutFault.TheVariants.{Memory, NamesTaken, Failed, LeftBehind, Remains, NotKept}
-use Rattle.irig_disk.specs.Put.{TriesOne, OldOrNew, OldOrNewIfThere, OldIfThere, SeenSame, SeenSameIfThere, AfterFault, SeenAfter, left_by, IsPut}
-use Rattle.irig_disk.specs.Put.{IsKept}
-use Rattle.irig_disk.specs.Writing.{IsUnchanged, NotBegun, NotFinished, SeenUnfinished, IsBeside, IsWriting, IsPlaced, IsStuck}
+use Rattle.irig_disk.specs.Put.{TriesOne, OldOrNew, OldOrNewIfThere, OldIfThere, SeenSame, SeenSameIfThere, IsKept, IsPut}
+use Rattle.irig_disk.specs.Writing.{IsUnchanged, IsBeside, IsWriting, IsPlaced, IsStuck}
+use Rattle.irig_disk.specs.Faults.{AfterFault, NotBegun, NotFinished, SeenAfter, SeenUnfinished, left_by}
 use Rattle.irig_disk.specs.{declared.fault.PutFault.PutFault, Disk.Disk, Disk.IsPlace, Disk.seen_under, Disk.MayLeave, Disk.Elapses, Disk.LeavesOnly, Held.Held}
 use Rattle.irig_disk.specs.{Stays.FilesStay, Stays.NamesStay, Stays.OtherFilesStay, Stays.Stays, Calls.Made, Calls.IsTaken, Calls.Wrote, Calls.TookMode}
 use Rattle.irig_disk.specs.{Calls.MaySpoil, Calls.SyncedFile, Calls.SyncedNames, Moves.MayMove, Moves.IsMoved, Moves.IsNotMoved, Moves.MayRemove, Moves.Removed}
@@ -384,8 +384,8 @@ after_removal start a b beside target text (Err other) fault result s removed no
 }
 
 -- what a removal may leave, whether it succeeds or not
-pub may_remove : {T X : Type 0} (a b : Disk) (beside : List ℕ) (removal : Result T X) → OnOk removal (Removed a b beside) → OnErr removal (NotRemoved a b beside)
-    → MayRemove a b beside
+pub may_remove : {T X : Type 0} (a b : Disk) (beside : List ℕ) (removal : Result T X) → OnOk removal (Removed a b beside)
+    → OnErr removal (NotRemoved a b beside) → MayRemove a b beside
 may_remove a b beside (Ok _) removed not_removed = removed.may
 may_remove a b beside (Err other) removed not_removed = not_removed.may
 

@@ -1,8 +1,10 @@
 pub mod Calls
 pub mod Disk
+pub mod Faults
 pub mod Held
 pub mod Moves
 pub mod Name
+pub mod NewNames
 pub mod Parts
 pub mod Put
 pub mod Stays

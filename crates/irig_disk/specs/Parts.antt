@@ -2,7 +2,7 @@
 use Rattle.std.specs.Prelude.{◌≢◌, ℕ, List, ◌++◌, take, None, Result, OnOk, IfErr, IsErrOf}
 use Rattle.irig_disk.specs.Writing.{IsUnchanged, IsWriting, IsPlaced, IsStuck, WhileWriting}
 use Rattle.irig_disk.specs.{Disk.Disk, Disk.LeavesOnly, Held.Held, Name.IsName, Put.OldOrNewIfThere}
-use Rattle.irig_disk.specs.{Put.IsKept, Put.AfterFault, declared.fault.PutFault.PutFault}
+use Rattle.irig_disk.specs.{Put.IsKept, Faults.AfterFault, declared.fault.PutFault.PutFault}
 use Rattle.irig_disk.specs.{declared.fault.PutFault.TheVariants.NamesTaken}
 
 -- At this name no new file is made: it leads to a file, or is none, or the target's own.

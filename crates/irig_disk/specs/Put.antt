@@ -1,12 +1,7 @@
 -- What writing a text whole makes of a folder. This project's own.
-use Rattle.std.specs.Prelude.{◌≡◌, ◌≢◌, ◌⊎◌, ◌<◌, ◌++◌, ◌∷◌, [], ℕ, List, Option, Some, None}
-use Rattle.std.specs.Prelude.{Result, Ok, Err}
-use Rattle.std.specs.Fmt.{decimal}
+use Rattle.std.specs.Prelude.{◌≡◌, ◌≢◌, ◌⊎◌, ◌++◌, ◌∷◌, [], ℕ, List, Option, Some, None}
 use Rattle.irig_disk.specs.Disk.{Disk, IsPlace, seen_under, MayLeave, LeavesOnly}
-use Rattle.irig_disk.specs.declared.fault.PutFault.TheVariants.{Memory, NamesTaken, Failed}
-use Rattle.irig_disk.specs.declared.fault.PutFault.TheVariants.{LeftBehind, Remains, NotKept}
-use Rattle.irig_disk.specs.{Held.Held, Calls.owner_only, Name.IsName, Trail.Moved, Trail.NotMoved}
-use Rattle.irig_disk.specs.{Trail.Synced, declared.fault.PutFault.PutFault}
+use Rattle.irig_disk.specs.{Held.Held, Calls.owner_only, Trail.Moved, Trail.NotMoved, Trail.Synced}
 
 -- the mode of a file that takes one or keeps the usual one: at first, and in the end
 abbrev pub first_mode : ℕ → Option ℕ → ℕ
@@ -70,39 +65,3 @@ pub record IsKept (old new : Disk) (target : List ℕ) (text : Held) : Type 0 wh
   pub kept : (c : Option Held) → MayLeave new target c → c ≡ Some text
   pub log : new.log ≡ old.log ++ Moved target (Some text) ∷ Synced new.moment ∷ []
   pub paths : IsPlace old target → new.paths ≡ old.paths
-
--- what a fault leaves to be seen
-abbrev pub SeenAfter : {X : Type 0} → Disk → Disk → List ℕ → Held → PutFault X → Type 0
-SeenAfter old new target text Memory = SeenSame old new
-SeenAfter old new target text NamesTaken = SeenSame old new
-SeenAfter old new target text (Failed _) = SeenSame old new
-SeenAfter old new target text (LeftBehind _ _) = SeenSameIfThere old new target
-SeenAfter old new target text (Remains _) = SeenSameIfThere old new target
-SeenAfter old new target text (NotKept _) = IsPutLast old new target text
-
--- what a fault leaves
-pub record AfterFault {X : Type 0} (old new : Disk) (target : List ℕ) (text : Held)
-    (fault : PutFault X) : Type 0 where
-  pub seen : SeenAfter old new target text fault
-  pub log : TriesOne old new target text
-  pub paths : IsPlace old target → new.paths ≡ old.paths
-
--- the name of a new file, if this many others were tried before it
-abbrev pub name_after : List ℕ → ℕ → List ℕ
-name_after stem number = stem ++ decimal number
-
--- a name is the stem with a number below this one
-abbrev pub IsNameAfter : List ℕ → ℕ → List ℕ → Type 0
-IsNameAfter stem count name = (k : ℕ) × (k < count) × (name ≡ name_after stem k)
-
--- each of the first names for a new file leads to a file, or is none, or the target's own
-abbrev pub AllTaken : Disk → (List ℕ → List ℕ) → List ℕ → List ℕ → ℕ → Type 0
-AllTaken disk place stem target count = (k : ℕ) → k < count → IsName (name_after stem k)
-    → name_after stem k ≢ target → disk.leads (place (name_after stem k)) ≢ None
-
--- what a fault leaves (None: memory ran out), after the new file was to be removed
-abbrev pub left_by : {T X : Type 0} → Option X → Result T X → PutFault X
-left_by (Some fault) (Ok _) = Failed fault
-left_by (Some fault) (Err other) = LeftBehind fault other
-left_by None (Ok _) = Memory
-left_by None (Err other) = Remains other

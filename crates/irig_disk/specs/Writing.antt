@@ -1,12 +1,8 @@
 -- A text that is being written to a new file next to its target. This project's own.
 use Rattle.std.specs.Prelude.{◌≡◌, ◌≢◌, ◌⊎◌, ℕ, List, [], ◌∷◌, ◌++◌, Option, Some, None}
 use Rattle.irig_disk.specs.Disk.{Disk, IsPlace, seen_under, MayLeave, LeavesOnly}
-use Rattle.irig_disk.specs.Put.{OldIfThere, TriesNone, TriesOne, OldOrNewIfThere, SeenSame}
-use Rattle.irig_disk.specs.Put.{SeenSameIfThere, IsPutLast}
-use Rattle.irig_disk.specs.declared.fault.PutFault.{PutFault}
-use Rattle.irig_disk.specs.declared.fault.PutFault.TheVariants.{Memory, NamesTaken, Failed}
-use Rattle.irig_disk.specs.declared.fault.PutFault.TheVariants.{LeftBehind, Remains, NotKept}
-use Rattle.irig_disk.specs.{Held.Held, Stays.Stays, Trail.Moved, Trail.NotMoved}
+use Rattle.irig_disk.specs.{Held.Held, Put.OldIfThere, Put.OldOrNewIfThere, Put.TriesNone}
+use Rattle.irig_disk.specs.{Stays.Stays, Trail.Moved, Trail.NotMoved}
 
 -- nothing is changed since the start, at no moment
 pub record IsUnchanged (start now : Disk) : Type 0 where
@@ -62,31 +58,6 @@ pub record IsStuck (start now : Disk) (beside target : List ℕ) (text : Held) :
   pub moments : LeavesOnly start now (OldOrNewIfThere start target text)
   pub left : (n : List ℕ) (c : Option Held) → MayLeave now n c
       → OldOrNewIfThere start target text n c
-
--- what a write that has not begun leaves
-abbrev pub NotBegun : {X : Type 0} → Disk → Disk → PutFault X → Type 0
-NotBegun old new Memory = IsUnchanged old new
-NotBegun old new NamesTaken = IsUnchanged old new
-NotBegun old new (Failed _) = IsUnchanged old new
-NotBegun old new (LeftBehind _ _) = ⊥
-NotBegun old new (Remains _) = ⊥
-NotBegun old new (NotKept _) = ⊥
-
--- what a write that has begun and has not succeeded leaves to be seen
-abbrev pub SeenUnfinished : {X : Type 0} → Disk → Disk → List ℕ → Held → PutFault X → Type 0
-SeenUnfinished old new target text Memory = ⊥
-SeenUnfinished old new target text NamesTaken = ⊥
-SeenUnfinished old new target text (Failed _) = SeenSame old new
-SeenUnfinished old new target text (LeftBehind _ _) = SeenSameIfThere old new target
-SeenUnfinished old new target text (Remains _) = ⊥
-SeenUnfinished old new target text (NotKept _) = IsPutLast old new target text
-
--- and what it leaves
-pub record NotFinished {X : Type 0} (old new : Disk) (target : List ℕ) (text : Held)
-    (fault : PutFault X) : Type 0 where
-  pub seen : SeenUnfinished old new target text fault
-  pub log : TriesOne old new target text
-  pub paths : IsPlace old target → new.paths ≡ old.paths
 
 -- whatever the start was since which this text is being written
 abbrev pub WhileWriting : {F : Type 0} → (F → Disk) → F → List ℕ → List ℕ → ℕ → ℕ

@@ -15,9 +15,10 @@
 ghost use Rattle.std.specs.Prelude.{◌≡◌, ◌≢◌, ◌↔◌, [], string_bytes, IfOk, IfErr, MatchOption};
 ghost use Rattle.std.specs.Prelude.{OnOk, IsErrOf, IsTrue};
 ghost use Rattle.irig_disk.specs.declared.fault.PutFault.TheVariants.{NamesTaken};
-ghost use Rattle.irig_disk.specs.Writing.{IsWriting, NotBegun, IsUnchanged};
-ghost use Rattle.irig_disk.specs.{declared.new_text.TheConstants.NAMES, Name.IsName, Put.AllTaken};
-ghost use Rattle.irig_disk.specs.{Put.IsNameAfter, Put.name_after, Parts.IsPassed, Calls.mode_made};
+ghost use Rattle.irig_disk.specs.NewNames.{AllTaken, IsNameAfter, name_after};
+ghost use Rattle.irig_disk.specs.{Writing.IsWriting, Writing.IsUnchanged, Faults.NotBegun};
+ghost use Rattle.irig_disk.specs.{declared.new_text.TheConstants.NAMES, Name.IsName};
+ghost use Rattle.irig_disk.specs.{Parts.IsPassed, Calls.mode_made};
 
 use crate::fault::PutFault;
 use crate::folder::Folder;

@@ -1,7 +1,7 @@
 //! Why a text was not written.
 
 ghost use Rattle.std.specs.Prelude.{◌≡◌};
-ghost use Rattle.irig_disk.specs.{Put.left_by, declared.fault.PutFault.TheVariants.Memory};
+ghost use Rattle.irig_disk.specs.{Faults.left_by, declared.fault.PutFault.TheVariants.Memory};
 
 use std::alloc::AllocError;
 

@@ -18,9 +18,9 @@ ghost use Rattle.std.specs.Prelude.{length, IfOk, IfErr, IfSome, OnOk, OnErr, On
 ghost use Rattle.std.specs.Prelude.{Err, IsErrOf, IsTrue, Result};
 ghost use Rattle.irig_text.specs.declared.block.TheConstants.{ENOUGH};
 ghost use Rattle.irig_disk.specs.{declared.fault.PutFault.TheVariants.NamesTaken};
-ghost use Rattle.irig_disk.specs.{declared.new_text.TheConstants.NAMES, Put.OldOrNewIfThere};
-ghost use Rattle.irig_disk.specs.{Put.AfterFault, Put.IsKept, Put.AllTaken};
-ghost use Rattle.irig_disk.specs.{Put.held, Put.left_by, Parts.Adds, Parts.Spoils, Parts.ComesTo};
+ghost use Rattle.irig_disk.specs.{declared.new_text.TheConstants.NAMES, NewNames.AllTaken};
+ghost use Rattle.irig_disk.specs.{Put.IsKept, Put.OldOrNewIfThere, Put.held, Faults.AfterFault};
+ghost use Rattle.irig_disk.specs.{Faults.left_by, Parts.Adds, Parts.ComesTo, Parts.Spoils};
 ghost use Rattle.irig_disk.specs.Underway.{underway_of, WhileUnderway, WhileInAnyMode};
 ghost use Rattle.irig_disk.specs.{Disk.LeavesOnly, Held.Held, Name.IsName};
 

@@ -6,13 +6,15 @@
 //! What each method does is said with the trait, in `folder`. A `SystemFault` is the error of the
 //! system, or that a path is longer than the memory for it and no more is there.
 
-ghost use Rattle.std.specs.Prelude.{◌≡◌, ◌≤◌, ◌↔◌, IfErr, IfOk, IsOk, IsSome, IsTrue, OnOk, false};
+ghost use Rattle.std.specs.Prelude.{◌≡◌, ◌≤◌, ◌↔◌, IfErr, IfOk, IsOk, IsTrue, OnOk, false};
 ghost use Rattle.std.specs.Fs.{asks_create_new, asks_write};
 ghost use Rattle.std.specs.{Io.KnownBytes.Appends, IoError.error_kind, Path.path_buf_cap};
 ghost use Rattle.irig_disk.specs.System.{untold, untold_now};
-ghost use Rattle.irig_disk.specs.declared.system.TheConstants.{PATH};
+ghost use Rattle.irig_disk.specs.declared.system_dir.TheConstants.{PATH};
 
 use crate::folder::Folder;
+use crate::system_dir::{PATH, SystemDir, put_path};
+use crate::system_fault::SystemFault;
 use std::alloc::{AllocError, Global};
 use std::fs::{OpenFile, OpenOptions, Permissions};
 use std::io::{ErrorKind, Write};
@@ -20,11 +22,6 @@ use std::os::unix::fs::{OpenOptionsExt, PermissionsExt};
 use std::path::PathBuf;
 use std::rt::Files;
 use std::{fs, io};
-
-/// How many bytes a path has room for. A path of the system has at most 4,095 bytes, and so has the
-/// text of a link: a path made of a folder, a slash and such a text has at most 4,095 + 1 + 4,095,
-/// which is 8,191.
-const PATH: usize = 8192;
 
 /// The names of folders of the system.
 #[derive(Drop)]
@@ -54,59 +51,6 @@ impl<'a, R: Files> SystemFolder<'a, R> {
         ensures { result.now ≡ self.now.runtime.now }
     {
         self.runtime
-    }
-}
-
-/// A folder of the system, held open for its sync; or none yet.
-#[derive(Drop)]
-pub struct SystemDir<F: Drop> {
-    file: Option<F>,
-    path: PathBuf,
-}
-
-impl<F: Drop> SystemDir<F> {
-    /// No folder yet, with room for the path of one. It fails only if memory runs out.
-    pub fn new(alloc: Global) -> Result<SystemDir<F>, AllocError>
-        ensures { IfOk result (λ dir. PATH ≤ path_buf_cap dir.path) }
-    {
-        Ok(SystemDir {
-            file: None,
-            path: PathBuf::with_capacity(alloc, PATH)?,
-        })
-    }
-
-    /// Opens the folder at a path, instead of the one that was open before. Its path is kept for
-    /// the calls on names in it. An error is that of the system, or that memory ran out for the
-    /// path. After an error the kept path can be another one than that of the folder that is still
-    /// open, so call `open` again, and nothing else before it succeeds.
-    pub fn open<R: Files<File = F>>(&mut self, runtime: &R, path: &str) -> Result<(), SystemFault>
-        ensures { OnOk result (IsSome self.new.file) }
-    {
-        put_path(&mut self.path, path, "")?;
-        match fs::open(runtime, path) {
-            Ok(file) => {
-                self.file = Some(file);
-                Ok(())
-            }
-            Err(error) => Err(SystemFault(error)),
-        }
-    }
-}
-
-/// Writes to `path` the path of a name in a folder, or that of the folder itself if the name is
-/// empty; what `path` has before is lost. It fails only if memory runs out, which is a fault of the
-/// system here.
-fn put_path(path: &mut PathBuf, folder: &str, name: &str) -> Result<(), SystemFault> {
-    path.clear();
-    let Ok(()) = path.push(folder) else {
-        return Err(SystemFault(io::Error::from(ErrorKind::OutOfMemory)));
-    };
-    if name.is_empty() {
-        return Ok(());
-    }
-    match path.push(name) {
-        Ok(()) => Ok(()),
-        Err(_) => Err(SystemFault(io::Error::from(ErrorKind::OutOfMemory))),
     }
 }
 
@@ -228,10 +172,6 @@ impl<R: Files> Folder for SystemFolder<'_, R> {
 /// A new file of the system, open to be written.
 #[derive(Drop)]
 pub struct SystemFile<F: Drop>(F);
-
-/// A call of the system failed.
-#[derive(Drop)]
-pub struct SystemFault(pub io::Error);
 
 /// The system wrote bytes.
 #[derive(Drop)]

@@ -1,8 +1,8 @@
 -- What holds of a call's outcome holds of it without its error.
 use Rattle.std.proofs.Common.{◌≡◌, ◌⊎◌, ℕ, List, Option, Some, None, Result, Ok, Err, inl, inr, arith, refl, ◌≢◌}
 use Rattle.std.specs.Prelude.{IfOk, IfErr, IsErr, IsOk, OnOk, OnErr}
-use Rattle.irig_disk.specs.{Disk.Disk, Disk.LeavesOnly, Disk.MayLeave, Held.Held, Put.AfterFault, Put.IsKept, Put.IsPutLast, Put.OldOrNewIfThere}
-use Rattle.irig_disk.specs.{Put.SeenAfter, Put.SeenSameIfThere, Stays.Stays, Writing.IsUnchanged, declared.fault.PutFault.PutFault}
+use Rattle.irig_disk.specs.{Disk.Disk, Disk.LeavesOnly, Disk.MayLeave, Held.Held, Faults.AfterFault, Put.IsKept, Put.IsPutLast, Put.OldOrNewIfThere}
+use Rattle.irig_disk.specs.{Faults.SeenAfter, Put.SeenSameIfThere, Stays.Stays, Writing.IsUnchanged, declared.fault.PutFault.PutFault}
 use Rattle.irig_disk.specs.declared.fault.PutFault.TheVariants as fault
 use Rattle.irig_files.specs.Once.{PutsOnce, Replaces}
 

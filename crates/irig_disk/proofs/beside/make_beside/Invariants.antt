@@ -1,5 +1,5 @@
 use Rattle.std.specs.Prelude.{IsTrue}
-use Rattle.irig_disk.specs.{Put.AllTaken, Writing.IsUnchanged}
+use Rattle.irig_disk.specs.{NewNames.AllTaken, Writing.IsUnchanged}
 use Rattle.irig_disk.proofs.beside.make_beside.Given as goal
 
 abbrev pub invariant-loop-number : goal.invariant-loop-number

@@ -14,7 +14,8 @@ invariant-parts g l = record {
   so_far : List ℕ;
   whole : so_far ++ g.T.Text.rest l.text ≡ g.T.Text.rest l.fn.text;
   count : l.new.count ≡ l.fn.new.count + length so_far;
-  adds : IsTrue g.F.Folder.is_told → Adds g.F.Folder.disk l.fn.folder l.folder (g.F.Folder.place l.fn.new.dir.now l.fn.new.beside.now) (g.F.Folder.number l.fn.new.file) so_far;
+  adds : IsTrue g.F.Folder.is_told → Adds g.F.Folder.disk l.fn.folder l.folder (g.F.Folder.place l.fn.new.dir.now l.fn.new.beside.now)
+      (g.F.Folder.number l.fn.new.file) so_far;
 }
 
 -- the bytes that are still to come

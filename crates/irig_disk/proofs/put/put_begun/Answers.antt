@@ -11,6 +11,8 @@ returns-in-Ok-clause-put g c = rw c.in-Ok.is (λ told start so_far w.
     let to_mode = ap (first_mode g.F.Folder.usual_mode) same.mode in
     either_way c.append_all-written.result (same.ok told) (same.err told) end.ok end.err
     (λ all ends. rw (same.dir, same.target, same.mode) at
-    (ends told start _ (called _ _ _ _ _ _ _ _ _ _ _ (λ j. g.F.Folder.place (same.dir j) (same.beside j)) (λ j. g.F.Folder.place (same.dir j) (same.target j)) same.file to_mode (all.still _ _ start so_far w))))
+    (ends told start _ (called _ _ _ _ _ _ _ _ _ _ _ (λ j. g.F.Folder.place (same.dir j) (same.beside j))
+    (λ j. g.F.Folder.place (same.dir j) (same.target j)) same.file to_mode (all.still _ _ start so_far w))))
     (λ some ends. let spoilt = some.still _ _ start so_far w in
-    rw (same.dir, same.target) at (ends told text _ start _ (called _ _ _ _ _ _ _ _ _ _ _ (λ j. g.F.Folder.place (same.dir j) (same.beside j)) (λ j. g.F.Folder.place (same.dir j) (same.target j)) same.file refl spoilt.1))))
+    rw (same.dir, same.target) at (ends told text _ start _ (called _ _ _ _ _ _ _ _ _ _ _ (λ j. g.F.Folder.place (same.dir j) (same.beside j))
+    (λ j. g.F.Folder.place (same.dir j) (same.target j)) same.file refl spoilt.1))))

@@ -1,5 +1,5 @@
 use Rattle.irig_disk.proofs.Steps.{took_mode, took_none}
-use Rattle.irig_disk.proofs.new_text.give_mode.Goals as goal
+use Rattle.irig_disk.proofs.placing.give_mode.Goals as goal
 
 pub returns-in-Ok-clause-ok : goal.returns-in-Ok-clause-ok
 returns-in-Ok-clause-ok g c told beside target start text w =

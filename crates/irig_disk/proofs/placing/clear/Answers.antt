@@ -1,5 +1,5 @@
 use Rattle.irig_disk.proofs.Steps.{after_removal, freed_moments, may_remove}
-use Rattle.irig_disk.proofs.new_text.clear.Goals as goal
+use Rattle.irig_disk.proofs.placing.clear.Goals as goal
 
 pub returns-clause-left : goal.returns-clause-left
 returns-clause-left g c told start target text s =

@@ -1,6 +1,6 @@
 use Rattle.std.proofs.lemmas.Result.{on_ok_weaker, on_err_weaker}
 use Rattle.irig_disk.proofs.Steps.{stuck_at_sync, stuck_at_rename, comes_to_its_place}
-use Rattle.irig_disk.proofs.new_text.rename_synced.Goals as goal
+use Rattle.irig_disk.proofs.placing.rename_synced.Goals as goal
 
 pub returns-in-Ok-clause-ok : goal.returns-in-Ok-clause-ok
 returns-in-Ok-clause-ok g c told mode start text w =

@@ -1,6 +1,6 @@
 use Rattle.std.proofs.Common.{◌∙◌}
 use Rattle.irig_disk.proofs.Steps.{stays_kept, stays_put, stays_moments, not_kept}
-use Rattle.irig_disk.proofs.new_text.keep.Goals as goal
+use Rattle.irig_disk.proofs.placing.keep.Goals as goal
 
 pub returns-in-Ok-clause-ok : goal.returns-in-Ok-clause-ok
 returns-in-Ok-clause-ok g c told start beside name text is p =

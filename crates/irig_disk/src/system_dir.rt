@@ -1,0 +1,73 @@
+//! An open folder of the system, and paths of names in it.
+//!
+//! A path is built in memory that is taken before the first call. If it is longer than that memory,
+//! and no more is there, the fault is a `SystemFault`, as that of a call.
+
+ghost use Rattle.std.specs.Prelude.{◌≤◌, IfOk, IsSome, OnOk};
+ghost use Rattle.std.specs.{Path.path_buf_cap};
+ghost use Rattle.irig_disk.specs.declared.system_dir.TheConstants.{PATH};
+
+use crate::system_fault::SystemFault;
+use std::alloc::{AllocError, Global};
+use std::io::ErrorKind;
+use std::path::PathBuf;
+use std::rt::Files;
+use std::{fs, io};
+
+/// How many bytes a path has room for. A path of the system has at most 4,095 bytes, and so has the
+/// text of a link: a path made of a folder, a slash and such a text has at most 4,095 + 1 + 4,095,
+/// which is 8,191.
+pub(crate) const PATH: usize = 8192;
+
+/// A folder of the system, held open for its sync; or none yet.
+#[derive(Drop)]
+pub struct SystemDir<F: Drop> {
+    pub(crate) file: Option<F>,
+    pub(crate) path: PathBuf,
+}
+
+impl<F: Drop> SystemDir<F> {
+    /// No folder yet, with room for the path of one. It fails only if memory runs out.
+    pub fn new(alloc: Global) -> Result<SystemDir<F>, AllocError>
+        ensures { IfOk result (λ dir. PATH ≤ path_buf_cap dir.path) }
+    {
+        Ok(SystemDir {
+            file: None,
+            path: PathBuf::with_capacity(alloc, PATH)?,
+        })
+    }
+
+    /// Opens the folder at a path, instead of the one that was open before. Its path is kept for
+    /// the calls on names in it. An error is that of the system, or that memory ran out for the
+    /// path. After an error the kept path can be another one than that of the folder that is still
+    /// open, so call `open` again, and nothing else before it succeeds.
+    pub fn open<R: Files<File = F>>(&mut self, runtime: &R, path: &str) -> Result<(), SystemFault>
+        ensures { OnOk result (IsSome self.new.file) }
+    {
+        put_path(&mut self.path, path, "")?;
+        match fs::open(runtime, path) {
+            Ok(file) => {
+                self.file = Some(file);
+                Ok(())
+            }
+            Err(error) => Err(SystemFault(error)),
+        }
+    }
+}
+
+/// Writes to `path` the path of a name in a folder, or that of the folder itself if the name is
+/// empty; what `path` has before is lost. It fails only if memory runs out, which is a fault of the
+/// system here.
+pub(crate) fn put_path(path: &mut PathBuf, folder: &str, name: &str) -> Result<(), SystemFault> {
+    path.clear();
+    let Ok(()) = path.push(folder) else {
+        return Err(SystemFault(io::Error::from(ErrorKind::OutOfMemory)));
+    };
+    if name.is_empty() {
+        return Ok(());
+    }
+    match path.push(name) {
+        Ok(()) => Ok(()),
+        Err(_) => Err(SystemFault(io::Error::from(ErrorKind::OutOfMemory))),
+    }
+}
