@@ -67,6 +67,7 @@ pub enum OptionFault {
     #[error("--form calendar: frames of this expression have no year, so give --year")]
     NoYear,
     /// The table is asked for, and an option for lines that are not read.
-    #[error("--table: reads no lines, so without --unit, --offset, --column, --header, --name and --why")]
+    #[error("--table: reads no lines, so without --unit, --offset, --column, --header, --name and \
+         --why")]
     Table,
 }
