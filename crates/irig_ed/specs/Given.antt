@@ -2,7 +2,7 @@
 use Rattle.std.specs.Prelude.{◌≡◌, ℕ, Bool, List, Option, IsTrue, is_some, true}
 use Rattle.irig_disk.specs.Disk.{Disk}
 use Rattle.irig_files.specs.Apart.{AreApart, LeadToOneFile, Spares}
-use Rattle.irig_files.specs.{Tracks.Unreadable, Writes.LeavesTo, Writes.Write}
+use Rattle.irig_files.specs.{Goes.LeavesTo, Tracks.Unreadable, Writes.Write}
 use Rattle.irig_script.specs.Print.Screen.{Shown}
 use Rattle.irig_settings.specs.declared.chosen.Settings.{Settings}
 

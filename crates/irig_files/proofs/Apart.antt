@@ -3,7 +3,7 @@ use Rattle.std.proofs.Common.{◌≡◌, ◌≢◌, ◌∙◌, ◌&&◌, inl, in
 use Rattle.std.proofs.lemmas.Bool.{and_parts, eqb-true}
 use Rattle.irig_disk.specs.{Disk.Disk, Disk.MayLeave, Held.Held}
 use Rattle.irig_files.specs.Apart.{AreApart, HasId, LeadToOneFile, StaysAt}
-use Rattle.irig_files.specs.Writes.{AreAt, Goes, IsLeftBy, Write}
+use Rattle.irig_files.specs.{Goes.Goes, Writes.AreAt, Writes.IsLeftBy, Writes.Write}
 
 with_id : (id_of : ℕ → ℕ × ℕ) (found : Option ℕ) (id : ℕ × ℕ) → Some id ≡ option_map id_of found → (file : ℕ) × (found ≡ Some file) × (id ≡ id_of file)
 with_id id_of None id is = absurd (cc is)

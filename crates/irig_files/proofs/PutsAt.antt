@@ -6,7 +6,7 @@ use Rattle.std.specs.Str.{bytes_eq}
 use Rattle.irig_text.specs.Shelved.{GrowsBy}
 use Rattle.irig_disk.specs.{Disk.Disk, Disk.IsPlace, Held.Held, Put.IsKept, Put.TriesOne, Trail.Moved, Trail.NotMoved, Trail.Synced}
 use Rattle.irig_files.specs.Puts.{with_text, texts_of, texts_at, writes_on}
-use Rattle.irig_files.specs.{Once.FailsToPut, Once.PutsOnce, Once.PutsText, Taken.mode_at, Writes.Write, Writes.write, Writes.writes_in, Going.writes_more}
+use Rattle.irig_files.specs.{Once.FailsToPut, Once.PutsOnce, Once.PutsText, Taken.mode_at, Writes.Write, Writes.write, Writes.writes_in, WriteLists.writes_more}
 
 -- a text at the end of others, whose first is at the path or is not, and was kept or was not
 behind : (here is_kept : Bool) (first text : List ℕ) (xs ys : Option (List (List ℕ))) → ys ≡ option_map (λ ts. ts ++ text ∷ []) xs

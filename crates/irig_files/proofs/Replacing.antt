@@ -6,7 +6,7 @@ use Rattle.irig_disk.specs.Put.{IsKept, IsPut, IsPutLast, OldIfThere, OldOrNewIf
 use Rattle.irig_disk.specs.{Held.Held, Stays.Stays, Trail.Step, Trail.Moved, Trail.NotMoved, Trail.Synced, Writing.IsUnchanged}
 use Rattle.irig_disk.proofs.Names.{same_or_not}
 use Rattle.irig_files.specs.Once.{FailsToPut, PutsOnce}
-use Rattle.irig_files.specs.Writes.{AreAt, EachIsKept, Goes, IsLeftBy, IsMeant, kept_by, write, writes_in}
+use Rattle.irig_files.specs.{Goes.EachIsKept, Goes.Goes, Goes.IsMeant, Writes.AreAt, Writes.IsLeftBy, Writes.kept_by, Writes.write, Writes.writes_in}
 
 -- what is seen is there
 shown : (d : Disk) (n : List ℕ) (h : Held) → seen_under d n ≡ Some h → d.leads n ≢ None

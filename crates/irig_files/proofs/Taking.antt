@@ -5,7 +5,7 @@ use Rattle.irig_disk.specs.{Disk.Disk, Held.Held, Put.held, Put.last_mode}
 use Rattle.irig_files.specs.Once.{PutsOnce, PutsText, Replaces}
 use Rattle.irig_files.proofs.Passed.{puts_once}
 use Rattle.irig_files.specs.Apart.{HasId}
-use Rattle.irig_files.specs.Taken.{HasFile, IsFree, IsLocked, MayTake, Takes, mode_at, mode_of}
+use Rattle.irig_files.specs.Taken.{HasFile, IsFree, IsLocked, MayTake, TakesMode, mode_at, mode_of}
 
 no_file : (id_of : ℕ → ℕ × ℕ) (found : Option ℕ) → None ≡ option_map id_of found → found ≡ None
 no_file id_of None is = refl
@@ -17,7 +17,7 @@ free_by_id disk id_of path has place at = no_file id_of (disk.leads place) (has 
 
 -- the file where the links lead is that of the path
 pub takes_there : (disk : Disk) (may_write : ℕ → Type 0) (path target : List ℕ) (is_there : Bool) (mode : Option ℕ) → disk.paths target ≡ disk.paths path
-    → (is_there ≡ false → IsFree disk path) → MatchOption mode (is_there ≡ false) (MayTake disk may_write target) → Takes disk may_write path mode
+    → (is_there ≡ false → IsFree disk path) → MatchOption mode (is_there ≡ false) (MayTake disk may_write target) → TakesMode disk may_write path mode
 takes_there disk may_write path target is_there None same free takes = free takes
 takes_there disk may_write path target is_there (Some mode) same free takes = record {
   file = takes.file;
@@ -33,14 +33,14 @@ seen_mode usual disk place found at =
 
 -- the new file has the mode that is taken, or the usual one
 pub mode_taken : (usual : ℕ) (disk : Disk) (may_write : ℕ → Type 0) (path place : List ℕ) (mode : Option ℕ) → disk.paths path ≡ Some place
-    → Takes disk may_write path mode → last_mode usual mode ≡ mode_at usual disk (Some place)
+    → TakesMode disk may_write path mode → last_mode usual mode ≡ mode_at usual disk (Some place)
 mode_taken usual disk may_write path place None at takes = sym (seen_mode usual disk place None (takes place at))
 mode_taken usual disk may_write path place (Some mode) at takes =
     sym takes.has.1 ∙ sym (seen_mode usual disk place (Some takes.file) (takes.there place at))
 
 -- a file that must not be written has no mode to take
 pub not_locked : (disk : Disk) (may_write : ℕ → Type 0) (path : List ℕ) (target : Option (List ℕ)) (mode : Option ℕ) → disk.paths path ≡ target
-    → Takes disk may_write path mode → HasFile (IsLocked may_write) disk target → ⊥
+    → TakesMode disk may_write path mode → HasFile (IsLocked may_write) disk target → ⊥
 not_locked disk may_write path None mode at takes locked = locked
 not_locked disk may_write path (Some place) None at takes locked =
     let clash : None ≡ Some locked.0 = sym (takes place at) ∙ locked.1 in absurd (cc clash)
@@ -55,7 +55,7 @@ not_locked_by disk may_write (Some place) is locked = absurd (cc is)
 
 -- a text that was written at the place of a path, by the mode that is taken
 pub puts_text : {T U E F : Type 0} (usual : ℕ) (old new : Disk) (may_write : ℕ → Type 0) (path place : List ℕ) (mode : Option ℕ) (text : List ℕ)
-    (outcome : Result T E) (result : Result U F) → old.paths path ≡ Some place → Takes old may_write path mode → OnOk result (IsOk outcome)
+    (outcome : Result T E) (result : Result U F) → old.paths path ≡ Some place → TakesMode old may_write path mode → OnOk result (IsOk outcome)
     → OnErr result (IsErr outcome) → Replaces old new place (held usual mode text) outcome → PutsText usual old new (old.paths path) text result
 puts_text usual old new may_write path place mode text outcome result at takes ok err r =
     subst (λ (m : ℕ). PutsOnce old new (old.paths path) (record { bytes = text; mode = m }) result)

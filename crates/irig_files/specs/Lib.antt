@@ -1,10 +1,14 @@
 pub mod Apart
+pub mod Goes
 pub mod Going
+pub mod Nowhere
 pub mod Once
 pub mod Paths
 pub mod Puts
 pub mod Reads
+pub mod StillKept
 pub mod Taken
 pub mod Tracks
 pub mod Ways
+pub mod WriteLists
 pub mod Writes

@@ -24,9 +24,9 @@ pub record MayTake (disk : Disk) (may_write : ℕ → Type 0) (path : List ℕ) 
     pub has : HasMode disk file mode
 
 -- a new file takes the mode of the one that is there, which may be written; or none is there
-abbrev pub Takes : Disk → (ℕ → Type 0) → List ℕ → Option ℕ → Type 0
-Takes disk may_write path None = IsFree disk path
-Takes disk may_write path (Some mode) = MayTake disk may_write path mode
+abbrev pub TakesMode : Disk → (ℕ → Type 0) → List ℕ → Option ℕ → Type 0
+TakesMode disk may_write path None = IsFree disk path
+TakesMode disk may_write path (Some mode) = MayTake disk may_write path mode
 
 -- the mode of what is seen; the usual one, if nothing is
 abbrev pub mode_of : ℕ → Option Held → ℕ

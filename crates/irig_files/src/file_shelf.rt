@@ -5,8 +5,8 @@
 ghost use Rattle.std.specs.Prelude.{◌≡◌, ◌∷◌, IsTrue, refl};
 ghost use Rattle.std.proofs.Common.{◌∙◌};
 ghost use Rattle.irig_text.specs.Shelved.{shelved};
-ghost use Rattle.irig_files.specs.Going.{barred_by_both, goes_by_both, goes_nowhere};
-ghost use Rattle.irig_files.specs.{Puts.texts_at, Puts.writes_on, Taken.StaysBarred, Writes.Goes};
+ghost use Rattle.irig_files.specs.{Going.barred_by_both, Going.goes_by_both, Nowhere.goes_nowhere};
+ghost use Rattle.irig_files.specs.{Goes.Goes, Puts.texts_at, Puts.writes_on, Taken.StaysBarred};
 
 use crate::disk::Disk;
 use crate::room::Room;

@@ -14,7 +14,7 @@ ghost use Rattle.std.specs.Path.{path_buf_bytes};
 ghost use Rattle.irig_disk.specs.Writing.{IsUnchanged};
 ghost use Rattle.irig_files.specs.Paths.{LeadsTo, folder_of};
 ghost use Rattle.irig_files.specs.{Once.PutsText, Puts.count_of, Taken.HasFile, Taken.IsLocked};
-ghost use Rattle.irig_files.specs.Taken.{StaysBarred, Takes};
+ghost use Rattle.irig_files.specs.Taken.{StaysBarred, TakesMode};
 
 use crate::file_system::FileSystem;
 use crate::in_place::write_in_place;
@@ -107,7 +107,7 @@ fn replace<C: FileSystem, T: Text>(
     ensures put { IsTrue C.is_told → (path : List ℕ) → LeadsTo (C.link_at system.old)
         (C.is_other system.old) (C.disk system.old).paths path (path_buf_bytes room.old.target)
         → (C.is_other system.old path → ⊥)
-        → Takes (C.disk system.old) (C.may_write system.old) path mode
+        → TakesMode (C.disk system.old) (C.may_write system.old) path mode
         → PutsText C.usual_mode (C.disk system.old) (C.disk system.new)
         ((C.disk system.old).paths path) (T.rest text.old) result }
 {

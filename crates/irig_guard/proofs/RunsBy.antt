@@ -14,7 +14,7 @@ use Rattle.irig_guard.specs.{RunsBy.RunsBy, Windows.GuardsIn, Windows.MayRunShor
 use Rattle.irig_guard.proofs.Windows.{fails_in}
 use Rattle.irig_guarding.specs.declared.product.Product.TheVariants as product
 use Rattle.irig_disk.specs.{Disk.Disk, Disk.MayLeave, Held.Held}
-use Rattle.irig_files.specs.{Apart.StaysAt, Puts.texts_at, Tracks.name_in, Writes.Goes, Writes.Write}
+use Rattle.irig_files.specs.{Apart.StaysAt, Goes.Goes, Puts.texts_at, Tracks.name_in, Writes.Write}
 use Rattle.irig_files.proofs.{Apart.stays_apart, Apart.stays_here, Sound.never_in}
 
 -- the shelf was at the path of the settings, from the start to the end

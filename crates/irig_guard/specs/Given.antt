@@ -3,7 +3,7 @@ use Rattle.std.specs.Prelude.{◌≡◌, ◌⊎◌, ℕ, Bool, List, Option, IsT
 use Rattle.std.specs.Prelude.{option_map, true, unwrap_or}
 use Rattle.irig_disk.specs.Disk.{Disk}
 use Rattle.irig_files.specs.Apart.{AreApart, LeadToOneFile, Spares}
-use Rattle.irig_files.specs.{Tracks.Unreadable, Writes.LeavesTo, Writes.Write}
+use Rattle.irig_files.specs.{Goes.LeavesTo, Tracks.Unreadable, Writes.Write}
 use Rattle.irig_guarding.specs.declared.product.Product.{Product}
 use Rattle.irig_guarding.specs.declared.product.Product.TheVariants as product
 use Rattle.irig_guard.specs.{Others.IsOther, declared.chosen.Settings.Settings}

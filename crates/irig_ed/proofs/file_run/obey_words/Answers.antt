@@ -5,7 +5,7 @@ use Rattle.irig_ed.specs.declared.ending.Ending.TheVariants.{Usage, Unread, Over
 use Rattle.irig_ed.specs.{Ending.EndsBy, Ending.Obeys, Given.Ends, Given.Files, declared.ending.Ending.Ending}
 use Rattle.std.proofs.Common.{refl}
 use Rattle.irig_files.proofs.Apart.{stays_here}
-use Rattle.irig_files.specs.Going.{leaves_nowhere}
+use Rattle.irig_files.specs.Nowhere.{leaves_nowhere}
 use Rattle.irig_ed.proofs.file_run.obey_words.Goals as goal
 
 ends_by : (words : List Text) (given : Files) (old new : Ends) (chosen : Settings) (ending : Ending) → Reads words (Ok chosen)

@@ -1,6 +1,6 @@
 use Rattle.std.proofs.Common.{refl, rules}
 use Rattle.irig_files.proofs.Apart.{stays_here}
-use Rattle.irig_files.specs.Going.{leaves_nowhere}
+use Rattle.irig_files.specs.Nowhere.{leaves_nowhere}
 use Rattle.irig_ed.proofs.file_run.run_if_apart.Goals as goal
 
 pub run_on_track-requires : goal.run_on_track-requires

@@ -1,7 +1,7 @@
 use Rattle.std.proofs.Common.{◌≡◌, ◌∙◌, Ok, refl, sym}
 use Rattle.irig_ed.proofs.{RunsBy.fails_by, Windows.few_of, Windows.of_session}
 use Rattle.irig_files.proofs.Apart.{stays_here}
-use Rattle.irig_files.specs.{Going.leaves_nowhere, Tracks.name_in}
+use Rattle.irig_files.specs.{Nowhere.leaves_nowhere, Tracks.name_in}
 use Rattle.irig_vcd.specs.{Answer.bytes_of, Window.parts_in}
 use Rattle.irig_ed.proofs.script_run.run_on_read.Goals as goal
 

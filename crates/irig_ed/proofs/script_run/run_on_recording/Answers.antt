@@ -2,7 +2,7 @@ use Rattle.std.proofs.Common.{◌∷◌, ◌∙◌, ap, drop, List, ℕ, rules, 
 use Rattle.std.specs.Prelude.{IsTrue}
 use Rattle.irig_edit.specs.Opened.Openings.{MayBeShort}
 use Rattle.irig_files.proofs.{Apart.stays_apart, PutsAt.texts_where}
-use Rattle.irig_files.specs.{Puts.texts_at, Puts.writes_on, Taken.StaysBarred, Tracks.name_in, Writes.GoesTo}
+use Rattle.irig_files.specs.{Goes.GoesTo, Puts.texts_at, Puts.writes_on, Taken.StaysBarred, Tracks.name_in}
 use Rattle.irig_ed.specs.Given.{files}
 use Rattle.irig_ed.proofs.{RunsBy.runs_by, Windows.runs_in}
 use Rattle.irig_ed.proofs.script_run.run_on_recording.Goals as goal

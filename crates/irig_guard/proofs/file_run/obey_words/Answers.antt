@@ -5,7 +5,7 @@ use Rattle.irig_guard.specs.Given.{Ends, Files, IsRead}
 use Rattle.irig_guard.specs.declared.ending.Ending.TheVariants.{Usage, Unread, Over, OverOther, UnusableOther, Unknown, Ran}
 use Rattle.irig_guard.specs.{Settings.Reads, declared.chosen.Settings.Settings, declared.ending.Ending.Ending}
 use Rattle.std.proofs.Common.{refl}
-use Rattle.irig_files.specs.Going.{leaves_nowhere}
+use Rattle.irig_files.specs.Nowhere.{leaves_nowhere}
 use Rattle.irig_guard.proofs.file_run.obey_words.Goals as goal
 
 ends_by : (words : List Text) (given : Files) (old new : Ends) (chosen : Settings) (ending : Ending) → Reads words (Ok chosen)

@@ -1,5 +1,5 @@
 use Rattle.std.proofs.Common.{refl, inr}
-use Rattle.irig_files.specs.Going.{leaves_nowhere}
+use Rattle.irig_files.specs.Nowhere.{leaves_nowhere}
 use Rattle.irig_files.proofs.Apart.{stays_here}
 use Rattle.irig_guard.proofs.file_run.run_with_room.Goals as goal
 

@@ -1,5 +1,5 @@
 use Rattle.std.proofs.Common.{refl, rules}
-use Rattle.irig_files.specs.Going.{leaves_nowhere}
+use Rattle.irig_files.specs.Nowhere.{leaves_nowhere}
 use Rattle.irig_files.proofs.Apart.{stays_here}
 use Rattle.irig_guard.proofs.script_run.run_if_apart.Goals as goal
 

@@ -4,7 +4,7 @@ use Rattle.irig_files.specs.Tracks.{name_in}
 use Rattle.irig_files.proofs.Apart.{stays_here}
 use Rattle.irig_files.proofs.PutsAt.{texts_where}
 use Rattle.std.specs.Prelude.{IsTrue}
-use Rattle.irig_files.specs.{Going.leaves_nowhere, Puts.texts_at, Puts.writes_on, Taken.StaysBarred, Writes.GoesTo}
+use Rattle.irig_files.specs.{Goes.GoesTo, Nowhere.leaves_nowhere, Puts.texts_at, Puts.writes_on, Taken.StaysBarred}
 use Rattle.irig_guard.specs.Given.{AreSpared, files, place_of, product_of}
 use Rattle.irig_guard.proofs.{RunsBy.apart_from, RunsBy.fails_by, RunsBy.path_stays, RunsBy.runs_by, Windows.guards_in, Windows.runs_short}
 use Rattle.irig_guarding.specs.declared.product.Product.TheVariants as product

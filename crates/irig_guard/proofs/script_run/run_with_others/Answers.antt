@@ -1,6 +1,6 @@
 use Rattle.std.proofs.Common.{refl, rules}
 use Rattle.irig_files.proofs.Apart.{stays_here}
-use Rattle.irig_files.specs.Going.{leaves_nowhere}
+use Rattle.irig_files.specs.Nowhere.{leaves_nowhere}
 use Rattle.irig_guard.proofs.script_run.run_with_others.Goals as goal
 
 pub returns-in-Ok-Some-clause-obeyed : goal.returns-in-Ok-Some-clause-obeyed
