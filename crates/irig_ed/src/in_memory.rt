@@ -8,7 +8,8 @@ ghost use Rattle.std.specs.Prelude.{◌≡◌, Some, map, string_bytes, true, No
 ghost use Rattle.std.specs.Process.{exit_status};
 ghost use Rattle.irig_files.specs.declared.dump_file.DumpFileFault.TheVariants.{CannotBeRead};
 ghost use Rattle.irig_files.specs.{Puts.writes_on, Taken.IsLocked};
-ghost use Rattle.irig_folders.specs.{Log.disk_of, Log.holds_in, Tree.IsWritable, Tree.tree_disk};
+ghost use Rattle.irig_folders.specs.{Log.holds_in, LogDisk.disk_of};
+ghost use Rattle.irig_folders.specs.Tree.{IsWritable, tree_disk};
 ghost use Rattle.irig_folders.specs.TreeFiles.{held_at};
 ghost use Rattle.irig_ed.specs.{Ending.Serves, Given.ends, Given.files};
 

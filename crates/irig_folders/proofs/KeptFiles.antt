@@ -3,7 +3,7 @@ use Rattle.std.proofs.Common.{◌≡◌, ◌∷◌, ◌∙◌, ◌++◌, ℕ, Li
 use Rattle.std.specs.declared.alloc.Global.{Global}
 use Rattle.irig_folders.specs.declared.call.Call.TheVariants.{Make, Append, TakeMode, SyncFile, Rename, Remove, SyncNames}
 use Rattle.irig_disk.specs.Held.{Held}
-use Rattle.irig_folders.specs.{Log.holds_in, Log.may_hold_in, declared.call.Call.Call}
+use Rattle.irig_folders.specs.{Log.holds_in, LogLeft.may_hold_in, declared.call.Call.Call}
 use Rattle.irig_folders.proofs.LogSteps.{other_file}
 
 -- nothing but what is seen

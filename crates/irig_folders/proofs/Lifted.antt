@@ -10,7 +10,8 @@ use Rattle.irig_disk.specs.Held.{Held}
 use Rattle.irig_disk.proofs.Names.{same_or_not}
 use Rattle.std.specs.Prelude.{is_none}
 use Rattle.irig_folders.specs.TreeLaws.{at_other, no_other}
-use Rattle.irig_folders.specs.Tree.{IsFound, IsOther, free_place, other_in, other_of, over, path_by, path_to, place_at, place_in, tree_disk}
+use Rattle.irig_folders.specs.Tree.{IsFound, IsOther, free_place, path_by, path_to, place_at, tree_disk}
+use Rattle.irig_folders.specs.Places.{other_in, other_of, over, place_in}
 use Rattle.irig_folders.specs.declared.layout.{Layout.Layout, Other.Other}
 
 -- a place to which a path leads has no other file

@@ -3,7 +3,7 @@ use Rattle.std.proofs.Common.{◌≡◌, ◌≢◌, ◌⊎◌, ◌<◌, inl, inr
 use Rattle.std.proofs.Common.{length, Some, None, Vec}
 use Rattle.std.specs.{Bool.Decides, Str.bytes_eq, declared.alloc.Global.Global}
 use Rattle.std.proofs.lemmas.{Bool.cases_eq, Bool.Decides.Decides-eqb, Slice.Eq.bytes_eq-Decides}
-use Rattle.irig_folders.specs.Log.{leads_in, holds_in, may_lead_in, may_hold_in, disk_of}
+use Rattle.irig_folders.specs.{Log.leads_in, Log.holds_in, LogLeft.may_lead_in, LogLeft.may_hold_in, LogDisk.disk_of}
 use Rattle.irig_folders.specs.declared.call.Call.TheVariants.{Make, Append, TakeMode, SyncFile, Rename, Remove, SyncNames}
 use Rattle.irig_disk.specs.{Held.Held, Calls.Made, Calls.SyncedFile, Calls.SyncedNames, Moves.IsMoved}
 use Rattle.irig_folders.specs.declared.call.Call.{Call}

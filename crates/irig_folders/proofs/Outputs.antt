@@ -3,7 +3,7 @@ use Rattle.std.proofs.Common.{◌≡◌, ◌≢◌, ◌∙◌, sym, ap, refl, �
 use Rattle.std.proofs.lemmas.Bool.{eq-eqb}
 use Rattle.std.specs.Prelude.{is_none, option_map}
 use Rattle.irig_folders.specs.{Log.holds_in, Log.leads_in, declared.call.Call.Call}
-use Rattle.irig_folders.specs.Tree.{IsFound, IsOther, other_in, over, path_to}
+use Rattle.irig_folders.specs.{Places.other_in, Places.over, Tree.IsFound, Tree.IsOther, Tree.path_to}
 use Rattle.irig_folders.specs.TreeFiles.{file_at, file_by, file_to, held_at, output_in}
 use Rattle.irig_folders.specs.declared.layout.{Layout.Layout, Other.Other}
 use Rattle.irig_folders.proofs.Lifted.{found_other, found_regular}

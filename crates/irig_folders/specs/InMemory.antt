@@ -1,6 +1,7 @@
 -- The files of a folder in memory. This project's own.
 use Rattle.std.specs.Prelude.{◌≡◌, ℕ, List, Option, Some, None}
-use Rattle.irig_folders.specs.{Log.holds_in, Log.leads_in, Log.own_place, declared.call.Call.Call}
+use Rattle.irig_folders.specs.declared.call.Call.{Call}
+use Rattle.irig_folders.specs.{Log.holds_in, Log.leads_in, LogDisk.own_place}
 use Rattle.irig_files.specs.Paths.{followed}
 
 -- the bytes of the file at a name

@@ -1,7 +1,12 @@
 pub mod InMemory
 pub mod Led
+pub mod LinkLaws
+pub mod Links
 pub mod Log
+pub mod LogDisk
 pub mod LogLaws
+pub mod LogLeft
+pub mod Places
 pub mod Tree
 pub mod TreeFiles
 pub mod TreeLaws

@@ -1,7 +1,7 @@
 -- The laws of time hold of each log.
 use Rattle.std.specs.Prelude.{◌≤◌, ℕ, List, [], ◌∷◌, length, Option}
 use Rattle.std.proofs.Common.{inl, inr, arith}
-use Rattle.irig_folders.specs.Log.{disk_of, left_in}
+use Rattle.irig_folders.specs.{LogDisk.disk_of, LogLeft.left_in}
 use Rattle.irig_disk.specs.{Disk.MayLeave, Held.Held}
 use Rattle.irig_folders.specs.declared.call.Call.{Call}
 

@@ -2,7 +2,7 @@
 -- own.
 use Rattle.std.specs.Prelude.{ℕ, List, [], ◌∷◌, Option, Some, None, cond, option_map}
 use Rattle.irig_folders.specs.Log.{holds_in, leads_in}
-use Rattle.irig_folders.specs.Tree.{ends, over, place_in}
+use Rattle.irig_folders.specs.{Links.ends, Places.over, Places.place_in}
 use Rattle.irig_folders.specs.declared.call.Call.{Call}
 use Rattle.irig_folders.specs.declared.layout.FolderPath.{FolderPath}
 use Rattle.irig_folders.specs.declared.layout.{Layout.Layout, Other.Other}

@@ -6,7 +6,7 @@
 //! item that fits counts.
 
 ghost use Rattle.std.specs.Prelude.{◌≡◌, is_none, option_copied};
-ghost use Rattle.irig_folders.specs.{Tree.front_in, Tree.other_in, TreeFiles.output_in};
+ghost use Rattle.irig_folders.specs.{Places.front_in, Places.other_in, TreeFiles.output_in};
 
 /// A path of a folder. A folder can have many.
 #[derive(Drop)]

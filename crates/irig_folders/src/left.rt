@@ -7,7 +7,7 @@
 
 ghost use Rattle.std.specs.Prelude.{◌≡◌, ◌++◌, IfOk, IsTrue};
 ghost use Rattle.irig_disk.specs.Held.{Held};
-ghost use Rattle.irig_folders.specs.Log.{holds_in, may_hold_in};
+ghost use Rattle.irig_folders.specs.{Log.holds_in, LogLeft.may_hold_in};
 
 use crate::call::Call;
 use std::alloc::{AllocError, Global};

@@ -6,7 +6,9 @@ mod layout;
 mod left;
 mod memory;
 mod memory_fault;
+mod memory_folder;
 mod memory_system;
+mod names;
 mod seen_file;
 mod tree;
 mod tree_paths;
@@ -15,6 +17,7 @@ mod tree_system;
 
 pub use call::Call;
 pub use left::{bytes_of, is_kept, mode_of};
-pub use memory::{Memory, MemoryFile, USUAL, file_at};
+pub use memory::{Memory, MemoryFile, USUAL};
 pub use memory_fault::MemoryFault;
+pub use names::file_at;
 pub use tree::{Plain, Tree, TreeDir};

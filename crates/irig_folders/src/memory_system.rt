@@ -11,12 +11,13 @@
 
 ghost use Rattle.std.specs.Prelude.{◌≡◌, None, ⊤};
 ghost use Rattle.std.proofs.Common.{ap};
-ghost use Rattle.irig_folders.specs.Log.{own_place};
+ghost use Rattle.irig_folders.specs.LogDisk.{own_place};
 ghost use Rattle.irig_folders.specs.InMemory.{holds_at, no_links};
 
 use crate::left::{bytes_of, mode_of};
-use crate::memory::{Memory, file_at};
+use crate::memory::Memory;
 use crate::memory_fault::MemoryFault;
+use crate::names::file_at;
 use crate::seen_file::SeenFile;
 use irig_disk::is_name;
 use irig_files::{

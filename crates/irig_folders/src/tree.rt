@@ -11,7 +11,7 @@
 ghost use Rattle.std.specs.Prelude.{◌++◌, string_bytes, true};
 ghost use Rattle.std.proofs.lemmas.List.{append_cancel_left};
 ghost use Rattle.irig_folders.specs.LogLaws.{log_counts_now, log_only_now};
-ghost use Rattle.irig_folders.specs.Log.{disk_of};
+ghost use Rattle.irig_folders.specs.LogDisk.{disk_of};
 ghost use Rattle.irig_folders.specs.declared.memory.TheConstants.{USUAL};
 ghost use Rattle.irig_folders.specs.Tree.{tree_disk};
 

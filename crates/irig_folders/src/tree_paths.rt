@@ -10,14 +10,15 @@ ghost use Rattle.std.specs.Prelude.{◌≡◌, ◌++◌, IfOk, IsErrOf, None, op
 ghost use Rattle.std.specs.Prelude.{string_bytes};
 ghost use Rattle.std.specs.Path.{path_buf_bytes};
 ghost use Rattle.irig_folders.specs.Log.{leads_in};
-ghost use Rattle.irig_folders.specs.Tree.{IsFound, end_of, over, place_in, text_at, text_of};
+ghost use Rattle.irig_folders.specs.Links.{end_of, text_at, text_of};
+ghost use Rattle.irig_folders.specs.{Places.over, Places.place_in, Tree.IsFound};
 ghost use Rattle.irig_folders.specs.TreeFiles.{file_to};
 ghost use Rattle.irig_folders.specs.declared.memory_fault.MemoryFault.TheVariants.{NoSuchName};
 ghost use Rattle.irig_files.specs.Paths.{followed};
 
 use crate::layout::{Other, front_at, other_at};
-use crate::memory::file_at;
 use crate::memory_fault::MemoryFault;
+use crate::names::file_at;
 use crate::tree::Tree;
 use irig_files::folder_of;
 use std::alloc::{AllocError, Global};

@@ -13,8 +13,9 @@ ghost use Rattle.std.specs.Prelude.{is_none, option_copied, option_map};
 ghost use Rattle.std.proofs.Common.{ap};
 ghost use Rattle.irig_files.specs.declared.dump_file.DumpFileFault.TheVariants.{CannotBeRead};
 ghost use Rattle.irig_folders.specs.Log.{holds_in, leads_in};
-ghost use Rattle.irig_folders.specs.Tree.{IsOther, IsWritable, link_at, other_in, over};
-ghost use Rattle.irig_folders.specs.{TreeFiles.held_at, TreeFiles.output_in, TreeLaws.follows_link};
+ghost use Rattle.irig_folders.specs.{Links.link_at, LinkLaws.follows_link, Places.other_in};
+ghost use Rattle.irig_folders.specs.{Places.over, Tree.IsOther, Tree.IsWritable};
+ghost use Rattle.irig_folders.specs.TreeFiles.{held_at, output_in};
 
 use crate::layout::{front_at, is_regular, output_at};
 use crate::left::mode_of;

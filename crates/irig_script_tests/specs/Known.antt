@@ -4,7 +4,7 @@ use Rattle.std.specs.Prelude.{ℕ, List, Option, Some, codes}
 use Rattle.irig_codes.specs.Format.{FormatView}
 use Rattle.irig_script.specs.Print.Screen.{Shown, Sight}
 use Rattle.irig_files.specs.{Puts.texts_at, Writes.writes_in}
-use Rattle.irig_folders.specs.{Log.own_place, Log.steps_in, declared.call.Call.Call}
+use Rattle.irig_folders.specs.{LogDisk.own_place, LogDisk.steps_in, declared.call.Call.Call}
 
 -- a dump, a format and a script
 pub record Given : Type 0 where

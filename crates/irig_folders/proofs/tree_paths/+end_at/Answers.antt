@@ -2,8 +2,8 @@ use Rattle.std.proofs.Common.{rules, ◌≡◌, Some}
 use Rattle.std.specs.Path.{path_buf_bytes}
 use Rattle.irig_folders.specs.Log.{leads_in}
 use Rattle.irig_files.specs.Paths.{followed}
-use Rattle.irig_folders.specs.Tree.{over, text_at}
-use Rattle.irig_folders.specs.TreeLaws.{end_next}
+use Rattle.irig_folders.specs.{Places.over, Links.text_at}
+use Rattle.irig_folders.specs.LinkLaws.{end_next}
 use Rattle.irig_folders.proofs.tree_paths.+end_at.Goals as goal
 
 pub returns-in_ok-next-in-Some-2 : goal.returns-in_ok-next-in-Some-2

@@ -1,7 +1,7 @@
 use Rattle.std.proofs.Common.{◌∙◌, rules, ap, drop, List, ℕ, subst}
 use Rattle.std.specs.Prelude.{Some}
 use Rattle.irig_files.specs.{Puts.texts_at, Writes.writes_in}
-use Rattle.irig_folders.specs.Log.{own_place, steps_in}
+use Rattle.irig_folders.specs.LogDisk.{own_place, steps_in}
 use Rattle.irig_script_tests.specs.{Known.given, Known.known, Known.texts_in, Watched.IsWatched}
 use Rattle.irig_script_tests.proofs.WatchedRuns.{watched_run}
 use Rattle.irig_script_tests.proofs.watching.watch.Goals as goal

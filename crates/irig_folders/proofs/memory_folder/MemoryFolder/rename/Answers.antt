@@ -1,7 +1,7 @@
 use Rattle.std.proofs.Common.{◌≡◌, rules}
 use Rattle.std.proofs.lemmas.Result.{on_ok_weaker}
 use Rattle.irig_folders.proofs.LogSteps.{log_moves}
-use Rattle.irig_folders.proofs.memory.MemoryFolder.rename.Goals as goal
+use Rattle.irig_folders.proofs.memory_folder.MemoryFolder.rename.Goals as goal
 
 pub returns-clause-ok : goal.returns-clause-ok
 returns-clause-ok c told =

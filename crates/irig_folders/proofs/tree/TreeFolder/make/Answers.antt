@@ -1,6 +1,6 @@
 use Rattle.std.proofs.Common.{rules, ◌≡◌, ◌∙◌, ◌++◌, ap, string_bytes, true}
 use Rattle.std.specs.Prelude.{is_none, vec_len}
-use Rattle.irig_folders.specs.Tree.{other_in}
+use Rattle.irig_folders.specs.Places.{other_in}
 use Rattle.irig_folders.proofs.Lifted.{makes, none_is}
 use Rattle.irig_folders.proofs.tree.TreeFolder.make.Goals as goal
 

@@ -1,0 +1,119 @@
+//! The calls on names in one folder in memory, for tests. Each that is done is added to the log.
+//! What each method does is said with the trait, in irig_disk. A call that is planned to fail
+//! answers `Planned`; each call can also fail as memory runs out, which is `NoMemory`.
+
+ghost use Rattle.std.specs.Prelude.{true};
+ghost use Rattle.irig_folders.specs.LogLaws.{log_counts_now, log_only_now};
+ghost use Rattle.irig_folders.specs.{LogDisk.disk_of, declared.memory.TheConstants.USUAL};
+
+use crate::call::Call;
+use crate::memory::{Memory, MemoryFile, add};
+use crate::memory_fault::MemoryFault;
+use crate::names::file_at;
+use irig_disk::Folder;
+
+impl Folder for Memory {
+    type Dir = ();
+
+    type File = MemoryFile;
+
+    type Appended = ();
+
+    type ModeTaken = ();
+
+    type FileSynced = ();
+
+    type Renamed = ();
+
+    type NameRemoved = ();
+
+    type NamesSynced = ();
+
+    type Fault = MemoryFault;
+
+    ghost is_told = { true };
+
+    ghost usual_mode = { USUAL };
+
+    ghost disk = { λ folder. disk_of folder.calls.items };
+
+    ghost place = { λ _ name. name };
+
+    ghost number = { λ file. file.number };
+
+    ghost apart = { λ _ _ _ _ _ same. same };
+
+    ghost counts_now = { λ folder. log_counts_now folder.calls.items };
+
+    ghost only_now = { λ folder. log_only_now folder.calls.items };
+
+    // Makes a new file under a name if the name is free, a hidden one for its owner alone; `None`:
+    // the name is taken. There is one folder, so the argument for the folder is not used.
+    fn make(
+        &mut self,
+        _: &(),
+        name: &str,
+        hidden: bool,
+    ) -> Result<Option<MemoryFile>, MemoryFault> {
+        self.make_new(name, hidden)
+    }
+
+    // Adds bytes at the end of a file. If the call is planned to fail, half of them (rounded down)
+    // are written, as a call of a system can write a part.
+    fn append(&mut self, file: &mut MemoryFile, bytes: &[u8]) -> Result<(), MemoryFault> {
+        if self.is_planned() {
+            let part = bytes[..bytes.len() / 2].to_vec(self.alloc)?;
+            add(&mut self.calls, Call::Append(file.number, part))?;
+            return Err(MemoryFault::Planned);
+        }
+        let all = bytes.to_vec(self.alloc)?;
+        add(&mut self.calls, Call::Append(file.number, all))
+    }
+
+    // Gives a file a mode: the bits that say who may read and write it.
+    fn take_mode(&mut self, file: &MemoryFile, mode: u32) -> Result<(), MemoryFault> {
+        if self.is_planned() {
+            return Err(MemoryFault::Planned);
+        }
+        add(&mut self.calls, Call::TakeMode(file.number, mode))
+    }
+
+    // Keeps what a file holds: after this call, a crash leaves that.
+    fn sync_file(&mut self, file: &MemoryFile) -> Result<(), MemoryFault> {
+        if self.is_planned() {
+            return Err(MemoryFault::Planned);
+        }
+        add(&mut self.calls, Call::SyncFile(file.number))
+    }
+
+    // Gives the file of the name `from` the name `to`, instead of the file that had it, if there
+    // was one. `NoSuchName`: no file has the name `from`.
+    fn rename(&mut self, _: &(), from: &str, to: &str) -> Result<(), MemoryFault> {
+        if self.is_planned() {
+            return Err(MemoryFault::Planned);
+        }
+        if file_at(&self.calls, from.as_bytes()).is_none() {
+            return Err(MemoryFault::NoSuchName);
+        }
+        let old_name = from.as_bytes().to_vec(self.alloc)?;
+        let new_name = to.as_bytes().to_vec(self.alloc)?;
+        add(&mut self.calls, Call::Rename(old_name, new_name))
+    }
+
+    // Frees a name. `NoSuchName`: no file has it.
+    fn remove(&mut self, _: &(), name: &str) -> Result<(), MemoryFault> {
+        if self.is_planned() {
+            return Err(MemoryFault::Planned);
+        }
+        if file_at(&self.calls, name.as_bytes()).is_none() {
+            return Err(MemoryFault::NoSuchName);
+        }
+        let gone = name.as_bytes().to_vec(self.alloc)?;
+        add(&mut self.calls, Call::Remove(gone))
+    }
+
+    // Keeps all names, as there is one folder: after this call, a crash leaves each as it is seen.
+    fn sync_names(&mut self, _: &()) -> Result<(), MemoryFault> {
+        self.sync_front("")
+    }
+}
