@@ -98,9 +98,9 @@ fn parse_words<'a>(alloc: Global, words: &'a [String]) -> Result<ArgMatches<'a>,
 pub fn command<'a>(alloc: Global) -> Result<Command<'a>, AllocError>
     ensures { IfOk result (λ c. IsCommand (app_of c)) }
 {
-    let before = needed_arg(alloc, "BEFORE", "the dump of the track before");
-    let after = needed_arg(alloc, "AFTER", "the dump of the track after");
-    frames_command(alloc)?.arg(before)?.arg(after)
+    frames_command(alloc)?
+        .arg(needed_arg(alloc, "BEFORE", "the dump of the track before"))?
+        .arg(needed_arg(alloc, "AFTER", "the dump of the track after"))
 }
 
 /// The command with the options of `part_command`, and those that say how frames are shown in
@@ -108,17 +108,14 @@ pub fn command<'a>(alloc: Global) -> Result<Command<'a>, AllocError>
 fn frames_command<'a>(alloc: Global) -> Result<Command<'a>, AllocError>
     ensures { IfOk result (λ c. IsFramesCommand (app_of c)) }
 {
-    let frames = flag_arg(
-        alloc,
-        "frames",
-        "show in comments what the lines do to the frames",
-    );
-    let format = option_arg(alloc, "format", "FORMAT", "A, B, E or G: B");
-    let expression = option_arg(alloc, "expression", "NUMBER", "of the format: 2");
     part_command(alloc)?
-        .arg(frames)?
-        .arg(format)?
-        .arg(expression)
+        .arg(flag_arg(
+            alloc,
+            "frames",
+            "show in comments what the lines do to the frames",
+        ))?
+        .arg(option_arg(alloc, "format", "FORMAT", "A, B, E or G: B"))?
+        .arg(option_arg(alloc, "expression", "NUMBER", "of the format: 2"))
 }
 
 /// The command with the options of `wires_command`, and those of the window, the part of both dumps
@@ -136,9 +133,9 @@ fn part_command<'a>(alloc: Global) -> Result<Command<'a>, AllocError>
 fn wires_command<'a>(alloc: Global) -> Result<Command<'a>, AllocError>
     ensures { IfOk result (λ c. IsWiresCommand (app_of c)) }
 {
-    let wire = wire_arg(alloc, "wire", "the wire of BEFORE");
-    let wire_after = wire_arg(alloc, "wire-after", "the wire of AFTER");
-    Command::new(alloc, "irig_diff").arg(wire)?.arg(wire_after)
+    Command::new(alloc, "irig_diff")
+        .arg(wire_arg(alloc, "wire", "the wire of BEFORE"))?
+        .arg(wire_arg(alloc, "wire-after", "the wire of AFTER"))
 }
 
 /// An option `--name` whose value is the name of a wire. `help` says of which dump.

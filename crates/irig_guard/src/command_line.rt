@@ -108,10 +108,10 @@ fn parse_words<'a>(alloc: Global, words: &'a [String]) -> Result<ArgMatches<'a>,
 pub fn command<'a>(alloc: Global) -> Result<Command<'a>, AllocError>
     ensures { IfOk result (λ c. IsCommand (app_of c)) }
 {
-    let out = option_arg(alloc, "out", "PATH", "where the mended track is written");
-    let track = needed_arg(alloc, "TRACK", "the dump; repairs come on standard input");
-    let save = flag_arg(alloc, "save", "write the journal with the track");
-    judging_command(alloc)?.arg(out)?.arg(save)?.arg(track)
+    judging_command(alloc)?
+        .arg(option_arg(alloc, "out", "PATH", "where the mended track is written"))?
+        .arg(flag_arg(alloc, "save", "write the journal with the track"))?
+        .arg(needed_arg(alloc, "TRACK", "the dump; repairs come on standard input"))
 }
 
 /// The command with the options of `format_command`, and those that say by what repairs are judged
@@ -119,12 +119,13 @@ pub fn command<'a>(alloc: Global) -> Result<Command<'a>, AllocError>
 fn judging_command<'a>(alloc: Global) -> Result<Command<'a>, AllocError>
     ensures { IfOk result (λ c. IsJudgingCommand (app_of c)) }
 {
-    let moved = flag_arg(
-        alloc,
-        "moved",
-        "frames that are fine may move, in their order",
-    );
-    format_command(alloc)?.arg(moved)?.arg(with_arg(alloc))
+    format_command(alloc)?
+        .arg(flag_arg(
+            alloc,
+            "moved",
+            "frames that are fine may move, in their order",
+        ))?
+        .arg(with_arg(alloc))
 }
 
 /// The command with the options of `part_command`, and those of the format of frames: `--format`
@@ -132,9 +133,9 @@ fn judging_command<'a>(alloc: Global) -> Result<Command<'a>, AllocError>
 fn format_command<'a>(alloc: Global) -> Result<Command<'a>, AllocError>
     ensures { IfOk result (λ c. IsFormatCommand (app_of c)) }
 {
-    let format = option_arg(alloc, "format", "FORMAT", "A, B, E or G: B");
-    let expression = option_arg(alloc, "expression", "NUMBER", "of the format: 2");
-    part_command(alloc)?.arg(format)?.arg(expression)
+    part_command(alloc)?
+        .arg(option_arg(alloc, "format", "FORMAT", "A, B, E or G: B"))?
+        .arg(option_arg(alloc, "expression", "NUMBER", "of the format: 2"))
 }
 
 /// The command with the options that say which part of the dump is read: its wire (`--wire`), and

@@ -114,22 +114,22 @@ pub fn command<'a>(alloc: Global) -> Result<Command<'a>, AllocError>
 fn flags_command<'a>(alloc: Global) -> Result<Command<'a>, AllocError>
     ensures { IfOk result (λ c. IsFlagsCommand (app_of c)) }
 {
-    let alone = flag_arg(
-        alloc,
-        "alone",
-        "take each frame that reads well, supported by another or not",
-    );
-    let why = flag_arg(
-        alloc,
-        "why",
-        "a word in place of - says why a line has no time",
-    );
-    let table = flag_arg(
-        alloc,
-        "table",
-        "print a table of the frames; no lines are read",
-    );
-    output_command(alloc)?.arg(alone)?.arg(why)?.arg(table)
+    output_command(alloc)?
+        .arg(flag_arg(
+            alloc,
+            "alone",
+            "take each frame that reads well, supported by another or not",
+        ))?
+        .arg(flag_arg(
+            alloc,
+            "why",
+            "a word in place of - says why a line has no time",
+        ))?
+        .arg(flag_arg(
+            alloc,
+            "table",
+            "print a table of the frames; no lines are read",
+        ))
 }
 
 /// The command with the options of `column_command`, and those of the header and of the new column
@@ -137,15 +137,11 @@ fn flags_command<'a>(alloc: Global) -> Result<Command<'a>, AllocError>
 fn output_command<'a>(alloc: Global) -> Result<Command<'a>, AllocError>
     ensures { IfOk result (λ c. IsOutputCommand (app_of c)) }
 {
-    let header = option_arg(alloc, "header", "NUMBER", "lines of the header: 0");
-    let name = option_arg(alloc, "name", "NAME", "of the new column: time");
-    let year = option_arg(alloc, "year", "YEAR", "the year of the first fine frame");
-    let form = option_arg(alloc, "form", "FORM", "ordinal, calendar or seconds");
     column_command(alloc)?
-        .arg(header)?
-        .arg(name)?
-        .arg(year)?
-        .arg(form)
+        .arg(option_arg(alloc, "header", "NUMBER", "lines of the header: 0"))?
+        .arg(option_arg(alloc, "name", "NAME", "of the new column: time"))?
+        .arg(option_arg(alloc, "year", "YEAR", "the year of the first fine frame"))?
+        .arg(option_arg(alloc, "form", "FORM", "ordinal, calendar or seconds"))
 }
 
 /// The command with the options of `format_command`, and those of the recorder's time, which each
@@ -154,30 +150,26 @@ fn output_command<'a>(alloc: Global) -> Result<Command<'a>, AllocError>
 fn column_command<'a>(alloc: Global) -> Result<Command<'a>, AllocError>
     ensures { IfOk result (λ c. IsColumnCommand (app_of c)) }
 {
-    let unit = option_arg(alloc, "unit", "UNIT", "s, ms, us, ns, ps; 10ns, 100ns: us");
-    let offset = option_arg(
-        alloc,
-        "offset",
-        "NUMBER",
-        "its time at the start of TRACK: 0",
-    );
-    let column = option_arg(
-        alloc,
-        "column",
-        "COLUMN",
-        "of its time: a number from 1, or its name in the header: 1",
-    );
-    let comma = option_arg(
-        alloc,
-        "comma",
-        "CHARACTER",
-        "parts columns, if not white space",
-    );
     format_command(alloc)?
-        .arg(unit)?
-        .arg(offset)?
-        .arg(column)?
-        .arg(comma)
+        .arg(option_arg(alloc, "unit", "UNIT", "s, ms, us, ns, ps; 10ns, 100ns: us"))?
+        .arg(option_arg(
+            alloc,
+            "offset",
+            "NUMBER",
+            "its time at the start of TRACK: 0",
+        ))?
+        .arg(option_arg(
+            alloc,
+            "column",
+            "COLUMN",
+            "of its time: a number from 1, or its name in the header: 1",
+        ))?
+        .arg(option_arg(
+            alloc,
+            "comma",
+            "CHARACTER",
+            "parts columns, if not white space",
+        ))
 }
 
 /// The command with the options of `part_command`, and those of the format of frames: `--format`
@@ -185,9 +177,9 @@ fn column_command<'a>(alloc: Global) -> Result<Command<'a>, AllocError>
 fn format_command<'a>(alloc: Global) -> Result<Command<'a>, AllocError>
     ensures { IfOk result (λ c. IsFormatCommand (app_of c)) }
 {
-    let format = option_arg(alloc, "format", "FORMAT", "A, B, E or G: B");
-    let expression = option_arg(alloc, "expression", "NUMBER", "of the format: 2");
-    part_command(alloc)?.arg(format)?.arg(expression)
+    part_command(alloc)?
+        .arg(option_arg(alloc, "format", "FORMAT", "A, B, E or G: B"))?
+        .arg(option_arg(alloc, "expression", "NUMBER", "of the format: 2"))
 }
 
 /// The command with the options that say which part of the dump is read: its wire (`--wire`), and
