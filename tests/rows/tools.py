@@ -437,38 +437,32 @@ def harms():
     yield same("a rest that is moved right", judged(late, 12000000, [(7849400, move + "600", 600)]), [])
 
 
-def larger_rows():
-    """Rows that are not the eight frames with one change."""
+def of_a_leap_second():
+    """A frame with second 60, which is no damage, and the same lost."""
     leap = recording(10, leap=True)
     yield same("a leap second is no damage", lines_of(leap, 10000000), [])
     del leap[400:500]
-    yield same(
-        "a lost leap second",
-        lines_of(leap, 10000000),
-        ["4000000 frame 2016-366T23:59:60, element 0 to 99: 100 elements without a pulse"],
-    )
+    yield same("a lost leap second", lines_of(leap, 10000000),
+               ["4000000 frame 2016-366T23:59:60, element 0 to 99: 100 elements without a pulse"])
+
+
+def of_stretches():
+    """A stretch that is there twice, one that is cut out, and rises that tremble."""
     copied = recording(12)
-    again(copied, 430, 130)
-    yield starts(
-        "a stretch is there twice",
-        lines_of(copied, 13300000),
-        ["5570000 the 130 elements from 4270000 on are there twice"],
-    )  # three are alike before it
+    again(copied, 430, 130)  # three are alike before it
+    yield starts("a stretch is there twice", lines_of(copied, 13300000), ["5570000 the 130 elements from 4270000 on are there twice"])
     cut = recording(12)
     del cut[430:560]
     moved(cut, 430, -1300000)
-    yield starts(
-        "a stretch is cut out",
-        [line.partition(" ")[2] for line in lines_of(cut, 10700000)],
-        ["130 elements are missing by the times of the frames, and the rest follows at once"],
-    )
+    yield starts("a stretch is cut out", [line.partition(" ")[2] for line in lines_of(cut, 10700000)],
+                 ["130 elements are missing by the times of the frames, and the rest follows at once"])
     tremble = recording()
     trembling(tremble)
-    yield starts(
-        "rises that tremble",
-        lines_of(tremble, 8000000),
-        ["0 the whole recording: rises tremble: half of all"],
-    )
+    yield starts("rises that tremble", lines_of(tremble, 8000000), ["0 the whole recording: rises tremble: half of all"])
+
+
+def given_back():
+    """Damage of which the script gives back the recording, and a frame that is put together of two."""
     yield gives_back("noise that rises nearly in time", nearly_in_time, 8000000)
     yield gives_back("two elements of the last frame, and its seconds of the day say the time", two_of_the_last, 8000000)
     yield gives_back("one rise in nine chatters", chattering, 8000000)
@@ -476,6 +470,10 @@ def larger_rows():
     script, after = mended(without_second(502), 11000000, move=True)  # a one of 5 and a one of 6 would be 7 seconds
     yield same("a frame that is put together of two", after, without_second(600))
     yield same("what is said of it", "times are 1.00 seconds later" in script, True)
+
+
+def of_a_run_that_is_left():
+    """A run of pulses that fits no place: what is said of it, and that it stays."""
     unsure = recording()
     left_alone(unsure)
     seen = "pulses 226 to 231 may begin with element "
@@ -483,6 +481,10 @@ def larger_rows():
     script, after = mended(unsure, 8000000)
     yield starts("a run that is left, the script", script.splitlines(), ["# undecided: at 2604300: " + seen])
     yield same("a run that is left, the pulses", after, unsure)
+
+
+def of_control_functions():
+    """Control functions that one frame has alone, and one that changes and is lost."""
     lone = recording()
     lone[364][1] = 3645000  # a control function
     seen = "# undecided: at 3640000: %s3, element 64: control functions that no other frame has" % FRAME
@@ -503,20 +505,25 @@ def larger_rows():
     first = mended(changing, 12000000)[0].splitlines()[:1]
     yield starts("a control function that changes", first, ["# %s6, element 74, at 6740000: no pulse; this " % FRAME])
     yield same("what is said of it", [line.partition(" is a ")[2] for line in first], ["guess: nothing says whether it was zero or one"])
-    turns = "the falls come at one distance, the rises do not: the wire is upside down from "
-    over = recording()
-    upside_down_in(over, 2503000, 8000000)
-    yield starts("upside down from some time on", lines_of(over, 8000000), ["2503000 " + turns + "2503000 to 8000000"])
-    yield same("upside down from some time on, mended", mended(over, 8000000)[1], recording())
-    over = recording()
-    upside_down_in(over, 2503000, 5503000)
-    yield starts("upside down for a while", lines_of(over, 8000000), ["2503000 " + turns + "2503000 to 5503000"])
-    yield same("upside down for a while, mended", mended(over, 8000000)[1], recording())
+
+
+def upside_down():
+    """A wire that is upside down from a time on, or for a while: found, and mended unless a frame that is fine would change."""
+    turns = "2503000 the falls come at one distance, the rises do not: the wire is upside down from 2503000 to "
+    for name, end in (("upside down from some time on", 8000000), ("upside down for a while", 5503000)):
+        over = recording()
+        upside_down_in(over, 2503000, end)
+        yield starts(name, lines_of(over, 8000000), [turns + str(end)])
+        yield same(name + ", mended", mended(over, 8000000)[1], recording())
     few = recording(12, begin=(730120, 0))  # 1 January 2000, with few ones: the wire is upright for one frame alone
     for stretch in ((2003000, 5943000), (7023000, 11003000)):
         upside_down_in(few, *stretch)
     script, after = mended(few, 12000000)
     yield same("a frame that is fine is not turned over", ("a frame that is fine would change" in script, after), (True, few))
+
+
+def of_another_time():
+    """Frames, or the beginning of one, with a time that the others do not lead to."""
     alone = recording()
     other = timecode.encode("B", 4, timecode.generated("B", (DAY, NOON + 10000), 0, 0))
     for pulse, name in zip(alone[400:500], other):
@@ -529,16 +536,21 @@ def larger_rows():
     moved(cut, 300, -1000000)
     script, after = mended(cut, 3400000)
     yield same("the beginning of a frame of a second later", ("3 elements contradict" in script, after), (True, cut))
+
+
+def of_large_numbers():
+    """A recording that begins after 3000 seconds."""
     late = [[rise + 3000000000, fall + 3000000000] for rise, fall in recording()]
     del late[243]
-    yield same(
-        "numbers are whole",
-        lines_of(late, 3008000000),
-        [
-            "0 remark: no pulse before 3000000000",
-            "3002430000 %s2, element 43: no pulse; a zero has to be there" % FRAME,
-        ],
-    )
+    yield same("numbers are whole", lines_of(late, 3008000000),
+               ["0 remark: no pulse before 3000000000", "3002430000 %s2, element 43: no pulse; a zero has to be there" % FRAME])
+
+
+def larger_rows():
+    """Rows that are not the eight frames with one change."""
+    for rows in (of_a_leap_second, of_stretches, given_back, of_a_run_that_is_left, of_control_functions, upside_down, of_another_time,
+                 of_large_numbers):
+        yield from rows()
 
 
 def turned_next_to_a_hole():
