@@ -77,6 +77,22 @@ def time_of(text):
     return words[: words.index("control")] if "control" in words else words[:-1]
 
 
+def of_frames(case, fine, found, stays):
+    """The worst that can be said of the frames that were found, by those that are fine in truth; `stays` says whether the script leaves
+    one as it was recorded."""
+    near, verdict = case.interval * 45 // 100, TOLD
+    for at, text in found:
+        truth = [true for when, true in fine if near >= min(abs(when - at), abs(when - case.gone * case.interval - at))]
+        if time_of(text) not in map(time_of, truth):
+            late = any(time_of(true) == time_of(text) and is_late(case, at - when) for when, true in fine)
+            if not late and not stays((at, text)):
+                return WRONG
+            verdict = LEFT
+        elif text not in truth and verdict != LEFT:
+            verdict = HIDDEN
+    return verdict
+
+
 def judge(case, options, true_path, damaged_path, script):
     """How well a script repairs the damaged recording."""
     refused, frames, edges = listed(options, damaged_path, script)
@@ -85,23 +101,10 @@ def judge(case, options, true_path, damaged_path, script):
     _, true_frames, true_edges = listed(options, true_path, "")
     if edges == true_edges:
         return WHOLE
-    fine = [(at, text) for at, text in true_frames if text.endswith("fine")]
-    near = case.interval * 45 // 100
-    found = [(at, text) for at, text in frames if text.endswith("fine")]
-    verdict = TOLD
-    for at, text in found:
-        truth = [
-            true
-            for when, true in fine
-            if near >= min(abs(when - at), abs(when - case.gone * case.interval - at))
-        ]
-        if time_of(text) not in map(time_of, truth):
-            late = any(time_of(true) == time_of(text) and is_late(case, at - when) for when, true in fine)
-            if not late and not is_left(case, options, damaged_path, script, (at, text)):
-                return WRONG
-            verdict = LEFT
-        elif text not in truth and verdict != LEFT:
-            verdict = HIDDEN
+    fine, found = ([(at, text) for at, text in each if text.endswith("fine")] for each in (true_frames, frames))
+    verdict = of_frames(case, fine, found, lambda frame: is_left(case, options, damaged_path, script, frame))
+    if verdict == WRONG:
+        return WRONG
     if case.gone:
         return TOLD if says_cut(case, script) else LEFT
     if len(found) < len(fine):
