@@ -103,10 +103,8 @@ def printed(browser: Browser, address: str) -> None:
     check("18 places are two pages", 2, pages_of(browser.paper()))
 
 
-def crowded(browser: Browser, address: str) -> None:
-    """Signs that would cover each other are one, which says for how many; the list shows all, or what is left."""
-    browser.open(address)
-    browser.click("#whole")
+def crowded_strip(browser: Browser) -> None:
+    """Signs that would cover each other are one, which says for how many; a damaged frame has a bar of its share of the pixels."""
     counted = """[...document.querySelectorAll('#strip .signs text.many')].reduce((sum, each) => sum + Number(each.textContent), 0)
         + [...document.querySelectorAll('#strip .signs path:not(.chosen):not(.needle) title')].filter((each) =>
             !each.textContent.includes(" places, the first at ")).length"""
@@ -119,7 +117,10 @@ def crowded(browser: Browser, address: str) -> None:
     browser.run("view.show(0, 60 * held.frame)")
     browser.settle()
     check("one that fills its pixels is a whole bar", "31", browser.run(heights))
-    browser.click("#whole")
+
+
+def crowded_list(browser: Browser) -> None:
+    """The list shows all, or what is left to the user."""
     visible = "[...list.children].filter((item) => item.offsetParent).length"
     check("the list has all", 500, browser.run(visible))
     check("how many are left is said", "left to you: 166", browser.run("byId('filter').textContent.trim()"))
@@ -131,10 +132,24 @@ def crowded(browser: Browser, address: str) -> None:
     browser.press("ArrowDown")
     check("and to the next", "#place-6", browser.run("location.hash"))
     browser.click("#open-only")
+
+
+def times_of_day(browser: Browser) -> None:
+    """A time of the recording as a time of day, and those of the strip."""
     times = "[0, 1e6, 3600.25e6, 43200e6].map((time) => dayTime(time, 2))"
     check("the time of day", ["12:00:00.00", "12:00:01.00", "13:00:00.25", "00:00:00.00"], browser.run(times))
     shown_times = "[...document.querySelectorAll('#strip .of-day')].every((each) => /^[0-9]{2}:[0-9]{2}:[0-9]{2}$/.test(each.textContent))"
     check("the strip has it", True, browser.run(shown_times))
+
+
+def crowded(browser: Browser, address: str) -> None:
+    """A page with 500 places: its strip, its list and its times."""
+    browser.open(address)
+    browser.click("#whole")
+    crowded_strip(browser)
+    browser.click("#whole")
+    crowded_list(browser)
+    times_of_day(browser)
 
 
 def copies(browser: Browser) -> None:
