@@ -54,6 +54,15 @@ class Recording:
         return timecode.INTERVAL[self.kind]
 
 
+def with_silence(tape, heard, rate):
+    """What is heard, with the silence before it, after it and in the holes."""
+    quiet = [0.0] * round(tape.silence * rate)
+    heard = quiet + heard + quiet
+    for first, last in tape.holes:
+        heard[round(first * rate):round(last * rate)] = [0.0] * (round(last * rate) - round(first * rate))
+    return heard
+
+
 def recorded(tape, kind, frames, rate, decibels, rng, hertz=0):
     """Some frames, played by a tape, with noise that is that far below the power of the carrier in a pulse."""
     hertz = hertz or HERTZ[kind]
@@ -68,13 +77,9 @@ def recorded(tape, kind, frames, rate, decibels, rng, hertz=0):
         at = bisect_right(places, time)
         height = (1 if at and levels[at - 1] else SPACE) if time < code else 0
         heard.append(height * math.sin(2 * math.pi * hertz * time))
-    quiet = round(tape.silence * rate)
-    heard = [0.0] * quiet + heard + [0.0] * quiet
-    for first, last in tape.holes:
-        heard[round(first * rate):round(last * rate)] = [0.0] * (round(last * rate) - round(first * rate))
     noise = 10 ** (-decibels / 20) / math.sqrt(2)
-    values = array("h", [round(9000 * (value + rng.gauss(0, noise)) + 500) for value in heard])
-    rises = []
+    values = array("h", [round(9000 * (value + rng.gauss(0, noise)) + 500) for value in with_silence(tape, heard, rate)])
+    quiet, rises = round(tape.silence * rate), []
     for time, level in zip(places, levels):
         at = bisect_right(times, time) - 1
         if level and at < count:
