@@ -154,8 +154,8 @@ def made_by(word, before, arguments, after):
     return Made(on, on.inverse(before))
 
 
-def change_of(word, state, values, after):
-    """The change that an edit is. Most are the splice that takes out the pulses they remove and inserts those they bring."""
+def splice_of(word, state, values):
+    """The splice that an edit is: it takes out the pulses that the edit removes and inserts those that it brings."""
     pulses = state.pulses()
     if word == "insert":
         return Splice(state.rising_by(values[0]) + 1, 0, (values,))
@@ -167,15 +167,26 @@ def change_of(word, state, values, after):
     if word == "join":
         i, j = values
         return Splice(i, j - i + 1, ((pulses[i - 1][0], pulses[j - 1][1]),))
-    if word == "force":
-        i, element = values
-        rise = pulses[i - 1][0]
-        return Splice(i, 1, ((rise, rise + timecode.nominal(state.interval(), element)),))
+    i, element = values
+    rise = pulses[i - 1][0]
+    return Splice(i, 1, ((rise, rise + timecode.nominal(state.interval(), element)),))
+
+
+def regenerated(state, values, after):
+    """The splice of regen: it takes out what begins in the frames, and inserts what begins there after it."""
+    pulses, start, end = state.pulses(), values[0], values[0] + 100 * values[1] * state.interval()
+    gone, come = ([pulse for pulse in found if start <= pulse[0] < end] for found in (pulses, after.pulses()))
+    return Splice(sum(rise < start for rise, _ in pulses) + 1, len(gone), tuple(come))
+
+
+def change_of(word, state, values, after):
+    """The change that an edit is."""
+    if word in ("insert", "delete", "split", "join", "force"):
+        return splice_of(word, state, values)
     if word == "regen":
-        start, end = values[0], values[0] + 100 * values[1] * state.interval()
-        gone, come = ([pulse for pulse in found if start <= pulse[0] < end] for found in (pulses, after.pulses()))
-        return Splice(sum(rise < start for rise, _ in pulses) + 1, len(gone), tuple(come))
+        return regenerated(state, values, after)
     if word == "shift":
+        pulses = state.pulses()
         i, j, distance = values
         rise, fall = pulses[i - 1][0], pulses[j - 1][1]
         return Shift(i, j, distance, "".join(sorted(x for x, time in state.marks.items() if rise <= time <= fall)))
