@@ -534,72 +534,97 @@ def refused():
                      junk=damages.dump([[5 * place, 5 * place + 2] for place in range(400)], 2000))
 
 
+def objects_of(program, *words):
+    """What a tool prints for programs."""
+    return [json.loads(line) for line in run(program, [*words, "--json", "rec.vcd"])[1].splitlines()]
+
+
+def members(found, *names):
+    """These members of each object."""
+    return [tuple(each[name] for name in names) for each in found]
+
+
+def places_of_damage():
+    """The objects of irig_damage, and what else it prints for programs."""
+    yield same("irig_damage --json",
+               members(objects_of("irig_damage", "--expression=4"), "kind", "pulses", "frames", "elements", "time", "step"),
+               [("split", [302, 303], ["2024-061T12:00:03"] * 2, [1, 1], 3010000, None),
+                ("step", [452, 452], ["2024-061T12:00:04"] * 2, [50, 50], 4503300, 3300)])
+    for words, text in (
+            ("--format=G", "most pulses do not follow each other by 100; is it another format, or another wire?"),
+            ("--expression=2", "many frames have ones that expression 2 does not use; is it another expression?")):
+        seen = {each["seen"] for each in objects_of("irig_damage", words) if each["kind"] == "format"}
+        yield same("what fits " + words, seen, {text})
+    yield same("--count", run("irig_damage", ["--expression=4", "--count", "rec.vcd"]), (1, b"2\n", ""))
+    yield same("--quiet", run("irig_damage", ["--quiet", "rec.vcd"]), (1, b"", ""))
+
+
+def places_of_repairs():
+    """The objects of irig_mend, and its sums if it applies what it repairs."""
+    found = objects_of("irig_mend", "--expression=4")
+    yield same("irig_mend --json", members(found, "kind", "repair", "undecided", "step"),
+               [("step", False, False, 3300), ("split", True, False, None)])
+    lines = run("irig_mend", ["--expression=4", "rec.vcd"])[1].decode().splitlines()
+    yield same("its script", found[1]["script"], [line for line in lines if line[0] != "#"])
+    done, = objects_of("irig_mend", "--expression=4", "--apply", "new.vcd")
+    yield same("the summary", done["summary"], {
+        "found": 2, "repaired": 1, "undecided": 0, "left": 0, "steps": 1, "guessed": 0, "filled": 0, "off": 0, "refused": 0,
+        "sound_before": 5, "sound_after": 6})
+    yield same("what irig_time needs", members([done], "recording", "wire", "format", "expression"), [("rec.vcd", "code", "B", 4)])
+    yield same("why something is left", [each.partition(":")[0] for each in done["reasons"]], ["stays"])
+
+
+def code_that_is_found():
+    """The object of irig_what."""
+    each, = objects_of("irig_what")
+    got = each["wire"], each["format"], each["fine"], each["inverted"], each["pulses"], each["command"].split()[0]
+    yield same("irig_what --json", got, ("code", "B", 5, False, 801, "irig_mend"))
+
+
 def objects():
     """What is printed for programs has the members of the manual pages."""
-    def holds():
-        found = [json.loads(line) for line in run("irig_damage", ["--expression=4", "--json", "rec.vcd"])[1].splitlines()]
-        wanted = [("split", [302, 303], ["2024-061T12:00:03"] * 2, [1, 1], 3010000, None),
-                  ("step", [452, 452], ["2024-061T12:00:04"] * 2, [50, 50], 4503300, 3300)]
-        got = [tuple(each[name] for name in ("kind", "pulses", "frames", "elements", "time", "step")) for each in found]
-        yield same("irig_damage --json", got, wanted)
-        found = [json.loads(line) for line in run("irig_mend", ["--expression=4", "--json", "rec.vcd"])[1].splitlines()]
-        got = [tuple(each[name] for name in ("kind", "repair", "undecided", "step")) for each in found]
-        yield same("irig_mend --json", got, [("step", False, False, 3300), ("split", True, False, None)])
-        lines = run("irig_mend", ["--expression=4", "rec.vcd"])[1].decode().splitlines()
-        yield same("its script", found[1]["script"], [line for line in lines if line[0] != "#"])
-        done = json.loads(run("irig_mend", ["--expression=4", "--json", "--apply", "new.vcd", "rec.vcd"])[1])
-        yield same("the summary", done["summary"], {
-            "found": 2, "repaired": 1, "undecided": 0, "left": 0, "steps": 1, "guessed": 0, "filled": 0, "off": 0, "refused": 0,
-            "sound_before": 5, "sound_after": 6})
-        yield same("what irig_time needs", [done[name] for name in ("recording", "wire", "format", "expression")],
-                   ["rec.vcd", "code", "B", 4])
-        yield same("why something is left", [each.partition(":")[0] for each in done["reasons"]], ["stays"])
-        each = json.loads(run("irig_what", ["--json", "rec.vcd"])[1])
-        got = each["wire"], each["format"], each["fine"], each["inverted"], each["pulses"], each["command"].split()[0]
-        yield same("irig_what --json", got, ("code", "B", 5, False, 801, "irig_mend"))
-        for words, text in (
-                ("--format=G", "most pulses do not follow each other by 100; is it another format, or another wire?"),
-                ("--expression=2", "many frames have ones that expression 2 does not use; is it another expression?")):
-            found = [json.loads(line) for line in run("irig_damage", [words, "--json", "rec.vcd"])[1].splitlines()]
-            yield same("what fits " + words, {each["seen"] for each in found if each["kind"] == "format"}, {text})
-        yield same("--count", run("irig_damage", ["--expression=4", "--count", "rec.vcd"]), (1, b"2\n", ""))
-        yield same("--quiet", run("irig_damage", ["--quiet", "rec.vcd"]), (1, b"", ""))
+    return in_folder(lambda: [*places_of_damage(), *places_of_repairs(), *code_that_is_found()],
+                     rec=damages.dump(recorded(both), END + 3300))
 
-    return in_folder(lambda: list(holds()), rec=damages.dump(recorded(both), END + 3300))
+
+def rest_is_early(pulses):
+    """Three pulses are lost, and the rest comes early, up to the end of the recording."""
+    tools.moved(pulses, 430, -3300)
+    del pulses[427:430]
+
+
+def of_a():
+    """Eight tenths of a second of format A, whose frames have tenths; the pulse of element 45 of the fourth is lost."""
+    start, pulses = (tools.DAY, tools.NOON), []
+    for number in range(8):
+        for name in timecode.encode("A", 4, timecode.generated("A", start, number, 0)):
+            pulses.append([1000 * len(pulses), 1000 * len(pulses) + timecode.nominal(1000, name)])
+    return pulses[:345] + pulses[346:]
+
+
+# a command, and the kind, the pulses, the frames, the elements and the step of each place
+ENDS = (
+    ("irig_damage drop.vcd", [("stretch", [418, 418], ["2024-061T12:00:04"] * 2, [17, 30], None)]),
+    ("irig_mend drop.vcd", [("stretch", [418, 418], ["2024-061T12:00:04"] * 2, [17, 30], None)]),
+    ("irig_damage early.vcd", [("step", [428, 428], ["2024-061T12:00:04"] * 2, [30, 30], -3300)]),
+    ("irig_mend --move early.vcd", [("step", [428, 428], ["2024-061T12:00:04"] * 2, [30, 30], -3300)]),
+    ("irig_damage control.vcd", [("control", None, ["2024-061T12:00:03"] * 2, [64, 64], None)]),
+    ("irig_damage a.vcd", [("missing", None, ["2024-061T12:00:00.30"] * 2, [45, 45], None)]),
+    ("irig_mend control.vcd", [("control", None, ["2024-061T12:00:03"] * 2, [64, 64], None)]),
+)
 
 
 def ends():
     """What a place concerns goes from its first to its last frame, element and pulse, also if the text does not name them."""
-    def early(pulses):
-        """Three pulses are lost, and the rest comes early, up to the end of the recording."""
-        tools.moved(pulses, 430, -3300)
-        del pulses[427:430]
-
-    def of_a():
-        """Eight tenths of a second of format A, whose frames have tenths; the pulse of element 45 of the fourth is lost."""
-        start, pulses = (tools.DAY, tools.NOON), []
-        for number in range(8):
-            for name in timecode.encode("A", 4, timecode.generated("A", start, number, 0)):
-                pulses.append([1000 * len(pulses), 1000 * len(pulses) + timecode.nominal(1000, name)])
-        return pulses[:345] + pulses[346:]
-
     def holds():
-        noon = "2024-061T12:00:04"
-        for words, wanted in (
-                ("irig_damage drop.vcd", [("stretch", [418, 418], [noon] * 2, [17, 30], None)]),
-                ("irig_mend drop.vcd", [("stretch", [418, 418], [noon] * 2, [17, 30], None)]),
-                ("irig_damage early.vcd", [("step", [428, 428], [noon] * 2, [30, 30], -3300)]),
-                ("irig_mend --move early.vcd", [("step", [428, 428], [noon] * 2, [30, 30], -3300)]),
-                ("irig_damage control.vcd", [("control", None, ["2024-061T12:00:03"] * 2, [64, 64], None)]),
-                ("irig_damage a.vcd", [("missing", None, ["2024-061T12:00:00.30"] * 2, [45, 45], None)]),
-                ("irig_mend control.vcd", [("control", None, ["2024-061T12:00:03"] * 2, [64, 64], None)])):
-            program, *words = words.split()
+        for command, wanted in ENDS:
+            program, *words = command.split()
             kind = "A" if words[-1] == "a.vcd" else "B"
-            found = [json.loads(line) for line in run(program, ["--format", kind, "--expression=4", "--json", *words])[1].splitlines()]
-            got = [tuple(each[name] for name in ("kind", "pulses", "frames", "elements", "step")) for each in found]
-            yield same(" ".join([program, *words]), got, wanted)
+            printed = run(program, ["--format", kind, "--expression=4", "--json", *words])[1]
+            got = members(map(json.loads, printed.splitlines()), "kind", "pulses", "frames", "elements", "step")
+            yield same(command, got, wanted)
 
-    made = {name: recorded(change) for name, change in (("drop", dropout), ("early", early), ("control", function))}
+    made = {name: recorded(change) for name, change in (("drop", dropout), ("early", rest_is_early), ("control", function))}
     made["a"] = of_a()
     return in_folder(lambda: list(holds()), **{name: damages.dump(pulses, pulses[-1][1]) for name, pulses in made.items()})
 
