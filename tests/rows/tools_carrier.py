@@ -166,26 +166,30 @@ def cycles_of(heights, start=0):
                        for place in range(8)])
 
 
+USUAL = [18000, 18000, 6000]
+# name, the cycle before a pulse and the pulse, in each or in one of them; its first cycle and its length in cycles
+STEPS = (
+    ("above the middle", 6000, [12600, 18000, 18000, 18000, 18000], True, 0, 5),
+    ("below the middle", 6000, [11400, 18000, 18000, 6000, 6000], True, 1, 2),
+    ("an end at its place, above the middle", 6000, [18000, 12600, 6000], True, 0, 2),
+    ("an end a cycle late, above five eighths", 6000, [18000, 18000, 13800], True, 0, 3),
+    ("an end a cycle late, below that", 6000, [18000, 18000, 13200], True, 0, 2),
+    ("a rise a cycle early, above three quarters", 15600, USUAL, False, -1, 3),
+    ("a rise a cycle early, below that", 14400, USUAL, False, 0, 2),
+    ("a rise a cycle late, below a quarter", 6000, [8400, 18000, 6000], False, 1, 1),
+    ("a rise a cycle late, above that", 6000, [9600, 18000, 6000], False, 0, 2),
+    ("a dip in a pulse", 6000, [18000, 11000, 18000, 18000, 18000], True, 0, 5),
+)
+
+
 def steps():
     """Where pulses begin and end by the heights of the cycles; low is 6,000, high 18,000, in twenty pulses. The place of
     most rises is where a pulse begins, and 2, 5 and 8 tenths of an element later it ends."""
     results = []
-    usual = [18000, 18000, 6000]
-    # name, the cycle before a pulse and the pulse, in each or in one of them; its first cycle and its length in cycles
-    for name, before, pulse, each, first, length in (
-            ("above the middle", 6000, [12600, 18000, 18000, 18000, 18000], True, 0, 5),
-            ("below the middle", 6000, [11400, 18000, 18000, 6000, 6000], True, 1, 2),
-            ("an end at its place, above the middle", 6000, [18000, 12600, 6000], True, 0, 2),
-            ("an end a cycle late, above five eighths", 6000, [18000, 18000, 13800], True, 0, 3),
-            ("an end a cycle late, below that", 6000, [18000, 18000, 13200], True, 0, 2),
-            ("a rise a cycle early, above three quarters", 15600, usual, False, -1, 3),
-            ("a rise a cycle early, below that", 14400, usual, False, 0, 2),
-            ("a rise a cycle late, below a quarter", 6000, [8400, 18000, 6000], False, 1, 1),
-            ("a rise a cycle late, above that", 6000, [9600, 18000, 6000], False, 0, 2),
-            ("a dip in a pulse", 6000, [18000, 11000, 18000, 18000, 18000], True, 0, 5)):
+    for name, before, pulse, each, first, length in STEPS:
         heights = []
         for number in range(20):
-            here = (before, pulse) if each or number == 10 else (6000, usual)
+            here = (before, pulse) if each or number == 10 else (6000, USUAL)
             heights += [6000] * 4 + [here[0], *here[1]] + [6000] * (5 - len(here[1]))
         status, dump, said = run("irig_demodulate", ["--no-swap", "-"], wav(cycles_of(heights), 8000))
         begun, wide = 105000 + 1000 * first, 1000 * length
@@ -360,27 +364,36 @@ def forms():
             same("a level", ["--level"], wav(level, 8000), [100000 * place + 10000 for place in range(10)])]
 
 
+# name, the parts one after the other, the spread of the noise, options, the gaps in seconds, pulses
+SILENCES = (
+    ("code alone", ("code",), 30, [], [], 128),
+    ("noise after code", ("code", "noise"), 30, [], [(12.8, 14.8)], 128),
+    ("noise before code", ("noise", "code"), 30, [], [(0, 2)], 128),
+    ("noise between", ("code", "noise", "code"), 300, [], [(12.8, 14.8)], 256),
+    ("noise alone", ("noise",), 300, [], [(0, 2)], 0), ("hum alone", ("hum",), 0, [], [(0, 2)], 0),
+    ("two values alone", ("bits",), 0, [], [(0, 2)], 0), ("one value alone", ("noise",), 0, [], [(0, 2)], 0),
+    ("noise as high as code", ("code", "loud"), 30, [], [(12.8, 14.8)], 128),
+    ("too near", ("code",), 30, ["--threshold=9500"], [(0, 12.8)], 0),
+    ("far enough", ("code",), 30, ["--threshold", "8000"], [], 128),
+)
+
+
+def parts_of_silences(rng):
+    """Samples of each part by its name: code in 25 stretches; of the others, 2 seconds."""
+    code = []
+    for place in range(128):
+        code += [0] * 80 + [9000] * (160 if place % 3 else 400) + [0] * (560 if place % 3 else 320)
+    places = range(16000)
+    return {"code": code, "noise": [0 for _ in places], "hum": [3000 * math.sin(place / 25) for place in places],
+            "bits": [rng.getrandbits(1) for _ in places], "loud": [rng.gauss(0, 4000) for _ in places]}
+
+
 def silences():
     """Noise before, between and after code: the pulses of the code and no other, and a line for each gap."""
-    rng, code = random.Random(3), []
-    for place in range(128):  # 25 stretches
-        code += [0] * 80 + [9000] * (160 if place % 3 else 400) + [0] * (560 if place % 3 else 320)
-    noise = [0] * 16000  # 2 seconds
-    results = []
-    # name, samples before and after, the spread of the noise, options, the gaps in seconds, pulses
-    for name, parts, spread, words, gaps, pulses in (
-            ("code alone", (code,), 30, [], [], 128),
-            ("noise after code", (code, noise), 30, [], [(12.8, 14.8)], 128),
-            ("noise before code", (noise, code), 30, [], [(0, 2)], 128),
-            ("noise between", (code, noise, code), 300, [], [(12.8, 14.8)], 256),
-            ("noise alone", (noise,), 300, [], [(0, 2)], 0), ("hum alone", ("hum",), 0, [], [(0, 2)], 0),
-            ("two values alone", ("bits",), 0, [], [(0, 2)], 0), ("one value alone", (noise,), 0, [], [(0, 2)], 0),
-            ("noise as high as code", (code, "loud"), 30, [], [(12.8, 14.8)], 128),
-            ("too near", (code,), 30, ["--threshold=9500"], [(0, 12.8)], 0),
-            ("far enough", (code,), 30, ["--threshold", "8000"], [], 128)):
-        made = {"hum": [3000 * math.sin(place / 25) for place in range(16000)],
-                "bits": [rng.getrandbits(1) for _ in noise], "loud": [rng.gauss(0, 4000) for _ in noise]}
-        values = [value for part in parts for value in (made[part] if isinstance(part, str) else part)]
+    rng, results = random.Random(3), []
+    for name, parts, spread, words, gaps, pulses in SILENCES:
+        made = parts_of_silences(rng)
+        values = [value for part in parts for value in made[part]]
         data = array("h", [round(value + rng.gauss(0, spread)) for value in values])
         status, dump, said = run("irig_demodulate", ["--level", *words, "-"], wav(data, 8000))
         told = [tuple(map(float, pair)) for pair in re.findall(r"no signal from ([0-9.]+) to ([0-9.]+) seconds", said)]
@@ -430,9 +443,8 @@ def w64(data, said=None):
             + b"wave" + W64 + chunks + data)
 
 
-def sound_files():
-    """The same signal in every form of a sound file."""
-    values, rises = signal("B", random.Random(9), 8000, 1000, 3.3, 0.01, 0, 0, 2)
+def kinds_of_samples(values):
+    """Files, and raw samples, of each kind of number."""
     whole, raw = values.tobytes(), ["--rate=8000", "--raw"]
     swapped = array("h", values)
     swapped.byteswap()
@@ -441,29 +453,39 @@ def sound_files():
     double = array("d", [value / 32768 for value in values]).tobytes()
     long = array("i", [value << 16 for value in values]).tobytes()
     two = array("h", [part for value in values for part in (0, value)]).tobytes()
-    ds64, ds_0, ds_large = (b"ds64" + struct.pack("<IQQQI", 28, 0, size, 0, 0) for size in (len(whole), 0, 10**12))
-    notes = b"LIST" + struct.pack("<I", 3) + b"abc\0"
-    after = b"LIST" + struct.pack("<I", 4000) + whole[:4000]  # more of the signal
-    files = (
+    return (
         ("32 bits", [], riff(long, size=4)), ("float 32", [], riff(floats, 3, 4)), ("float 64", [], riff(double, 3, 8)),
         ("extensible 16", [], riff(whole, extensible=True)), ("extensible 24", [], riff(wide, size=3, extensible=True)),
         ("extensible float", [], riff(floats, 3, 4, extensible=True)), ("the highest byte first", [], riff(
             swapped.tobytes(), head=b"RIFX")),
         ("two channels, extensible", ["--channel=2"], riff(two, channels=2, extensible=True)),
+        ("raw f64be", [*raw, "f64be"], struct.pack(">%dd" % len(values), *(value / 32768 for value in values))),
+        ("raw s32be", [*raw, "s32be"], struct.pack(">%di" % len(values), *(value << 16 for value in values))),
+        ("raw f32", [*raw, "f32"], floats), ("raw f64", [*raw, "f64"], double), ("raw s32", [*raw, "s32"], long),
+        ("raw s16be", [*raw, "s16be"], swapped.tobytes()),
+        ("raw s24be", [*raw, "s24be"], b"".join(wide[at:at + 3][::-1] for at in range(0, len(wide), 3))))
+
+
+def heads_and_chunks(whole):
+    """Files whose heads have other sizes than the data, and files with other chunks."""
+    ds64, ds_0, ds_large = (b"ds64" + struct.pack("<IQQQI", 28, 0, size, 0, 0) for size in (len(whole), 0, 10**12))
+    notes = b"LIST" + struct.pack("<I", 3) + b"abc\0"
+    after = b"LIST" + struct.pack("<I", 4000) + whole[:4000]  # more of the signal
+    return (
         ("RF64", [], riff(whole, said=2**32 - 1, head=b"RF64", before=ds64) + after), ("W64", [], w64(whole)),
         ("W64, a size of 0", [], w64(whole, 0)), ("W64, too large", [], w64(whole, 10**12)),
         ("W64, not known", [], w64(whole, 2**64 - 1)), ("W64, an odd end", [], w64(whole + b"a", 0)),
         ("RF64, a size of 0", [], riff(whole, said=2**32 - 1, head=b"RF64", before=ds_0)),
         ("RF64, too large", [], riff(whole, said=2**32 - 1, head=b"RF64", before=ds_large)),
-        ("raw f64be", [*raw, "f64be"], struct.pack(">%dd" % len(values), *(value / 32768 for value in values))),
-        ("raw s32be", [*raw, "s32be"], struct.pack(">%di" % len(values), *(value << 16 for value in values))),
         ("a size of 0", [], riff(whole, said=0)), ("a size that is not known", [], riff(whole, said=2**32 - 1)),
         ("a size that is too large", [], riff(whole, said=len(whole) + 999)), ("chunks before", [], riff(whole, before=notes)),
-        ("a chunk after", [], riff(whole) + after), ("an odd end", [], riff(whole + b"a", said=0)),
-        ("raw f32", [*raw, "f32"], floats), ("raw f64", [*raw, "f64"], double), ("raw s32", [*raw, "s32"], long),
-        ("raw s16be", [*raw, "s16be"], swapped.tobytes()),
-        ("raw s24be", [*raw, "s24be"], b"".join(wide[at:at + 3][::-1] for at in range(0, len(wide), 3))))
-    return [same(name, words, data, rises) for name, words, data in files]
+        ("a chunk after", [], riff(whole) + after), ("an odd end", [], riff(whole + b"a", said=0)))
+
+
+def sound_files():
+    """The same signal in every form of a sound file."""
+    values, rises = signal("B", random.Random(9), 8000, 1000, 3.3, 0.01, 0, 0, 2)
+    return [same(name, words, data, rises) for name, words, data in (*kinds_of_samples(values), *heads_and_chunks(values.tobytes()))]
 
 
 def no_sound():
