@@ -114,34 +114,44 @@ def not_all_read():
     return in_folder(lambda: list(holds()))
 
 
+def when_written(names):
+    """When each of these results was written."""
+    return {name: os.stat("mended/" + name).st_mtime_ns for name in names}
+
+
+def again(files, name, words, done):
+    """A run after another one: which results are written again; `files` has when each was written, before the run and after it."""
+    status, lines, _ = mended(*words)
+    kept = {each for each, written in when_written(files).items() if files[each] == written}
+    files.update(when_written(files))
+    yield same(name, (status, set(files) - kept), (1, set(done)))
+    yield same(name + ", the sums", lines[-1].endswith("; %d%s" % (len(kept), RUN_BEFORE)), bool(kept))
+
+
+def longer(path):
+    """Adds an empty line to a file."""
+    with open(path, "a", encoding="ascii") as file:
+        file.write("\n")
+
+
 def goes_on():
     """What was done is not done again, unless a file or an option has changed or the line of the record is cut."""
     def holds():
         write_all(of_kinds())
         os.remove("in/junk.vcd")
         mended()
-        files = {name: os.stat("mended/" + name).st_mtime_ns for name in outputs()}
-
-        def again(name, words, done):
-            status, lines, _ = mended(*words)
-            kept = {each for each, written in files.items() if os.stat("mended/" + each).st_mtime_ns == written}
-            files.update((each, os.stat("mended/" + each).st_mtime_ns) for each in files)
-            yield same(name, (status, set(files) - kept), (1, set(done)))
-            yield same(name + ", the sums", lines[-1].endswith("; %d%s" % (len(kept), RUN_BEFORE)), bool(kept))
-
-        yield from again("nothing has changed", [], [])
-        with open("in/rec.vcd", "a", encoding="ascii") as file:
-            file.write("\n")
-        yield from again("a recording has changed", [], ["rec.vcd"])
-        with open("mended/cut.vcd", "a", encoding="ascii") as file:
-            file.write("\n")
-        yield from again("a result has changed", [], ["cut.vcd"])
+        files = when_written(outputs())
+        yield from again(files, "nothing has changed", [], [])
+        longer("in/rec.vcd")
+        yield from again(files, "a recording has changed", [], ["rec.vcd"])
+        longer("mended/cut.vcd")
+        yield from again(files, "a result has changed", [], ["cut.vcd"])
         with open("mended/irig_mend.done", "rb+") as file:
             file.truncate(os.path.getsize("mended/irig_mend.done") - 20)  # that of the last one
-        yield from again("a line of the record is cut", [], ["cut.vcd"])
-        yield from again("and whole again", [], [])
-        yield from again("another rule", ["--steady"], files)
-        yield from again("as a track with its steps", ["--save"], files)
+        yield from again(files, "a line of the record is cut", [], ["cut.vcd"])
+        yield from again(files, "and whole again", [], [])
+        yield from again(files, "another rule", ["--steady"], files)
+        yield from again(files, "as a track with its steps", ["--save"], files)
         yield same("with --save", "irig-journal-1" in text_of("mended/cut.vcd"), True)
 
     return in_folder(lambda: list(holds()))
@@ -227,30 +237,35 @@ def held_programs():
     return held, [sys.executable, "-S", os.path.join(TOP, "tools", "irig_mend"), *TO, "--jobs=1", "in"]
 
 
+def ended_by(number, wanted, held, command):
+    """A run that a signal ends while a recording is being looked at: its status, what is said, and what is left."""
+    write_all({"most": str(len(whole()) + 1)})
+    process = subprocess.Popen(command, env=held, stdout=subprocess.DEVNULL, stderr=subprocess.PIPE, text=True,
+                               preexec_fn=takes_interrupts)
+    while not os.path.exists("held") and process.poll() is None:
+        time.sleep(0.05)
+    process.send_signal(number)
+    process.wait()  # not for those that hold its standard error
+    left = os.listdir("tmp"), [name for name in os.listdir("mended") if name[0] == "."]
+    said = process.communicate()[1]
+    yield same("the status after signal %d" % number, process.returncode, wanted)
+    yield same("whether a recording is still looked at", was_running(int(text_of("held"))), number == signal.SIGKILL)
+    os.remove("held")
+    if number != signal.SIGKILL:
+        yield same("what is said", "of 4 recordings are done; the same command does the others" in said, True)
+        yield same("what is left", left, ([], []))
+
+
 def ended():
     """A run that is ended goes on where it was, and leaves nothing but results."""
     def holds():
-        held, command = held_programs()
+        programs = held_programs()
         for number, wanted in ((signal.SIGTERM, 143), (signal.SIGINT, 130), (signal.SIGKILL, -9)):
-            write_all({"most": str(len(whole()) + 1)})
-            process = subprocess.Popen(command, env=held, stdout=subprocess.DEVNULL, stderr=subprocess.PIPE, text=True,
-                                       preexec_fn=takes_interrupts)
-            while not os.path.exists("held") and process.poll() is None:
-                time.sleep(0.05)
-            process.send_signal(number)
-            process.wait()  # not for those that hold its standard error
-            left = os.listdir("tmp"), [name for name in os.listdir("mended") if name[0] == "."]
-            said = process.communicate()[1]
-            yield same("the status after signal %d" % number, process.returncode, wanted)
-            yield same("whether a recording is still looked at", was_running(int(text_of("held"))), number == signal.SIGKILL)
-            os.remove("held")
-            if number != signal.SIGKILL:
-                yield same("what is said", "of 4 recordings are done; the same command does the others" in said, True)
-                yield same("what is left", left, ([], []))
-        kept = {name: os.stat("mended/" + name).st_mtime_ns for name in whole()[:2]}
+            yield from ended_by(number, wanted, *programs)
+        kept = when_written(whole()[:2])
         status, lines, _ = mended()
         yield same("the rest is done", (status, whole()), (0, ["%d.vcd" % number for number in range(4)]))
-        yield same("and no more", {name: os.stat("mended/" + name).st_mtime_ns for name in kept}, kept)
+        yield same("and no more", when_written(kept), kept)
         yield same("what is said then", RUN_BEFORE in lines[-1], True)
 
     return in_folder(lambda: list(holds()))
