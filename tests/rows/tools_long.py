@@ -174,30 +174,40 @@ def that_end_early():
     return in_folder(lambda: list(holds()), cut=text[:re.search("#870[0-9]{6} ", text).start() + 8])
 
 
+def read_that_fails():
+    """A read that fails while the third window is read."""
+    started, start = [], window_jobs.WindowJobs.start
+
+    def counted(jobs, window, edges):
+        started.append(window.number)
+        start(jobs, window, edges)
+
+    with mock.patch.object(window_jobs.WindowJobs, "start", counted), mock.patch.object(sampled, "SAMPLE", 100000):
+        status, printed, said = in_windows(12000, "irig_mend", *CODE, "--apply", "new.vcd", "packed.gz")
+    yield same("a read that fails", (started, status, printed, "packed.gz: cannot be unpacked: " in said), ([1, 2], 2, b"", True))
+
+
+def program_that_fails():
+    """A program that fails in the third window."""
+    for name, text in (("irig_ed", 'exec "%s" "$@"' % os.environ["IRIG_ED"]), ("irig_guard", FAILS_IN_THE_THIRD % GUARD)):
+        with open("bin/" + name, "w", encoding="ascii") as file:
+            file.write("#!/bin/sh\n%s\n" % text)
+        os.chmod("bin/" + name, stat.S_IRWXU)
+    with mock.patch.dict(os.environ, {"IRIG_ED": os.path.abspath("bin/irig_ed")}):
+        for words in ([], ["--into", "track.vcd"]):
+            status, printed, said = in_windows(12000, "irig_mend", *CODE, "--apply", "new.vcd", *words, "track.vcd")
+            said = re.sub(r" \(it writes .*\)", "", re.sub("[0-9]{2,}", "N", said))
+            yield same("a program that fails", (status, printed, said.partition("\n")[2]),
+                       (2, b"", "irig_mend: window 3, from N to N: irig_guard: input failed\n"))
+
+
 def that_fail():
     """A read that fails while the third window is read, and a program that fails in the third window: nothing is written over."""
     def holds():
         with open("new.vcd", "w", encoding="ascii") as file:
             file.write("kept")
-        started, start = [], window_jobs.WindowJobs.start
-
-        def counted(jobs, window, edges):
-            started.append(window.number)
-            start(jobs, window, edges)
-
-        with mock.patch.object(window_jobs.WindowJobs, "start", counted), mock.patch.object(sampled, "SAMPLE", 100000):
-            status, printed, said = in_windows(12000, "irig_mend", *CODE, "--apply", "new.vcd", "packed.gz")
-        yield same("a read that fails", (started, status, printed, "packed.gz: cannot be unpacked: " in said), ([1, 2], 2, b"", True))
-        for name, text in (("irig_ed", 'exec "%s" "$@"' % os.environ["IRIG_ED"]), ("irig_guard", FAILS_IN_THE_THIRD % GUARD)):
-            with open("bin/" + name, "w", encoding="ascii") as file:
-                file.write("#!/bin/sh\n%s\n" % text)
-            os.chmod("bin/" + name, stat.S_IRWXU)
-        with mock.patch.dict(os.environ, {"IRIG_ED": os.path.abspath("bin/irig_ed")}):
-            for words in ([], ["--into", "track.vcd"]):
-                status, printed, said = in_windows(12000, "irig_mend", *CODE, "--apply", "new.vcd", *words, "track.vcd")
-                said = re.sub(r" \(it writes .*\)", "", re.sub("[0-9]{2,}", "N", said))
-                yield same("a program that fails", (status, printed, said.partition("\n")[2]),
-                           (2, b"", "irig_mend: window 3, from N to N: irig_guard: input failed\n"))
+        yield from read_that_fails()
+        yield from program_that_fails()
         yield same("what was there", (text_of("new.vcd"), sorted(os.listdir("."))), ("kept", ["bin", "new.vcd", "packed.gz", "track.vcd"]))
 
     def prepared():
