@@ -300,31 +300,38 @@ def of_ends():
             yield same(name + ", three holes", [place for place in part.faults.wanted if part.track.pulses_at(place)], [])
 
 
+def trembling(pulses):
+    """Distances are off by 10, 40, -20, 50 and -80; nine of ten of their distances to 10010 are up to 90, so the spread is 36.9."""
+    for at, pulse in enumerate(pulses):
+        pulse[0] += (0, 10, 50, 30, 80)[at % 5]
+
+
+def nothing(pulses):
+    pass
+
+
+def dropout(pulses):
+    del pulses[417:430]
+
+
+# name, what the rises do, what is lost, which rise is off and by how much, and what is damage
+STRAYS = (
+    ("three microseconds on an exact clock", nothing, nothing, 430, 3, []),
+    ("four", nothing, nothing, 430, 4, [430]),
+    ("early", nothing, nothing, 430, -4, [430]),
+    ("at the end of a dropout", nothing, dropout, 430, 4, [*range(417, 431)]),
+    ("before a dropout", nothing, dropout, 416, 350, [*range(416, 430)]),
+    ("a marker", nothing, nothing, 500, 300, [500]),
+    ("the first one is cut by the begin", nothing, nothing, 0, 300, []),
+    # pulse 430 is 40 before where those next to it say
+    ("8.0 times the spread", trembling, nothing, 430, 325, []),
+    ("8.5 times the spread", trembling, nothing, 430, 355, [430]),
+)
+
+
 def of_strays():
     """A rise that is off by more than eight times the spread and three samples is damage, though its pulse is in step."""
-    def trembling(pulses):
-        """Distances are off by 10, 40, -20, 50 and -80; nine of ten of their distances to 10010 are up to 90, so the spread is 36.9."""
-        for at, pulse in enumerate(pulses):
-            pulse[0] += (0, 10, 50, 30, 80)[at % 5]
-
-    def nothing(pulses):
-        pass
-
-    def dropout(pulses):
-        del pulses[417:430]
-
-    for name, jitter, damage, at, by, wanted in (
-            ("three microseconds on an exact clock", nothing, nothing, 430, 3, []),
-            ("four", nothing, nothing, 430, 4, [430]),
-            ("early", nothing, nothing, 430, -4, [430]),
-            ("at the end of a dropout", nothing, dropout, 430, 4, [*range(417, 431)]),
-            ("before a dropout", nothing, dropout, 416, 350, [*range(416, 430)]),
-            ("a marker", nothing, nothing, 500, 300, [500]),
-            ("the first one is cut by the begin", nothing, nothing, 0, 300, []),
-            # pulse 430 is 40 before where those next to it say
-            ("8.0 times the spread", trembling, nothing, 430, 325, []),
-            ("8.5 times the spread", trembling, nothing, 430, 355, [430]),
-    ):
+    for name, jitter, damage, at, by, wanted in STRAYS:
         pulses = tools.recording()
         jitter(pulses)
         pulses[at][0] += by
@@ -340,14 +347,15 @@ def of_strays():
             yield same(name + ", where it is moved to", [pulses[430][0] + each for each in moved], [due])
 
 
-def of_other_code():
-    """What is in a hole, and is not of this code, is left and named; what is left of this code is mended."""
-    letters_of_a = letters(3)[:250]
-    spans = {"0": 2, "1": 5, "P": 8}
+def frames_of(interval, begin, many):
+    """Elements of frames of another format."""
+    tenths, text = {"0": 2, "1": 5, "P": 8}, letters(3)
+    return [[begin + at * interval, begin + at * interval + tenths[text[at]] * interval // 10] for at in range(many)]
 
-    def frames_of(interval, begin, many):
-        return [[begin + at * interval, begin + at * interval + spans[letters_of_a[at]] * interval // 10] for at in range(many)]
 
+def of_code_in_a_hole():
+    """Other code is left and named, in a hole and at the end."""
+    pulses = tools.recording(12)
     for name, other, seen in (
         ("of format A", frames_of(1000, 2331000, 230), "time code of format A, one in 1000 microseconds"),
         ("of format E", frames_of(100000, 2320000, 30), "time code of format E, one in 100000 microseconds"),
@@ -355,14 +363,17 @@ def of_other_code():
         ("another signal", [[2331000 + at * 3300, 2332000 + at * 3300] for at in range(60)], "pulses, one in 3300 microseconds"),
     ):
         beyond = other[-1][1] // 10000 + 20
-        pulses = tools.recording(12)
-        holed = pulses[:230] + other + pulses[beyond:]
-        found = analysis.examine(listing_of(holed))
+        found = analysis.examine(listing_of(pulses[:230] + other + pulses[beyond:]))
         said = [remark.seen for part in found.parts for remark in part.remarks]
         yield same(name + ", the remark", [seen in each and "is other code" in each for each in said], [True])
         yield same(name + ", what is repaired", [dict(part.faults.wanted) for part in found.parts], [{}])
         ended = analysis.examine(listing_of(pulses[:230] + other))
         yield same(name + ", at the end", any(part.faults.wanted for part in ended.parts), False)
+
+
+def of_code_with_losses():
+    """Other code in a hole of which some pulses are lost."""
+    pulses = tools.recording(12)
     for name, other, lost in (("of format A", frames_of(1000, 2331000, 230), 3), ("another signal", frames_of(3300, 2331000, 28), 4),
                               ("of format E", frames_of(100000, 2320000, 28), 5)):
         kept = [pulse for at, pulse in enumerate(other) if at % lost]
@@ -370,6 +381,10 @@ def of_other_code():
         said = [remark.seen for part in found.parts for remark in part.remarks]
         got = ["is other code" in each for each in said], [part.faults.wanted for part in found.parts]
         yield same(name + ", one of %d is lost" % lost, got, ([True], [{}]))
+
+
+def of_this_code():
+    """What is left of this code in a hole is no other code, and what is missing is mended."""
     glitches = [[2383334, 2383500], [2386667, 2386800]]  # a third of an interval apart, as the marker after them is
     lost = [*range(240, 259), *range(261, 277)]
     pulses = [pulse for at, pulse in enumerate(tools.recording()) if at not in lost]
@@ -383,6 +398,12 @@ def of_other_code():
     found = analysis.examine(listing_of(positions))
     lost = [at for at in range(230, 480) if at % 10 != 9 and at % 100]
     yield same("position identifiers alone are no other code", [sorted(part.faults.wanted) for part in found.parts], [lost])
+
+
+def of_other_code():
+    """What is in a hole, and is not of this code, is left and named; what is left of this code is mended."""
+    for rows in (of_code_in_a_hole, of_code_with_losses, of_this_code):
+        yield from rows()
 
 
 def of_every_second():
