@@ -204,8 +204,13 @@ def quality(k):
     return (k // 7 % 3) << 10
 
 
-def of_rules():
-    """An element that is the parity of those before it is found, and says what is lost or damaged."""
+def with_parity(*places):
+    """Frames with a parity, element 75; in these places the pulse is another one."""
+    return flipped(signal(40, control=quality, parity=(75, True)), *places)
+
+
+def of_found_rules():
+    """An element that is the parity of those before it is found, and no other one."""
     for element, odd in ((75, True), (75, False), (78, True), (62, False)):
         pulses = signal(40, control=quality, parity=(element, odd))
         texts = [listed(pulses).classes[at:at + 100] for at in range(0, 4000, 100)]
@@ -221,29 +226,40 @@ def of_rules():
     yield same("an element that changes by itself", rule_of(Layout("B", 4).control, plain), None)
     still = [listed(signal(1)).classes] * 40
     yield same("frames that are all alike", rule_of(Layout("B", 4).control, still), None)
+
+
+def of_rules_and_one_frame():
+    """With a parity a frame may have control functions that no other has."""
     sent = signal(40, control=lambda k: (k == 20) << 3, parity=(75, True))
     yield same("what one frame alone was sent with", (wanted(looked_at(sent)), said(looked_at(sent))), ({}, []))
     there = [each for at, each in enumerate(sent) if at != 2063]
     yield same("the same, and it is lost", wanted(looked_at(there)), {2063: "1"})
+
+
+def of_damaged_frames():
+    """What the parity says of frames with elements that are others, late or lost."""
     for element in (60, 63, 78):
-        turned = flipped(signal(40, control=quality, parity=(75, True)), 2000 + element)
-        found = looked_at(turned)
+        found = looked_at(with_parity(2000 + element))
         yield same("a fine frame with another element %d" % element, wanted(found), {2000 + element: "0"} if element < 75 else {})
-    late = flipped(signal(40, control=quality, parity=(75, True)), 2063)
+    late = with_parity(2063)
     late[2066] = [time + 1200 for time in late[2066]]
     yield same("another one is late", wanted(looked_at(late)), {2063: "0", 2066: "0"})
-    both = flipped(signal(40, control=quality, parity=(75, True)), 2063)
+    both = with_parity(2063)
     del both[2066]
     faults = looked_at(both).parts[0].faults
     yield same("another one is lost", (faults.wanted, faults.guesses), ({2066: "0"}, {2066: "0"}))
-    several = flipped(signal(40, control=quality, parity=(75, True)), 2060, 2062, 2063)
+    several = with_parity(2060, 2062, 2063)
     del several[2029]
     yield same("several are others, and a position is lost", wanted(looked_at(several)), {2029: "P"})
-    turned = flipped(signal(40, control=quality, parity=(75, True)), 2075)
-    found = looked_at(turned)
+    found = looked_at(with_parity(2075))
     yield same("the parity itself is another", len(wanted(found)) + sum("has to be a" in each for each in said(found)), 1)
-    ended = flipped(signal(40, control=quality, parity=(75, True)), 3906)
-    yield same("the last frame, one element of its time", wanted(looked_at(ended)), {3906: listed(signal(40)).classes[3906]})
+    yield same("the last frame, one element of its time", wanted(looked_at(with_parity(3906))), {3906: listed(signal(40)).classes[3906]})
+
+
+def of_rules():
+    """An element that is the parity of those before it is found, and says what is lost or damaged."""
+    for rows in (of_found_rules, of_rules_and_one_frame, of_damaged_frames):
+        yield from rows()
 
 
 # frames that are fine and wrong
