@@ -370,21 +370,31 @@ def set_in_frame_12(frames):
     return change
 
 
+def as_wide(frame, element, width):
+    """An element is that part of an interval wide."""
+    def change(draft):
+        number = element_of(draft, frame, element)
+        (rise, _), = draft.wire.pulses[number]
+        draft.wire.pulses[number] = [(rise, rise + width * draft.format.interval)]
+    return change
+
+
+# name, format, where in a frame the recording begins, its frames, what is lost, and what is said; the one P of the first seven pulses is
+# two elements early, of the last eight two elements late
+LOST_AT_AN_END = (
+    ("seven pulses before a loss", "G", 0.781, 20, lost_at(0, 7.7, 8), "fit another element"),
+    ("eight pulses after a loss", "G", 0.781, 20.048, lost_at(1, -8.7, 8), "fit another element"),
+    ("a frame is lost in the last one", "B", 0.781, 11.32, lost_at(0, 1122.4, 100), "1 element contradicts"),
+    ("a frame is lost in the first one", "B", 0.005, 11.32, lost_at(0, 30.4, 100), "1 element contradicts"),
+)
+# frame, element, width and expression: position identifiers of the first frame; an hour of the last one in a pulse that is not as wide as
+# zeros are; the same in one that is, if the seconds of the day are there; and a day
+DAMAGED_AT_AN_END = ((0, 79, 0.2, "2"), (0, 99, 0.2, "2"), (12, 21, 0.28, "2"), (12, 21, 0.2, "3"), (12, 35, 0.5, "2"))
+
+
 def of_lost_at_an_end():
     """What was recorded next to the loss stays, whatever the rest leads to; what is damaged without a loss is mended."""
-    def retimed(frame, element, width):
-        def change(draft):
-            number = element_of(draft, frame, element)
-            (rise, _), = draft.wire.pulses[number]
-            draft.wire.pulses[number] = [(rise, rise + width * draft.format.interval)]
-        return change
-
-    # the one P of the first seven pulses is two elements early; of the last eight two elements late
-    for name, kind, begin, frames, loss, said in (
-            ("seven pulses before a loss", "G", 0.781, 20, lost_at(0, 7.7, 8), "fit another element"),
-            ("eight pulses after a loss", "G", 0.781, 20.048, lost_at(1, -8.7, 8), "fit another element"),
-            ("a frame is lost in the last one", "B", 0.781, 11.32, lost_at(0, 1122.4, 100), "1 element contradicts"),
-            ("a frame is lost in the first one", "B", 0.005, 11.32, lost_at(0, 30.4, 100), "1 element contradicts")):
+    for name, kind, begin, frames, loss, said in LOST_AT_AN_END:
         made = Made(77, kind, "2", 0, several(still, beginning(begin, frames)), loss)
         found = made.mended()
         yield same(name, (found.status, len(found.says(said)), edges_of(found.text) == edges_of(made.damaged.text), found.counts_hold()),
@@ -395,11 +405,8 @@ def of_lost_at_an_end():
         yield same("the clock is set %s in the last whole frame" % name,
                    (found.status, len(found.says("1 element contradicts")), edges_of(found.text) == edges_of(made.damaged.text)),
                    (1, 1, True))
-    # position identifiers of the first frame; an hour of the last one in a pulse that is not as wide as zeros are; the same in one that
-    # is, if the seconds of the day are there; and a day
-    for frame, element, width, expression in ((0, 79, 0.2, "2"), (0, 99, 0.2, "2"), (12, 21, 0.28, "2"), (12, 21, 0.2, "3"),
-                                              (12, 35, 0.5, "2")):
-        made = Made(78, "B", expression, 0, several(still, beginning(0.781, 12.2)), retimed(frame, element, width))
+    for frame, element, width, expression in DAMAGED_AT_AN_END:
+        made = Made(78, "B", expression, 0, several(still, beginning(0.781, 12.2)), as_wide(frame, element, width))
         found = made.mended()
         yield same("element %d of frame %d" % (element, frame), (found.status, made.unlike(found)), (0, (0, 0)))
 
@@ -407,8 +414,8 @@ def of_lost_at_an_end():
 # 8: rarer damage
 
 
-def of_rarer():
-    """Noise in little time, the end of a century, a control function that is always one, a clock that was set."""
+def of_noise():
+    """Noise in little time."""
     def noise(draft):
         count = draft.wire.clear(1043, 3)
         begin = draft.wire.rises[1043]
@@ -419,6 +426,9 @@ def of_rarer():
     found = made.mended()
     yield same("5,000 pulses of noise in 20 seconds", (found.status, made.unlike(found)), (0, (0, 0)))
 
+
+def of_a_century():
+    """The end of a century."""
     def last_of_1999(draft):
         draft.year, draft.time = 1999, year_length(1999) * DAY - 8 * draft.format.frame
 
@@ -427,6 +437,9 @@ def of_rarer():
         found = made.mended()
         yield same("from 1999 to 2000, " + kind, (found.status, edges_of(found.text) == edges_of(made.damaged.text)), (0, True))
 
+
+def of_always_one():
+    """A control function that is one in all frames, and in one of them a pulse that looks like a zero and more."""
     def always(draft):
         elements = control_elements(draft.format, 0)
         draft._controls = lambda timed: lambda time: {elements[4]}
@@ -440,6 +453,9 @@ def of_rarer():
     found = made.mended()
     yield same("a control function that is one in all frames", (found.status, made.unlike(found)), (0, (0, 0)))
 
+
+def of_a_new_begin():
+    """A generator that is started again, with another time."""
     def begins_again(draft):
         moment = 9.37 * draft.format.frame
         draft.first, draft.time = 0.0, 100 * DAY + 3 * HOUR
@@ -450,6 +466,9 @@ def of_rarer():
     said = " ".join(found.lines)
     yield same("a generator that begins again", ("the clock was set" in said, "elements are missing" in said), (True, False))
 
+
+def of_wrong_neighbours():
+    """Three neighbours, each with another wrong element."""
     def wrong(draft):
         first = 12
         for number, element in ((first, 11), (first + 1, 23), (first + 2, 32)):
@@ -461,6 +480,12 @@ def of_rarer():
     bad, good = (Made(75, "B", "2", 24, several(still, at_noon, each)) for each in (wrong, nothing))
     found = bad.mended()
     yield same("three neighbours that are fine and wrong", (found.status, good.unlike(found)), (0, (0, 0)))
+
+
+def of_rarer():
+    """Noise in little time, the end of a century, a control function that is always one, a clock that was set."""
+    for rows in (of_noise, of_a_century, of_always_one, of_a_new_begin, of_wrong_neighbours):
+        yield from rows()
 
 
 # 9: no fine frame
