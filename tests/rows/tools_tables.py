@@ -280,38 +280,45 @@ def carrier():
     return good
 
 
+HEAD = "Time [s],A\n"
+# options, a table, and what is said of it
+REFUSED = (
+    ([], "", "is empty"), ([], "hello\nworld\n", "no row of numbers"),
+    ([], "Time (25 ns),A\n0,0\n1,1\n", "the times of column 1 are in '25 ns', which is not read as a unit; change its head"),
+    ([], "Time,A,State\n0,1.5,OK\n1,1.4,OK\n", "if others have words, give the numbers of both, as --time-column 1"),
+    ([], "Time [min],A\n0,0\n1,1\n", "the times of column 1 are in 'min', which is not read as a unit; change its head"),
+    ([], "Time [s],A,B\n0,0,1\n", "as --column 'A': A, B"),
+    ([], "Time [s],A,A\n0,0,1\n", "as --column '2': number 2, number 3"),
+    ([], old_scope(), "its heads are in its first columns; give the numbers of times and values, as --time-column 4 --column 5"),
+    (["--column=A"], "Time [s],A,A\n0,0,1\n", "has several columns 'A'; give the number of one, from 1"),
+    (["--column=C"], "Time [s],A,B\n0,0,1\n", "has no column 'C'; there are"),
+    (["--column=4"], "Time [s],A,B\n0,0,1\n", "no row of numbers"), ([], "A\n0\n1\n", "has no column of times"),
+    ([], HEAD + "0,0\n1,x\n", "line 3 has no number in column 2"), ([], HEAD + "0,0\n1\n", "line 3 has no number in column 2"),
+    ([], HEAD + "0,0\n2,1\n1,0\n", "line 4 has a time before that of the last row"),
+    (["--column=A"], "X,A,Start\nSequence,Volt,-6e-03\n0,1.5,\n1,1.4,\n", "has no times, but 'sequence'; give --rate"),
+    ([], HEAD + "0,0\n" * 20000 + "1,2\n", "line 20002 has no level of 0 or 1"),
+    ([], HEAD + "0,0.5\n1,1\n5,2\n6,2\n", "its samples do not come at even times, first in row 3; with --rate"),
+    ([], HEAD + "0,0\n0.002,5\n0.010,0\n", "; if its rows are changes, the levels have to be 0 and 1"),
+    ([], HEAD + "0,5\n", "all the same, so they show no rate"), ([], HEAD + "0,nan\n", "no row of numbers"),
+    (["--level"], "Time [us]\tA\n999\t0.5\n1,000\t3.5\n", "line 3 has no number in column 1"),
+    ([], HEAD + "0,0\n1_0,1\n", "line 3 has no number in column 1"),
+    ([], HEAD + "0,0\n\u0661,1\n", "line 3 has no number in column 1"),
+    (["--column=\u00b2"], HEAD + "0,0\n1,1\n", "has no column '\u00b2'"),
+    (["--rate=5", "--time-column=1"], HEAD + "0,0\n", "--rate and --time-column exclude each other"),
+    ([], "5" * 20000, "is too long"), ([], ("\ufeff" + "5" * 20000).encode("utf-16-be"), "line 1 is too long"),
+    (["--raw=text"], HEAD, "--table has no --raw"),
+)
+NO_RATES = ("1.5.3 MHz", ".", "1_000 Hz", "1,000,000 Hz", "1e6 Hz", "0.3 Hz", "1.5 Hz", "9" * 400)
+
+
 def refused():
     """What is said of a table that is not read."""
-    head, results = "Time [s],A\n", []
-    for words, text, said in (
-            ([], "", "is empty"), ([], "hello\nworld\n", "no row of numbers"),
-            ([], "Time (25 ns),A\n0,0\n1,1\n", "the times of column 1 are in '25 ns', which is not read as a unit; change its head"),
-            ([], "Time,A,State\n0,1.5,OK\n1,1.4,OK\n", "if others have words, give the numbers of both, as --time-column 1"),
-            ([], "Time [min],A\n0,0\n1,1\n", "the times of column 1 are in 'min', which is not read as a unit; change its head"),
-            ([], "Time [s],A,B\n0,0,1\n", "as --column 'A': A, B"),
-            ([], "Time [s],A,A\n0,0,1\n", "as --column '2': number 2, number 3"),
-            ([], old_scope(), "its heads are in its first columns; give the numbers of times and values, as --time-column 4 --column 5"),
-            (["--column=A"], "Time [s],A,A\n0,0,1\n", "has several columns 'A'; give the number of one, from 1"),
-            (["--column=C"], "Time [s],A,B\n0,0,1\n", "has no column 'C'; there are"),
-            (["--column=4"], "Time [s],A,B\n0,0,1\n", "no row of numbers"), ([], "A\n0\n1\n", "has no column of times"),
-            ([], head + "0,0\n1,x\n", "line 3 has no number in column 2"), ([], head + "0,0\n1\n", "line 3 has no number in column 2"),
-            ([], head + "0,0\n2,1\n1,0\n", "line 4 has a time before that of the last row"),
-            (["--column=A"], "X,A,Start\nSequence,Volt,-6e-03\n0,1.5,\n1,1.4,\n", "has no times, but 'sequence'; give --rate"),
-            ([], head + "0,0\n" * 20000 + "1,2\n", "line 20002 has no level of 0 or 1"),
-            ([], head + "0,0.5\n1,1\n5,2\n6,2\n", "its samples do not come at even times, first in row 3; with --rate"),
-            ([], head + "0,0\n0.002,5\n0.010,0\n", "; if its rows are changes, the levels have to be 0 and 1"),
-            ([], head + "0,5\n", "all the same, so they show no rate"), ([], head + "0,nan\n", "no row of numbers"),
-            (["--level"], "Time [us]\tA\n999\t0.5\n1,000\t3.5\n", "line 3 has no number in column 1"),
-            ([], head + "0,0\n1_0,1\n", "line 3 has no number in column 1"),
-            ([], head + "0,0\n\u0661,1\n", "line 3 has no number in column 1"),
-            (["--column=\u00b2"], head + "0,0\n1,1\n", "has no column '\u00b2'"),
-            (["--rate=5", "--time-column=1"], head + "0,0\n", "--rate and --time-column exclude each other"),
-            ([], "5" * 20000, "is too long"), ([], ("\ufeff" + "5" * 20000).encode("utf-16-be"), "line 1 is too long"),
-            (["--raw=text"], head, "--table has no --raw")):
+    results = []
+    for words, text, said in REFUSED:
         status, _, shown = run("irig_demodulate", ["--table", *words, "-"], text if isinstance(text, bytes) else text.encode())
         results.append(status == 2 and said in shown)
         results[-1] or print("FAILED irig_demodulate --table of %r: %d %s" % (text[:30], status, shown))
-    for rate in ("1.5.3 MHz", ".", "1_000 Hz", "1,000,000 Hz", "1e6 Hz", "0.3 Hz", "1.5 Hz", "9" * 400):
+    for rate in NO_RATES:
         status, _, shown = run("irig_demodulate", ["--table", "-"], ("; Samplerate: %s\nA\n0\n1\n" % rate).encode())
         results.append(status == 2 and "has no column of times; name it by --time-column, or give --rate" in shown)
         results[-1] or print("FAILED irig_demodulate --table at %.20s: %d %s" % (rate, status, shown))
