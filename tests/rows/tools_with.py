@@ -238,40 +238,58 @@ def after(pulses):
     return [[rise + 10000 * 100 * FRAMES, fall + 10000 * 100 * FRAMES] for rise, fall in pulses]
 
 
-def of_other_code():
-    """Recordings that say nothing: no common time, a clock that was set otherwise, another code."""
-    pulses = without(code(), LOST)
-    by = "none of its frames has the time of one here: its first one is %s"
-    was_set = "its control functions are those of this recording, and its times are %s: its clock was set otherwise"
-    unlike = "%d of %d frames of the same time have other control functions: its clock was set otherwise, or it is another code"
+# why another recording is not used
+NO_TIME = "none of its frames has the time of one here: its first one is %s"
+SET_OTHERWISE = "its control functions are those of this recording, and its times are %s: its clock was set otherwise"
+UNLIKE = "%d of %d frames of the same time have other control functions: its clock was set otherwise, or it is another code"
+
+
+def from_frame_24(strange):
+    """Control functions that are strange from this frame on."""
+    return [sent(k) if k < 24 else strange.getrandbits(18) for k in range(FRAMES)]
+
+
+def strangers():
+    """Recordings that say nothing, and why they are not used."""
     strange = random.Random(89)
-    half = [sent(k) if k < 24 else strange.getrandbits(18) for k in range(FRAMES)]
-    last = [0, SENT[-1], *half[-6:]]
-    for name, other, why in (
-        ("another day", signal(FRAMES, day=DAY + 1), by % "86400.00 seconds later"),
-        ("the same code, and another day", code(86400), was_set % "86400.00 seconds later"),
-        ("a clock that is three hours late", code(-10800), was_set % "10800.00 seconds earlier"),
-        ("a clock that is three seconds early", code(3), was_set % "3.00 seconds later"),
-        ("another code", code(control=lambda k: strange.getrandbits(18)), unlike % (29, 29)),
-        ("another code from a time on", code(control=half.__getitem__), unlike % (6, 29)),
+    half = from_frame_24(strange)
+    return (
+        ("another day", signal(FRAMES, day=DAY + 1), NO_TIME % "86400.00 seconds later"),
+        ("the same code, and another day", code(86400), SET_OTHERWISE % "86400.00 seconds later"),
+        ("a clock that is three hours late", code(-10800), SET_OTHERWISE % "10800.00 seconds earlier"),
+        ("a clock that is three seconds early", code(3), SET_OTHERWISE % "3.00 seconds later"),
+        ("another code", code(control=lambda k: strange.getrandbits(18)), UNLIKE % (29, 29)),
+        ("another code from a time on", code(control=half.__getitem__), UNLIKE % (6, 29)),
         ("one frame of the same time, as all others", code(28, control=lambda k: SENT[-1]), "too few frames of the same time are alike: 1"),
         ("no frame", code()[:80], "no frame of it is fine and supported"),
         ("one frame alone", code()[90:210], "no frame of it is fine and supported"),
-    ):
-        found = mended(pulses, slow(other))
-        yield same(name, found[3][:1], ["B.vcd is not used: " + why])
-        yield same(name + ": nothing is taken", (found[0].keys(), found[2]), ({LOST}, {LOST}))
-    alone = mended(without(code(), 2963), slow(code(28, control=lambda k: last[k % 8])[:800]))
-    yield same("one frame of the same time, unlike all others", (alone[0], alone[2:]), ({2963: class_at(code(), 2963)}, (set(), [])))
+    )
+
+
+def of_changes_that_are_few():
+    """Control functions that never change show no clock that was set; those that change seldom do."""
     constant, later = signal(FRAMES, control=lambda k: 0x155), signal(FRAMES, begin=MIDDAY + 300, control=lambda k: 0x155)
     yield same("control functions that never change show no clock", mended(constant, slow(later))[3], [])
     slowly = [k // 9 for k in range(2 * FRAMES)]
     early = signal(FRAMES, begin=MIDDAY + 200, control=slowly.__getitem__)
     yield same("those that change seldom do", mended(signal(FRAMES, control=slowly.__getitem__), slow(early))[3],
-               ["B.vcd is not used: " + was_set % "2.00 seconds later"])
+               ["B.vcd is not used: " + SET_OTHERWISE % "2.00 seconds later"])
     once, early = (signal(14, begin=MIDDAY + by, control=lambda k: SENT[k // 9]) for by in (0, 100))
     yield same("those that change once, in a clock that is a second off", mended(once, slow(early))[3][:1],
-               ["B.vcd is not used: " + unlike % (1, 12)])
+               ["B.vcd is not used: " + UNLIKE % (1, 12)])
+
+
+def of_other_code():
+    """Recordings that say nothing: no common time, a clock that was set otherwise, another code."""
+    pulses = without(code(), LOST)
+    for name, other, why in strangers():
+        found = mended(pulses, slow(other))
+        yield same(name, found[3][:1], ["B.vcd is not used: " + why])
+        yield same(name + ": nothing is taken", (found[0].keys(), found[2]), ({LOST}, {LOST}))
+    last = [0, SENT[-1], *from_frame_24(random.Random(89))[-6:]]
+    alone = mended(without(code(), 2963), slow(code(28, control=lambda k: last[k % 8])[:800]))
+    yield same("one frame of the same time, unlike all others", (alone[0], alone[2:]), ({2963: class_at(code(), 2963)}, (set(), [])))
+    yield from of_changes_that_are_few()
     few = flipped(flipped(code(), 463), 1463)
     yield same("two frames that differ are damage", len(mended(pulses, slow(few))[3]), 2)
     yield same("and the rest is used", mended(pulses, slow(few))[2], set())
@@ -367,12 +385,10 @@ def of_beside():
         yield same(name, (wanted, len(remarks)), ({}, many))
 
 
-def of_width():
-    """A pulse that is not as wide as others of its class is damaged, if another recording has one of the other class that is as wide."""
-    at = of_three(lambda before, told, after: before == told == after)
-    alone = of_three(lambda before, told, after: told not in (before, after))
-    told, exact, words = class_at(code(), at), flipped(code(), at), {}
-    for name, pulses, other, wanted in (
+def of_widths(at, alone):
+    """Pulses, those of the other recording, and what is wanted: the frames next to it have the same at the one place, not at the other."""
+    told, exact = class_at(code(), at), flipped(code(), at)
+    return (
         ("and the frames next to it have the same", odd(at), code(), {at: told}),
         ("they have not", odd(alone), code(), {alone: class_at(code(), alone)}),
         ("they have not, and another one of this class in the frame is off by half of that", beside(odd(alone), alone), code(), {}),
@@ -388,7 +404,15 @@ def of_width():
         ("and so are some there", odd(at), uneven(code()), {}),
         ("the other one is off, too", odd(at), widened(code(), at), {}),
         ("the other one alone is off", exact, widened(code(), at), {}),
-    ):
+    )
+
+
+def of_width():
+    """A pulse that is not as wide as others of its class is damaged, if another recording has one of the other class that is as wide."""
+    at = of_three(lambda before, told, after: before == told == after)
+    alone = of_three(lambda before, told, after: told not in (before, after))
+    words = {}
+    for name, pulses, other, wanted in of_widths(at, alone):
         found = mended(pulses, slow(other))
         yield same(name, (found[0], found[2], len(found[3])), (wanted, set(), int(not wanted)))
         words[name] = found[1] + found[3]
@@ -493,41 +517,51 @@ def page_of(name):
         return file.read()
 
 
+APPLY = ("--with", "other.vcd", "--apply", "new.vcd")
+COUNTS = "rec.vcd: 2 places found, 2 repaired, 0 undecided, 0 left, 0 steps that stay; 27 frames sound before, 29 after"
+WIRE = "irig_mend: %s: wire irig (code '), format B, expression 4: 29 of 29 frames fine\n"
+
+
+def with_another(told, at, later):
+    """What is written with the other recording, and why; and what without it."""
+    status, printed, said = mend(*APPLY, "--out", "new.ed")
+    yield same("--apply", (status, printed, said), (0, [COUNTS], WIRE % "other.vcd"))
+    yield same("what is written", edges(text_of("new.vcd")) == edges(dump(code())), True)
+    yield same("its reason", "no pulse; a %s as recorded in other.vcd at %s" % (told, at) in text_of("new.ed"), True)
+    said = "; what no frame around them says is as recorded in other.vcd at %s and later" % later
+    yield same("of a frame that is generated again", said in text_of("new.ed"), True)
+    status, printed, _ = mend("--apply", "new.vcd")
+    yield same("without it", ("2 repaired (2 by a guess)" in printed[0], len(printed)), (True, 3))
+
+
+def as_printed(at):
+    """The same for programs, on the page and explained."""
+    status, printed, _ = mend(*APPLY, "--into", "rec.vcd", "--json", "--page", "new.html")
+    found = json.loads(printed[0])
+    yield same("--json", (status, found["summary"]["repaired"], found["summary"]["guessed"], found["reasons"]), (0, 2, 0, []))
+    yield same("--page", "as recorded in other.vcd at " + at in page_of("new.html"), True)
+    printed = mend("--with", "other.vcd", "--json")[1]
+    yield same("the script as JSON", ["as recorded in other.vcd" in line for line in printed], [True, True])
+    printed = mend("--with", "other.vcd", "--explain")[1]
+    yield same("--explain", printed[1], "with other.vcd: 29 frames that count, 29 of a time that is here, 28 of these alike, 0 not; used")
+
+
+def with_two(told, at):
+    """The same recording in standard input, and upside down."""
+    status, printed, said = mend("--with=-", "--with=down.vcd", "--apply", "new.vcd", data=text_of("other.vcd").encode())
+    yield same("standard input, and a wire upside down", (status, printed, said), (0, [COUNTS], WIRE % "standard input"))
+    printed = mend("--with=-", "--with=down.vcd", data=text_of("other.vcd").encode())[1]
+    source = "a %s as recorded in standard input at %s and down.vcd at %s" % (told, at, at)
+    yield same("both are named", any(source in line for line in printed), True)
+
+
 def of_apply():
     """One command: the other recorder has another unit, another wire and a wire of data."""
     pulses, other = without(code(), *range(1030, 1090), 2263), slow(code())
-    told, at = {"0": "zero", "1": "one"}[class_at(code(), 2263)], place_of(other, 2263)
-
-    def holds():
-        counts = "2 places found, 2 repaired, 0 undecided, 0 left, 0 steps that stay; 27 frames sound before, 29 after"
-        words = ["--with", "other.vcd", "--apply", "new.vcd"]
-        status, printed, said = mend(*words, "--out", "new.ed")
-        wire = "irig_mend: other.vcd: wire irig (code '), format B, expression 4: 29 of 29 frames fine\n"
-        yield same("--apply", (status, printed, said), (0, ["rec.vcd: " + counts], wire))
-        yield same("what is written", edges(text_of("new.vcd")) == edges(dump(code())), True)
-        yield same("its reason", "no pulse; a %s as recorded in other.vcd at %s" % (told, at) in text_of("new.ed"), True)
-        said = "; what no frame around them says is as recorded in other.vcd at %s and later" % place_of(other, 1060)
-        yield same("of a frame that is generated again", said in text_of("new.ed"), True)
-        status, printed, _ = mend("--apply", "new.vcd")
-        yield same("without it", ("2 repaired (2 by a guess)" in printed[0], len(printed)), (True, 3))
-        status, printed, said = mend(*words, "--into", "rec.vcd", "--json", "--page", "new.html")
-        found = json.loads(printed[0])
-        yield same("--json", (status, found["summary"]["repaired"], found["summary"]["guessed"], found["reasons"]), (0, 2, 0, []))
-        yield same("--page", "as recorded in other.vcd at " + at in page_of("new.html"), True)
-        printed = mend("--with", "other.vcd", "--json")[1]
-        yield same("the script as JSON", ["as recorded in other.vcd" in line for line in printed], [True, True])
-        printed = mend("--with", "other.vcd", "--explain")[1]
-        yield same("--explain", printed[1],
-                   "with other.vcd: 29 frames that count, 29 of a time that is here, 28 of these alike, 0 not; used")
-        status, printed, said = mend("--with=-", "--with=down.vcd", "--apply", "new.vcd", data=text_of("other.vcd").encode())
-        yield same("standard input, and a wire upside down", (status, printed, said),
-                   (0, ["rec.vcd: " + counts], wire.replace("other.vcd", "standard input")))
-        printed = mend("--with=-", "--with=down.vcd", data=text_of("other.vcd").encode())[1]
-        source = "a %s as recorded in standard input at %s and down.vcd at %s" % (told, at, at)
-        yield same("both are named", any(source in line for line in printed), True)
-
+    told, at, later = {"0": "zero", "1": "one"}[class_at(code(), 2263)], place_of(other, 2263), place_of(other, 1060)
     down = [[end + 1, begin] for (_, end), (begin, _) in zip(other, other[1:])]
-    return in_folder(lambda: list(holds()), rec=dump(pulses), other=dump(other, 100), down=dump(down))
+    return in_folder(lambda: [*with_another(told, at, later), *as_printed(at), *with_two(told, at)],
+                     rec=dump(pulses), other=dump(other, 100), down=dump(down))
 
 
 def of_guarded():
@@ -603,14 +637,13 @@ def is_within(at, stretches):
     return any(begin <= at < end for begin, end in stretches)
 
 
-def of_parts():
-    """Of noise that leaves control functions which nothing supports, those alone are left: not what else is repaired in their frame, nor
-    a frame next to it."""
-    sure, holed, two = dump(code()), noisy(code(), 1062, 1065), noisy(noisy(code(), 1262, 1265), 1062, 1065)
+def of_noises():
+    """Pulses with noise, the stretches that are left, and those that are guesses."""
+    holed, two = noisy(code(), 1062, 1065), noisy(noisy(code(), 1262, 1265), 1062, 1065)
     gone = next(1000 + each for each in range(70, 78) if class_at(code(), 900 + each) != class_at(code(), 1100 + each))
     of_frames = [(begin, begin + 190000) for begin in (9600000, 10600000, 11600000, 12600000)]  # control functions of a hole are guesses
     noise, another = (10620000, 10660000), (12620000, 12660000)
-    for name, pulses, left, guesses in (
+    return (
         ("noise from a frame into the next one", noisy(code(), 995, 1065), [(10600000, 10660000)], []),
         ("noise, and elements of the time of its frame that are lost", without(holed, *range(1005, 1036)), [noise], []),
         ("noise that lasts until the next element, which is lost", without(
@@ -620,26 +653,35 @@ def of_parts():
         ("noise in a hole of three frames", [*holed[:950], *holed[1062:1070], *code()[1150:]], [noise], of_frames[:2]),
         ("noise twice in a hole of three frames", [*two[:950], *two[1062:1070], *two[1266:1274], *code()[1280:]], [noise, another],
          of_frames),
-    ):
-        def holds(name=name, left=left, guesses=guesses):
-            status, printed, _ = mend("--apply", "new.vcd")
-            written = text_of("new.vcd")
-            yield same(name, (status, " %d after" % (29 - len(left)) in printed[0], " refused" in printed[0]), (1, True, False))
-            unlike = sorted(set(edges(written)) ^ set(edges(sure)))
-            yield same(name + ": what is repaired", [at for at in unlike if not is_within(at, left + guesses)], [])
-            for each in left:
-                yield same(name + ": what is left", set(between(written, *each)) >= set(between(sure, *each)), False)
-            said = " would have control functions that are not supported, so they are left out: "
-            yield same(name + ": what is said", [said in each for each in printed if ": undecided: " in each], [True] * len(left))
+    )
 
-        yield from in_folder(lambda holds=holds: list(holds()), rec=dump(pulses))
 
-    def of_one():
-        status, printed, _ = mend("--apply", "new.vcd")
-        found = status, " 1 line refused" in printed[0], between(text_of("new.vcd"), 10050000, 10060000)
-        yield same("noise, and one pulse of the time of its frame: fewer samples would have a time", found, (1, True, []))
+def left_alone(name, left, guesses):
+    """Whether nothing but these stretches differs from the code, each of them does, and a line says why."""
+    status, printed, _ = mend("--apply", "new.vcd")
+    written, sure = text_of("new.vcd"), dump(code())
+    yield same(name, (status, " %d after" % (29 - len(left)) in printed[0], " refused" in printed[0]), (1, True, False))
+    unlike = sorted(set(edges(written)) ^ set(edges(sure)))
+    yield same(name + ": what is repaired", [at for at in unlike if not is_within(at, left + guesses)], [])
+    for each in left:
+        yield same(name + ": what is left", set(between(written, *each)) >= set(between(sure, *each)), False)
+    said = " would have control functions that are not supported, so they are left out: "
+    yield same(name + ": what is said", [said in each for each in printed if ": undecided: " in each], [True] * len(left))
 
-    yield from in_folder(lambda: list(of_one()), rec=dump(without(holed, 1005)))
+
+def of_one_pulse():
+    """Noise, and one pulse of the time of its frame that is lost."""
+    status, printed, _ = mend("--apply", "new.vcd")
+    found = status, " 1 line refused" in printed[0], between(text_of("new.vcd"), 10050000, 10060000)
+    yield same("noise, and one pulse of the time of its frame: fewer samples would have a time", found, (1, True, []))
+
+
+def of_parts():
+    """Of noise that leaves control functions which nothing supports, those alone are left: not what else is repaired in their frame, nor
+    a frame next to it."""
+    for name, pulses, *stretches in of_noises():
+        yield from in_folder(lambda name=name, stretches=stretches: list(left_alone(name, *stretches)), rec=dump(pulses))
+    yield from in_folder(lambda: list(of_one_pulse()), rec=dump(without(noisy(code(), 1062, 1065), 1005)))
 
 
 def of_mended():
@@ -693,58 +735,73 @@ def of_two_wires(*signals):
     return head + "".join("#%d %s\n" % edge for edge in edges)
 
 
+# a recording that is not used, and why
+NOT_USED = (
+    ("a", "it has format A and expression 4, and the track format B and expression 4"),
+    ("day", NO_TIME % "86400.00 seconds later"),
+    ("data", "no frame of it is fine and supported"),
+)
+ONE_FILE = " are one file; irig_wire makes one of each wire (irig_mend --help says more)"
+# options that end with status 2, and what is said of them; None if that is not compared
+REFUSED = (
+    ("--with=no.vcd", "no.vcd: No such file or directory"),
+    ("--with=text.vcd", None),
+    ("--with=empty.vcd", None),
+    ("--with=.", ".: is a folder"),
+    ("--with=two.vcd", "two.vcd: several wires carry time code, and irig_wire makes a dump of one, which --with takes: "
+     "one (code !), two (code \")"),
+    ("--with=- --with=-", "standard input and standard input" + ONE_FILE),
+    ("--with=-", None),
+    ("--with=rec.vcd", "rec.vcd and rec.vcd" + ONE_FILE),
+    ("--with=day.vcd --with=./day.vcd", "day.vcd and ./day.vcd" + ONE_FILE),
+    ("--with=day.vcd --apply=day.vcd", "--apply day.vcd would write over the file that is read, day.vcd"),
+    ("--with=day.vcd --apply-to=folder", "--apply-to and --with exclude each other (irig_mend --help says more)"),
+    ("--with=", "--with needs a file: --with OTHER (irig_mend --help says more)"),
+)
+
+
+def not_used():
+    """Recordings that are not used: why, and that nothing else changes."""
+    plain = mend()[1]
+    for name, why in NOT_USED:
+        said = "%s.vcd is not used: %s" % (name, why)
+        status, printed, _ = mend("--with=%s.vcd" % name)
+        yield same(name, (status, printed), (1, ["# " + said, *plain]))
+        status, printed, _ = mend("--with=%s.vcd" % name, "--apply=new.vcd")
+        yield same(name + ", --apply", (status, printed[0][:45], printed[1]),
+                   (1, "rec.vcd: 1 place found, 1 repaired (1 by a gu", "rec.vcd: " + said))
+
+
+def that_differ():
+    """A recording with a frame that differs, and two of which one says nothing."""
+    status, printed, _ = mend("--with=wrong.vcd", "--apply=new.vcd")
+    yield same("a frame that differs", (status, printed[0][:60], len(printed)),
+               (1, "rec.vcd: 1 place found, 1 repaired, 0 undecided, 0 left, 0 s", 2))
+    begins = printed[1].startswith("rec.vcd: differs: at ")
+    yield same("what is said", (begins, " is recorded here, and a " in printed[1]), (True, True))
+    status, printed, _ = mend("--with=wrong.vcd", "--with=right.vcd")
+    yield same("two others that differ", (status, printed[0].partition(": it is ")[2].partition(" in ")[0], len(printed)),
+               (1, "a zero", 2))
+    status, printed, _ = mend("--with=right.vcd", "--with=day.vcd", "--apply=new.vcd")
+    yield same("one of two is used", (status, "1 repaired, 0 undecided" in printed[0], printed[1:]),
+               (1, True, ["rec.vcd: day.vcd is not used: " + NO_TIME % "86400.00 seconds later"]))
+
+
+def wrong_words():
+    """Options that end with status 2, and nothing is printed or written."""
+    for words, said in REFUSED:
+        status, printed, found = mend(*words.split())
+        yield same(words, (status, printed, found), (2, [], "irig_mend: %s\n" % said if said else found))
+    yield same("what is read stays", text_of("day.vcd"), dump(slow(signal(FRAMES, day=DAY + 1))))
+
+
 def of_refused():
     """What is no such recording: why, the status, and that nothing changes."""
     pulses = without(code(), LOST)
-    one_file = " are one file; irig_wire makes one of each wire (irig_mend --help says more)"
-
-    def holds():
-        plain = mend()[1]
-        for name, why in (
-            ("a", "it has format A and expression 4, and the track format B and expression 4"),
-            ("day", "none of its frames has the time of one here: its first one is 86400.00 seconds later"),
-            ("data", "no frame of it is fine and supported"),
-        ):
-            said = "%s.vcd is not used: %s" % (name, why)
-            status, printed, _ = mend("--with=%s.vcd" % name)
-            yield same(name, (status, printed), (1, ["# " + said, *plain]))
-            status, printed, _ = mend("--with=%s.vcd" % name, "--apply=new.vcd")
-            yield same(name + ", --apply", (status, printed[0][:45], printed[1]),
-                       (1, "rec.vcd: 1 place found, 1 repaired (1 by a gu", "rec.vcd: " + said))
-        status, printed, _ = mend("--with=wrong.vcd", "--apply=new.vcd")
-        yield same("a frame that differs", (status, printed[0][:60], len(printed)),
-                   (1, "rec.vcd: 1 place found, 1 repaired, 0 undecided, 0 left, 0 s", 2))
-        begins = printed[1].startswith("rec.vcd: differs: at ")
-        yield same("what is said", (begins, " is recorded here, and a " in printed[1]), (True, True))
-        status, printed, _ = mend("--with=wrong.vcd", "--with=right.vcd")
-        yield same("two others that differ", (status, printed[0].partition(": it is ")[2].partition(" in ")[0], len(printed)),
-                   (1, "a zero", 2))
-        status, printed, _ = mend("--with=right.vcd", "--with=day.vcd", "--apply=new.vcd")
-        yield same("one of two is used", (status, "1 repaired, 0 undecided" in printed[0], printed[1:]), (1, True, ["rec.vcd: " + (
-            "day.vcd is not used: none of its frames has the time of one here: its first one is 86400.00 seconds later")]))
-        for words, said in (
-            ("--with=no.vcd", "no.vcd: No such file or directory"),
-            ("--with=text.vcd", None),
-            ("--with=empty.vcd", None),
-            ("--with=.", ".: is a folder"),
-            ("--with=two.vcd", "two.vcd: several wires carry time code, and irig_wire makes a dump of one, which --with takes: "
-             "one (code !), two (code \")"),
-            ("--with=- --with=-", "standard input and standard input" + one_file),
-            ("--with=-", None),
-            ("--with=rec.vcd", "rec.vcd and rec.vcd" + one_file),
-            ("--with=day.vcd --with=./day.vcd", "day.vcd and ./day.vcd" + one_file),
-            ("--with=day.vcd --apply=day.vcd", "--apply day.vcd would write over the file that is read, day.vcd"),
-            ("--with=day.vcd --apply-to=folder", "--apply-to and --with exclude each other (irig_mend --help says more)"),
-            ("--with=", "--with needs a file: --with OTHER (irig_mend --help says more)"),
-        ):
-            status, printed, found = mend(*words.split())
-            yield same(words, (status, printed, found), (2, [], "irig_mend: %s\n" % said if said else found))
-        yield same("what is read stays", text_of("day.vcd"), dump(slow(signal(FRAMES, day=DAY + 1))))
-
     files = {"rec": dump(pulses), "a": dump(slow(signal(FRAMES, "A", control=sent))), "day": dump(slow(signal(FRAMES, day=DAY + 1))),
              "data": dump([[700 * at, 700 * at + 300] for at in range(1, 900)]), "wrong": dump(slow(flipped(code(), 2070, LOST))),
              "right": dump(slow(code())), "text": "no dump", "empty": "", "two": of_two_wires(slow(code()), slow(code(), -0.0004))}
-    return in_folder(lambda: list(holds()), **files)
+    return in_folder(lambda: [*not_used(), *that_differ(), *wrong_words()], **files)
 
 
 def cases(_top):
