@@ -122,30 +122,9 @@ class Clock:
         self.listing, self.nominal = listing, nominal
         self.rises, self.classes = listing.rises, listing.classes
         apart = listing.apart
-        between = _in_step(listing.rises, nominal)
-        self.interval: float = statistics.median_low(between) if between else nominal
-        self.noise: float = statistics.median([abs(each - self.interval) for each in between]) if between else 0
-        self.curve = self._find_curve(apart)  # the interval at each distance, if it changes so much that this shows at once
-        if self.curve:  # what is left of the distances if the interval were the same all over
-            between = [round(self.interval + off) for off in self._off(apart, self.curve)]
-        # what is left of a distance is no number of samples, however little it is
-        noise = limits.MOST_MARGIN * nominal if self.curve else self.noise
-        self.grid = grid or spacing_of_samples(listing, between, nominal, self.interval, noise)
-        rough = self.grid if are_often_off(between, self.interval, self.grid) else 0
-        # what counts as in step, and how far one pulse may be off
-        self.margin = self._within(limits.LEAST_MARGIN, limits.MARGIN_BY_NOISE, limits.MOST_MARGIN, rough)
-        self.stray = self._within(limits.LEAST_STRAY, limits.STRAY_BY_NOISE, limits.MOST_STRAY, rough)
-        ends = breaks_near(apart, self.curve, self.margin) if self.curve else breaks(apart, self.interval, self.margin)
-        found = [run_of(first, beyond) for first, beyond in zip([PulseIndex(0), *ends], ends)]
-        self.wander: Optional[Wander] = None
-        self.least_step = self._find_least_step(between, apart)
-        # a step does not make a clock wander
-        steady = found if self.curve else [part for run in found for part in self._stepped(run, apart)]
-        self._find_wander(steady)
-        if self.curve or self.wander:
-            self.least_step = self._find_least_step(between, apart)
-            steady = [part for run in found for part in self._stepped(run, apart)]
-        self.runs = [part for run in steady for part in self._parted(run)]
+        between = self._find_interval(apart)
+        self._find_margins(between, grid)
+        self.runs = self._find_runs(between, apart)
         within = [run for run in self.runs if run.count >= limits.SURE_RUN]
         # the first and the last pulse of a run can be where the level chatters
         self._measure([(run.count - 3, self.rises[run.last - 1] - self.rises[run.first + 1]) for run in within])
@@ -158,6 +137,37 @@ class Clock:
         self.least_stray = max(limits.STRAY_SEEN * self.spread, limits.SAMPLES_OFF * max(limits.ROUNDED, self.grid), self._least_seen())
         self.strays = {pulse: due for run in self.runs for pulse, due in self._strays_of(run)}
         self.in_stray = sorted(self.strays)
+
+    def _find_interval(self, apart: Sequence[int]) -> List[int]:
+        """The interval and the noise, and whether it changes; the distances in step, as if the interval were the same all over."""
+        between = _in_step(self.rises, self.nominal)
+        self.interval: float = statistics.median_low(between) if between else self.nominal
+        self.noise: float = statistics.median([abs(each - self.interval) for each in between]) if between else 0
+        self.curve = self._find_curve(apart)  # the interval at each distance, if it changes so much that this shows at once
+        return [round(self.interval + off) for off in self._off(apart, self.curve)] if self.curve else between
+
+    def _find_margins(self, between: Sequence[int], grid: float) -> None:
+        """How far apart samples are, what counts as in step, and how far one pulse may be off."""
+        # what is left of a distance is no number of samples, however little it is
+        noise = limits.MOST_MARGIN * self.nominal if self.curve else self.noise
+        self.grid = grid or spacing_of_samples(self.listing, between, self.nominal, self.interval, noise)
+        rough = self.grid if are_often_off(between, self.interval, self.grid) else 0
+        self.margin = self._within(limits.LEAST_MARGIN, limits.MARGIN_BY_NOISE, limits.MOST_MARGIN, rough)
+        self.stray = self._within(limits.LEAST_STRAY, limits.STRAY_BY_NOISE, limits.MOST_STRAY, rough)
+
+    def _find_runs(self, between: Sequence[int], apart: Sequence[int]) -> List[Run]:
+        """The runs, each without a step and with one phase; and how the clock wanders."""
+        ends = breaks_near(apart, self.curve, self.margin) if self.curve else breaks(apart, self.interval, self.margin)
+        found = [run_of(first, beyond) for first, beyond in zip([PulseIndex(0), *ends], ends)]
+        self.wander: Optional[Wander] = None
+        self.least_step = self._find_least_step(between, apart)
+        # a step does not make a clock wander
+        steady = found if self.curve else [part for run in found for part in self._stepped(run, apart)]
+        self._find_wander(steady)
+        if self.curve or self.wander:
+            self.least_step = self._find_least_step(between, apart)
+            steady = [part for run in found for part in self._stepped(run, apart)]
+        return [part for run in steady for part in self._parted(run)]
 
     def _find_curve(self, apart: Sequence[int]) -> List[float]:
         """The interval near each distance, and by it the noise; nothing if the interval changes less than rises stray."""
