@@ -65,20 +65,24 @@ class Faults:
         self.contrary: Set[FrameNumber] = set()  # frames that show another time, too clearly to be damage
         self.remarks: List[Remark] = []
         self.usual = times.usual() if self.layout.steady else {}
-        doubted = self._doubted()
-        for number, text in times.texts.items():
-            self._compare_control(number, text)
-            if number in doubted:
-                self.contrary.add(number)
-            elif number not in times.sound:
-                self._look_at(number, text, times.expected(number))
-        for place in track.strays:
-            told = track.told[place - track.first]
-            if told in SHARE and frame_of(place) in times.texts:
-                self.wanted.setdefault(place, told)
+        self._look_at_all()
         off = [place for place in sorted(self.wanted) if self._is_off_alone(place)]
         # of which the rise alone is off, in frames that are fine
         self.in_fine = {place for number, places in groupby(off, frame_of) if self.is_fine(number) for place in places}
+
+    def _look_at_all(self) -> None:
+        """Compares each frame with what follows for it, and takes the rises that stray."""
+        doubted = self._doubted()
+        for number, text in self.times.texts.items():
+            self._compare_control(number, text)
+            if number in doubted:
+                self.contrary.add(number)
+            elif number not in self.times.sound:
+                self._look_at(number, text, self.times.expected(number))
+        for place in self.track.strays:
+            told = self.track.told[place - self.track.first]
+            if told in SHARE and frame_of(place) in self.times.texts:
+                self.wanted.setdefault(place, told)
 
     def is_fine(self, number: FrameNumber) -> bool:
         """Whether a frame is fine as it is."""
