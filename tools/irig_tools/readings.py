@@ -118,11 +118,16 @@ def read(track: str, kind: str) -> Readings:
         found.refused = run.stderr.read().decode(errors="replace").strip().rpartition(": ")[2]
     if run.returncode < 0 or found.rows and run.returncode:  # by a signal, or after a part of the answer
         raise Problem(CUT_OFF)
+    _measure(track, found, ends)
+    return found
+
+
+def _measure(track: str, found: Readings, ends: Sequence[int]) -> None:
+    """How many frames each expression has, by the first and the last rise, and which one fits best."""
     for row in found.rows if len(ends) == 2 else ():
         row.measure(*ends)
     if found.rows:
         _choose_careful(track, found)
-    return found
 
 
 def _choose_careful(track: str, found: Readings) -> None:
