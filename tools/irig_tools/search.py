@@ -176,16 +176,21 @@ def search(path: str, unit: str, number: int) -> Found:
     dumps = each_dump(source, number, use)
     found = results[0]
     found.dumps = dumps
+    _count_votes(found, bool(unit or found.header.unit))
+    if not found.looked_at:
+        raise Problem("%s: has no wire of bits, and only such a wire can carry time code" % path)
+    return found
+
+
+def _count_votes(found: Found, is_known: bool) -> None:
+    """What each wire looks like, in the unit that is known or in the first in which one has time code; wires without votes are left out."""
     for probe in found.probes:
         probe.judge()
-    if not (unit or found.header.unit):
+    if not is_known:
         found.unit = next((one for one in TRIED if any(one in probe.in_units for probe in found.probes)), TRIED[0])
     for probe in found.probes:
         probe.votes = probe.in_units.get(found.unit, probe.votes)
     found.probes = [probe for probe in found.probes if probe.votes]
-    if not found.looked_at:
-        raise Problem("%s: has no wire of bits, and only such a wire can carry time code" % path)
-    return found
 
 
 def steps_of(named: str) -> Dict[str, float]:
@@ -194,34 +199,48 @@ def steps_of(named: str) -> Dict[str, float]:
     return {kind: step * MICROSECOND / (unit.femtoseconds * unit.factor) for kind, step in INTERVAL.items()}
 
 
-def _look(source: Source, every: Every, units: Dict[str, Dict[str, float]], found: Found) -> Body:
-    """Reads one dump; only a wire that is high at some time has a probe, in the order of the wires."""
-    room, only = Room(MOST_KEPT_EDGES), every.only()
-    wanted = Wanted(every) if only is None else Wanted({every.signal(only).code: [(only, 0)]})
-    probes: Dict[int, Probe] = {}
+class Probes:
+    """The probes of one dump: only a wire that is high at some time has one."""
 
-    def drop(number: int) -> None:
-        wanted.drop(number, probes[number].signal.code)
-        probes[number].forget()
-        found.hopeless += 1
+    def __init__(self, every: Every, units: Dict[str, Dict[str, float]], found: Found) -> None:
+        self.every, self.units, self.found = every, units, found
+        self.room, self.only = Room(MOST_KEPT_EDGES), every.only()
+        self.wanted = Wanted(every) if self.only is None else Wanted({every.signal(self.only).code: [(self.only, 0)]})
+        self.by_number: Dict[int, Probe] = {}
 
-    def take_run(run: WireRun) -> bool:
+    def begin(self, number: int) -> Probe:
+        """The probe of a wire that has none yet."""
+        probe = self.by_number[number] = Probe(self.every.signal(number), self.units, self.room)
+        return probe
+
+    def drop(self, number: int) -> None:
+        """A wire that is hopeless is looked at no longer."""
+        self.wanted.drop(number, self.by_number[number].signal.code)
+        self.by_number[number].forget()
+        self.found.hopeless += 1
+
+    def take_run(self, run: WireRun) -> bool:
         """The changes of the only signal, unless it was dropped."""
+        only = self.only
         assert only is not None
-        if wanted.signals and run.marks and (only in probes or run.is_high or len(run.marks) > 1):
-            probe = probes.setdefault(only, Probe(every.signal(only), units, room))
+        if self.wanted.signals and run.marks and (only in self.by_number or run.is_high or len(run.marks) > 1):
+            probe = self.by_number.get(only) or self.begin(only)
             if probe.take(run.times(), run.is_high):
-                drop(only)
+                self.drop(only)
         return True
 
-    body = Body(source, wanted, take_run)
+
+def _look(source: Source, every: Every, units: Dict[str, Dict[str, float]], found: Found) -> Body:
+    """Reads one dump; the probes are in the order of the wires."""
+    probes = Probes(every, units, found)
+    by_number, body = probes.by_number, Body(source, probes.wanted, probes.take_run)
     for time, number, letter in body.changes():
-        probe = probes.get(number)
+        probe = by_number.get(number)
         if probe is None:
             if letter != "1":
                 continue
-            probe = probes[number] = Probe(every.signal(number), units, room)
+            probe = probes.begin(number)
         if probe.change(time, letter == "1"):
-            drop(number)
-    found.probes = [probes[number] for number in sorted(probes)]
+            probes.drop(number)
+    found.probes = [by_number[number] for number in sorted(by_number)]
     return body
