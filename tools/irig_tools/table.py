@@ -80,16 +80,23 @@ class Table(Samples):
         looked = list(islice(rows, LOOKED_AT))
         self.rows = chain(looked, rows)
         if aside:
-            others = named.others(self.form)
-            self.others = others if any(named.names) else with_values(others, [fields for _, fields in self.held], self.form)
-            aside.begin(path, [each for _, each in self.others])
-            for since, fields in self.held:
-                self._set_aside(since, fields)
-            self.held = []
+            self._begin_aside(aside, named)
         values = {level for _, level in looked}
         self.is_levels = values <= {0.0, 1.0} and not (volts and values == {0.0})
-        times = [time for time, _ in looked]
-        self.spacing = 1 / self.rate if self.form.time is None else self.seen.spacing(times)  # of levels in samples; of changes 0
+        self._find_spacing([time for time, _ in looked])
+
+    def _begin_aside(self, aside: Aside, named: Heads) -> None:
+        """The other columns get their heads, and what the first rows have in them."""
+        others = named.others(self.form)
+        self.others = others if any(named.names) else with_values(others, [fields for _, fields in self.held], self.form)
+        aside.begin(self.path, [each for _, each in self.others])
+        for since, fields in self.held:
+            self._set_aside(since, fields)
+        self.held = []
+
+    def _find_spacing(self, times: Sequence[float]) -> None:
+        """How far apart rows are, of levels in samples, of changes 0; and the rate, by the first times."""
+        self.spacing = 1 / self.rate if self.form.time is None else self.seen.spacing(times)
         if self.form.time is not None:
             self.rate = MICROSECONDS if self.is_levels else self._rate(times)
 
