@@ -177,6 +177,12 @@ class Wander:
         self.inner: Dict[int, float] = {}  # and by the curve or evenly, whichever is nearer
         self.even: Dict[int, bool] = {}  # whether that is evenly
         self.changed: Dict[int, float] = {}  # by how much the interval changes over them
+        self._measure_rests(sample)
+        self._measure_holes(sample)
+
+    def _measure_rests(self, sample: Sample) -> None:
+        """How late what follows a hole can be, and which pulses say so best, for holes of each length."""
+        reach = self.reach
         for short, table in self.known.items():
             most = 0.0
             for steps in limits.HOLES_MEASURED:
@@ -189,7 +195,10 @@ class Wander:
                     self.spread[short] = max(median(sample.lates(steps, reach, self.hops[1], short)), off / limits.NINE_OF_TEN)
                 most = max(most, limits.ABOVE_NINE_OF_TEN * off)
                 table[steps] = most
-        most = curved = change = 0.0
+
+    def _measure_holes(self, sample: Sample) -> None:
+        """How far off pulses are that are put into holes of each length."""
+        reach, most, curved, change = self.reach, 0.0, 0.0, 0.0
         for steps in self.known[False]:
             bent, even = (_nine_of_ten(sample.insides(steps, reach, each)) for each in (False, True))
             self.even[steps] = even < bent
