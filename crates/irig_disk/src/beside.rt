@@ -17,8 +17,7 @@ ghost use Rattle.std.specs.Prelude.{OnOk, IsErrOf, IsTrue};
 ghost use Rattle.irig_disk.specs.declared.fault.PutFault.TheVariants.{NamesTaken};
 ghost use Rattle.irig_disk.specs.NewNames.{AllTaken, IsNameAfter, name_after};
 ghost use Rattle.irig_disk.specs.{Writing.IsWriting, Writing.IsUnchanged, Faults.NotBegun};
-ghost use Rattle.irig_disk.specs.{declared.new_text.TheConstants.NAMES, Name.IsName};
-ghost use Rattle.irig_disk.specs.{Parts.IsPassed, Calls.mode_made};
+ghost use Rattle.irig_disk.specs.{Name.IsName, Parts.IsPassed, Calls.mode_made};
 
 use crate::fault::PutFault;
 use crate::folder::Folder;
@@ -45,8 +44,8 @@ pub(crate) fn make_beside<F: Folder>(
     ensures err { IsTrue F.is_told → IfErr result
         (NotBegun (F.disk folder.old) (F.disk folder.new)) }
     ensures taken { IsTrue F.is_told → IsErrOf result NamesTaken
-        → AllTaken (F.disk folder.old) (F.place dir.now) stem.now target.now NAMES }
-    ensures named { OnOk result (IsNameAfter stem.now NAMES (string_bytes name.new)) }
+        → AllTaken (F.disk folder.old) (F.place dir.now) stem.now target.now 10_000 }
+    ensures named { OnOk result (IsNameAfter stem.now 10_000 (string_bytes name.new)) }
 {
     for number in 0..NAMES {
         match make_at(folder, dir, name, target, stem, number, hidden) {

@@ -1,6 +1,7 @@
 //! A text written whole on a disk: a crash at any moment leaves the old one or the new one.
 #![tactic(auto)]
 
+mod answers;
 mod beside;
 mod fault;
 mod folder;

@@ -77,8 +77,8 @@ impl<'n, F: Folder> NewText<'n, F> {
         ensures err { IsTrue F.is_told → IfErr result
             (NotBegun (F.disk folder.old) (F.disk folder.new)) }
         ensures taken { IsTrue F.is_told → IsErrOf result NamesTaken
-            → AllTaken (F.disk folder.old) (F.place dir.now) stem.now target.now NAMES }
-        ensures named { IfOk result (λ new. IsNameAfter stem.now NAMES new.beside.now) }
+            → AllTaken (F.disk folder.old) (F.place dir.now) stem.now target.now 10_000 }
+        ensures named { IfOk result (λ new. IsNameAfter stem.now 10_000 new.beside.now) }
     {
         match make_beside(folder, dir, name, target, stem, mode.is_some()) {
             Ok(file) => Ok(NewText {

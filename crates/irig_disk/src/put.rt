@@ -17,8 +17,8 @@ ghost use Rattle.std.specs.Prelude.{◌≡◌, ◌<◌, ◌≤◌, ◌++◌, ◌
 ghost use Rattle.std.specs.Prelude.{length, IfOk, IfErr, IfSome, OnOk, OnErr, OnSome, IsOk, IsSome};
 ghost use Rattle.std.specs.Prelude.{Err, IsErrOf, IsTrue, Result};
 ghost use Rattle.irig_text.specs.declared.block.TheConstants.{ENOUGH};
-ghost use Rattle.irig_disk.specs.{declared.fault.PutFault.TheVariants.NamesTaken};
-ghost use Rattle.irig_disk.specs.{declared.new_text.TheConstants.NAMES, NewNames.AllTaken};
+ghost use Rattle.irig_disk.specs.declared.fault.PutFault.TheVariants.{NamesTaken};
+ghost use Rattle.irig_disk.specs.NewNames.{AllTaken};
 ghost use Rattle.irig_disk.specs.{Put.IsKept, Put.OldOrNewIfThere, Put.held, Faults.AfterFault};
 ghost use Rattle.irig_disk.specs.{Faults.left_by, Parts.Adds, Parts.ComesTo, Parts.Spoils};
 ghost use Rattle.irig_disk.specs.Underway.{underway_of, WhileUnderway, WhileInAnyMode};
@@ -59,7 +59,7 @@ pub fn put_text<F: Folder, T: Text>(
         (F.disk folder.new) (F.place dir.now target.now)
         (held F.usual_mode mode (T.rest text.old))) }
     ensures taken { IsTrue F.is_told → IsErrOf result NamesTaken
-        → AllTaken (F.disk folder.old) (F.place dir.now) stem.now target.now NAMES }
+        → AllTaken (F.disk folder.old) (F.place dir.now) stem.now target.now 10_000 }
     ensures count { IfOk result (λ kept. kept.count ≡ length (T.rest text.old)) }
 {
     let begun = NewText::begin(folder, dir, name, target, stem, mode);

@@ -1,17 +1,17 @@
-//! A folder of the system: each method is one call, and only it makes the answer of that call.
+//! A folder of the system: each method is one call, whose outcome makes the answer (`answers`).
 //!
-//! A runtime makes the calls of the system. Each answer is a type of its own, so that nobody can
-//! answer for a call that was not made. Paths are built in `one` and `other`, whose memory is taken
-//! before the first call. The contracts say nothing of what the disk holds (`is_told` is false).
-//! What each method does is said with the trait, in `folder`. A `SystemFault` is the error of the
-//! system, or that a path is longer than the memory for it and no more is there.
+//! A runtime makes the calls of the system. Paths are built in `one` and `other`, whose memory is
+//! taken before the first call. The contracts say nothing of what the disk holds (`is_told` is
+//! false). What each method does is said with the trait, in `folder`. A `SystemFault` is the error
+//! of the system, or that a path is longer than the memory for it and no more is there.
 
-ghost use Rattle.std.specs.Prelude.{◌≡◌, ◌≤◌, ◌↔◌, IfErr, IfOk, IsOk, IsTrue, OnOk, false};
-ghost use Rattle.std.specs.Fs.{asks_create_new, asks_write};
+ghost use Rattle.std.specs.Prelude.{◌≡◌, ◌≤◌, ◌+◌, ◌↔◌, IfErr, IfOk, IsOk, IsSome, IsTrue, None, OnErr};
+ghost use Rattle.std.specs.Prelude.{OnOk, false, true};
+ghost use Rattle.std.specs.Fs.{asks_create_new, asks_write, new_options, with_create_new, with_write};
 ghost use Rattle.std.specs.{Io.KnownBytes.Appends, IoError.error_kind, Path.path_buf_cap};
 ghost use Rattle.irig_disk.specs.System.{untold, untold_now};
-ghost use Rattle.irig_disk.specs.declared.system_dir.TheConstants.{PATH};
 
+use crate::answers::{Appended, FileSynced, ModeTaken, NameRemoved, NamesSynced, Renamed};
 use crate::folder::Folder;
 use crate::system_dir::{PATH, SystemDir, put_path};
 use crate::system_fault::SystemFault;
@@ -36,8 +36,8 @@ impl<'a, R: Files> SystemFolder<'a, R> {
     /// only if memory runs out.
     pub fn new(alloc: Global, runtime: &'a R) -> Result<Self, AllocError>
         ensures runtime { IfOk result (λ folder. folder.runtime.now ≡ runtime.now) }
-        ensures room { IfOk result (λ folder. PATH ≤ path_buf_cap folder.one) }
-        ensures other_room { IfOk result (λ folder. PATH ≤ path_buf_cap folder.other) }
+        ensures room { IfOk result (λ folder. 4_095 + 1 + 4_095 ≤ path_buf_cap folder.one) }
+        ensures other_room { IfOk result (λ folder. 4_095 + 1 + 4_095 ≤ path_buf_cap folder.other) }
     {
         Ok(SystemFolder {
             runtime,
@@ -98,11 +98,7 @@ impl<R: Files> Folder for SystemFolder<'_, R> {
         hidden: bool,
     ) -> Result<Option<SystemFile<R::File>>, SystemFault> {
         put_path(&mut self.one, dir.path.as_str(), name)?;
-        match new_file(hidden).open(self.runtime, self.one.as_str()) {
-            Ok(file) => Ok(Some(SystemFile(file))),
-            Err(error) if error.kind() == ErrorKind::AlreadyExists => Ok(None),
-            Err(error) => Err(SystemFault(error)),
-        }
+        made(new_file(hidden).open(self.runtime, self.one.as_str()))
     }
 
     // Writes bytes at the end of a file. If it fails, some may be written.
@@ -120,18 +116,12 @@ impl<R: Files> Folder for SystemFolder<'_, R> {
         file: &SystemFile<R::File>,
         mode: u32,
     ) -> Result<ModeTaken, SystemFault> {
-        match file.0.set_permissions(Permissions::from_mode(mode)) {
-            Ok(()) => Ok(ModeTaken(())),
-            Err(error) => Err(SystemFault(error)),
-        }
+        ModeTaken::by(file.0.set_permissions(Permissions::from_mode(mode)))
     }
 
     // Asks the system to keep what a file holds over a crash.
     fn sync_file(&mut self, file: &SystemFile<R::File>) -> Result<FileSynced, SystemFault> {
-        match file.0.sync_all() {
-            Ok(()) => Ok(FileSynced(())),
-            Err(error) => Err(SystemFault(error)),
-        }
+        FileSynced::by(file.0.sync_all())
     }
 
     // Gives the file of the name `from` in a folder the name `to`, instead of the file that had it,
@@ -144,28 +134,22 @@ impl<R: Files> Folder for SystemFolder<'_, R> {
     ) -> Result<Renamed, SystemFault> {
         put_path(&mut self.one, dir.path.as_str(), from)?;
         put_path(&mut self.other, dir.path.as_str(), to)?;
-        match fs::rename(self.runtime, self.one.as_str(), self.other.as_str()) {
-            Ok(()) => Ok(Renamed(())),
-            Err(error) => Err(SystemFault(error)),
-        }
+        Renamed::by(fs::rename(self.runtime, self.one.as_str(), self.other.as_str()))
     }
 
     // Frees a name in a folder: no file has it then. It fails if none had it.
     fn remove(&mut self, dir: &SystemDir<R::File>, name: &str) -> Result<NameRemoved, SystemFault> {
         put_path(&mut self.one, dir.path.as_str(), name)?;
-        match fs::remove_file(self.runtime, self.one.as_str()) {
-            Ok(()) => Ok(NameRemoved(())),
-            Err(error) => Err(SystemFault(error)),
-        }
+        NameRemoved::by(fs::remove_file(self.runtime, self.one.as_str()))
     }
 
     // Asks the system to keep the names of a folder over a crash. If no folder is open, the fault
-    // is `NotFound`. A file system that cannot sync a folder counts as if it did (`names_synced`).
+    // is `NotFound`. A file system that cannot sync a folder counts as if it did (`NamesSynced`).
     fn sync_names(&mut self, dir: &SystemDir<R::File>) -> Result<NamesSynced, SystemFault> {
         let Some(folder) = &dir.file else {
             return Err(SystemFault(io::Error::from(ErrorKind::NotFound)));
         };
-        names_synced(folder.sync_all())
+        NamesSynced::by(folder.sync_all())
     }
 }
 
@@ -173,35 +157,29 @@ impl<R: Files> Folder for SystemFolder<'_, R> {
 #[derive(Drop)]
 pub struct SystemFile<F: Drop>(F);
 
-/// The system wrote bytes.
-#[derive(Drop)]
-pub struct Appended(());
+/// The answer of `make`, by what the system says of the new file: `None` only if its name is taken.
+/// It is a function of its own for its contract: that of `make` says nothing of the real system.
+fn made<F: Drop>(opened: io::Result<F>) -> Result<Option<SystemFile<F>>, SystemFault>
+    ensures some { OnOk opened (IfOk result (λ file. IsSome file)) }
+    ensures done { OnOk opened (IsOk result) }
+    ensures none { IfErr opened (λ error. IsOk result
+        ↔ (error_kind error ≡ ErrorKind.AlreadyExists)) }
+    ensures nothing { OnErr opened (IfOk result (λ file. file ≡ None)) }
+{
+    match opened {
+        Ok(file) => Ok(Some(SystemFile(file))),
+        Err(error) if error.kind() == ErrorKind::AlreadyExists => Ok(None),
+        Err(error) => Err(SystemFault(error)),
+    }
+}
 
-/// The system changed a mode.
-#[derive(Drop)]
-pub struct ModeTaken(());
-
-/// The system says that it keeps a file.
-#[derive(Drop)]
-pub struct FileSynced(());
-
-/// The system gave a file another name.
-#[derive(Drop)]
-pub struct Renamed(());
-
-/// The system freed a name.
-#[derive(Drop)]
-pub struct NameRemoved(());
-
-/// The system says that it keeps the names of a folder.
-#[derive(Drop)]
-pub struct NamesSynced(());
-
-/// How a new file is opened: only if no file has its name. A hidden one has mode 600 (octal); any
-/// other one what the process gives to a new file.
+/// How a new file is opened: only if no file has its name. A hidden one has mode 600 (octal), which
+/// no contract can say; any other one what the process gives to a new file.
 fn new_file(hidden: bool) -> OpenOptions
     ensures write { IsTrue (asks_write result) }
     ensures new { IsTrue (asks_create_new result) }
+    ensures usual { hidden ≡ false
+        → result ≡ with_create_new (with_write new_options true) true }
 {
     let mut how = OpenOptions::new();
     if hidden {
@@ -209,21 +187,6 @@ fn new_file(hidden: bool) -> OpenOptions
     }
     how.write(true).create_new(true);
     how
-}
-
-/// The answer of `sync_names`, by what the system says of the sync of the folder. A file system
-/// that cannot sync a folder says that the call is invalid; that counts as kept, as nobody can ask
-/// that system for more.
-fn names_synced(outcome: io::Result<()>) -> Result<NamesSynced, SystemFault>
-    ensures ok { OnOk outcome (IsOk result) }
-    ensures err { IfErr outcome (λ error. IsOk result
-        ↔ (error_kind error ≡ ErrorKind.InvalidInput)) }
-{
-    match outcome {
-        Ok(()) => Ok(NamesSynced(())),
-        Err(error) if error.kind() == ErrorKind::InvalidInput => Ok(NamesSynced(())),
-        Err(error) => Err(SystemFault(error)),
-    }
 }
 
 /// Writes all of the bytes at the end of a file. It is a function of its own for its contract: the
@@ -234,8 +197,5 @@ fn append_all<F: Write + Drop>(
 ) -> Result<Appended, SystemFault>
     ensures { OnOk result (Appends (F.contents file.old.0) (F.contents file.new.0) bytes.now) }
 {
-    match file.0.write_all(bytes) {
-        Ok(()) => Ok(Appended(())),
-        Err(error) => Err(SystemFault(error)),
-    }
+    Appended::by(file.0.write_all(bytes))
 }

@@ -3,9 +3,8 @@
 //! A path is built in memory that is taken before the first call. If it is longer than that memory,
 //! and no more is there, the fault is a `SystemFault`, as that of a call.
 
-ghost use Rattle.std.specs.Prelude.{◌≤◌, IfOk, IsSome, OnOk};
+ghost use Rattle.std.specs.Prelude.{◌≡◌, ◌≤◌, ◌+◌, ◌↔◌, IfOk, IsOk, IsSome, OnOk, Some};
 ghost use Rattle.std.specs.{Path.path_buf_cap};
-ghost use Rattle.irig_disk.specs.declared.system_dir.TheConstants.{PATH};
 
 use crate::system_fault::SystemFault;
 use std::alloc::{AllocError, Global};
@@ -29,7 +28,7 @@ pub struct SystemDir<F: Drop> {
 impl<F: Drop> SystemDir<F> {
     /// No folder yet, with room for the path of one. It fails only if memory runs out.
     pub fn new(alloc: Global) -> Result<SystemDir<F>, AllocError>
-        ensures { IfOk result (λ dir. PATH ≤ path_buf_cap dir.path) }
+        ensures { IfOk result (λ dir. 4_095 + 1 + 4_095 ≤ path_buf_cap dir.path) }
     {
         Ok(SystemDir {
             file: None,
@@ -45,9 +44,18 @@ impl<F: Drop> SystemDir<F> {
         ensures { OnOk result (IsSome self.new.file) }
     {
         put_path(&mut self.path, path, "")?;
-        match fs::open(runtime, path) {
-            Ok(file) => {
-                self.file = Some(file);
+        self.hold(fs::open(runtime, path))
+    }
+
+    /// Holds the folder that a call opened, instead of the one that was open before. It is a
+    /// function of its own for its contract: that of `open` cannot name what the call gives.
+    fn hold(&mut self, opened: io::Result<F>) -> Result<(), SystemFault>
+        ensures held { IfOk opened (λ folder. self.new.file ≡ Some folder) }
+        ensures done { IsOk result ↔ IsOk opened }
+    {
+        match opened {
+            Ok(folder) => {
+                self.file = Some(folder);
                 Ok(())
             }
             Err(error) => Err(SystemFault(error)),
