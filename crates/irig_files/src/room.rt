@@ -4,7 +4,6 @@
 ghost use Rattle.std.specs.Prelude.{◌≡◌, ◌≤◌, ◌+◌, [], IfOk, string_capacity};
 ghost use Rattle.std.specs.{Path.path_buf_cap, Vec.vec_capacity};
 ghost use Rattle.irig_text.specs.declared.block.TheConstants.{ENOUGH};
-ghost use Rattle.irig_files.specs.declared.room.TheConstants.{NAME};
 
 use irig_text::new_block;
 use std::alloc::{AllocError, Global};
@@ -35,9 +34,9 @@ impl Room {
     pub fn new(alloc: Global) -> Result<Room, AllocError>
         ensures empty { IfOk result (λ room. room.block.items ≡ []) }
         ensures block { IfOk result (λ room. ENOUGH + 2048 ≤ vec_capacity room.block) }
-        ensures target { IfOk result (λ room. NAME ≤ path_buf_cap room.target) }
-        ensures stem { IfOk result (λ room. NAME ≤ string_capacity room.stem) }
-        ensures name { IfOk result (λ room. NAME ≤ string_capacity room.name) }
+        ensures target { IfOk result (λ room. 4_095 + 1 + 4_095 ≤ path_buf_cap room.target) }
+        ensures stem { IfOk result (λ room. 255 ≤ string_capacity room.stem) }
+        ensures name { IfOk result (λ room. 255 ≤ string_capacity room.name) }
     {
         Ok(Room {
             block: new_block(alloc)?,

@@ -9,6 +9,7 @@
 ghost use Rattle.std.specs.Prelude.{◌≡◌, ◌≢◌, ◌↔◌, IfErr, IfOk, IsOk, IsTrue, None, Ok, OnErr, OnOk};
 ghost use Rattle.std.specs.Prelude.{Some, false, ⊤};
 ghost use Rattle.std.specs.Fs.{IsFile, asks_create, asks_truncate, asks_write, file_type};
+ghost use Rattle.std.specs.Fs.{metadata_mode};
 ghost use Rattle.std.specs.{IoError.error_kind};
 ghost use Rattle.std.proofs.Common.{ap};
 
@@ -156,7 +157,7 @@ impl<R: Files + Print + AllocGlobal> FileSystem for SystemFolder<'_, R> {
 /// contract of `describe` says nothing of the real system.
 fn found(said: io::Result<Metadata>) -> Result<Option<Described>, SystemFault>
     ensures some { IfOk said (λ found. (d : Described) × (result ≡ Ok (Some d))
-        × (IsTrue d.is_file ↔ IsFile (file_type found))) }
+        × (IsTrue d.is_file ↔ IsFile (file_type found)) × (d.mode ≡ metadata_mode found)) }
     ensures none { IfErr said (λ error. IsOk result
         ↔ (error_kind error ≡ ErrorKind.NotFound)) }
     ensures nothing { OnErr said (IfOk result (λ there. there ≡ None)) }
@@ -198,7 +199,8 @@ fn as_it_is() -> OpenOptions
 /// What the system says of a file: whether it is a regular one, its mode and its numbers, those of
 /// the device and of the file on it.
 fn described(found: &Metadata) -> Described
-    ensures { IsTrue result.is_file ↔ IsFile (file_type found.now) }
+    ensures file { IsTrue result.is_file ↔ IsFile (file_type found.now) }
+    ensures mode { result.mode ≡ metadata_mode found.now }
 {
     Described {
         is_file: found.is_file(),
