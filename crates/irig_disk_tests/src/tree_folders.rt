@@ -13,7 +13,12 @@ use std::alloc::Global;
 /// test meets that of the program.
 const LIMIT: u64 = 64;
 
-/// The mode of each regular file that may be written.
+/// The mode of each regular file that may be written, before a write: with it a program in the file
+/// would run as the file's owner and as its group (04000 and 02000, octal), and 01000 is the sticky
+/// bit.
+pub const OLD_MODE: u32 = 0o7640;
+
+/// The mode that such a file has after a write: who may read, write and run it, and no other bit.
 pub const MODE: u32 = 0o640;
 
 /// The paths of folders, and what their places begin with.
@@ -86,7 +91,7 @@ pub fn folders(alloc: Global) -> Result<Tree, MemoryFault> {
         tree.add_path(path, front)?;
     }
     for place in OLD.iter() {
-        tree.add_file(place, b"old", MODE)?;
+        tree.add_file(place, b"old", OLD_MODE)?;
     }
     for (place, text) in LINKS.iter() {
         tree.add_other(place, Some(String::from_str(alloc, text)?))?;

@@ -7,21 +7,35 @@
 //! what a stop before them leaves. A name is kept by a sync of its folder: until then a crash can
 //! leave any file that it led to since the last sync.
 
-use crate::tree_folders::{LINKS, MODE, OLD, Row, WRITES, files_of, folders, row_of, write};
+use crate::tree_folders::{
+    LINKS, MODE, OLD, OLD_MODE, Row, WRITES, files_of, folders, row_of, write,
+};
 use irig_folders::{Call, Tree, USUAL, bytes_of, file_at, is_kept, mode_of};
 use std::alloc::Global;
 
 /// Whether a file, given by its number, holds all of the old text or of the new one, has the mode
-/// that the row asks for, and each crash leaves it so. It is false, too, if memory runs out.
+/// that it is to have with that text, and each crash leaves it so. It is false, too, if memory runs
+/// out.
 fn is_whole(alloc: Global, calls: &[Call], file: usize, row: Row) -> bool {
     match bytes_of(alloc, calls, file) {
         Ok(held) => {
-            (held.as_slice() == b"old".as_slice() || held.as_slice() == b"new".as_slice())
-                // The mode of the file that was there, or the usual one of a new file.
-                && mode_of(calls, file) == if row.is_there { MODE } else { USUAL }
+            let is_new = held.as_slice() == b"new".as_slice();
+            (is_new || held.as_slice() == b"old".as_slice())
+                && mode_of(calls, file) == mode_with(row, is_new)
                 && is_kept(calls, file)
         }
         Err(_) => false,
+    }
+}
+
+/// The mode that the file of a row is to have with the new text, or with the old one: the new text
+/// has what the mode of the old file says of who may read, write and run it, or the usual mode if
+/// no file was there.
+fn mode_with(row: Row, is_new: bool) -> u32 {
+    match (row.is_there, is_new) {
+        (true, false) => OLD_MODE,
+        (true, true) => MODE,
+        (false, _) => USUAL,
     }
 }
 

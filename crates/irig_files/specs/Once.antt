@@ -24,7 +24,7 @@ abbrev pub PutsOnce : {T E : Type 0} → Disk → Disk → Option (List ℕ) →
 PutsOnce old new None held result = IsUnchanged old new
 PutsOnce old new (Some place) held result = Replaces old new place held result
 
--- that of a text with the mode of the file that is there, or with the usual one
+-- that of a text with the permissions of the file that is there, or with the usual mode
 abbrev pub PutsText : {T E : Type 0} → ℕ → Disk → Disk → Option (List ℕ) → List ℕ → Result T E
     → Type 0
 PutsText usual old new target text result =

@@ -1,5 +1,5 @@
 -- Which regular files are replaced, and the mode that the new one takes. This project's own.
-use Rattle.std.specs.Prelude.{◌≡◌, ℕ, List, Option, Some, None}
+use Rattle.std.specs.Prelude.{◌≡◌, ℕ, List, Option, Some, None, bit_and}
 use Rattle.irig_disk.specs.{Disk.Disk, Disk.seen_under, Held.Held}
 
 -- a path leads to this file, if it leads to a place
@@ -15,25 +15,35 @@ IsFree disk path = (place : List ℕ) → disk.paths path ≡ Some place → dis
 abbrev pub HasMode : Disk → ℕ → ℕ → Type 0
 HasMode disk file mode = disk.regular file × ((disk.holds file).mode ≡ mode)
 
--- the file that a path leads to may be written, is a regular one, and has this mode
+-- who may read, write and run a file of this mode: without the bits that let it run as its owner or
+-- group (setuid, setgid), and without the sticky bit
+abbrev pub permissions : ℕ → ℕ
+permissions mode = bit_and mode 0o777
+
+-- a file is a regular one, and these are the permissions in its mode
+abbrev pub HasPermissions : Disk → ℕ → ℕ → Type 0
+HasPermissions disk file mode =
+    disk.regular file × (permissions (disk.holds file).mode ≡ mode)
+
+-- the file that a path leads to may be written, is a regular one, and has these permissions
 pub record MayTake (disk : Disk) (may_write : ℕ → Type 0) (path : List ℕ) (mode : ℕ) : Type 0
   where
     pub file : ℕ
     pub there : IsFileAt disk path file
     pub allowed : may_write file
-    pub has : HasMode disk file mode
+    pub has : HasPermissions disk file mode
 
--- a new file takes the mode of the one that is there, which may be written; or none is there
+-- a new file takes the permissions of the one that is there, which may be written; or none is there
 abbrev pub TakesMode : Disk → (ℕ → Type 0) → List ℕ → Option ℕ → Type 0
 TakesMode disk may_write path None = IsFree disk path
 TakesMode disk may_write path (Some mode) = MayTake disk may_write path mode
 
--- the mode of what is seen; the usual one, if nothing is
+-- the permissions of what is seen; the usual mode, if nothing is
 abbrev pub mode_of : ℕ → Option Held → ℕ
 mode_of usual None = usual
-mode_of usual (Some held) = held.mode
+mode_of usual (Some held) = permissions held.mode
 
--- the mode of a new file at a place: that of the file that is there, or the usual one
+-- the mode of a new file at a place: the permissions of the file that is there, or the usual one
 abbrev pub mode_at : ℕ → Disk → Option (List ℕ) → ℕ
 mode_at usual disk None = usual
 mode_at usual disk (Some place) = mode_of usual (seen_under disk place)

@@ -74,13 +74,13 @@ pub trait Disk {
         ensures unread { IfErr result (unread self.now path.now) };
 
     /// Writes a text to the file that a path leads to: a regular one, or none yet, is replaced
-    /// whole, by a file of its mode. One that must not be written (`is_barred`) is not replaced:
-    /// that is a fault, nothing changes, and the file still must not be written (`still`). After
-    /// any other fault a regular file has its old text, or the new one if only the last sync
-    /// failed; what is written in place may have a front of the text. What is no regular file, or
-    /// is what the program's answers go to, is written in place. What the room, which is the memory
-    /// of a write, holds before is lost. `Written` says how the text was written, and its count how
-    /// many bytes it has; a `ShelfFault` says only that the write failed.
+    /// whole, by a file of its permissions. One that must not be written (`is_barred`) is not
+    /// replaced: that is a fault, nothing changes, and the file still must not be written
+    /// (`still`). After any other fault a regular file has its old text, or the new one if only the
+    /// last sync failed; what is written in place may have a front of the text. What is no regular
+    /// file, or is what the program's answers go to, is written in place. What the room, which is
+    /// the memory of a write, holds before is lost. `Written` says how the text was written, and
+    /// its count how many bytes it has; a `ShelfFault` says only that the write failed.
     fn put<T: Text>(
         &mut self,
         path: &str,

@@ -15,6 +15,11 @@ use crate::links::follow_links;
 use irig_text::ShelfFault;
 use std::path::PathBuf;
 
+/// The bits of a mode that a new file takes from the one that it replaces: who may read, write and
+/// run it. Who writes the file becomes its owner, so a bit that lets others act as the owner, or as
+/// the group, must not come along.
+const PERMISSIONS: u32 = 0o777;
+
 /// How a text is written to what a path leads to.
 #[derive(Drop)]
 pub enum Way {
@@ -101,10 +106,11 @@ fn replaced<C: FileSystem>(
     }
 }
 
-/// The mode that the new file takes: that of the regular file at the target, or `None`, the usual
-/// mode, if none is there (`is_there` is false). The system would replace a file that must not be
-/// written, too; so the file is opened as if to write first, and if that fails, it is not replaced.
-/// `Err` also if the target is no longer a regular file, or the system does not describe it.
+/// The mode that the new file takes: the permissions of the regular file at the target, or `None`,
+/// the usual mode, if none is there (`is_there` is false). The system would replace a file that
+/// must not be written, too; so the file is opened as if to write first, and if that fails, it is
+/// not replaced. `Err` also if the target is no longer a regular file, or the system does not
+/// describe it.
 fn mode_to_take<C: FileSystem>(
     system: &C,
     is_there: bool,
@@ -120,7 +126,7 @@ fn mode_to_take<C: FileSystem>(
         return Err(ShelfFault);
     };
     match system.seen(&there) {
-        Ok(old) if old.is_file => Ok(Some(old.mode)),
+        Ok(old) if old.is_file => Ok(Some(old.mode & PERMISSIONS)),
         _ => Err(ShelfFault),
     }
 }
