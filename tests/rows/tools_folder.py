@@ -13,6 +13,7 @@ from unittest import mock
 
 from built import TOP
 from cases import case
+from irig_tools import results
 from random_input import damages
 from rows import tools
 from rows.in_process import run
@@ -333,7 +334,17 @@ def several_expressions():
     return in_folder(lambda: list(holds()))
 
 
+def one_line_each():
+    """A name or a reason with a newline stays a line of the table, and no cell of the report is a formula."""
+    result = results.Result("=1\n2.vcd", "=1\n2.vcd", 1, ["+a\nb", "c"], "@code", "B", -4, {name: -1 for name in results.COUNTS})
+    yield same("the reason", results.reason_of(result), r"=1\n2.vcd: +a\nb (and 1 more)")
+    yield same("the table", len(results.table_of_all([result]).splitlines()), 4)
+    cells = list(csv.reader(io.StringIO(results.report_of([result]).decode())))[1]
+    yield same("the report", [cell for cell in cells if not cell.isdigit()],
+               [r"'=1\n2.vcd", r"'=1\n2.vcd", "'@code", "B", "-4", *["-1"] * len(results.COUNTS), r"'+a\nb; c"])
+
+
 def cases(top):
     """Each part by its name."""
-    parts = (ended, in_background, table, not_all_read, goes_on, packed, never_over, alone, several_expressions)
+    parts = (ended, in_background, table, not_all_read, goes_on, packed, never_over, alone, several_expressions, one_line_each)
     return [case("folder: " + part.__name__, part) for part in parts]

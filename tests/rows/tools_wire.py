@@ -315,6 +315,19 @@ def ends(top):
                 (full.returncode, full.stderr) == (2, b"irig_wire: No space left on device\n")]
 
 
+def listed():
+    """Each wire that can be meant has a line of its own below the message."""
+    text = "$timescale 1 us $end $scope module m $end %s $upscope $end $enddefinitions $end #0 0! 0? #9" % " ".join(
+        "$var wire 1 %s %s $end" % pair for pair in (("!", "a"), ("?", "b")))
+    for words, said in (([], "the dump has several wires of one bit; name one by its path or its code, or let irig_what find it:"),
+                        (["c"], "no wire is named 'c'; there are:")):
+        bits = ", 1 bit" * bool(words)
+        wanted = "irig_wire: %s\n  a (code !, path m.a)%s\n  b (code ?, path m.b)%s\n" % (said, bits, bits)
+        done = run("irig_wire", ["-", *words], text.encode())
+        done == (2, b"", wanted) or print("FAILED irig_wire %s: %s" % (words, done))
+        yield done == (2, b"", wanted)
+
+
 def cases(top):
     """Each row by its name."""
     return [
@@ -322,4 +335,4 @@ def cases(top):
         case("wire: what is written", written),
         case("wire: limits", limits), case("wire: packed files", packed), case("wire: files of several packed streams", packed_by_parts),
         case("wire: a long file", long_file, top), case("wire: hostile", hostile),
-        case("wire: random dumps", random_rows), case("wire: ends", ends, top)]
+        case("wire: random dumps", random_rows), case("wire: ends", ends, top), case("wire: a list of wires", listed)]

@@ -3,10 +3,10 @@ from __future__ import annotations
 
 import os
 from dataclasses import dataclass
-from shlex import quote
 from typing import List, Optional, Sequence
 
 from .editor import Listing
+from .escapes import in_command
 from .opening import Opened
 from .proposal import no_option
 
@@ -35,7 +35,7 @@ def again(names: Names, track: Opened, listing: Listing) -> str:
     wires = [*track.named]
     if names.is_put_back:
         wires += [each.replace("--wire", "--wire-after", 1) for each in track.named]
-    words = " ".join(map(quote, ["irig_diff", *wires, "--frames", *code]))
+    words = " ".join(map(in_command, ["irig_diff", *wires, "--frames", *code]))
     return "%s %s %s" % (words, _before(names, track), _after(names, track, code))
 
 
@@ -43,7 +43,7 @@ def _before(names: Names, track: Opened) -> str:
     """The track before, for irig_diff."""
     if not is_kept(names.track):
         return "BEFORE"
-    return quote(no_option(names.track)) if track.is_as_it_is else _dump_of(names.track, names, track)
+    return in_command(no_option(names.track)) if track.is_as_it_is else _dump_of(names.track, names, track)
 
 
 def _after(names: Names, track: Opened, code: Sequence[str]) -> str:
@@ -53,10 +53,10 @@ def _after(names: Names, track: Opened, code: Sequence[str]) -> str:
     if names.into is not None and not names.is_put_back:
         wire = [] if track.wire is None else ["--wire=" + track.wire]
         words = ["irig_mend", *wire, *_unit_and_dump(names, track), *code, *names.rules, "--apply", "-"]
-        return "<(%s %s)" % (" ".join(map(quote, words)), quote(no_option(names.track)) if is_kept(names.track) else "BEFORE")
+        return "<(%s %s)" % (" ".join(map(in_command, words)), in_command(no_option(names.track)) if is_kept(names.track) else "BEFORE")
     if names.into is not None and not track.is_as_it_is:
         return _dump_of(names.out, names, track)
-    return quote(no_option(names.out))
+    return in_command(no_option(names.out))
 
 
 def _dump_of(path: str, names: Names, track: Opened) -> str:
@@ -64,7 +64,7 @@ def _dump_of(path: str, names: Names, track: Opened) -> str:
     wire = [] if track.wire is None else [track.wire]
     operands = [no_option(path), *wire]
     words = ["irig_wire", *_unit_and_dump(names, track), *["--"] * any(each.startswith("-") for each in wire), *operands]
-    return "<(%s)" % " ".join(map(quote, words))
+    return "<(%s)" % " ".join(map(in_command, words))
 
 
 def _unit_and_dump(names: Names, track: Opened) -> List[str]:

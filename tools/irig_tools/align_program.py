@@ -5,6 +5,7 @@ import os
 import subprocess
 import sys
 from bisect import bisect_right
+from contextlib import contextmanager
 from dataclasses import dataclass
 from itertools import islice
 from typing import IO, Iterator, List, Optional, Tuple
@@ -14,8 +15,9 @@ from .align_lines import PICOS, UNIT_PLACES, LineTimes, each_line, offset_of_lin
 from .align_runs import Aligner, AlignerEnded, AlignerRun, Call
 from .align_years import years_of
 from .command import run, unchanged
-from .editor import Problem, find_beside, progress_to
+from .editor import Problem, called, find_beside, progress_to
 from .ending import ALL_RIGHT, FOUND, complain
+from .escapes import in_line
 from .layout import INTERVAL
 from .options import Command, Given, Option, whole
 from .processes import end_all
@@ -70,26 +72,47 @@ def aligner_words(given: Given, *options: Option) -> List[str]:
 
 
 def work(given: Given) -> int:
-    program, path = find_beside("irig_time", "irig_align runs it"), given.names[0]
+    program, name = find_beside("irig_time", "irig_align runs it"), given.names[0]
+    with path_of(name) as path, called(path, name):
+        said, status = aligned(given, program, path)
+    sys.stderr.write(said.replace(path, in_line(name)))
+    return status
+
+
+@contextmanager
+def path_of(name: str) -> Iterator[str]:
+    """The path that irig_time is given: it takes none that is no UTF-8."""
+    if name.isascii() or name.encode("utf-8", "replace").decode("utf-8") == name:
+        yield name
+        return
+    with temporary_folder() as folder:
+        path = os.path.join(folder, "track.vcd")
+        os.symlink(os.path.abspath(name), path)
+        yield path
+
+
+def aligned(given: Given, program: str, path: str) -> Tuple[str, int]:
+    """What irig_time has said, and the status."""
     is_file = os.path.isfile(path)
     if not is_file or named_size() is None:
-        status = aligned_whole([program, *aligner_words(given, *OF_FRAMES, *OF_LINES, *OF_HEADER, OFFSET, YEAR), "--", path])
-        if status is not None:
-            return status
+        words = aligner_words(given, *OF_FRAMES, *OF_LINES, *OF_HEADER, OFFSET, YEAR)
+        whole = aligned_whole([program, *words, "--", path])
+        if whole is not None:
+            return whole
     if not is_file:
         raise Problem("%s: has more pulses than irig_time holds, and can be read only once" % path)
     progress = progress_to(sys.stderr)
     with unchanged(path), temporary_folder() as folder:
         jobs = given.number(ALIGN_JOBS) or len(os.sched_getaffinity(0))
         try:
-            return LongAlignment(given, Aligner([program], path, folder, jobs, progress)).run(sys.stdin.buffer, sys.stdout.buffer)
+            return "", LongAlignment(given, Aligner([program], path, folder, jobs, progress)).run(sys.stdin.buffer, sys.stdout.buffer)
         except AlignerEnded as ended:
-            sys.stderr.write(ended.said)
-            return ended.status
+            return ended.said, ended.status
 
 
-def aligned_whole(command: List[str]) -> Optional[int]:
-    """The status of a run on the whole track, which reads the lines and prints; none if it cannot hold that, and no line was read."""
+def aligned_whole(command: List[str]) -> Optional[Tuple[str, int]]:
+    """What a run on the whole track has said, which reads the lines and prints, and its status; none if it cannot hold that, and no line
+    was read."""
     sys.stdout.flush()
     try:
         process = subprocess.Popen(command, stderr=subprocess.PIPE)
@@ -99,10 +122,7 @@ def aligned_whole(command: List[str]) -> Optional[int]:
         said = process.communicate()[1].decode("utf-8", "replace")
     finally:
         end_all([process])
-    if AlignerRun(process.returncode, said, "").is_too_long():
-        return None
-    sys.stderr.write(said)
-    return process.returncode
+    return None if AlignerRun(process.returncode, said, "").is_too_long() else (said, process.returncode)
 
 
 @dataclass
@@ -200,9 +220,9 @@ class LongAlignment:
     def status(self) -> int:
         doubted = sum(not frame.is_believed for frame in self.track.frames)
         if doubted:
-            complain(DOUBTED % (self.aligner.track, doubted), COMMAND.name)
+            complain(DOUBTED % (self.given.names[0], doubted), COMMAND.name)
         elif not self.track.frames:
-            complain(NO_FRAME_TIMED % self.aligner.track, COMMAND.name)
+            complain(NO_FRAME_TIMED % self.given.names[0], COMMAND.name)
         return ALL_RIGHT if self.track.frames and not doubted and self.have_numbers else FOUND
 
 

@@ -2,7 +2,6 @@
 from __future__ import annotations
 
 import os
-import shlex
 import shutil
 import subprocess
 from bisect import bisect_left, bisect_right
@@ -16,6 +15,7 @@ from .dump_header import Reader
 from .dump_choice import choose, singles, wire_name
 from .dump_source import Source
 from .editor import CUT_OFF, Info, Listing, Problem, find_beside, find_editor, info_of, other_release
+from .escapes import in_command
 from .guard_words import NOTHING_FINE, Reason, filled_frames, filled_text, guard_reason
 from .joining import frames_at_fault, joined
 from .kinds import DamageKind
@@ -305,7 +305,7 @@ class Target:
         name = wire_name(header, choose(header, self._wire(track)))
         if not os.path.isfile(path) or is_opened(path, ["--wire=" + name]):
             return []
-        return [UNREAD_AS_IT_IS % " ".join(map(shlex.quote, ["irig_wire", no_option(self.out), name]))]
+        return [UNREAD_AS_IT_IS % " ".join(map(in_command, ["irig_wire", no_option(self.out), name]))]
 
     def put_back(self, level: TrackLevel, track: Opened, out: IO[bytes]) -> List[str]:
         """Writes the file with the level of the repaired track; what is said of it."""

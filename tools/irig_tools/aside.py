@@ -5,6 +5,7 @@ from __future__ import annotations
 from typing import IO, List, Sequence
 
 from .editor import Problem
+from .escapes import in_line
 
 NANOSECONDS = 10 ** 9  # in a second
 PER_MICROSECOND = 1000
@@ -40,7 +41,9 @@ class Aside:
         self._write(lines)
 
     def take_row(self, seconds: float, fields: Sequence[str]) -> None:
-        """A row of a table, at a time of the dump."""
+        """A row of a table, at a time of the dump. A tab within a field would part it."""
+        if not "".join(fields).isprintable():
+            fields = list(map(in_line, fields))
         self._write(["%s\t%s\n" % (at_nanosecond(round(seconds * NANOSECONDS)), "\t".join(fields))])
 
     def _write(self, lines: Sequence[str]) -> None:

@@ -65,7 +65,10 @@ def _candidates(header: Header, name: str) -> Tuple[List[Signal], List[Wire]]:
 
 def _by_place(signals: Sequence[Signal]) -> Dict[Tuple[bytes, int], Signal]:
     """Each signal once, by its code and its place."""
-    return {(signal.code, signal.place): signal for signal in reversed(signals)}
+    found: Dict[Tuple[bytes, int], Signal] = {}
+    for signal in signals:
+        found.setdefault((signal.code, signal.place), signal)
+    return found
 
 
 def choose(header: Header, name: Optional[str]) -> Signal:
@@ -78,7 +81,7 @@ def choose(header: Header, name: Optional[str]) -> Signal:
         listed = _listed(wire_texts(header, list(by_place.values())[:MOST_SHOWN]), len(by_place))
         many = "the dump has several wires of one bit"
         what = many if name is None else "several wires are named '%s'" % name
-        raise Problem("%s; name one by its path or its code, or let irig_what find it:%s" % (what, listed))
+        raise Problem("%s; name one by its path or its code, or let irig_what find it:" % what, listed)
     if wide and wide[0].bits:
         raise Problem("%s has %d bits; name one of them, as '%s[%d]'" % (
             wide[0].path, wide[0].size, wide[0].path, wide[0].last))
@@ -89,13 +92,12 @@ def choose(header: Header, name: Optional[str]) -> Signal:
     bits = ["%d bit%s" % (wire.size, "s" * (wire.size != 1)) for wire in wires]
     listed = _listed(list(map("%s, %s".__mod__, zip(texts, bits))), len(header.wires))
     what = "no wire is named '%s'" % name if name is not None else "the dump has no wire of one bit"
-    raise Problem("%s; there are:%s" % (what, listed or " none"))
+    raise Problem("%s; there are:%s" % (what, "" if listed else " none"), listed)
 
 
-def _listed(texts: List[str], many: int) -> str:
+def _listed(texts: List[str], many: int) -> List[str]:
     """The first of that many, a line each."""
-    more = "\n  and %d more" % (many - MOST_SHOWN) if many > MOST_SHOWN else ""
-    return "".join("\n  " + text for text in texts) + more
+    return texts + ["and %d more" % (many - MOST_SHOWN)] * (many > MOST_SHOWN)
 
 
 def wire_name(header: Header, signal: Signal) -> str:

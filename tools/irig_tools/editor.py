@@ -24,7 +24,12 @@ Judgement = TypeVar("Judgement")
 
 
 class Problem(Exception):
-    """A track that is not read, or an editor that is not found; the text says which."""
+    """A track that is not read, or an editor that is not found; the text says which. A list that belongs to it has a line for each item
+    below the text."""
+
+    def __init__(self, text: str, below: Sequence[str] = ()) -> None:
+        super().__init__(text)
+        self.below = tuple(below)
 
 
 @contextmanager
@@ -33,7 +38,7 @@ def called(hidden: str, name: str) -> Iterator[None]:
     try:
         yield
     except Problem as error:
-        raise Problem(str(error).replace(hidden, name)) from error
+        raise Problem(str(error).replace(hidden, name), error.below) from error
 
 
 class _Same(Dict[int, int]):

@@ -7,17 +7,17 @@ import signal
 import sys
 import traceback
 from types import FrameType
-from typing import IO, Callable, Optional
+from typing import IO, Callable, Optional, Sequence
 
 from . import progress
 from .editor import Problem
+from .escapes import in_line
 
 ALL_RIGHT, FOUND, NOT_READ = 0, 1, 2  # statuses
 DEFECT = 70  # a defect, or memory ran out: EX_SOFTWARE of sysexits.h
 INTERRUPTED, UNREAD = 130, 141  # as a shell shows the signals INT and PIPE
 SIGNALLED = 128  # and any other: with its number more
 EMPTY_FILE, IS_FOLDER = "is empty", "is a folder"  # what is said of an input
-ESCAPED = {code: repr(chr(code))[1:-1] for code in (*range(32), 127)}  # letters of a name that would end or change the line
 
 
 class Usage(Exception):
@@ -50,11 +50,11 @@ def _stop(number: int, _: Optional[FrameType]) -> None:
     raise Stopped(number)
 
 
-def complain(text: str, program: str) -> None:
-    """Says something in one line on standard error, if that is open."""
+def complain(text: str, program: str, below: Sequence[str] = ()) -> None:
+    """Says something in one line on standard error, if that is open, with a list below it."""
     if sys.stderr is not None:
         progress.clear()
-        print("%s: %s" % (program, text.translate(ESCAPED)), file=sys.stderr)
+        print("\n  ".join(map(in_line, ("%s: %s" % (program, text), *below))), file=sys.stderr)
 
 
 def name_of(path: str) -> str:
@@ -100,7 +100,7 @@ def _known(error: Exception, program: str) -> int:
         text = "%s: %s" % (error.filename, text) if error.filename else text
     if text.startswith("-: "):
         text = name_of("-") + text[1:]
-    _last_words(text, program)
+    _last_words(text, program, error.below if isinstance(error, Problem) else ())
     return NOT_READ
 
 
@@ -111,10 +111,10 @@ def _unknown(text: str, program: str) -> int:
     return DEFECT
 
 
-def _last_words(text: str, program: str) -> None:
+def _last_words(text: str, program: str, below: Sequence[str] = ()) -> None:
     """What is said last; the status is the same if nobody hears it."""
     try:
-        complain(text, program)
+        complain(text, program, below)
     except OSError:
         pass
 

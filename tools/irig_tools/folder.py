@@ -14,6 +14,7 @@ from typing import IO, Dict, Iterator, List, Optional, Sequence
 
 from .editor import Progress
 from .ending import ALL_RIGHT, FOUND, NOT_READ, SIGNALLED
+from .escapes import in_line
 from .processes import LOOK_AGAIN, TOOLS, end_all
 from .proposal import no_option
 from .record import RECORD, Record, State, state_of_file
@@ -22,6 +23,7 @@ from .results import COUNTS, Result
 
 START_OF_ONE = ("import sys; sys.dont_write_bytecode = True; sys.path.insert(0, sys.argv.pop(1)); "
                 "from irig_tools import mend_program; sys.exit(mend_program.main())")
+SAID = "irig_mend: "  # how its messages begin
 
 
 @dataclass
@@ -41,7 +43,7 @@ class Running:
         texts = []
         for file in (self.printed, self.said):
             file.seek(0)
-            texts.append(file.read().decode("utf-8", "replace"))
+            texts.append(file.read().decode("utf-8", "surrogateescape"))
             file.close()
         name = self.recording.name
         if status not in (ALL_RIGHT, FOUND) or not os.path.exists(os.path.join(out, self.recording.out)):
@@ -52,9 +54,11 @@ class Running:
 
 
 def _last_said(said: str, recording: Recording) -> str:
-    """The last message, without what the table has: the tool and the file."""
-    line = (said.splitlines() or [""])[-1]
-    for begin in ("irig_mend: ", no_option(recording.path) + ": "):
+    """The last message, with the list below it and without what the table has: the tool and the file."""
+    lines = said.split("\n")
+    first = max((number for number, line in enumerate(lines) if line.startswith(SAID)), default=0)
+    line = " ".join(line.strip() for line in lines[first:]).strip()
+    for begin in (SAID, in_line(no_option(recording.path)) + ": "):
         line = line[len(begin):] if line.startswith(begin) else line
     return line
 

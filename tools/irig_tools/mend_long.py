@@ -13,6 +13,7 @@ from .apply import Code, Counts
 from .cut_end import notes_of_rest
 from .editor import Problem, Progress
 from .ending import Stopped
+from .escapes import in_line
 from .merger import Level
 from .named import wire_or_none
 from .opening import Opened, opened
@@ -124,7 +125,7 @@ def _copy(folder: str, window: TimeWindow, out: IO[bytes]) -> None:
 def looked_at(path: str, name: str, given: Given, wire: Optional[str], progress: Progress) -> Optional[Opened]:
     """The wire, the format and the expression, as the first part of the file shows them that has time code; nothing if none has."""
     for place in PLACES:
-        progress("looking at a part of %s" % os.path.basename(name))
+        progress(in_line("looking at a part of %s" % os.path.basename(name)))
         with suppress(Problem), sample(path, place) as part, opened(part, name, given, wire) as track:
             return Opened(path, track.code, track.wire, None, track.notes, unit=track.unit, dump=track.dump)
     return None

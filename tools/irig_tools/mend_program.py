@@ -18,7 +18,8 @@ from .cut_end import is_of_rest, note_if_cut, notes_of_rest
 from .damage import look
 from .damage_program import say_notes
 from .editor import Editor, Problem, Progress, progress_to
-from .ending import ALL_RIGHT, ESCAPED, FOUND, IS_FOLDER, Usage, complain, name_of
+from .ending import ALL_RIGHT, FOUND, IS_FOLDER, Usage, complain, name_of
+from .escapes import in_line, in_script
 from .explain import explained
 from .folder_program import APPLY_TO, JOBS, REPORT, mend_folder
 from .facts import json_lines, repairs_as_json
@@ -239,7 +240,7 @@ def explain(editor: Editor, given: Given, others: Others) -> int:
     lines = explained(listing, findings)
     lines[1:1] = others.lines
     with output(given.text(OUTPUT)) as out:
-        out.write("".join(line + "\n" for line in lines).encode("utf-8"))
+        out.write("".join(in_script(line) + "\n" for line in lines).encode("utf-8"))
     return FOUND if called_for(findings) or others.remarks or of_no_time(editor, []) else ALL_RIGHT
 
 
@@ -363,7 +364,7 @@ def report(given: Given, done: Done) -> None:
         return
     reasons = (reason for reason in done.reasons if not is_of_rest(reason))
     for line in (done.summary.text(), *done.summary.notes, *reasons):
-        stream.write("%s: %s\n" % (given.names[0].translate(ESCAPED), line))
+        stream.write(in_line("%s: %s" % (given.names[0], line)) + "\n")
 
 
 def main() -> int:

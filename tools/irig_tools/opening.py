@@ -11,8 +11,10 @@ from .dump_offset import Offset
 from .dump_source import Source
 from .editor import Problem, called, find_editor
 from .ending import Usage
+from .escapes import in_command
 from .kept_wire import write_kept
 from .options import DUMP, EXPRESSION, FORMAT, TIMESCALE, WIRE, Given
+from .proposal import no_option
 from .readings import EXPRESSIONS, is_opened, is_read, read
 from .search import Found, Probe, search
 from .temporary import named_if_no_room, temporary_track
@@ -26,7 +28,7 @@ class SeveralWires(Problem):
 
     def __init__(self, name: str, wires: List[str]) -> None:
         self.wires = ", ".join(wires)
-        super().__init__("%s: several wires carry time code, and --wire names one: %s; 'irig_what %s' says more" % (name, self.wires, name))
+        super().__init__("%s: several wires carry time code, and --wire names one: %s; %s" % (name, self.wires, _more_of(name)))
 
 
 @dataclass
@@ -67,8 +69,8 @@ class Opened:
         made = ["--timescale=" + self.unit.replace(" ", "")] if self.unit else []
         made += [] if self.dump is None else ["--dump=%d" % self.dump]
         made += [] if self.wire is None else [self.wire]
-        made = [] if self.is_as_it_is else ["and the dump of irig_wire", *made]
-        return [" ".join(["for irig_ed", *self.options, *made])]
+        made = [] if self.is_as_it_is else ["and the dump of irig_wire", *map(in_command, made)]
+        return [" ".join(["for irig_ed", *map(in_command, self.options), *made])]
 
 
 @dataclass
@@ -190,7 +192,12 @@ def _of_none(refused: List[str], fine: List[Taken], name: str) -> Problem:
         return Problem(refused[0])
     if fine:
         return SeveralWires(name, wire_texts(fine[0].found.header, [taken.probe.signal for taken in fine]))
-    return Problem("%s: no frame can be read in any format and expression; 'irig_what %s' says more" % (name, name))
+    return Problem("%s: no frame can be read in any format and expression; %s" % (name, _more_of(name)))
+
+
+def _more_of(name: str) -> str:
+    """Which command says more of a file."""
+    return "'irig_what %s' says more" % in_command(no_option(name))
 
 
 def _read(path: str, found: Found, probe: Probe, dump: int) -> Taken:

@@ -11,7 +11,7 @@ from .analysis import Findings, Part
 from .became import Became, became_of, moved_by
 from .damage import THE_WHOLE, Damage, Seen
 from .editor import Listing
-from .ending import ESCAPED
+from .escapes import in_line
 from .moments import DAY, SECOND
 from .repairs import OFF_HERE
 from .script import Move, Repair
@@ -48,7 +48,7 @@ def sheet_of(name: str, wire: str, seen: Seen, script: Sequence[Repair] = (), af
 def of_program(sheet: Sheet, program: str, summary: str) -> Sheet:
     """The data with what a program says of it, its version and the date."""
     made = "by %s %s on %s" % (program, version(), time.strftime("%Y-%m-%d at %H:%M"))
-    return replace(sheet, summary=summary.translate(ESCAPED), made=made)
+    return replace(sheet, summary=in_line(summary), made=made)
 
 
 def _span_of_times(seen: Seen) -> str:

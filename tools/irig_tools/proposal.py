@@ -2,10 +2,10 @@
 from __future__ import annotations
 
 import os
-import shlex
 from dataclasses import dataclass
 from typing import List, Optional, Sequence
 
+from .escapes import in_command
 
 LARGE_ONE = ("the file is large, so only a part of it was looked at; the next line repairs all of it, in windows if it is longer than a "
              "track, and writes the repaired recording as %s%s")
@@ -44,7 +44,7 @@ class Proposal:
 
     def lines(self) -> List[str]:
         """The command is the last line; before it is what it is for, if the recording is damaged."""
-        new = shlex.quote(free_name("new.vcd"))
+        new = in_command(free_name("new.vcd"))
         mend = "irig_mend %s --apply %s %s" % (self._options(), new, self._track())
         if self.is_part:
             return [LARGE_ONE % (new, self._into()), mend]
@@ -70,15 +70,15 @@ class Proposal:
     def _first(self) -> str:
         if self.extraction is None:
             return ""
-        words = " ".join(map(shlex.quote, self.extraction))
+        words = " ".join(map(in_command, self.extraction))
         return "irig_wire %s > %s && " % (words, self._track())
 
     def _track(self) -> str:
-        return shlex.quote(no_option(self.path) if self.extraction is None else free_name("one.vcd"))
+        return in_command(no_option(self.path) if self.extraction is None else free_name("one.vcd"))
 
     def _options(self) -> str:
         code = "--format %s --expression %d" % (self.kind, self.expression)
         if self.extraction is not None:
             return code
-        named = [] if self.wire is None else ["--wire=" + shlex.quote(self.wire)]
+        named = [] if self.wire is None else ["--wire=" + in_command(self.wire)]
         return " ".join([*named, *self.choice, code])

@@ -7,7 +7,8 @@ from collections import Counter
 from dataclasses import dataclass, field
 from typing import Any, Dict, List, Sequence, Tuple
 
-from .ending import ALL_RIGHT, ESCAPED, FOUND
+from .ending import ALL_RIGHT, FOUND
+from .escapes import in_cell, in_line
 from .texts import counted
 
 COUNTS = ("found", "repaired", "guessed", "filled", "off", "undecided", "left", "steps", "refused", "sound_before", "sound_after")
@@ -80,7 +81,7 @@ def worst_first(results: Sequence[Result]) -> List[Result]:
 def table_of_all(results: Sequence[Result]) -> str:
     """The rows, one below the other, then a reason for each that needs a person, and the sums."""
     rows = [[head for head, _ in HEADS_OF_TABLE]]
-    rows += [[str(each.cell(name)).translate(ESCAPED) for _, name in HEADS_OF_TABLE] for each in results]
+    rows += [[in_line(str(each.cell(name))) for _, name in HEADS_OF_TABLE] for each in results]
     wide = [max(len(row[column]) for row in rows) for column in range(len(HEADS_OF_TABLE))]
     lines = ["  ".join(cell.rjust(size) if 3 < column else cell.ljust(size)
                        for column, (cell, size) in enumerate(zip(row, wide))).rstrip() for row in rows]
@@ -91,7 +92,7 @@ def reason_of(result: Result) -> str:
     """Why a recording needs a person, in a line."""
     reasons = list(result.reasons) or ["damage is left: irig_damage lists it"]
     more = " (and %d more)" % (len(reasons) - 1) if len(reasons) > 1 else ""
-    return "%s: %s%s" % (result.recording.translate(ESCAPED), reasons[0].translate(ESCAPED), more)
+    return in_line("%s: %s%s" % (result.recording, reasons[0], more))
 
 
 def sums(results: Sequence[Result]) -> str:
@@ -129,9 +130,11 @@ def _advice(kind: str, numbers: Dict[str, object], most: object, count: int) -> 
 
 
 def report_of(results: Sequence[Result]) -> bytes:
-    """The table as CSV; a name has its own bytes."""
+    """The table as CSV; a byte of a name that is no UTF-8 is written as it is."""
     text = io.StringIO()
     rows = csv.writer(text, lineterminator="\n")
     rows.writerow(REPORTED)
-    rows.writerows([each.cell(name) for name in REPORTED] for each in results)
+    for each in results:
+        cells = [each.cell(name) for name in REPORTED]
+        rows.writerow([in_cell(cell) if isinstance(cell, str) else cell for cell in cells])
     return text.getvalue().encode("utf-8", "surrogateescape")

@@ -5,10 +5,11 @@ from dataclasses import dataclass, field, replace
 from typing import List, Tuple
 
 from .concern import NOTHING, Concern
+from .escapes import in_script
 from .kinds import DamageKind
 from .units import Microseconds
 
-LONGEST_COMMENT = 395  # letters of a comment; the editor refuses lines that are far longer
+LONGEST_COMMENT = 395  # bytes of a comment; the editor refuses lines of more than a thousand
 BY_LINE = 200
 LEFT_OUT = "so they are left out"
 
@@ -42,7 +43,7 @@ class Repair:
 
     def lines(self) -> List[str]:
         edits = ["begin", *self.edits, "end"] if len(self.edits) > 1 else self.edits
-        return ["# " + _bounded(comment) for comment in self.comments] + edits
+        return ["# " + _bounded(in_script(comment)) for comment in self.comments] + edits
 
     def refused(self) -> Repair:
         """The editor refuses one of the edits: the other way, or if there is none a remark."""
@@ -63,4 +64,5 @@ class Repair:
 
 
 def _bounded(comment: str) -> str:
-    return comment if len(comment) <= LONGEST_COMMENT else comment[:LONGEST_COMMENT] + " .."
+    whole = comment.encode("utf-8")
+    return comment if len(whole) <= LONGEST_COMMENT else whole[:LONGEST_COMMENT].decode("utf-8", "ignore") + " .."

@@ -2,8 +2,8 @@
 import html
 import re
 
-# What neither XML nor UTF-8 can hold: a file name can have it.
-UNFIT = re.compile("[\x00-\x08\x0b\x0c\x0e-\x1f\x7f-\x9f\ud800-\udfff\ufffe\uffff]")
+# What neither XML nor UTF-8 can hold, what ends a line besides a newline, and what turns the order of letters: a file name can have it.
+UNFIT = re.compile("[\x00-\x08\x0b-\x1f\x7f-\x9f\u061c\u200e\u200f\u2028-\u202e\u2066-\u2069\ud800-\udfff\ufffe\uffff]")
 
 
 def plain(words: str) -> str:

@@ -8,6 +8,7 @@ from typing import Optional
 from .command import kept, run
 from .editor import Problem, progress_to
 from .ending import ALL_RIGHT, FOUND, name_of
+from .escapes import in_line
 from .facts import json_lines as objects
 from .options import DUMP, JSON, TIMESCALE, Command, Given
 from .output import check_apart
@@ -46,7 +47,7 @@ def what_of_a_part(path: str, name: str, unit: str, parts: ExitStack) -> Optiona
     """What the first part of a large file shows in which a frame is fine; nothing if none is."""
     progress = progress_to(sys.stderr)
     for place in PLACES:
-        progress("looking at a part of %s" % name_of(name))
+        progress(in_line("looking at a part of %s" % name_of(name)))
         with suppress(Problem):
             what = What(parts.enter_context(sample(path, place)), name, unit, 1, True)
             if what.carriers and what.carriers[0].fine:
