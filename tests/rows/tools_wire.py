@@ -108,6 +108,7 @@ ROWS = [
     ("too many words before the header", "word " * 10001 + HEAD + UP, [], None, 2, "no declaration is found"),
     ("a unit of 200", (HEAD + UP).replace("1 us", "200 ns"), [], [(1000, 1), (1400, 0), (1800, None)], 0,
      "200ns is written as 100 ns, and every time is multiplied by 2"),
+    ("much white space", HEAD + "$comment x" + " " * 18000000 + "\n$end " + UP, [], EDGES, 0, ""),
     ("a long word", HEAD + "$comment " + "x" * 3000000 + " $end " + UP, [], EDGES, 0, ""),
     ("a word without end", HEAD + "x" * 18000000, [], None, 2, "a word has more than 16777216 bytes"),
     ("a whole path that another path ends with", HEAD.replace("$enddefinitions",

@@ -2,7 +2,7 @@
 from __future__ import annotations
 
 import re
-from typing import Dict, List, NamedTuple, Optional, Sequence, Tuple
+from typing import Dict, Iterable, List, NamedTuple, Optional, Sequence, Tuple
 
 from .dump_header import Header, Wire, shown
 from .editor import Problem
@@ -20,7 +20,7 @@ class Signal(NamedTuple):
 
     @property
     def name(self) -> str:
-        return self.path.rpartition(".")[2] or self.path
+        return _last_word(self.path) or self.path
 
     @property
     def names(self) -> List[str]:
@@ -44,23 +44,23 @@ def singles(header: Header) -> List[Signal]:
     return list(found.values())
 
 
-def _ranked(header: Header, name: str) -> List[Wire]:
+def _ranked(wires: Iterable[Wire], name: str) -> List[Wire]:
     """The wires with this path, or else with this end of a path, or else with this code."""
     code = name.encode("utf-8", "surrogateescape")
-    whole = [wire for wire in header.wires if wire.path == name]
-    end = [wire for wire in header.wires if wire.path.endswith("." + name)]
-    return whole or end or [wire for wire in header.wires if wire.code == code]
+    whole = [wire for wire in wires if wire.path == name]
+    end = [wire for wire in wires if wire.path.endswith("." + name)]
+    return whole or end or [wire for wire in wires if wire.code == code]
 
 
-def _candidates(header: Header, name: str) -> Tuple[List[Signal], List[Wire]]:
+def _candidates(wires: Iterable[Wire], name: str) -> Tuple[List[Signal], List[Wire]]:
     """What the name means: wires and bits; and vectors, if it names no bit of them."""
-    wires = _ranked(header, name)
-    found = [Signal(wire.code, 0, wire.path) for wire in wires if wire.single]
+    ranked = _ranked(wires, name)
+    found = [Signal(wire.code, 0, wire.path) for wire in ranked if wire.single]
     bit = BIT.fullmatch(name)
-    if not wires and bit:
-        of_bit = [bit_of(wire, int(bit[2])) for wire in _ranked(header, bit[1])]
+    if not ranked and bit:
+        of_bit = [bit_of(wire, int(bit[2])) for wire in _ranked(wires, bit[1])]
         found = [signal for signal in of_bit if signal]
-    return found, [wire for wire in wires if not wire.single]
+    return found, [wire for wire in ranked if not wire.single]
 
 
 def _by_place(signals: Sequence[Signal]) -> Dict[Tuple[bytes, int], Signal]:
@@ -73,7 +73,7 @@ def _by_place(signals: Sequence[Signal]) -> Dict[Tuple[bytes, int], Signal]:
 
 def choose(header: Header, name: Optional[str]) -> Signal:
     """The signal that is meant; a problem if there is none, or more than one."""
-    found, wide = _candidates(header, name) if name is not None else (singles(header), [])
+    found, wide = _candidates(header.wires, name) if name is not None else (singles(header), [])
     by_place = _by_place(found)
     if len(by_place) == 1:
         return next(iter(by_place.values()))
@@ -109,15 +109,28 @@ def wire_name(header: Header, signal: Signal) -> str:
     return name
 
 
-def _name(header: Header, signal: Signal) -> Optional[str]:
-    found = [name for name in signal.names if _by_place(_candidates(header, name)[0]).keys() == {(signal.code, signal.place)}]
-    return next((name for name in found if _programs_take(header, name, signal)), found[0] if found else None)
+def _name(wires: Sequence[Wire], signal: Signal) -> Optional[str]:
+    """The first name that the programs take, too, or else the first one."""
+    first, of_programs = None, {wire.reference for wire in wires if wire.code == signal.code} | {shown(signal.code)}
+    for name in [shown(signal.code)] if _shares_its_path(wires, signal) else signal.names:
+        if first is not None and name not in of_programs:
+            continue
+        if _by_place(_candidates(wires, name)[0]).keys() == {(signal.code, signal.place)}:
+            if _programs_take(wires, name, signal):
+                return name
+            first = name if first is None else first
+    return first
 
 
-def _programs_take(header: Header, name: str, signal: Signal) -> bool:
+def _shares_its_path(wires: Sequence[Wire], signal: Signal) -> bool:
+    """Whether another wire of one bit has the whole path: no end of it means just this one."""
+    return any(wire.path == signal.path and wire.single and wire.code != signal.code for wire in wires)
+
+
+def _programs_take(wires: Sequence[Wire], name: str, signal: Signal) -> bool:
     """Whether the proved programs choose this signal, as docs/FORMATS.md says: by the reference, or else by the code."""
-    wires = [wire for wire in header.wires if wire.reference == name] or [wire for wire in header.wires if shown(wire.code) == name]
-    return all(wire.single and wire.code == signal.code for wire in wires) and bool(wires)
+    chosen = [wire for wire in wires if wire.reference == name] or [wire for wire in wires if shown(wire.code) == name]
+    return all(wire.single and wire.code == signal.code for wire in chosen) and bool(chosen)
 
 
 def wire_text(header: Header, signal: Signal) -> str:
@@ -135,14 +148,23 @@ def wire_texts(header: Header, signals: Sequence[Signal]) -> List[str]:
     return texts
 
 
-def _near(header: Header, signals: Sequence[Signal]) -> Header:
+def _near(header: Header, signals: Sequence[Signal]) -> List[Wire]:
     """The wires that a name of these signals can mean: a dump can have a million others."""
     names = {name for signal in signals for each in signal.names for name in (each, each.rpartition("[")[0])}
-    near = Header()
+    ends: Dict[str, List[str]] = {}  # of paths, by the last word
+    for name in names:
+        ends.setdefault(_last_word(name), []).append("." + name)
+    near = []
     for wire in header.wires:
-        if not names.isdisjoint((wire.reference, shown(wire.code), *_path_ends(wire.path))):
-            near.wires.append(wire)
+        last = _last_word(wire.path)
+        is_meant = last in names or wire.reference in names or shown(wire.code) in names
+        if is_meant or any(map(("." + wire.path).endswith, ends.get(last, ()))):
+            near.append(wire)
     return near
+
+
+def _last_word(path: str) -> str:
+    return path.rpartition(".")[2]
 
 
 def _path_ends(path: str) -> List[str]:

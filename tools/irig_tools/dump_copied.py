@@ -5,7 +5,7 @@ import re
 from itertools import chain
 from typing import IO, Iterator, List, Optional
 
-from .dump_source import LONGEST_WORD, Source, end_of_words
+from .dump_source import LONGEST_WORD, TOO_MANY_BYTES, Source, end_of_words
 from .editor import Problem
 
 TOKEN = re.compile(rb"\S+\s*")
@@ -49,7 +49,7 @@ class Copied(Source):
 
     def _parts(self) -> Iterator[List[bytes]]:
         """The words with the white space after them, part by part."""
-        for block in self.unpacked():
+        for block in self._with_space():
             data = self.rest + block
             if not self.rest:
                 self.out.write(data[:len(data) - len(data.lstrip())])
@@ -57,7 +57,7 @@ class Copied(Source):
             end = _end_before_a_time(data) or end_of_words(data)
             part, self.rest = data[:end], data[end:]
             if len(self.rest) > LONGEST_WORD:
-                raise Problem("%s: is no dump: a word has more than %d bytes" % (self.path, LONGEST_WORD))
+                raise Problem(TOO_MANY_BYTES % (self.path, "a word with the white space after it", LONGEST_WORD))
             if self.at_once is None or not self.at_once(part):
                 yield TOKEN.findall(part)
         found = TOKEN.findall(self.rest)

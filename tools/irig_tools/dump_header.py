@@ -5,6 +5,7 @@ import re
 from dataclasses import dataclass, field
 from typing import Dict, Iterator, List, NamedTuple, Optional, Tuple
 
+from . import limits
 from .dump_offset import Offset, read_offset
 from .dump_source import Source
 from .editor import Problem
@@ -12,11 +13,13 @@ from .ending import EMPTY_FILE
 
 HEADS = {b"$date", b"$version", b"$timescale", b"$scope", b"$upscope", b"$var", b"$enddefinitions",
          b"$attrbegin", b"$attrend"}
+READ = {b"$timescale", b"$scope", b"$var"}  # of which each word counts
 BODY = {b"$dumpvars", b"$dumpall", b"$dumpon", b"$dumpoff", b"$dumpports", b"$dumpportsall", b"$dumpportson",
         b"$dumpportsoff"}
 NO_BITS = {"real", "realtime", "event", "parameter", "string", "shortreal"}
 PORT_RANGE = re.compile(rb"\[([0-9]{1,9}):([0-9]{1,9})\]")
 MOST_BEFORE = 10000  # words before the header
+SHOWN_OF_A_WORD = 60  # bytes, in a message
 REPLACED = "\ufffd"  # what is shown of a letter that cannot be printed
 NO_HEAD = "is no dump: no declaration is found; samples and tables are for irig_demodulate"
 ENDLESS = ": is no dump: the declarations do not end; the file is cut off, or it has no $enddefinitions"
@@ -95,6 +98,7 @@ class Reader:
         self.source = source
         self.header = Header()
         self.scopes: List[str] = []
+        self.letters = 0  # of all paths
 
     def read(self) -> Header:
         self._skip_before()
@@ -109,12 +113,16 @@ class Reader:
                     return self.header
                 self._note("words between the declarations were left out, the first '%s'" % shown(word[:40]))
             elif word != b"$end":
-                self._declare(word, self._section())
+                self._declare(word, self._section(word in READ))
         raise Problem(self.source.path + ENDLESS)
 
     def _note(self, text: str) -> None:
         if text not in self.header.notes and len(self.header.notes) < 5:
             self.header.notes.append(text)
+
+    def _refuse(self, what: str, limit: int, unit: str) -> None:
+        """Says that the dump breaks a limit."""
+        raise Problem("%s: %s %s %s, which is the limit" % (self.source.path, what, format(limit, ","), unit))
 
     def _skip_before(self) -> None:
         before: List[bytes] = []
@@ -122,17 +130,18 @@ class Reader:
             if word in HEADS or word == b"$comment":
                 self.source.give_back(word)
                 if before:
-                    text = shown(b" ".join(before)[:60])
+                    text = shown(b" ".join(before)[:SHOWN_OF_A_WORD])
                     self._note("'%s' before the header was left out" % text)
                 return
-            before.append(word)
+            before.append(word[:SHOWN_OF_A_WORD])
             if len(before) > MOST_BEFORE:
                 break
         raise Problem("%s: %s" % (self.source.path, NO_HEAD if before else EMPTY_FILE))
 
-    def _section(self) -> List[bytes]:
-        """The words up to `$end`; a declaration that is not closed ends at the next one."""
+    def _section(self, is_read: bool = False) -> List[bytes]:
+        """The words up to `$end`; a declaration that is not closed ends at the next one. Of one that is not read there are the first."""
         words: List[bytes] = []
+        size = 0
         for word in self.source:
             if word == b"$end":
                 return words
@@ -140,8 +149,11 @@ class Reader:
                 self.source.give_back(word)
                 self._note("a declaration has no $end, and was ended at the next one")
                 return words
-            if len(words) < MOST_BEFORE:
+            size += len(word)
+            if size <= limits.LONGEST_DECLARATION and len(words) < MOST_BEFORE:
                 words.append(word)
+            elif is_read:
+                self._refuse("a declaration has more than", limits.LONGEST_DECLARATION, "bytes")
         raise Problem(self.source.path + ENDLESS)
 
     def _declare(self, section: bytes, words: List[bytes]) -> None:
@@ -151,6 +163,8 @@ class Reader:
             self.header.unit = text.decode("latin-1") if greek else shown(text)
         elif section == b"$scope":
             self.scopes.append(shown(words[1] if len(words) > 1 else b"?"))
+            if len(self.scopes) > limits.MOST_SCOPES:
+                self._refuse("has more than", limits.MOST_SCOPES, "scopes, one within the other")
         elif section == b"$upscope" and self.scopes:
             self.scopes.pop()
         elif section == b"$var":
@@ -168,7 +182,16 @@ class Reader:
         reference, begin = shown(words[3]), sum(len(scope) + 1 for scope in self.scopes)
         end = begin + len(reference) if name.startswith(reference) and REPLACED not in reference else begin
         path = ".".join([*self.scopes, name])
+        self._count(path)
         self.header.wires.append(Wire(code, path, size, *ends, kind not in NO_BITS and size > 0, begin, end))
+
+    def _count(self, path: str) -> None:
+        """Refuses paths that take too much memory."""
+        self.letters += len(path)
+        if len(path) > limits.LONGEST_PATH:
+            self._refuse("the path of a wire has more than", limits.LONGEST_PATH, "letters")
+        if self.letters > limits.MOST_LETTERS:
+            self._refuse("the paths of all wires have more than", limits.MOST_LETTERS, "letters")
 
 
 def _with_size(words: List[bytes]) -> List[bytes]:

@@ -4,12 +4,13 @@ from __future__ import annotations
 import codecs
 import gzip
 import io
+import re
 import sys
 import zlib
 from itertools import chain
 from typing import IO, Callable, Iterator, List, Optional, Tuple, cast
 
-from . import dump_packed, sigrok
+from . import dump_packed, limits, sigrok
 from .editor import Problem
 from .progress import metered
 from .temporary import temporary_copy
@@ -18,6 +19,8 @@ DUMP_BLOCK = 1 << 17  # bytes that are read at once
 ZIP = b"PK\x03\x04"  # how a file of sigrok begins
 LONGEST_WORD = 1 << 24  # bytes of a word
 HEAD_BYTES = 9  # bytes that say what a file is
+SPACE = re.compile(rb"\s")
+TOO_MANY_BYTES = "%s: is no dump: %s has more than %d bytes"
 NO_DUMPS = (
     (b"\x00\x00\x00\x00\x00\x00\x00\x01\x49", "an FST file; 'fst2vcd FILE' makes a dump of it"),
     (b"\x13\x80", "an LXT2 file; 'lxt2vcd FILE' makes a dump of it"),
@@ -41,6 +44,7 @@ class _Joined(io.RawIOBase):
 
     def __init__(self, head: bytes, stream: IO[bytes]) -> None:
         self.head, self.stream = head, stream
+        self.given = 0  # bytes
 
     def readable(self) -> bool:
         return True
@@ -50,11 +54,26 @@ class _Joined(io.RawIOBase):
         data = self.head or self.stream.read(len(view))
         part, self.head = data[:len(view)], data[len(view):]
         view[:len(part)] = part
+        self.given += len(part)
         return len(part)
 
 
-def _buffered(head: bytes, stream: IO[bytes]) -> IO[bytes]:
-    return cast(IO[bytes], io.BufferedReader(_Joined(head, stream), DUMP_BLOCK))
+class _Unpacked(_Joined):
+    """What a packed file has, unless that is far more than of any recording."""
+
+    def __init__(self, stream: IO[bytes], packed: _Joined, path: str) -> None:
+        super().__init__(b"", stream)
+        self.packed, self.path = packed, path
+
+    def readinto(self, room: object) -> int:
+        count = super().readinto(room)
+        if self.given > max(limits.SURELY_UNPACKED, limits.MOST_UNPACKED * self.packed.given):
+            raise Problem("%s: has more than %d bytes for each packed one, which is the limit" % (self.path, limits.MOST_UNPACKED))
+        return count
+
+
+def _buffered(joined: _Joined) -> IO[bytes]:
+    return cast(IO[bytes], io.BufferedReader(joined, DUMP_BLOCK))
 
 
 def end_of_words(data: bytes) -> int:
@@ -88,14 +107,24 @@ class Source:
         """All that follows, quicker than this object itself; it ends to be true when a word is given back."""
         return self._words
 
+    def _with_space(self) -> Iterator[bytes]:
+        """The bytes of the dump. Blocks within a long word come together, so that it is not copied for each of them."""
+        pieces: List[bytes] = []
+        for block in self.unpacked():
+            pieces.append(block)
+            if SPACE.search(block):
+                yield b"".join(pieces)
+                pieces = []
+            elif len(pieces) > LONGEST_WORD // DUMP_BLOCK and sum(map(len, pieces)) > LONGEST_WORD:
+                raise Problem(TOO_MANY_BYTES % (self.path, "a word", LONGEST_WORD))
+        yield b"".join(pieces)
+
     def _all_words(self) -> Iterator[bytes]:
         rest = b""
-        for block in self.unpacked():
-            data = rest + block
+        for block in self._with_space():
+            data = rest + (block[-1:] if block.isspace() else block)
             end = end_of_words(data)
             part, rest = data[:end], data[end:]
-            if len(rest) > LONGEST_WORD:
-                raise Problem("%s: is no dump: a word has more than %d bytes" % (self.path, LONGEST_WORD))
             if self.at_once is None or not self.at_once(part):
                 yield from part.split()
         words = rest.split()
@@ -117,14 +146,15 @@ class Source:
         with opened as plain:
             stream = metered(plain, self.path)
             head = stream.read(HEAD_BYTES)
-            joined = _buffered(head, stream)
+            packed = _Joined(head, stream)
+            joined = _buffered(packed)
             for magic, what in NO_DUMPS:
                 if head.startswith(magic):
                     raise Problem("%s: is no dump but %s" % (self.path, what))
             for magic, name, unpack in PACKED:
                 if head.startswith(magic):
                     self.notes.append("the file is packed by %s and was unpacked" % name)
-                    joined = _buffered(b"", cast(IO[bytes], unpack(joined)))
+                    joined = _buffered(_Unpacked(cast(IO[bytes], unpack(joined)), packed, self.path))
             yield from self._of_sigrok(joined) if head.startswith(ZIP) else self._plain(joined)
 
     def _of_sigrok(self, stream: IO[bytes]) -> Iterator[bytes]:

@@ -3,7 +3,7 @@ from __future__ import annotations
 
 import re
 from fractions import Fraction
-from typing import List, NamedTuple, Optional, Sequence, Tuple
+from typing import List, NamedTuple, Optional, Pattern, Sequence, Tuple
 
 from .digits import FRACTION, NUMBER, WHOLE
 from .editor import Problem
@@ -18,8 +18,9 @@ NO_TIMES = ("v", "mv", "volt", "volts", "sequence")
 # the names of SECONDS_IN, in short: an alternative for each takes 20 ms at each start of a tool
 NAME_OF_UNIT = "(%s)?(%s)(%s)" % tuple(map("|".join, (TICKS, OF_A_SECOND, SECOND_NAMES)))
 TIME = re.compile(r"(?i)\W*(time|t|timestamp|zeit|temps|x|x-axis|seconds?|sec)(\W.*|_%s)?" % NAME_OF_UNIT)
-RATE_LINE = re.compile(r"(?i)\W*(?:meta )?samplerate\W*([0-9.]+) *([kmg]?)(?:hz)?\W*")
-IN_BRACKETS = re.compile(r".*[\[(]\s*([^\])]*[^\W\d_][^\])]*)[\])]\W*")  # what may be a unit
+# each letter has one place in the form, so that no way to read many of them is tried twice
+RATE_LINE = re.compile(r"(?i)\W*(?:meta )?samplerate\W*([0-9]+(?:\.[0-9]*)?)(?!\.)(?: *(?=[kmgh])([kmg]?)(?:hz)?)?\W*")
+WORD, LETTER = re.compile(r"\w"), re.compile(r"[^\W\d_]")
 BEGINS_NUMBER = "+-,0123456789"
 MOST_ROWS_OF_HEADS = 50  # if they are next to the first rows
 CHANNELS = re.compile(r"; *Channels \([0-9/]+\): *(.*)")  # of sigrok, which can call each column `logic`
@@ -76,7 +77,7 @@ def rate_of(heads: Sequence[str]) -> int:
     for head in heads:
         found = RATE_LINE.fullmatch(head)
         if found:
-            return hertz(found[1], found[2])
+            return hertz(found[1], found[2] or "")
     return 0
 
 
@@ -126,10 +127,10 @@ class Heads:
 
     def _check_unit(self, place: int) -> None:
         """Times without a unit are seconds, but not those in an unknown one."""
-        found = IN_BRACKETS.fullmatch(self._name(place))
+        found = in_brackets(self._name(place))
         if found:
             text = "%s: the times of column %d are in '%s', which is not read as a unit; change its head, as 'Time [s]', or give --rate"
-            raise Problem(text % (self.path, place + 1, found[1].strip()))
+            raise Problem(text % (self.path, place + 1, found))
 
     def _time(self) -> Optional[int]:
         for place, name in enumerate(self.names):
@@ -205,5 +206,21 @@ def _in_name(name: str) -> str:
 
 def _has_other_ticks(name: str) -> bool:
     """Whether times are counted in other ticks than those of a dump, as in `Time (25 ns)`."""
-    found = IN_BRACKETS.fullmatch(name)
-    return found is not None and found[1][:1].isdigit() and "".join(found[1].lower().split()) not in SECONDS_IN
+    found = in_brackets(name)
+    return found[:1].isdigit() and "".join(found.lower().split()) not in SECONDS_IN
+
+
+def in_brackets(name: str) -> str:
+    """What is last in brackets, with no word after it, and has a letter: it may be a unit."""
+    end = _beyond(WORD, name)
+    rest = name[end:]
+    closed = min((at for at in map(rest.find, ")]") if at >= 0), default=-1)
+    begin = max(name.rfind(bracket, 0, end) for bracket in ")]") + 1
+    letter = begin + _beyond(LETTER, name[begin:end])
+    place = max(name.rfind(bracket, begin, letter) for bracket in "([")
+    return name[place + 1:end + closed].strip() if place >= 0 and closed >= 0 else ""
+
+
+def _beyond(form: Pattern[str], text: str) -> int:
+    """The place after the last letter of this form; 0 if there is none."""
+    return next((place + 1 for place in reversed(range(len(text))) if form.match(text, place)), 0)

@@ -200,3 +200,12 @@ ON_CLOCK = 0.5  # intervals: frames of one clock are off by no more: what is nea
 CLOCK_DRIFT = 0.002  # the same for each interval between them: a clock is off by less from place to place
 AT_STEP = 30  # intervals: the same if there is a step between them: less than half a frame, so that no frame is skipped
 OUTVOTED = 3  # frames of the result that outvote one that was fine: three of four
+
+# files that are refused (dump_header, dump_source, wire_words): a small file can ask for seconds and memory without end
+LONGEST_DECLARATION = 1 << 16  # bytes of the words of a scope, a variable or a unit: names have some ten
+MOST_SCOPES = 100  # one within the other: each end of a path is a name that a wire can have, so more cost the square; designs have ten
+LONGEST_PATH = 1 << 14  # letters of the path of a wire, so of 100 scopes with 160 letters each
+MOST_LETTERS = 1 << 27  # of the paths of all wires, which are kept: 134 MB, so of a million wires with 134 letters each
+MOST_BITS_WRITTEN = 1 << 16  # bits of a vector that a track is put back into, as all are written: IEEE 1364 has tools take that many
+MOST_UNPACKED = 1000  # bytes for each one of a packed file: a recording has ten to twenty, as no time is as the one before
+SURELY_UNPACKED = 1 << 26  # bytes that are read of a packed file in any case

@@ -5,13 +5,14 @@ import configparser
 import re
 import zipfile
 import zlib
-from typing import IO, Dict, Iterator, List, NamedTuple
+from typing import IO, Dict, Iterator, List, NamedTuple, Tuple
 
 from .digits import WHOLE
 from .editor import Problem
 from .heads import hertz
 
 SAMPLE_BLOCK = 1 << 20  # bytes that are read at once
+PIECE = 1 << 10  # samples that are looked at together: between two edges most of them are equal
 LONGEST_METADATA = 1 << 16  # bytes of what describes the samples
 SAMPLERATE = re.compile(r"([0-9.]+)\s*([kMG]?)(?:Hz)?")
 TIME_UNITS = (("1 us", 10 ** 6), ("1 ns", 10 ** 9), ("1 ps", 10 ** 12))
@@ -74,20 +75,32 @@ def _code_of(bit: int) -> str:
 
 def _changes(folder: zipfile.ZipFile, capture: Capture, many: int) -> Iterator[bytes]:
     """The changes; each run of equal samples begins with one."""
-    runs, last, number = re.compile(rb"(.{%d})\1*" % capture.size, re.S), -1, 0
+    last, number = -1, 0
     bits = sorted(capture.names)
     for data in _samples(folder, capture):
         lines = []
-        for run in runs.finditer(data):
-            value = int.from_bytes(run[1], "little")
+        for place, sample in _runs(data, capture.size):
+            value = int.from_bytes(sample, "little")
             if value != last:
                 changed = ~0 if last < 0 else value ^ last
-                lines.append("#%d " % ((number + run.start() // capture.size) * many // capture.rate) + " ".join(
+                lines.append("#%d " % ((number + place) * many // capture.rate) + " ".join(
                     "%d%s" % (value >> bit & 1, _code_of(bit)) for bit in bits if changed >> bit & 1))
                 last = value
         number += len(data) // capture.size
         yield "\n".join([*lines, ""]).encode() or b"\n"
     yield b"#%d\n" % (number * many // capture.rate)
+
+
+def _runs(data: bytes, size: int) -> Iterator[Tuple[int, bytes]]:
+    """Where samples begin that are equal up to the next place, and such a sample."""
+    form = re.compile(rb"(.{%d})\1*" % size, re.S)
+    for begin in range(0, len(data), PIECE * size):
+        piece = data[begin:begin + PIECE * size]
+        first = piece[:size]
+        if piece == first * (len(piece) // size):
+            yield begin // size, first
+        else:
+            yield from (((begin + run.start()) // size, run[1]) for run in form.finditer(piece))
 
 
 def _samples(folder: zipfile.ZipFile, capture: Capture) -> Iterator[bytes]:

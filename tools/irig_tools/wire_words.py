@@ -3,8 +3,10 @@ from __future__ import annotations
 
 from typing import List, NamedTuple, Sequence
 
+from . import limits
 from .dump_choice import Signal
 from .dump_header import Header
+from .editor import Problem
 
 
 class Own(NamedTuple):
@@ -76,6 +78,8 @@ class Vectors(Scalars):
 
 
 def words_of(header: Header, signal: Signal) -> Scalars:
-    """How the changes of a signal are written."""
+    """How the changes of a signal are written; of a vector all bits are."""
     wide = [wire.size for wire in header.wires if wire.code == signal.code and not wire.single]
+    if wide and max(wide) > limits.MOST_BITS_WRITTEN:
+        raise Problem("%s: no track is put back into a vector of more than %s bits" % (signal.path, format(limits.MOST_BITS_WRITTEN, ",")))
     return Vectors(signal.code, max(wide), signal.place) if wide else Scalars(signal.code)
