@@ -43,7 +43,7 @@ def unwritten(top):
             deaf = shell(top, folder, "%s none.vcd 2> /dev/full" % tool)
             broken = shell(top, folder, "%s %s 2>/dev/null | true; echo ${PIPESTATUS[0]}" % (tool, name))
             mute = shell(top, folder, "%s %s >&- 2> /dev/full" % (tool, name))
-            good = full == (2, "%s: No space left on device\n" % tool, "") and deaf == mute == (2, "", "")
+            good = full == (2, "%s: standard output: No space left on device\n" % tool, "") and deaf == mute == (2, "", "")
             good = good and broken[1:] == ("141\n", "")
             good or print("FAILED %s: %s %s %s %s" % (tool, full, deaf, broken, mute))
             yield good
@@ -220,7 +220,7 @@ def raising():
     yield raised(RecursionError("deep"), defect % "RecursionError: deep", 70)
     yield raised(MemoryError(), "memory ran out", 70)
     yield raised(OSError(12, "Cannot allocate memory"), "memory ran out", 70)
-    yield raised(OSError(28, "No space left on device"), "No space left on device", 2)
+    yield raised(OSError(28, "No space left on device"), "standard output: No space left on device", 2)
     yield raised(OSError(2, "No such file", "a"), "a: No such file", 2)
     yield raised(OSError(2, "No such file", "a\nb\x1b[1m\x7f"), r"a\nb\x1b[1m\x7f: No such file", 2)
     yield raised(ending.Usage("wrong"), "wrong (irig_x --help says more)", 2)

@@ -344,7 +344,21 @@ def one_line_each():
                [r"'=1\n2.vcd", r"'=1\n2.vcd", "'@code", "B", "-4", *["-1"] * len(results.COUNTS), r"'+a\nb; c"])
 
 
+def record_of_its_own():
+    """The record is not written through a link, and is no pipe: another user of the folder could have made that."""
+    for made, text in ((lambda path: os.symlink("../precious", path), "is a link"), (os.mkfifo, "is no file")):
+        def holds():
+            write_all({"in/rec.vcd": damages.dump(recorded(), END), "mended/sub/note": "", "precious": "kept\n"})
+            made("mended/irig_mend.done")
+            status, _, said = mended()
+            yield same(text, (status, "mended/irig_mend.done: %s" % text in said, text_of("precious"), outputs()),
+                       (2, True, "kept\n", ["sub/note"]))
+
+        yield from in_folder(lambda: list(holds()))
+
+
 def cases(top):
     """Each part by its name."""
-    parts = (ended, in_background, table, not_all_read, goes_on, packed, never_over, alone, several_expressions, one_line_each)
+    parts = (ended, in_background, table, not_all_read, goes_on, packed, never_over, alone, several_expressions, one_line_each,
+             record_of_its_own)
     return [case("folder: " + part.__name__, part) for part in parts]

@@ -313,7 +313,7 @@ def ends(top):
                 run("irig_wire", [])[0] == 2, run("irig_wire", [folder])[0] == 2,
                 run("irig_wire", [folder + "/none"])[0] == 2,
                 unread.returncode == 0,
-                (full.returncode, full.stderr) == (2, b"irig_wire: No space left on device\n")]
+                (full.returncode, full.stderr) == (2, b"irig_wire: standard output: No space left on device\n")]
 
 
 def listed():

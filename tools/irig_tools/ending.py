@@ -12,12 +12,14 @@ from typing import IO, Callable, Optional, Sequence
 from . import progress
 from .editor import Problem
 from .escapes import in_line
+from .temporary import named_if_full
 
 ALL_RIGHT, FOUND, NOT_READ = 0, 1, 2  # statuses
 DEFECT = 70  # a defect, or memory ran out: EX_SOFTWARE of sysexits.h
 INTERRUPTED, UNREAD = 130, 141  # as a shell shows the signals INT and PIPE
 SIGNALLED = 128  # and any other: with its number more
 EMPTY_FILE, IS_FOLDER = "is empty", "is a folder"  # what is said of an input
+NAME_OF_OUTPUT = "standard output"  # what has no room, if no file is named
 
 
 class Usage(Exception):
@@ -72,8 +74,9 @@ def ended(program: str, work: Callable[[], int]) -> int:
 
 def _status_of(program: str, work: Callable[[], int]) -> int:
     try:
-        status = work()
-        sys.stdout.flush()
+        with named_if_full(NAME_OF_OUTPUT):
+            status = work()
+            sys.stdout.flush()
         return status
     except KeyboardInterrupt:
         return INTERRUPTED

@@ -2,9 +2,11 @@
 repaired again."""
 from __future__ import annotations
 
+import errno
 import fcntl
 import json
 import os
+import stat
 from contextlib import contextmanager
 from typing import IO, Any, Dict, Iterator, List, Optional, Sequence
 
@@ -75,12 +77,25 @@ def _sync_folder(path: str) -> None:
         os.close(number)
 
 
+def _itself(path: str, flags: int) -> int:
+    """Opens a file, and not what a link leads to: another user of the folder could have made that."""
+    try:
+        number = os.open(path, flags | os.O_NOFOLLOW | os.O_NONBLOCK, 0o666)
+    except OSError as error:
+        if error.errno != errno.ELOOP:
+            raise
+        raise Problem("%s: is a link; the record of what is done is written through none" % path) from error
+    if not stat.S_ISREG(os.fstat(number).st_mode):
+        os.close(number)
+        raise Problem("%s: is no file; the record of what is done is one" % path)
+    return number
+
+
 @contextmanager
 def record_in(out: str, rules: Sequence[str]) -> Iterator[Record]:
     """The record of a folder; one run at a time has it."""
     os.makedirs(out, exist_ok=True)
-    path = os.path.join(out, RECORD)
-    with open(path, "a+b") as file:
+    with open(os.path.join(out, RECORD), "a+b", opener=_itself) as file:
         try:
             fcntl.flock(file, fcntl.LOCK_EX | fcntl.LOCK_NB)
         except OSError as error:
