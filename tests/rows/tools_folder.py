@@ -13,7 +13,7 @@ from unittest import mock
 
 from built import TOP
 from cases import case
-from irig_tools import results
+from irig_tools import recordings, results
 from random_input import damages
 from rows import tools
 from rows.in_process import run
@@ -334,6 +334,19 @@ def several_expressions():
     return in_folder(lambda: list(holds()))
 
 
+def looked_into():
+    """Neither hidden files and folders are looked at, nor what a link to a folder leads to; the link is named."""
+    def holds():
+        write_all({"in/rec.vcd": "$", "in/deep/rec.vcd": "$", "in/.hidden.vcd": "$", "in/.git/rec.vcd": "$", "in/deep/.git/rec.vcd": "$",
+                   "elsewhere/rec.vcd": "$"})
+        os.symlink("../elsewhere", "in/link")
+        found = recordings.look_into("in", "mended")
+        yield same("what is looked at", ([each.name for each in found.recordings], found.others, found.problems),
+                   (["rec.vcd", "deep/rec.vcd"], ["link"], []))
+
+    return in_folder(lambda: list(holds()))
+
+
 def one_line_each():
     """A name or a reason with a newline stays a line of the table, and no cell of the report is a formula."""
     result = results.Result("=1\n2.vcd", "=1\n2.vcd", 1, ["+a\nb", "c"], "@code", "B", -4, {name: -1 for name in results.COUNTS})
@@ -359,6 +372,6 @@ def record_of_its_own():
 
 def cases(top):
     """Each part by its name."""
-    parts = (ended, in_background, table, not_all_read, goes_on, packed, never_over, alone, several_expressions, one_line_each,
-             record_of_its_own)
+    parts = (ended, in_background, table, not_all_read, goes_on, packed, never_over, alone, several_expressions, looked_into,
+             one_line_each, record_of_its_own)
     return [case("folder: " + part.__name__, part) for part in parts]

@@ -1,6 +1,7 @@
 """No option and no proposed command of a tool writes over the file that is read, and a file is written as a whole."""
 import os
 import shutil
+import stat
 import subprocess
 import tempfile
 from unittest import mock
@@ -235,13 +236,16 @@ def long_path():
 
 
 def replaced():
-    """A file that is replaced keeps its mode, and one that may not be written stays."""
+    """A file that is replaced keeps its mode, but not what runs it as its owner; and one that may not be written stays."""
     with tempfile.TemporaryDirectory() as folder:
         path, said = os.path.join(folder, "page"), ""
         output.write(path, "first")
         os.chmod(path, 0o604)
         output.write(path, "second")
         yield (mode_of(folder, "page"), contents(folder)) == (0o604, {"page": b"second"})
+        os.chmod(path, 0o4604)  # whoever runs it would be the owner of the new file
+        output.write(path, "second")
+        yield stat.S_IMODE(os.stat(path).st_mode) == 0o604
         with mock.patch("os.access", lambda *_: False):  # root may write all
             try:
                 output.write(path, "third")

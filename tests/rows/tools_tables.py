@@ -379,6 +379,19 @@ def sigrok():
     return [*results, good]
 
 
+def ends_of_sigrok():
+    """A channel that is high in the first sample is high from the beginning, and the last sample lasts as long as each."""
+    made = io.BytesIO()
+    with zipfile.ZipFile(made, "w") as folder:
+        folder.writestr("metadata", "[device 1]\ncapturefile=logic-1\nsamplerate=1 MHz\nprobe1=code\nprobe2=d\nunitsize=1\n")
+        folder.writestr("logic-1", b"\1\1\0\1\3")
+    status, text, said = run("irig_wire", ["-", "code"], made.getvalue())
+    words = [word for word in text.decode().partition("$enddefinitions $end")[2].split() if word[0] != "$"]
+    good = (status, words) == (0, ["#0", "1!", "#2", "0!", "#3", "1!", "#5"])
+    good or print("FAILED irig_wire of the ends of a file of sigrok: %d %s %s" % (status, words, said))
+    return good
+
+
 def no_sigrok():
     """Packed folders that are not read."""
     other = io.BytesIO()
@@ -427,5 +440,5 @@ def cases(top):
             case("table: times of rows", times_of_rows), case("table: a rate instead of times", rate_is_given),
             case("table: coarse times", coarse), case("table: zeros first", zeros_first), case("table: an uneven clock", uneven_clock),
             case("table: a carrier", carrier), case("table: cut", cut),
-            case("table: what is refused", refused), case("sigrok: channels", sigrok),
+            case("table: what is refused", refused), case("sigrok: channels", sigrok), case("sigrok: its ends", ends_of_sigrok),
             case("sigrok: other folders", no_sigrok), case("sigrok: its own program", by_sigrok, top)]

@@ -101,6 +101,8 @@ ROWS = [
      "left out, 1 of them; the first is '#99"),
     ("an unknown state of a port", HEAD.replace("wire", "port").replace("!", "<0")
      + "#0 pD 6 0 <0 #5 pU 0 6 <0 #7 pF 0 0 <0 #9", [], EDGES, 0, ""),
+    ("a port that nothing drives", HEAD.replace("wire", "port").replace("!", "<0")
+     + "#0 pT 0 0 <0 #5 pU 0 6 <0 #7 pT 0 0 <0 #9", [], EDGES, 0, ""),
     ("a bit left of a short vector", TWO.replace("#1000", "#1000 b1 #"), ["bus[7]"], [(4000, None)], 1, "never changes"),
     ("a bit left of a vector of x", TWO.replace("bx #", "b1 # #5000 b0 #"), ["bus[0]"], [(4000, 1), (5000, 0), (5000, None)],
      0, ""),
