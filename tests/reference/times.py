@@ -11,6 +11,7 @@ UNITS = {"s": Fraction(10**6), "ms": Fraction(10**3), "us": Fraction(1), "ns": F
 UNITS.update({"%d%s" % (many, unit): many * size for unit, size in UNITS.copy().items() for many in (1, 10, 100)})
 LONG_MINUTE = 61_000_000  # microseconds
 LONGEST_LINE = 2**20
+YEAR_END = 300  # days by which the day of the year goes back at least if a year ends
 NUMBER = re.compile(rb"[ \t\r]*([+-]?[0-9]+(?:\.[0-9]+)?)(?:[eE]([+-]?[0-9]+))?[ \t\r]*")
 COLUMNS = 65536  # that a number can name
 FARTHEST = 4000  # an exponent that is greater says no more, as long as a column has fewer digits
@@ -506,7 +507,7 @@ def year_of(options, track, time):
         return 100 * track.century + time.year
     if options.year is None:
         return None
-    return options.year + bool(track.frames and time.days < track.frames[0].time.days)
+    return options.year + bool(track.frames and time.days + YEAR_END <= track.frames[0].time.days)
 
 
 def word(options, track, time):

@@ -180,11 +180,11 @@ def dated(*stretches):
 def years():
     """A year that the code does not have: over its end, and if the clock is set back."""
     def holds():
-        for name in ("turn.vcd", "back.vcd"):
+        for name, years_shown in (("turn.vcd", {b"2020", b"2021"}), ("back.vcd", {b"2020"})):
             words = ["--column=2", "--year=2020", "--form=calendar", name]
             wanted = whole(words, plain(2000))
             shown = {line[:4] for line in wanted[1].splitlines() if line[:1] != b"-"}
-            yield same("%s, the years" % name, shown, {b"2020", b"2021"})
+            yield same("%s, the years" % name, shown, years_shown)
             for size in SIZES:
                 yield same("%s in windows of %d" % (name, size), aligned(size, words, plain(2000)), wanted)
         status, printed, said = aligned(15000, [*words[:-1], "both.vcd"], plain(2000))
@@ -192,7 +192,7 @@ def years():
 
     last = datetime.date(2020, 12, 31).toordinal()
     texts = {"turn": dated((1000, last, 8640000 - 40000)), "back": dated((500, last - 100, 0), (500, last - 200, 0)),
-             "both": dated((100, last - 300, 0), (400, last - 100, 0), (500, last - 200, 0))}
+             "both": dated((100, last - 300, 0), (400, last - 5, 0), (500, last - 360, 0))}
     return in_folder(lambda: list(holds()), **texts)
 
 

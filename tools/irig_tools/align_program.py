@@ -34,7 +34,7 @@ LINE_COLUMN = Option("--column", "N", "the column of the recorder's time, from 1
 COMMA = Option("--comma", "CHARACTER", "what parts columns; white space, if it is not given")
 HEADER = Option("--header", "N", "that many lines are the header", whole(0))
 COLUMN_NAME = Option("--name", "NAME", "the name of the new column, with --header; time, if it is not given")
-YEAR = Option("--year", "N", "the year of the first frame, or of the century, as irig_time has it", whole(1))
+YEAR = Option("--year", "N", "the year of the first frame, or of the century, as irig_time has it", whole(1000))
 FORM = Option("--form", "FORM", "ordinal, calendar or seconds; ordinal, if it is not given", choices=("ordinal", "calendar", "seconds"))
 ALONE = Option("--alone", about="takes each frame that reads well, supported by another or not")
 WHY = Option("--why", about="says why a line has no time, by a word")

@@ -6,6 +6,7 @@ from typing import Dict, List, Optional, Sequence
 from .align_frames import AlignedPart, TimedFrame, LongTrack
 from .editor import Problem
 
+YEAR_END = 300  # days by which the day goes back at least if a year ends, as irig_time has it
 GOES_BACK = "from %d to %d the days go back, so the year of --year is not certain there; irig_time --from --to aligns a part"
 
 
@@ -26,7 +27,7 @@ def _year_words(year: Optional[int]) -> List[str]:
 
 def _true_year(day: int, year: int, first: int) -> int:
     """The year of a day, if that of the first day of the recording is given."""
-    return year if day >= first else year + 1
+    return year + (first - day >= YEAR_END)
 
 
 def _of_one_day(frames: Sequence[TimedFrame], year: int, first: int) -> Optional[int]:

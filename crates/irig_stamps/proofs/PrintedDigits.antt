@@ -1,5 +1,5 @@
 -- Times of a track that are printed alike.
-use Rattle.std.proofs.Common.{◌≡◌, ◌≢◌, ℕ, zero, suc, ◌+◌, ◌-◌, ◌*◌, ◌%◌, ◌<◌, ◌≤◌, ◌^◌, ◌==◌, ◌++◌, nat_le, nat_lt, Bool, true, false, cond, []}
+use Rattle.std.proofs.Common.{◌≡◌, ◌≢◌, ℕ, zero, suc, ◌+◌, ◌-◌, ◌*◌, ◌%◌, ◌<◌, ◌≤◌, ◌^◌, ◌==◌, ◌++◌, nat_le, Bool, true, false, cond, []}
 use Rattle.std.proofs.Common.{◌∷◌, Option, Some, None, refl, sym, ap, ◌∙◌, subst, arith, inl, inr, ◌⊎◌}
 use Rattle.std.specs.Prelude.{IfSome, is_some, pos}
 use Rattle.std.proofs.lemmas.{Bool.cases_Bool, Bool.leb-true, Option.none-some, Option.same_Some}
@@ -74,11 +74,11 @@ most-if false m n h k = k
 -- without a field the year is counted from that of the settings
 counted-some : (s : Settings) (o : Option ℕ) (a b : ℕ) → is_some (counted_on (record s { year = o }) a) ≡ is_some (counted_on (record s { year = o }) b)
 counted-some s None a b = refl
-counted-some s (Some y) a b = some-if (nat_lt a s.first_day) (y + 1) y ∙ sym (some-if (nat_lt b s.first_day) (y + 1) y)
+counted-some s (Some y) a b = some-if (nat_le 300 (s.first_day - a)) (y + 1) y ∙ sym (some-if (nat_le 300 (s.first_day - b)) (y + 1) y)
 
 counted-most : (s : Settings) (o : Option ℕ) (a : ℕ) → IfSome o (λ y. y ≤ 9998) → IfSome (counted_on (record s { year = o }) a) (λ k. k < 10000)
 counted-most s None a h = tt
-counted-most s (Some y) a h = most-if (nat_lt a s.first_day) (y + 1) y (omega (arith, h)) (omega (arith, h))
+counted-most s (Some y) a h = most-if (nat_le 300 (s.first_day - a)) (y + 1) y (omega (arith, h)) (omega (arith, h))
 
 -- the year of a time with another field
 abbrev year_as : Settings → Time → Option ℕ → Option ℕ

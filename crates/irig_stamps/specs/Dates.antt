@@ -1,6 +1,7 @@
 -- Years and dates of times, by the proleptic Gregorian calendar of jiff. A track lasts at most 12.7
--- days, so it has at most one end of a year. This project's own.
-use Rattle.std.specs.Prelude.{ℕ, zero, suc, Bool, true, false, slice_get, ◌+◌, ◌-◌, ◌*◌, ◌%◌, ◌==◌, nat_le, nat_lt, pos, List, []}
+-- days, so it has at most one end of a year, at which the day goes back by 352 days or more. This
+-- project's own.
+use Rattle.std.specs.Prelude.{ℕ, zero, suc, Bool, true, false, slice_get, ◌+◌, ◌-◌, ◌*◌, ◌%◌, ◌==◌, nat_le, pos, List, []}
 use Rattle.std.specs.Prelude.{◌∷◌, Option, Some, None, if◌then◌else◌}
 use Rattle.jiff_core.specs.Calendar.{days_in_month}
 use Rattle.irig_codes.specs.{Format.FormatView, declared.fields.Fields.Fields}
@@ -40,12 +41,12 @@ doubted f held place (r ∷ rs) =
     doubt_of (slice_get held place) (timed f r.verdict) + doubted f held (suc place) rs
 
 -- the year of a day, if frames carry none: that of the first frame that is believed, or the year
--- after, if the day is before that frame's
+-- after, if the day is 300 or more before that frame's
 abbrev pub counted_on : Settings → ℕ → Option ℕ
 counted_on s days = on s.year where
   on : Option ℕ → Option ℕ
   on None = None
-  on (Some y) = if nat_lt days s.first_day then Some (y + 1) else Some y
+  on (Some y) = if nat_le 300 (s.first_day - days) then Some (y + 1) else Some y
 
 -- the year of a time: that of its two digits in the century, if frames carry them
 abbrev pub year_in : Settings → Time → Option ℕ

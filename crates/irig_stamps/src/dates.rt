@@ -9,6 +9,12 @@ use crate::settings::Settings;
 use irig_times::Time;
 use jiff_core::civil::days_in_month;
 
+/// By how many days the day of the year goes back at least, if a year has ended. A track lasts at
+/// most 12.7 days, so it has 352 or more between the days of two years, or fewer if the recorder
+/// stopped for some weeks. A clock that was set goes back by any number of days: with half of this,
+/// one that was half a year ahead would end a year, and with twice as many no year would end.
+const YEAR_END: u32 = 300;
+
 /// The year of a time. If its frame carries a year, of two digits, it is that year of the century
 /// of the settings. Else it is counted by the day (`year_by_day`); `None` if the settings have no
 /// year to count from.
@@ -26,9 +32,9 @@ pub fn year_in(settings: &Settings<'_>, time: &Time) -> Option<u32>
 }
 
 /// The year of a day, if frames carry no year. It is the year of the first believed frame
-/// (`settings.year`), or the next one if the day is before the day of that frame
-/// (`settings.first_day`): a track is taken to be shorter than a year. `None` if `settings.year` is
-/// not known.
+/// (`settings.year`), or the next one if the day is so long before the day of that frame
+/// (`settings.first_day`) that a year has ended (`YEAR_END`). `None` if `settings.year` is not
+/// known.
 fn year_by_day(settings: &Settings<'_>, days: u32) -> Option<u32>
     requires year { IfSome settings.now.year (λ y. y ≤ 9998) }
     ensures value { result ≡ counted_on settings.now days }
@@ -36,7 +42,7 @@ fn year_by_day(settings: &Settings<'_>, days: u32) -> Option<u32>
 {
     match settings.year {
         Some(year) => {
-            if days < settings.first_day {
+            if settings.first_day.saturating_sub(days) >= YEAR_END {
                 Some(year + 1)
             } else {
                 Some(year)

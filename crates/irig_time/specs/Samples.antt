@@ -46,7 +46,7 @@ pub record HasColumns (a : RawValues) (places : ℕ) (offset : Picos) (column : 
 abbrev pub HasYear : RawValues → ℕ → Option ℕ → Type 0
 HasYear a century None = (a.year ≡ None) × (century ≡ 20)
 HasYear a century (Some y) =
-    (whole_between 1 9998 (text_or a.year (codes "")) ≡ Some y) × (century ≡ y / 100)
+    (whole_between 1000 9998 (text_or a.year (codes "")) ≡ Some y) × (century ≡ y / 100)
 
 -- how a time is written
 pub record HasDates (a : RawValues) (century : ℕ) (year : Option ℕ) (form : Form) : Type 0 where

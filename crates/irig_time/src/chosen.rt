@@ -58,7 +58,7 @@ pub enum OptionFault {
     #[error("--name: there is no header, so give --header")]
     Unnamed,
     /// No year.
-    #[error("--year: not a year from 1 to 9998")]
+    #[error("--year: not a year of four digits, from 1000 to 9998")]
     Year,
     /// No form.
     #[error("--form: not ordinal, calendar or seconds")]

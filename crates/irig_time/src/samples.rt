@@ -29,6 +29,10 @@ const HEADER_LIMIT: u128 = 4_294_967_296;
 /// The century of years of two digits, if no year is given: 2000 to 2099.
 const CENTURY: u32 = 20;
 
+/// The first year. One with fewer digits, as 26, is a year that was written short: time code is not
+/// that old.
+const YEAR_FIRST: u128 = 1_000;
+
 /// The last year: a track can reach into the next one, which has four digits, too.
 const YEAR_LIMIT: u128 = 9_998;
 
@@ -166,7 +170,7 @@ pub struct Dates {
 
 /// How a time is written (`--form`, `ordinal` if it is not given), and its year (`--year`). The
 /// century is that of the year, if one is given, else 20, for 2000 to 2099. The error is `Form` if
-/// there is no such form, tested first, and `Year` if it is no year from 1 to 9998.
+/// there is no such form, tested first, and `Year` if it is no year from 1000 to 9998.
 pub fn dates_of(raw: &RawValues<'_>) -> Result<Dates, OptionFault>
     ensures dates { IfOk result (λ d. HasDates raw.now d.century d.year d.form) }
     ensures sound { IfOk result (λ d. (d.century ≤ 99) × IfSome d.year (λ y. y ≤ 9998)) }
@@ -182,7 +186,7 @@ pub fn dates_of(raw: &RawValues<'_>) -> Result<Dates, OptionFault>
             form,
         });
     };
-    let Some(year) = whole_between(1, YEAR_LIMIT, text.as_bytes()) else {
+    let Some(year) = whole_between(YEAR_FIRST, YEAR_LIMIT, text.as_bytes()) else {
         return Err(OptionFault::Year);
     };
     let year = year as u32;
