@@ -10,7 +10,7 @@ use Rattle.irig_track.specs.Looks.{counted}
 use Rattle.irig_stamps.specs.Steps.{GoesOn, PrintsAll, Stops, Takes, TakesAs, TakesUpTo, Underway}
 use Rattle.irig_stamps.specs.declared.fault.RunFault.TheVariants.{PrintFailed, ReadFailed, TooLong, OutOfMemory}
 use Rattle.irig_stamps.specs.Runs.{Broke, IsCause, Ran, ending_of}
-use Rattle.irig_stamps.specs.{Front.AppendsFront, Stamped.Stamped, declared.fault.RunFault.RunFault}
+use Rattle.irig_stamps.specs.{Front.AppendsFront, Stamped.Stamped, declared.fault.PrintFault.PrintFault, declared.fault.RunFault.RunFault}
 use Rattle.irig_stamps.specs.{declared.fault.TakeFault.TakeFault, declared.progress.Progress.Progress, declared.settings.Settings.Settings}
 use Rattle.irig_stamps.specs.declared.fault.TakeFault.TheVariants as take
 use Rattle.irig_stamps.proofs.Endings.{ending-none, ending-rest}
@@ -44,9 +44,9 @@ module _ (f : FormatView) (ps : List Pulse) (s : Settings) where
 
   -- only a front was printed of what comes out for a front of what was read
   pub print-failed : (start a b from to end : Option (List ℕ)) (rest part front more left text : List ℕ) (count n : ℕ) (all b2 : Bool)
-      (h : Underway f ps s start a from to rest count all) → Consumes a b part → part ≡ front ++ more
-      → Stamped f ps s (h.bytes ++ front) (h.text ++ text) left n b2 → AppendsFront to end text → Broke f ps s start b from end PrintFailed
-  print-failed start a b from to end rest part front more left text count n all b2 h read cut stamped printed = record {
+      (why : PrintFault) (h : Underway f ps s start a from to rest count all) → Consumes a b part → part ≡ front ++ more
+      → Stamped f ps s (h.bytes ++ front) (h.text ++ text) left n b2 → AppendsFront to end text → Broke f ps s start b from end (PrintFailed why)
+  print-failed start a b from to end rest part front more left text count n all b2 why h read cut stamped printed = record {
     bytes = h.bytes ++ front;
     ending = [];
     more = more;
@@ -102,9 +102,9 @@ module _ (f : FormatView) (ps : List Pulse) (s : Settings) where
   not-taken start a b from to end part old text was is take.TooLong why none h read taken (inr stops) =
       let long = subst (λ o. TakesUpTo f ps s part o text was is) none taken in
       let stamped = long.taken h.bytes h.text (subst (λ t. Stamped f ps s h.bytes t was.line.items was.count was.all) (sym (append-nil h.text)) h.stamped) in
-      subst (λ w. Broke f ps s start b from end w) (sym stops.0)
+      subst (λ w. Broke f ps s start b from end w) (sym stops.1)
       (print-failed start a b from to end was.line.items part long.front (long.byte ∷ long.others) is.line.items text was.count is.count was.all is.all
-      h read long.cut stamped stops.1)
+      stops.0 h read long.cut stamped stops.2)
 
   goes-on : (start a b from to end : Option (List ℕ)) (rest part left text : List ℕ) (count n : ℕ) (all b2 : Bool)
       (h : Underway f ps s start a from to rest count all) → Consumes a b part
@@ -130,9 +130,9 @@ module _ (f : FormatView) (ps : List Pulse) (s : Settings) where
   all-taken start a b from to end part old text was is (Err fault) none e h read taken printed =
       let stamped = taken h.bytes h.text (subst (λ t. Stamped f ps s h.bytes t was.line.items was.count was.all)
       (sym (ap (λ t. h.text ++ t) none ∙ append-nil h.text)) h.stamped) in
-      subst (λ w. Broke f ps s start b from end w) (sym printed.0)
+      subst (λ w. Broke f ps s start b from end w) (sym printed.1)
       (print-failed start a b from to end was.line.items part part [] is.line.items text was.count is.count was.all is.all
-      h read (sym (append-nil part)) stamped printed.1)
+      printed.0 h read (sym (append-nil part)) stamped printed.2)
 
   -- the end, if no line was begun
   pub ended-whole : (start b from to : Option (List ℕ)) (rest : List ℕ) (count : ℕ) (all : Bool) → Underway f ps s start b from to rest count all → IsAtEnd b
@@ -172,22 +172,22 @@ module _ (f : FormatView) (ps : List Pulse) (s : Settings) where
           printed = Appends-trans from to end h.text text h.printed printed;
         }
         with_result (Ok false) e printed stamped = absurd (false≢true e)
-        with_result (Err fault) e printed stamped = subst (λ w. Broke f ps s start b from end w) (sym printed.0) (record {
+        with_result (Err fault) e printed stamped = subst (λ w. Broke f ps s start b from end w) (sym printed.1) (record {
           bytes = h.bytes;
           ending = ending_of h.bytes;
           more = [];
           rest = is.line.items;
           text = h.text ++ text;
-          front = h.text ++ printed.1.front;
-          back = printed.1.back;
+          front = h.text ++ printed.2.front;
+          back = printed.2.back;
           count = is.count;
           all = is.all;
           read = subst (Consumes start b) (sym (append-nil h.bytes)) h.read;
           is_ending = inr (refl, at_end);
           stamped = stamped;
-          part = ap (λ t. h.text ++ t) printed.1.part ∙ sym (append_assoc h.text printed.1.front printed.1.back);
-          printed = Appends-trans from to end h.text printed.1.front h.printed printed.1.appends;
-          cause = printed.1.missing;
+          part = ap (λ t. h.text ++ t) printed.2.part ∙ sym (append_assoc h.text printed.2.front printed.2.back);
+          printed = Appends-trans from to end h.text printed.2.front h.printed printed.2.appends;
+          cause = printed.2.missing;
         })
 
   -- nothing yet

@@ -33,7 +33,7 @@ pub record Ran (f : FormatView) (ps : List Pulse) (s : Settings)
 abbrev pub IsCause : RunFault → List ℕ → List ℕ → List ℕ → ℕ → Type 0
 IsCause ReadFailed more back rest count = (more ≡ []) × (back ≡ [])
 IsCause TooManyReads more back rest count = (more ≡ []) × (back ≡ [])
-IsCause PrintFailed more back rest count = back ≢ []
+IsCause (PrintFailed why) more back rest count = back ≢ []
 IsCause OutOfMemory more back rest count = back ≡ []
 IsCause (TooLong number) more back rest count =
     (byte : ℕ) × (others : List ℕ) × (more ≡ byte ∷ others) × (byte ≢ 10) × (2 ^ 20 ≤ length rest)

@@ -8,6 +8,7 @@ use Rattle.irig_track.specs.Looks.{counted}
 use Rattle.irig_stamps.specs.declared.fault.RunFault.TheVariants.{PrintFailed, TooLong, OutOfMemory}
 use Rattle.irig_stamps.specs.{Front.AppendsFront, Runs.Broke, Runs.Ran, Stamped.Stamped}
 use Rattle.irig_stamps.specs.{declared.fault.RunFault.RunFault, declared.fault.TakeFault.TakeFault}
+use Rattle.irig_stamps.specs.declared.fault.PrintFault.{PrintFault}
 use Rattle.irig_stamps.specs.{declared.progress.Progress.Progress, declared.settings.Settings.Settings}
 use Rattle.irig_stamps.specs.declared.fault.TakeFault.TheVariants as take
 
@@ -65,7 +66,8 @@ GoesOn f ps s lines left from to state (Err fault) = Broke f ps s lines left fro
 -- the text was printed, or after a fault only a front of it
 abbrev pub PrintsAll : Option (List ℕ) → Option (List ℕ) → List ℕ → Result Bool RunFault → Type 0
 PrintsAll old new text (Ok ended) = Appends old new text
-PrintsAll old new text (Err fault) = (fault ≡ PrintFailed) × AppendsFront old new text
+PrintsAll old new text (Err fault) =
+    (why : PrintFault) × (fault ≡ PrintFailed why) × AppendsFront old new text
 
 -- why a run is broken off in which a line was not taken: what comes out for the lines before one
 -- that is too long was printed
@@ -73,4 +75,4 @@ abbrev pub Stops : Option (List ℕ) → Option (List ℕ) → List ℕ → ℕ 
 Stops old new text count take.OutOfMemory fault = (fault ≡ OutOfMemory) × (new ≡ old)
 Stops old new text count take.TooLong fault =
     ((fault ≡ TooLong (counted count 1)) × Appends old new text)
-    ⊎ ((fault ≡ PrintFailed) × AppendsFront old new text)
+    ⊎ ((why : PrintFault) × (fault ≡ PrintFailed why) × AppendsFront old new text)

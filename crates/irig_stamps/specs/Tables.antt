@@ -48,7 +48,7 @@ abbrev pub Lists : FormatView → List Pulse → Settings → Option (List ℕ) 
 Lists f ps s from to (Ok stands) =
     (stands ≡ standing_of f ps s)
     × (text : List ℕ) × IsTable f ps s 0 (frames f ps) text × Appends from to text
-Lists f ps s from to (Err PrintFailed) =
+Lists f ps s from to (Err (PrintFailed why)) =
     (text : List ℕ) × IsTable f ps s 0 (frames f ps) text × AppendsFront from to text
 Lists f ps s from to (Err OutOfMemory) = to ≡ from
 Lists f ps s from to (Err _) = ⊥

@@ -13,7 +13,7 @@ pub enum RunFault {
     TooManyReads,
     /// What comes out could not be written.
     #[error("output failed")]
-    PrintFailed,
+    PrintFailed(PrintFault),
     /// The line with this number, from 1, has more than 1 MiB.
     #[error("line {0}: too long")]
     TooLong(u64),
@@ -32,6 +32,15 @@ pub enum RunFault {
     /// Two columns have the name that is looked for.
     #[error("two columns of the header have this name")]
     TwoColumns,
+}
+
+/// Why the output failed.
+#[derive(Clone, Copy, Debug)]
+pub enum PrintFault {
+    /// It is a pipe that nobody reads any more, as that to `head`.
+    Closed,
+    /// Any other reason, as a full disk.
+    Other,
 }
 
 /// Why a line was not taken.

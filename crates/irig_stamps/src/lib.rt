@@ -28,7 +28,7 @@ mod taking;
 mod text;
 
 pub use aligning::align;
-pub use fault::RunFault;
+pub use fault::{PrintFault, RunFault};
 pub use law::digits_tell_times;
 pub use numbers::{number, whole};
 pub use outcome::{Outcome, Standing};

@@ -2,11 +2,13 @@
 //! it is not printed yet. A `RunFault` says why the run over the lines is broken off, and a
 //! `TakeFault` why a byte of them was not taken.
 
-ghost use Rattle.std.specs.Prelude.{◌≡◌, [], OnOk, IfOk};
+ghost use Rattle.std.specs.Prelude.{◌≡◌, ◌↔◌, [], OnOk, IfOk};
+ghost use Rattle.std.specs.{IoError.error_kind};
 ghost use Rattle.irig_stamps.specs.{Front.Prints, Steps.PrintsAll, Steps.Stops};
 
-use crate::fault::{RunFault, TakeFault};
-use std::io::Write;
+use crate::fault::{PrintFault, RunFault, TakeFault};
+use std::io;
+use std::io::{ErrorKind, Write};
 
 /// Prints the text and makes it empty. Returns `ended` as it was given: whether the lines were read
 /// to their end, which the callers hand on. If the output fails it is `PrintFailed`; a front of the
@@ -16,9 +18,10 @@ pub fn print<W: Write>(out: &mut W, text: &mut Vec<u8>, ended: bool) -> Result<b
     ensures empty { OnOk result (text.new.items ≡ []) }
     ensures ended { IfOk result (λ b. b ≡ ended) }
 {
-    let Ok(()) = put_all(out, text) else {
-        return Err(RunFault::PrintFailed);
-    };
+    match put_all(out, text) {
+        Ok(()) => {}
+        Err(why) => return Err(RunFault::PrintFailed(why)),
+    }
     text.clear();
     Ok(ended)
 }
@@ -34,14 +37,10 @@ pub fn stop<W: Write>(out: &mut W, text: &[u8], count: u64, fault: TakeFault) ->
         TakeFault::OutOfMemory => RunFault::OutOfMemory,
         TakeFault::TooLong => match put_all(out, text) {
             Ok(()) => RunFault::TooLong(count.saturating_add(1)),
-            Err(_) => RunFault::PrintFailed,
+            Err(why) => RunFault::PrintFailed(why),
         },
     }
 }
-
-/// The output failed.
-#[derive(Clone, Copy)]
-pub struct PrintFault;
 
 /// Writes all of the bytes, by as many writes as it takes. A write that fails or takes no byte ends
 /// it with an error; a front of the bytes can be out then.
@@ -51,10 +50,21 @@ pub fn put_all<W: Write>(out: &mut W, bytes: &[u8]) -> Result<(), PrintFault>
     let mut done = 0;
     while done < bytes.len() {
         match out.write(&bytes[done..]) {
-            Ok(0) => return Err(PrintFault),
+            Ok(0) => return Err(PrintFault::Other),
             Ok(count) => done += count,
-            Err(_) => return Err(PrintFault),
+            Err(error) => return Err(print_fault(&error)),
         }
     }
     Ok(())
+}
+
+/// Why the output failed, by the error of a write.
+fn print_fault(error: &io::Error) -> PrintFault
+    ensures { (result ≡ PrintFault.Closed) ↔ (error_kind error.now ≡ ErrorKind.BrokenPipe) }
+{
+    if error.kind() == ErrorKind::BrokenPipe {
+        PrintFault::Closed
+    } else {
+        PrintFault::Other
+    }
 }

@@ -86,7 +86,7 @@ fn list_track<W: Write>(
             timed: day.is_some(),
             doubted,
         }),
-        Err(_) => Err(RunFault::PrintFailed),
+        Err(why) => Err(RunFault::PrintFailed(why)),
     }
 }
 

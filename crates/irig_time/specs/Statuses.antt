@@ -5,12 +5,20 @@ use Rattle.irig_files.specs.Tracks.{Unreadable}
 use Rattle.irig_words.specs.Telling.{EndsWith, Explains}
 use Rattle.irig_time.specs.declared.ending.Ending.TheVariants.{Usage, Unread, Aligned}
 use Rattle.irig_time.specs.declared.ending.Ending.TheVariants.{Listed, Timeless, Doubted, Broken}
+use Rattle.irig_stamps.specs.declared.fault.RunFault.{RunFault}
+use Rattle.irig_stamps.specs.declared.fault.RunFault.TheVariants.{PrintFailed}
+use Rattle.irig_stamps.specs.declared.fault.PrintFault.TheVariants.{Closed}
 use Rattle.irig_time.specs.{Ending.EndsBy, Ending.Held, Help.help_text, declared.ending.Ending.Ending}
+
+-- the status of a run that was broken off: 141 if nobody reads the output any more
+abbrev pub broken_status : RunFault → ℕ
+broken_status (PrintFailed Closed) = 141
+broken_status _ = 4
 
 -- the status for how the program ended, and what is printed on the output of help: 0 if each line
 -- has a number or the table was printed, 1 if some lines have none, no frame has a time or some
--- frames are not believed, 2 for another command line, 3 if the track was not read, 4 if the run
--- was broken off; help ends with 0, or with 4 if it was not printed
+-- frames are not believed, 2 for another command line, 3 if the track was not read, that of
+-- `broken_status` if the run was broken off; help ends with 0, or with 4 if it was not printed
 abbrev pub Reports : Ending → Option (List ℕ) → Option (List ℕ) → ℕ → Type 0
 Reports (Aligned true) old new status = EndsWith 0 old new status
 Reports (Aligned false) old new status = EndsWith 1 old new status
@@ -19,7 +27,7 @@ Reports (Timeless path) old new status = EndsWith 1 old new status
 Reports (Doubted path count) old new status = EndsWith 1 old new status
 Reports (Usage fault) old new status = Explains help_text 4 fault old new status
 Reports (Unread path fault) old new status = EndsWith 3 old new status
-Reports (Broken fault) old new status = EndsWith 4 old new status
+Reports (Broken fault) old new status = EndsWith (broken_status fault) old new status
 
 -- what the words ask for was done; of how that ended is the status of the process, and what came to
 -- the output of help

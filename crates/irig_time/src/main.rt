@@ -1,9 +1,9 @@
 //! The time of day of each line that a recorder wrote next to a time track. The status is the
 //! number with which the program ends: 0 if each line had a number or the table was printed, 1 if a
 //! line had none, if frames are not believed or if none has a time, 2 for a mistake in the command
-//! line, 3 for a track that was not read, and 4 if the run was broken off. Help that was asked for
-//! ends with 0, or with 4 if it cannot be printed. A frame is believed if another one near it
-//! supports its time.
+//! line, 3 for a track that was not read, 4 if the run was broken off, and 141 if it was because
+//! nobody reads its output any more. Help that was asked for ends with 0, or with 4 if it cannot be
+//! printed. A frame is believed if another one near it supports its time.
 //!
 //! In a contract, `held` is what each file holds, if that is known, `unread` for which faults a
 //! file is not read, `remaining` what is left of an input, and `contents` what came to an output;
